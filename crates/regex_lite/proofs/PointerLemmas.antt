@@ -53,8 +53,7 @@ module _ (params : List RattleType) (ν : Sym) where
         plain_Copied 𝓛 Ptr coded_ptr (ty_ptr ∷ []) ptr_own rawptr_pure ptr_val RawPtr-laws.tells in
         let copied : Copied 𝓛 Word = Struct-Copied 𝓛 one_field (refl, tt) (raw_copied, tt) in
         looks t z Word copied.opens (c, tt) b o
-        (λ q' vs. move t (3 ∷ []) $ drop t $ move t (1 ∷ []) $
-        word_had c t vs (λ e.
+        (λ q' vs. move t (3 ∷ []) $ drop t $ move t (1 ∷ []) $ word_had c t vs (λ e.
         rewrite t 0 (λ (us : List Val). ‵ (cell_at q' (word_ty ν ∷ []) us b o)) e refl $
         use1 𝓛 (‵ (fat q' (word_ty ν) b o (word c))) (𝓛.laws.raw_at q' (word_ty ν) b o (word c)) $
         k q'))

@@ -58,8 +58,7 @@ module _ (R Z : RattleType) (L : Laws Z) (g : Ghosts Z.Denot) where
     pub lies : K → (a : Z.Denot) (x : R.Denot) (p : Ptr)
         → ((b o : ℕ) → p ≡ block_ptr b o → Seq K 𝓛 (‵ (owned_at a x (block_ptr b o)) ∷ Γ) G)
         → Seq K 𝓛 (‵ (owned_at a x p) ∷ Γ) G
-    lies t a x p k =
-        in_a_block t p (owned_at a x)
+    lies t a x p k = in_a_block t p (owned_at a x)
         (fst∗ 𝓤 (never 𝓤) (sem 𝓛 (g.dealloc_token a (bare (lone R.mir)) null_ptr))) k
 
   module _ {M : Type 1} {𝓤 : Ura M} {𝓛 : Logic 𝓤} {K : Type 0} {Γ : List (Item 𝓤)}
@@ -71,8 +70,7 @@ module _ (R Z : RattleType) (L : Laws Z) (g : Ghosts Z.Denot) where
         → Seq K 𝓛
         (‵ (owned_at d.alloc d.value (block_ptr b o)) ∷ ‵ (Z.own_val d.alloc (h ∷ [])) ∷ Γ) G)
         → Seq K 𝓛 (‵ (Unboxed.own_val d vs) ∷ Γ) G
-    unboxed_had t d vs k =
-        fsplit t $
+    unboxed_had t d vs k = fsplit t $
         fpick t (λ each. fsplit t $ feq_l t (λ all. fsplit t $ feq_l t (λ first. fsplit t $
         handle_tells handle t d.alloc each.1.0 (λ h second fits.
         move t (1 ∷ []) $ drop t $ move t (1 ∷ []) $
@@ -80,8 +78,7 @@ module _ (R Z : RattleType) (L : Laws Z) (g : Ghosts Z.Denot) where
         (subst (λ (p : Ptr). vs ≡ both (ptr_val p) h ∷ []) e
         (subst (λ (hs : List Val). vs ≡ vstruct (of_list (ptr_val d.ptr ∷ (hs ++ []))) ∷ []) second
         (subst (λ (ps : List Val). vs ≡ vstruct (of_list (ps ++ (each.1.0 ++ []))) ∷ [])
-        first all)))
-        fits)))))
+        first all))) fits)))))
 
     pub unboxed_made : K → (b o : ℕ) (h : Val) (a : Z.Denot) (x : R.Denot)
         → Step K 𝓛 (‵ (Unboxed.own_val (record { ptr = block_ptr b o; alloc = a; value = x })
@@ -91,8 +88,6 @@ module _ (R Z : RattleType) (L : Laws Z) (g : Ghosts Z.Denot) where
         let w : Val = both (vptr b o) h in
         nothing t $ move t (2 ∷ 0 ∷ []) $ fjoin t $
         feq_i t (List Val) (vptr b o ∷ []) (vptr b o ∷ []) refl $ fjoin t $
-        feq_i t (List Val) (w ∷ []) (w ∷ []) refl $ fjoin t $
-        fpack t (Valss (RawPtr ∷ Z ∷ []))
+        feq_i t (List Val) (w ∷ []) (w ∷ []) refl $ fjoin t $ fpack t (Valss (RawPtr ∷ Z ∷ []))
         (within (shape (unboxed.the_type R Z g)) (block_ptr b o, (a, tt)) (w ∷ []))
-        (vptr b o ∷ [], (h ∷ [], tt)) $
-        fjoin t $ next)
+        (vptr b o ∷ [], (h ∷ [], tt)) $ fjoin t $ next)

@@ -22,8 +22,7 @@ part hay i j ordered =
     let k : ℕ = j - i in
     let end : i + k ≡ j = omega (arith, ordered) in
     ap (λ n. take k (drop i hay) ++ drop n hay) (sym end)
-    ∙ ap (λ t. take k (drop i hay) ++ t) (sym (drop-drop k i hay))
-    ∙ take-append-drop k (drop i hay)
+    ∙ ap (λ t. take k (drop i hay) ++ t) (sym (drop-drop k i hay)) ∙ take-append-drop k (drop i hay)
 
 offsets_grow : (h : Text) (p q : ℕ) → p ≤ q → offset h p ≤ offset h q
 offsets_grow h p q le =
@@ -35,8 +34,7 @@ pub cut_around : (hay : List ℕ) (e from : ℕ) (found : Found) (rest : List �
     → from ≡ offset (chars hay) e → StandsFrom e found
     → rest ≡ drop (offset (chars hay) found.end) hay
     → slice_range hay from (offset (chars hay) found.start)
-    ++ (text_at hay (found_span (chars hay) found) ++ rest)
-    ≡ drop from hay
+    ++ (text_at hay (found_span (chars hay) found) ++ rest) ≡ drop from hay
 cut_around hay e from found rest is stands behind =
     let h = chars hay in
     let s = offset h found.start in
@@ -45,8 +43,7 @@ cut_around hay e from found rest is stands behind =
     subst (λ n. n ≤ s) (sym is) (offsets_grow h e found.start stands.from) in
     ap (λ x. slice_range hay from s ++ (slice_range hay s t ++ x)) behind
     ∙ ap (λ x. slice_range hay from s ++ x)
-    (part hay s t (offsets_grow h found.start found.end stands.ordered))
-    ∙ part hay from s before
+    (part hay s t (offsets_grow h found.start found.end stands.ordered)) ∙ part hay from s before
 
 one_more : (hay : List ℕ) (from : ℕ) (spans : List (ℕ × ℕ))
     → length (pieces hay from spans) ≡ length spans + 1
@@ -62,8 +59,7 @@ woven re hay ended from (found ∷ list) is (next, rest) =
     let h = chars hay in
     cut_around hay (unwrap_or ended 0) from found
     (in_turn (pieces hay (offset h found.end) (map (found_span h) list))
-    (texts_of_matches hay list))
-    is (first_stands re h None ended found list (next, rest))
+    (texts_of_matches hay list)) is (first_stands re h None ended found list (next, rest))
     (woven re hay (Some found.end) (offset h found.end) list refl rest)
 
 pub one_piece_list : OnePieceList
@@ -81,7 +77,6 @@ pieces_and_matches re hay list found cut matches =
     let texts = length-map found (λ one. text_at hay (found_span h one)) in
     record {
       one_more = ap length is ∙ one_more hay 0 (Spans found) ∙ ap (λ n. n + 1) (spans ∙ sym texts);
-      whole =
-          ap (λ l. in_turn l (texts_of_matches hay found)) is
+      whole = ap (λ l. in_turn l (texts_of_matches hay found)) is
           ∙ woven re hay None 0 found refl matches;
     }

@@ -30,8 +30,7 @@ enough_groups re bytes start groups utf8 (tree, given, (found, is, are)) =
     each : (known : Option ℕ) → known ≡ static_captures_len tree
         → IfSome known (λ n. n ≤ length (texts_from groups 0))
     each None e = tt
-    each (Some n) e =
-        subst (λ own. n ≤ length (filter_map (option_map (text_at own)) groups.spans))
+    each (Some n) e = subst (λ own. n ≤ length (filter_map (option_map (text_at own)) groups.spans))
         (sym are.haystack)
         (subst (λ all. n ≤ length (filter_map (option_map (text_at bytes)) all)) (sym are.spans)
         (enough_texts bytes utf8 tree (re.flags, _, given) (search_start bytes start) found is n

@@ -49,8 +49,7 @@ module _ {A : Type 0} (found_of : A → Found) (Answers : (s : ℕ) → Option A
     pub one_within : (limit ended : Option ℕ) (list other : List A) → Within limit ended list
         → Within limit ended other → list ≡ other
     one_within limit ended [] [] p q = refl
-    one_within limit ended [] (g ∷ other) p q =
-        absurd (none_or_some limit ended g other p q)
+    one_within limit ended [] (g ∷ other) p q = absurd (none_or_some limit ended g other p q)
     one_within limit ended (f ∷ list) [] p q = absurd (none_or_some limit ended f list q p)
     one_within limit ended (f ∷ list) (g ∷ other) p q =
         let a = first_within limit ended f list p in
@@ -96,5 +95,4 @@ module _ (re : Expression) (haystack : Text) where
   pub same_within : (limit ended : Option ℕ) (list other : List Found)
       → AreWithin re haystack limit ended list → AreWithin re haystack limit ended other
       → list ≡ other
-  same_within =
-      one_within (λ own. own) (IsAnswerOf re haystack) haystack (regex_lawful re haystack)
+  same_within = one_within (λ own. own) (IsAnswerOf re haystack) haystack (regex_lawful re haystack)

@@ -235,8 +235,7 @@ module _ (haystack : List ℕ) (start : ℕ) where
 -- the searches of a list agree
 module _ (list : List Expression) (haystack : List ℕ) (start : ℕ) where
   abbrev AgreeOnSpan : (m : Option (ℕ × Match)) (groups : Option (ℕ × Groups)) → Type 0
-  AgreeOnSpan m groups =
-      (option_map (λ told. told.0) m ≡ option_map (λ told. told.0) groups)
+  AgreeOnSpan m groups = (option_map (λ told. told.0) m ≡ option_map (λ told. told.0) groups)
       × (option_map (λ told. span_of_match told.1) m
       ≡ option_and_then (λ told. group_span told.1 0) groups)
 

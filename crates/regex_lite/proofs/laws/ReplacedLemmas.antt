@@ -35,8 +35,7 @@ first_span haystack marks (suc count) some = refl
 module _ (re : Expression) (hay : List ℕ) (s : ℕ) (found : Found) (stands : StandsFrom s found)
     (groups : Groups) (are : AreGroupsFound re hay found groups) where
   group_0_is : group_span groups 0 ≡ Some (found_span (chars hay) found)
-  group_0_is =
-      ap (λ spans. span_at spans 0) are.2.spans
+  group_0_is = ap (λ spans. span_at spans 0) are.2.spans
       ∙ first_span (chars hay) found.marks _ (omega arith)
       ∙ ap (option_map (offsets (chars hay))) stands.whole
 
@@ -44,15 +43,13 @@ module _ (re : Expression) (hay : List ℕ) (s : ℕ) (found : Found) (stands : 
   span_is = ap (λ own. unwrap_or own (0, 0)) group_0_is
 
   text_is : unwrap_or (group_text groups 0) [] ≡ text_at hay (found_span (chars hay) found)
-  text_is =
-      ap (λ own. unwrap_or (option_map (text_at groups.haystack) own) []) group_0_is
+  text_is = ap (λ own. unwrap_or (option_map (text_at groups.haystack) own) []) group_0_is
       ∙ ap (λ bytes. text_at bytes (found_span (chars hay) found)) are.2.haystack
 
 whole_reference : (groups : GroupTexts)
     → IsInterpolation groups (codes "$0") (unwrap_or (groups.at 0) [])
 whole_reference groups =
-    piece_and_rest (numbered 0) [] []
-    (reference (48 ∷ []) (48 ∷ []) refl
+    piece_and_rest (numbered 0) [] [] (reference (48 ∷ []) (48 ∷ []) refl
     (inr (record { some = omega arith; is_name = refl; is_rest = refl })) refl)
     (nothing refl refl) (sym (append-nil (unwrap_or (groups.at 0) [])))
 
@@ -89,8 +86,7 @@ module _ {R : Type 0} (template : R → List ℕ) (re : Expression) (hay : List 
       let behind : rest ≡ drop (whole_span own).1 hay =
       whole_chain (one_less limit) (Some found.end) (whole_span own).1 list groups after rest end
       (ap template same ∙ is) (within_first re h limit ended found list are).1 each chain in
-      new_is
-      ∙ ap (λ (s : ℕ × ℕ). slice_range hay from s.0 ++ text ++ rest) at
+      new_is ∙ ap (λ (s : ℕ × ℕ). slice_range hay from s.0 ++ text ++ rest) at
       ∙ ap (λ t. slice_range hay from (offset h found.start) ++ t ++ rest) text_at_match
       ∙ append_assoc (slice_range hay from (offset h found.start))
       (text_at hay (found_span h found)) rest
@@ -118,8 +114,7 @@ module _ {R : Type 0} (template : R → List ℕ) (re : Expression) (hay : List 
       rest (subst (λ t. ¬ (Contains t 36)) (sym kept) lacks)
       (within_first re h limit ended found list are).1 each chain
       ∙ ap (λ t. replaced_by t hay (whole_span own).1 (Spans list)) kept in
-      new_is
-      ∙ ap (λ t. slice_range hay from (whole_span own).0 ++ t ++ rest) as_it_is
+      new_is ∙ ap (λ t. slice_range hay from (whole_span own).0 ++ t ++ rest) as_it_is
       ∙ ap (λ t. slice_range hay from (whole_span own).0 ++ template rep ++ t) behind
       ∙ ap (λ (s : ℕ × ℕ). slice_range hay from s.0 ++ template rep
       ++ replaced_by (template rep) hay s.1 (Spans list)) at
@@ -147,8 +142,7 @@ fixed_text R template rep a new other lacks by in_turn =
     by.replaced
     ∙ ap (λ found. replaced_by (template rep) a.haystack 0 (map (found_span h) found)) same
     ∙ sym (plain_chain template a.sought a.haystack a.limit a.ended 0 in_turn.found in_turn.groups
-    rep other
-    lacks in_turn.are_ahead in_turn.each in_turn.chain)
+    rep other lacks in_turn.are_ahead in_turn.each in_turn.chain)
 
 module _ {R Lent : Type 0} (Fixed : R → Option (List ℕ) → R → Type 0)
     (Appends : R → Groups → List ℕ → Answer → R → Type 0) (behind : Lent → R) where

@@ -65,8 +65,7 @@ module _ (T : RattleType) (L : Laws T) (b o : ℕ) (x : T.Denot) {M : Type 1} {�
   C = frees (bare (layout (Whole R c x))) c
 
   abbrev Joins : Fml
-  Joins =
-      fwand (fsep (counter_at c 0 1) (lies_at R full_share (value_place R c x) x))
+  Joins = fwand (fsep (counter_at c 0 1) (lies_at R full_share (value_place R c x) x))
       (lies_at (Whole R c x) full_share c (whole R c x))
 
   as_fields : ent 𝓤 (sem 𝓛 W) (sem 𝓛 (part_at Fields full_share (1, (x, tt)) b o))
@@ -81,24 +80,18 @@ module _ (T : RattleType) (L : Laws T) (b o : ℕ) (x : T.Denot) {M : Type 1} {�
       (sep 𝓤 (sem 𝓛 (part_at R full_share x b (o + at))) (sem 𝓛 Joins)))
   apart = let F : SProp 𝓤 = sem 𝓛 (parts_at full_share ms 0 (1, (x, tt)) b o) in
       let X : Fml = part_at Fields full_share (1, (x, tt)) b o in
-      qed 𝓛 (‵ W ∷ []) ∵ use1 𝓛 (‵ X) as_fields $
-      use1 𝓛
+      qed 𝓛 (‵ W ∷ []) ∵ use1 𝓛 (‵ X) as_fields $ use1 𝓛
       ((‵ (part_at (UInt w64) full_share 1 b (o + 0)) ⊛ ‵ (part_at R full_share x b (o + at))
       ⊛ ‵ ftrue) ⊛ raw (PartsBack 𝓛 full_share [] ms b o))
       (Struct-parts 𝓛 full_share [] ms (usize-laws.lawful 𝓛, ((param_laws 0 T L).lawful 𝓛, tt))
-      (1, (x, tt)) b o) $
-      split ! $ split3 ! $
+      (1, (x, tt)) b o) $ split ! $ split3 ! $
       use1 𝓛 (‵ (cell b o 0 1)) (uint_out 𝓛 full_share w64 1 b (o + 0)) $ frame ! $
-      frame ! $ drop ! $
-      use1 𝓛 (raw (wand 𝓤 F (sem 𝓛 X)))
+      frame ! $ drop ! $ use1 𝓛 (raw (wand 𝓤 F (sem 𝓛 X)))
       (all_e 𝓤 (λ (a : Denots (rows_of ms)). wand 𝓤 (sem 𝓛 (parts_at full_share ms 0 a b o))
       (sem 𝓛 (part_at Fields full_share a b o))) (1, (x, tt))) $
       assume ! (‵ (fsep (counter_at c 0 1) (lies_at R full_share (value_place R c x) x))) $
-      fsplit ! $ fsplit ! $
-      drop ! $
-      use1 𝓛 (‵ (part_at (UInt w64) full_share 1 b (o + 0)))
-      (uint_in 𝓛 full_share w64 1 b (o + 0)) $ nothing ! $
-      move ! (1 ∷ 2 ∷ 0 ∷ []) $ fjoin3 ! $
+      fsplit ! $ fsplit ! $ drop ! $ use1 𝓛 (‵ (part_at (UInt w64) full_share 1 b (o + 0)))
+      (uint_in 𝓛 full_share w64 1 b (o + 0)) $ nothing ! $ move ! (1 ∷ 2 ∷ 0 ∷ []) $ fjoin3 ! $
       use2 𝓛 (‵ X) (apply∗ 𝓤 F (sem 𝓛 X)) $ by ! as_block
 
   pub starts : (μ : Lft) (q : Share) → Incl μ T.lives
@@ -114,12 +107,10 @@ module _ (T : RattleType) (L : Laws T) (b o : ℕ) (x : T.Denot) {M : Type 1} {�
       move ! (3 ∷ 2 ∷ []) $ fjoin ! $ move ! (2 ∷ 0 ∷ []) $ fjoin ! $
       nothing ! $ fpack ! (1 ≡ 1) (λ _. ftrue) refl $ nothing ! $
       -- [nothing; no weak owners; what is owned; the word; the token]
-      move ! (3 ∷ 1 ∷ 2 ∷ 0 ∷ []) $ group ! 4 $
-      use1 𝓛 (later
+      move ! (3 ∷ 1 ∷ 2 ∷ 0 ∷ []) $ group ! 4 $ use1 𝓛 (later
       (some (λ (a : Id). ‵ (rc.part 64 a.0) ⊛ ‵ (box R c x a) ⊛ ‵ (fbor (a.0 ∷ []) (owned R c x)))))
       (rc.rc_new 64 (key R c x) (S R c x) only_one (owned R c x) ftrue ftrue 𝓛 (lit< tt)) $
-      await ! tt $ pick ! (λ a.
-      split3 ! $ fpick ! (λ e. fpick ! (λ one.
+      await ! tt $ pick ! (λ a. split3 ! $ fpick ! (λ e. fpick ! (λ one.
       move ! (0 ∷ 3 ∷ []) $ join ! $ move ! (2 ∷ 0 ∷ []) $
       use2 𝓛 (later (‵ (lends R c x (a.0 ∷ [])) ⊛ ‵ (flft (a.0 ∷ []) e) ⊛ ‵ (flft μ q)))
       (Lends-first 𝓛 (lies_at R full_share (value_place R c x) x) (block_back R c x)
@@ -128,8 +119,7 @@ module _ (T : RattleType) (L : Laws T) (b o : ℕ) (x : T.Denot) {M : Type 1} {�
       (a.0 ∷ []) ((a.0 ∷ [], e) ∷ (μ, q) ∷ []) (Incl-trans (meet_⊑_right (a.0 ∷ []) μ) inc)
       (meet_⊑_left (a.0 ∷ []) μ)) $ await ! tt $ split3 ! $
       move ! (1 ∷ []) $ use1 𝓛 (‵ (rc.part 64 a.0)) (rc.part_in 64 𝓛 a.0 e one) $
-      move ! (0 ∷ 3 ∷ 1 ∷ []) $ fjoin3 ! $
-      fpack ! Id (handle R c x) a $ now ! $ done !)))
+      move ! (0 ∷ 3 ∷ 1 ∷ []) $ fjoin3 ! $ fpack ! Id (handle R c x) a $ now ! $ done !)))
 
   pub ends : (a : Id) → ent 𝓤 (sep 𝓤 (sem 𝓛 (cell b o 0 1)) (sep 𝓤 (sem 𝓛 (value R c x a true 1))
       (sep 𝓤 (sem 𝓛 (rc.part 64 a.0)) (sep 𝓤 (sem 𝓛 (weaks R c x a 1))
@@ -138,13 +128,10 @@ module _ (T : RattleType) (L : Laws T) (b o : ℕ) (x : T.Denot) {M : Type 1} {�
   ends a =
       qed 𝓛 (‵ (cell b o 0 1) ∷ ‵ (value R c x a true 1) ∷ ‵ (rc.part 64 a.0) ∷ ‵ (weaks R c x a 1)
       ∷ raw (rc.Shut 64 (key R c x) (S R c x) only_one (owned R c x) ftrue ftrue 𝓛 a every) ∷ [])
-      ∵ updating ! $
-      move ! (1 ∷ 2 ∷ []) $
-      use2 𝓛 (later (‵ (owned R c x) ⊛ ‵ (rc.part 64 a.1)
+      ∵ updating ! $ move ! (1 ∷ 2 ∷ []) $ use2 𝓛 (later (‵ (owned R c x) ⊛ ‵ (rc.part 64 a.1)
       ⊛ raw (wand 𝓤 (sem 𝓛 ftrue) (sem 𝓛 (value R c x a false 0)))))
       (rc.last 64 (key R c x) (S R c x) only_one (owned R c x) ftrue ftrue 𝓛 a) $ await ! tt $
-      split3 ! $
-      nothing ! $ move ! (0 ∷ 3 ∷ []) $
+      split3 ! $ nothing ! $ move ! (0 ∷ 3 ∷ []) $
       use2 𝓛 (‵ (value R c x a false 0)) (apply∗ 𝓤 (sem 𝓛 ftrue) (sem 𝓛 (value R c x a false 0))) $
       -- [the value's place; what is owned; the weak part; the cell; the weaks; what shuts]
       move ! (0 ∷ 4 ∷ 2 ∷ 5 ∷ []) $ group ! 4 $
@@ -153,15 +140,13 @@ module _ (T : RattleType) (L : Laws T) (b o : ℕ) (x : T.Denot) {M : Type 1} {�
       await ! tt $ learn ! (λ _. split3 ! $ drop ! $ drop ! $
       -- [the thread's token; what is owned; the cell]
       move ! (1 ∷ []) $ fsplit ! $ move ! (1 ∷ []) $ fsplit ! $ move ! (4 ∷ []) $
-      flt_i ! 1 (2 ^ 64) (lit< tt) $
-      fjoin ! $ move ! (0 ∷ 3 ∷ []) $ fjoin ! $ move ! (0 ∷ 2 ∷ []) $
+      flt_i ! 1 (2 ^ 64) (lit< tt) $ fjoin ! $ move ! (0 ∷ 3 ∷ []) $ fjoin ! $ move ! (0 ∷ 2 ∷ []) $
       use2 𝓛 (‵ W)
       (apply∗ 𝓤 (sem 𝓛 (fsep (counter_at c 0 1) (lies_at R full_share (value_place R c x) x)))
       (sem 𝓛 W)) $ move ! (0 ∷ 1 ∷ []) $ fjoin ! $ now ! $ done !)
 
   abbrev Had : Id → Ptr → SProp 𝓤
-  Had a r =
-      sep 𝓤 (sem 𝓛 (cell b o 0 1)) (sep 𝓤 (sem 𝓛 (value R r x a true 1))
+  Had a r = sep 𝓤 (sem 𝓛 (cell b o 0 1)) (sep 𝓤 (sem 𝓛 (value R r x a true 1))
       (sep 𝓤 (sem 𝓛 (rc.part 64 a.0)) (sep 𝓤 (sem 𝓛 (weaks R r x a 1))
       (rc.Shut 64 (key R r x) (S R r x) only_one (owned R r x) ftrue ftrue 𝓛 a every))))
 

@@ -70,8 +70,7 @@ module _ (R : RattleType) (c : Ptr) (x : R.Denot) where
   handle = handles.handle 64 key S only_one (owned R c x) ftrue ftrue (lends R c x) (λ i. i.0)
 
   abbrev pub lent : Lft → Fml
-  lent =
-      for_some Id
+  lent = for_some Id
       (handles.lent 64 key S only_one (owned R c x) ftrue ftrue (lends R c x) (λ i. i.0))
 
   abbrev pub Closes : {M : Type 1} {𝓤 : Ura M} (𝓛 : Logic 𝓤) → Id → Item 𝓤
@@ -90,29 +89,22 @@ module _ (R : RattleType) (L : RowLaws R) (c : Ptr) (x : R.Denot) {M : Type 1} {
 
   fills_by : (a : Id) (n w : ℕ) → (y : Bool)
       → ent 𝓤 (Before (stands_for (static R c x) n w y) a n) (After a)
-  fills_by a n w true =
-      qed 𝓛 (‵ (stands_for (static R c x) n w true) ∷ ‵ (value R c x a true n)
+  fills_by a n w true = qed 𝓛 (‵ (stands_for (static R c x) n w true) ∷ ‵ (value R c x a true n)
       ∷ ‵ (lends R c x (a.0 ∷ [])) ∷ []) ∵ updating ! $ fpick ! (λ e. drop ! $
       let low : n < 2 ^ 64 - 1 = e.1 in
       use1 𝓛 (‵ (value R c x a true (n + 1)) ⊛ ‵ (rc.part 64 a.0))
       (rc.more 64 (key R c x) (S R c x) only_one (owned R c x) ftrue ftrue 𝓛 a n (omega arith)) $
-      split ! $
-      fpack ! ℕ (value R c x a true) (n + 1) $ move ! (1 ∷ []) $
-      fpick ! (λ s. fpick ! (λ one. bor_new ! tt [] $
-      bor_fracture ! tt (λ r. flft (a.0 ∷ []) r) s $
-      move ! (0 ∷ 3 ∷ []) $
-      use2 𝓛 (‵ (static R c x))
+      split ! $ fpack ! ℕ (value R c x a true) (n + 1) $ move ! (1 ∷ []) $
+      fpick ! (λ s. fpick ! (λ one. bor_new ! tt [] $ bor_fracture ! tt (λ r. flft (a.0 ∷ []) r) s $
+      move ! (0 ∷ 3 ∷ []) $ use2 𝓛 (‵ (static R c x))
       (moves_from 𝓛 (lends R c x) (lent_at_shr_laws R L (value_place R c x) x) [] (a.0 ∷ [])
-      (a.0 ∷ []) (meet_⊑_left (a.0 ∷ []) [])) $
-      now ! $ keep ! (0 ∷ 2 ∷ []) $ done !)))
-  fills_by a n w false =
-      qed 𝓛 (‵ (stands_for (static R c x) n w false) ∷ ‵ (value R c x a true n)
+      (a.0 ∷ []) (meet_⊑_left (a.0 ∷ []) [])) $ now ! $ keep ! (0 ∷ 2 ∷ []) $ done !)))
+  fills_by a n w false = qed 𝓛 (‵ (stands_for (static R c x) n w false) ∷ ‵ (value R c x a true n)
       ∷ ‵ (lends R c x (a.0 ∷ [])) ∷ []) ∵ updating ! $ fpick ! (λ e. now ! $
       move ! (1 ∷ []) $ fpack ! ℕ (value R c x a true) n $ keep ! (1 ∷ 0 ∷ []) $ done !)
 
   pub fills : (a : Id) (n w : ℕ) → ent 𝓤 (Before (is_stored (static R c x) n w) a n) (After a)
-  fills a n w =
-      qed 𝓛 (‵ (is_stored (static R c x) n w) ∷ ‵ (value R c x a true n)
+  fills a n w = qed 𝓛 (‵ (is_stored (static R c x) n w) ∷ ‵ (value R c x a true n)
       ∷ ‵ (lends R c x (a.0 ∷ [])) ∷ []) ∵ fpick ! (λ y. by ! (fills_by a n w y))
 
 module _ (R : RattleType) (c : Ptr) (x : R.Denot) {M : Type 1} {𝓤 : Ura M} (𝓛 : Logic 𝓤) where
@@ -132,8 +124,7 @@ module _ (R : RattleType) (c : Ptr) (x : R.Denot) {M : Type 1} {𝓤 : Ura M} (�
 module _ (R : RattleType) (c : Ptr) (x : R.Denot) where
   abbrev pub Back : {M : Type 1} {𝓤 : Ura M} (𝓛 : Logic 𝓤) → Sym → Lft → Share → ℕ → ℕ → ℕ → Share
       → Share → Item 𝓤
-  Back 𝓛 ν κ q b o i s q' =
-      ‵ (fobor κ (Share.left q) (flft (i ∷ []) s))
+  Back 𝓛 ν κ q b o i s q' = ‵ (fobor κ (Share.left q) (flft (i ∷ []) s))
       ⊛ Shut 𝓛 κ (Share.right q) (part_at (Word (R ∷ []) ν) q' (c, tt) b o)
 
   -- what a handle of the name ν owns
@@ -144,8 +135,7 @@ module _ (R : RattleType) (c : Ptr) (x : R.Denot) where
       {G : Goal 𝓤 𝓛.H} where
     pub box_twice : K → (a : Id)
         → Step K 𝓛 (‵ (box R c x a) ∷ ‵ (box R c x a) ∷ Γ) G (‵ (box R c x a) ∷ Γ) G
-    box_twice t a =
-        step (λ s. use1 𝓛 (‵ (box R c x a) ⊛ ‵ (box R c x a)) (na_inv_dup 𝓛 (key R c x)
+    box_twice t a = step (λ s. use1 𝓛 (‵ (box R c x a) ⊛ ‵ (box R c x a)) (na_inv_dup 𝓛 (key R c x)
         (rc.Inv 64 (key R c x) (S R c x) only_one (owned R c x) ftrue ftrue a)) $ split t $ s)
 
 module _ (R : RattleType) (c : Ptr) (x : R.Denot) where
@@ -174,23 +164,20 @@ module _ (R : RattleType) (c : Ptr) (x : R.Denot) where
           ∷ Back R c x 𝓛 ν κ q b o a.0 s q' ∷ ‵ (box R c x a) ∷ ‵ (lends R c x (a.0 ∷ [])) ∷ Γ) G)
           → Seq K 𝓛 (‵ (hidden_shr (Word (R ∷ []) ν) κ (c, tt) b o) ∷ ‵ (fhide (lent R c x κ))
           ∷ ‵ (flft κ q) ∷ Γ) G
-      lent_out t z k =
-          move t (2 ∷ []) $
+      lent_out t z k = move t (2 ∷ []) $
           use1 𝓛 (‵ (flft κ (Share.left q)) ⊛ ‵ (flft κ (Share.right q))) (𝓛.lfts.lft_split κ q) $
           split t $ move t (2 ∷ 1 ∷ []) $ reads (R ∷ []) ν c t z b o (λ q'.
           move t (3 ∷ []) $ unhide t $ fpick t (λ a. fsplit3 t $ move t (0 ∷ 5 ∷ []) $
           shr_bor-open t z (tokens_halve 𝓛 (a.0 ∷ [])) (λ s.
           move t (0 ∷ 5 ∷ []) $ join t $ move t (2 ∷ []) $ box_twice R c x t a $
-          move t (3 ∷ 0 ∷ 5 ∷ 2 ∷ 1 ∷ 4 ∷ []) $
-          k a s q')))
+          move t (3 ∷ 0 ∷ 5 ∷ 2 ∷ 1 ∷ 4 ∷ []) $ k a s q')))
 
       pub lent_back : K → Soaks G → (i : ℕ) (s q' : Share)
           → Step K 𝓛 (‵ (flft κ q) ∷ Γ) G (‵ (flft (i ∷ []) s) ∷ ‵ (fat q' (word_ty ν) b o (word c))
           ∷ Back R c x 𝓛 ν κ q b o i s q' ∷ Γ) G
       lent_back t z i s q' = step (λ next.
           move t (2 ∷ []) $ split t $ move t (0 ∷ 2 ∷ []) $ obor_close t z $ drop t $
-          move t (2 ∷ 1 ∷ []) $
-          read (R ∷ []) ν c t z b o q' $ move t (1 ∷ 0 ∷ []) $
+          move t (2 ∷ 1 ∷ []) $ read (R ∷ []) ν c t z b o q' $ move t (1 ∷ 0 ∷ []) $
           use2 𝓛 (‵ (flft κ q)) (𝓛.lfts.lft_join κ q) $ next)
 
     module _ (a : Id) where
@@ -200,21 +187,18 @@ module _ (R : RattleType) (c : Ptr) (x : R.Denot) where
           → Seq K 𝓛 (‵ (cell b o 0 w) ∷ ‵ (is_stored (static R c x) n w) ∷ ‵ (value R c x a true n)
           ∷ ‵ (weaks R c x a 1) ∷ ‵ (flft (a.0 ∷ []) s) ∷ Closes R c x 𝓛 a ∷ Γ) G)
           → Seq K 𝓛 (‵ (box R c x a) ∷ ‵ (flft (a.0 ∷ []) s) ∷ ‵ (ftok every) ∷ Γ) G
-      opens t z s k =
-          use3 𝓛 (later
+      opens t z s k = use3 𝓛 (later
           (some (λ (u : ℕ × ℕ). ‵ (S R c x u.0) ⊛ ‵ (only_one u.1) ⊛ ‵ (value R c x a true u.0)
           ⊛ ‵ (weaks R c x a u.1) ⊛ ‵ (flft (a.0 ∷ []) s) ⊛ Closes R c x 𝓛 a)))
           (rc.open_strong 64 (key R c x) (S R c x) only_one
-          (owned R c x) ftrue ftrue 𝓛 a every refl s) $ await t z $
-          pick t (λ u. split3 t $
+          (owned R c x) ftrue ftrue 𝓛 a every refl s) $ await t z $ pick t (λ u. split3 t $
           move t (1 ∷ []) $
           fpick t (λ one. drop t $ move t (1 ∷ []) $ split3 t $ move t (2 ∷ []) $ split t $
           move t (3 ∷ []) $
           rewrite t 0 (λ (m : ℕ). ‵ (weaks R c x a m)) one refl $ move t (3 ∷ []) $
           use1 𝓛 (given (0 < u.0) (‵ (value R c x a true u.0)))
           (rc.strong_some 64 (key R c x) (S R c x) only_one (owned R c x) ftrue ftrue 𝓛 a u.0) $
-          learn t (λ some'.
-          move t (4 ∷ []) $ fpick t (λ w. fsplit t $
+          learn t (λ some'. move t (4 ∷ []) $ fpick t (λ w. fsplit t $
           in_a_block t c (λ r. counter_at r 0 w) (id⊢ 𝓤 (never 𝓤))
           (λ b o e. fsplit t $ flt_l t (λ fw.
           move t (0 ∷ 1 ∷ 2 ∷ 3 ∷ 4 ∷ 5 ∷ []) $ k u.0 w b o e fw some'))))))
@@ -234,23 +218,20 @@ module _ (R : RattleType) (c : Ptr) (x : R.Denot) where
       pub more : K → (n : ℕ) → n + 1 < 2 ^ 64
           → Step K 𝓛 (‵ (value R c x a true (n + 1)) ∷ ‵ (rc.part 64 a.0) ∷ Γ) G
           (‵ (value R c x a true n) ∷ Γ) G
-      more t n f =
-          step (λ next. use1 𝓛 (‵ (value R c x a true (n + 1)) ⊛ ‵ (rc.part 64 a.0))
+      more t n f = step (λ next. use1 𝓛 (‵ (value R c x a true (n + 1)) ⊛ ‵ (rc.part 64 a.0))
           (rc.more 64 (key R c x) (S R c x) only_one (owned R c x) ftrue ftrue 𝓛 a n f) $
           split t $ next)
 
       pub less : K → (n : ℕ) → 1 < n
           → Step K 𝓛 (‵ (value R c x a true (n - 1)) ∷ Γ) G
           (‵ (value R c x a true n) ∷ ‵ (rc.part 64 a.0) ∷ Γ) G
-      less t n many =
-          use2 𝓛 (‵ (value R c x a true (n - 1)))
+      less t n many = use2 𝓛 (‵ (value R c x a true (n - 1)))
           (rc.less 64 (key R c x) (S R c x) only_one (owned R c x) ftrue ftrue 𝓛 a n many)
 
       -- what the word says below the top
       pub counted : K → (n w : ℕ) → w < top → (w ≡ n → n < top → Seq K 𝓛 Γ G)
           → Seq K 𝓛 (‵ (is_stored (static R c x) n w) ∷ Γ) G
-      counted t n w low k =
-          use1 𝓛 (given ((w ≡ n) × (n < top)) (‵ ftrue))
+      counted t n w low k = use1 𝓛 (given ((w ≡ n) × (n < top)) (‵ ftrue))
           (qed 𝓛 (‵ (is_stored (static R c x) n w) ∷ []) ∵ by ! (says_count R c x 𝓛 n w low)) $
           learn t (λ e. drop t $ k e.0 e.1)
 

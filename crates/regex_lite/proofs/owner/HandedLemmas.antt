@@ -49,8 +49,7 @@ module _ {M : Type 1} {𝓤 : Ura M} (𝓛 : Logic 𝓤) (T : Ended)
         (WpFn 𝓤 H inner.C inner.Λ e ((walk_of 𝓛 T hs held).args z) ((walk_of 𝓛 T hs held).post z)))
         → Meets 𝓛 S (𝓡.run (𝓡.env k)) (closing 𝓛 T c)
     unfolding tables_of
-    handed_at go k e is walk =
-        hands 𝓛 T (A.tok every) c 𝓜 𝓒 𝓡 (𝓡.env k)
+    handed_at go k e is walk = hands 𝓛 T (A.tok every) c 𝓜 𝓒 𝓡 (𝓡.env k)
         (entered 𝓤 H (triple_of 𝓛 S (closing 𝓛 T held)) inner.C inner.Λ k e
         (bare_unfolds 𝓤 H 𝓒.inner 𝓡.allowed 𝓡.how 𝓡.env k e is)
         (walk_Meets 𝓛 T hs go held (WpFn 𝓤 H inner.C inner.Λ e)

@@ -74,8 +74,7 @@ module _ (re : Expression) (haystack : List ℕ) (start : ℕ) where
         with_match = same_truth (is_some m) found Matching by_match told;
         with_groups = same_truth (is_some groups) found Matching by_groups told;
         with_end = same_truth (is_some end) found Matching by_end told;
-        whole =
-            same_whole m groups
+        whole = same_whole m groups
             (same_truth (is_some m) (is_some groups) Matching by_match by_groups)
             tells_match tells_groups;
       }

@@ -47,8 +47,7 @@ begun_on start old new made more (Some e) now end found begins begun passes is =
 begun_on start old new made more None now end found begins begun passes is =
     subst (IsBegun start new more) (sym is)
     (not_over (λ own. own) IsAnswerOf start (regex_lawful start.sought (chars start.haystack)) found
-    new
-    (subst (λ a. Passes a found new) begun.0 passes))
+    new (subst (λ a. Passes a found new) begun.0 passes))
 
 -- the new text: the haystack itself where nothing was passed, and else the text that was made with
 -- the rest of the haystack
@@ -122,8 +121,7 @@ limit_left (suc k) = λ same. cc
 
 -- what is so where some match is ahead is so where the pattern matches
 pub where_it_matches : {T E : Type 0} (re : Expression) (haystack : List ℕ) (n : ℕ)
-    (limit : Option ℕ)
-    (P : T → Type 0) (result : Result T E) → limit ≡ limit_of n
+    (limit : Option ℕ) (P : T → Type 0) (result : Result T E) → limit ≡ limit_of n
     → IfOk result (λ x. (IsOver (whole re haystack limit) → ⊥) → P x)
     → IfOk result (λ x. MatchesFrom re haystack 0 → P x)
 where_it_matches re haystack n limit P (Err e) is so = tt

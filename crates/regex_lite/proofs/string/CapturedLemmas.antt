@@ -51,11 +51,9 @@ module _ (haystack : Text) (tree : Tree) (s : ℕ) (found : Found) (given : IsPa
           (groups_inside tree haystack s found (regular_tree tree given) is).whole
 
       each : HasSlots haystack (all_slots [] span) found.marks
-      each zero slot at =
-          sym (same_some at) ∙ ap (λ (own : ℕ × ℕ). Some own.0) same
+      each zero slot at = sym (same_some at) ∙ ap (λ (own : ℕ × ℕ). Some own.0) same
           ∙ ap (option_map (offset haystack)) (sym marked.0)
-      each (suc zero) slot at =
-          sym (same_some at) ∙ ap (λ (own : ℕ × ℕ). Some own.1) same
+      each (suc zero) slot at = sym (same_some at) ∙ ap (λ (own : ℕ × ℕ). Some own.1) same
           ∙ ap (option_map (offset haystack)) (sym marked.1)
       each (suc (suc k)) slot at = absurd cc
 
@@ -98,14 +96,12 @@ module _ (bytes : List ℕ) (utf8 : IsUtf8 bytes) (tree : Tree) (given : IsPatte
   spans = spans_from (chars bytes) found.marks 0 (captures_len tree)
 
   spans_are : spans_of slots ≡ spans
-  spans_are =
-      slots_told (chars bytes) found.marks slots 0 (captures_len tree) 0 refl all.1
+  spans_are = slots_told (chars bytes) found.marks slots 0 (captures_len tree) 0 refl all.1
       (λ k slot at. all.0 k slot at
       ∙ ap (λ n. option_map (offset (chars bytes)) (found.marks n)) (omega arith))
 
   some_group_0 : IsSome (group_span (groups_of bytes slots shared) 0)
-  some_group_0 =
-      subst IsSome (sym (ap (λ all. span_at all 0) spans_are
+  some_group_0 = subst IsSome (sym (ap (λ all. span_at all 0) spans_are
       ∙ group_0 (chars bytes) tree s found (captures_len tree) given is (omega arith))) refl
 
   pub captured_of : AreGroupsOf tree bytes found (groups_of bytes slots shared)

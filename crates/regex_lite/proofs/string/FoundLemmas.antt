@@ -29,10 +29,8 @@ offset_most : (haystack : Text) (p q : ℕ) → p ≤ q → q ≤ length haystac
 offset_most haystack p q le inside = each (cases_order p q)
   where
     each : (p ≡ q) ⊎ ((p < q) ⊎ (q < p)) → offset haystack p ≤ offset haystack q
-    each (inl same) =
-        omega (arith, ap (offset haystack) same)
-    each (inr (inl less)) =
-        omega (arith, offset_less haystack p q less inside)
+    each (inl same) = omega (arith, ap (offset haystack) same)
+    each (inr (inl less)) = omega (arith, offset_less haystack p q less inside)
     each (inr (inr more)) = absurd (omega (arith, le, more))
 
 -- two positions in order lie in the haystack
@@ -75,8 +73,7 @@ slots_told haystack marks (from ∷ to ∷ slots) first (suc count) at start len
     let start_is = told 0 from refl ∙ ap (λ n. option_map (offset haystack) (marks n)) a in
     let end_is = told 1 to refl ∙ ap (λ n. option_map (offset haystack) (marks n)) b in
     let behind = slots_told haystack marks slots (suc first) count (at + 2)
-    (omega (arith, start)) (omega (arith, len))
-    (λ k slot is. told (suc (suc k)) slot is
+    (omega (arith, start)) (omega (arith, len)) (λ k slot is. told (suc (suc k)) slot is
     ∙ ap (λ n. option_map (offset haystack) (marks n)) (omega arith)) in
     ap (λ own. own ∷ spans_of slots)
     (rw (start_is, end_is) (zipped haystack (marks (2 * first)) (marks (2 * first + 1))))
@@ -140,8 +137,7 @@ first_told haystack marks (suc n) first (suc count) =
 module _ (bytes : List ℕ) (utf8 : IsUtf8 bytes) (tree : Tree) (given : IsPatternTree tree) (s : ℕ)
     (found : Found) (is : IsFound tree (chars bytes) s found) where
   end_inside : found.end ≤ length (chars bytes)
-  end_inside =
-      walk_inside (chars bytes) (place_of_pattern tree) is.way (start_address, found.start)
+  end_inside = walk_inside (chars bytes) (place_of_pattern tree) is.way (start_address, found.start)
       (end_address, found.end) is.most_preferred.is_way.0 is.inside
 
   inner : HasGroupsInside found
@@ -169,8 +165,7 @@ module _ (bytes : List ℕ) (utf8 : IsUtf8 bytes) (tree : Tree) (given : IsPatte
           let last = within.2 in
           let below = end_inside in
           record {
-            starts_inside =
-                offset_most (chars bytes) found.start from within.0
+            starts_inside = offset_most (chars bytes) found.start from within.0
                 (omega (arith, order, last, below));
             ends_inside = offset_most (chars bytes) to found.end last below;
             lies_in = positions_lie bytes from to utf8 order (omega (arith, last, below));

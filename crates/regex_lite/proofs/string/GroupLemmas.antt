@@ -22,17 +22,14 @@ use Rattle.regex_lite.specs.MatchViews.{haystack_of_match, span_of_match, match_
 pub spans_on : (spans : List (Option (ℕ × ℕ))) (k : ℕ) → k < length spans
     → drop k spans ≡ span_at spans k ∷ drop (k + 1) spans
 spans_on spans k within =
-    rw (add-one k)
-    (drop-cons spans k None within
-    ∙ ap (λ span. span ∷ drop (suc k) spans)
+    rw (add-one k) (drop-cons spans k None within ∙ ap (λ span. span ∷ drop (suc k) spans)
     (sym (ap option_flatten (slice_get-get_or spans k None within))))
 
 module _ (groups : Groups) (k : ℕ) (within : k < length groups.spans) where
   texts_on : texts_from groups k
       ≡ cons_option (option_map (text_at groups.haystack) (group_span groups k))
       (texts_from groups (k + 1))
-  texts_on =
-      ap (filter_map (option_map (text_at groups.haystack))) (spans_on groups.spans k within)
+  texts_on = ap (filter_map (option_map (text_at groups.haystack))) (spans_on groups.spans k within)
 
   -- a group that took no part has no text
   pub no_text : group_span groups k ≡ None → texts_from groups (k + 1) ≡ texts_from groups k

@@ -21,8 +21,7 @@ same_texts (None ∷ rest) = ap (λ texts. None ∷ texts) (same_texts rest)
 same_texts (Some name ∷ rest) = ap (λ texts. Some (text_of_name name) ∷ texts) (same_texts rest)
 
 pub are_names : (bytes : List (Option (List ℕ))) (names : List (Option (RcStr Global)))
-    (tree : Tree)
-    → bytes ≡ map (option_map rc_str_bytes) names → IsRegular tree
+    (tree : Tree) → bytes ≡ map (option_map rc_str_bytes) names → IsRegular tree
     → length names ≡ captures_len tree
     → ((k : ℕ) → slice_index_or (map (option_map text_of_name) names) k None ≡ group_name tree k)
     → AreNames bytes tree

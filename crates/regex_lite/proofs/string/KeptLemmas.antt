@@ -26,8 +26,7 @@ use Rattle.regex_lite.proofs.string.OneTreeLemmas.{one_tree}
 
 -- after a search a searcher still finds groups
 pub still_searches : (re : Expression) (old new : Searching) → SearchesForGroups re (Some old)
-    → new.graph ≡ old.graph → length new.slots ≡ length old.slots
-    → SearchesForGroups re (Some new)
+    → new.graph ≡ old.graph → length new.slots ≡ length old.slots → SearchesForGroups re (Some new)
 still_searches re old new ((tree, given, (regular, is)), (own, given_too, two)) graph slots =
     ((tree, given, (regular, subst (IsGraphOf tree) (sym graph) is)), (own, given_too, slots ∙ two))
 
@@ -65,8 +64,7 @@ module _ (re : Expression) (bytes : List ℕ) (utf8 : IsUtf8 bytes) (start : ℕ
 
   -- from where the match begins on it is found again
   again : IsAnswerOf re (chars bytes) (search_start bytes m.start) (Some found)
-  again =
-      subst (λ s. IsAnswerOf re (chars bytes) s (Some found)) (sym from)
+  again = subst (λ s. IsAnswerOf re (chars bytes) s (Some found)) (sym from)
       ((regex_lawful re (chars bytes)).further (search_start bytes start) found.start found
       within.from (omega arith) is_answer)
 
@@ -92,8 +90,7 @@ module _ (re : Expression) (bytes : List ℕ) (utf8 : IsUtf8 bytes) (start : ℕ
   module _ (slots : List (Option ℕ)) (held : HasSlots (chars bytes) slots found.marks)
       (enough : OfTree re (λ tree. length slots ≡ 2 * captures_len tree)) where
     spans_are : spans_of slots ≡ spans_from (chars bytes) found.marks 0 (captures_len tree)
-    spans_are =
-        slots_told (chars bytes) found.marks slots 0 (captures_len tree) 0 refl
+    spans_are = slots_told (chars bytes) found.marks slots 0 (captures_len tree) 0 refl
         (enough.2 ∙ ap (λ tree. 2 * captures_len tree)
         (one_tree re.flags (chars re.pattern) enough.0 tree enough.1 own.1))
         (λ k slot at. held k slot at
@@ -103,8 +100,7 @@ module _ (re : Expression) (bytes : List ℕ) (utf8 : IsUtf8 bytes) (start : ℕ
     pub room_read : (locations : List (Option (ℕ × ℕ))) → CanRead re locations
         → length locations ≤ length (spans_of slots)
     room_read locations (other, given, few) =
-        let count = ap captures_len
-        (one_tree re.flags (chars re.pattern) other tree given own.1) in
+        let count = ap captures_len (one_tree re.flags (chars re.pattern) other tree given own.1) in
         let all = ap length spans_are
         ∙ length_spans (chars bytes) found.marks 0 (captures_len tree) in
         omega (arith, few, count, all)

@@ -32,8 +32,7 @@ pub accepted_trees : (all : List Settings) (trees : List Tree) → AreAcceptedAs
     → AreTrees (map expression_of all) trees
 accepted_trees all trees accepted =
     paired_so IsAcceptedAs (λ re tree. IsTree re.flags (chars re.pattern) tree) expression_of all
-    trees
-    (λ settings tree own. (own.0.0, own.0.1, own.0.2)) accepted
+    trees (λ settings tree own. (own.0.0, own.0.1, own.0.2)) accepted
 
 -- there is one list of trees of a list of patterns
 pub one_list : (list : List Expression) (a b : List Tree) → AreTrees list a → AreTrees list b
@@ -91,9 +90,8 @@ in_first (x ∷ xs) (suc n) (suc k) own less there = in_first xs n k own (omega 
 
 -- the pattern after those that are accepted is the lowest that fails, unless memory ran out
 pub lowest_fails : (all : List Settings) (number : ℕ) (trees : List Tree) (settings : Settings)
-    (error : Error) → AreAcceptedAs (take number all) trees
-    → slice_get all number ≡ Some settings → IsDue settings error
-    → (error ≡ out_of_memory) ⊎ IsDueToLowest all error
+    (error : Error) → AreAcceptedAs (take number all) trees → slice_get all number ≡ Some settings
+    → IsDue settings error → (error ≡ out_of_memory) ⊎ IsDueToLowest all error
 lowest_fails all number trees settings error accepted there due =
     elim (memory_or_not settings error due) [
       | inl memory ↦ inl memory

@@ -33,8 +33,7 @@ use Rattle.regex_lite.proofs.string.ToldLemmas.{same_pair}
 
 -- what is stored of the groups of a pattern is so of its tree
 pub named_groups : (tree : Tree) (groups : StoredGroups) → IsPatternTree tree
-    → TellsGroupsOf tree groups
-    → NamesGroups tree (names_of groups) groups.static_captures_len
+    → TellsGroupsOf tree groups → NamesGroups tree (names_of groups) groups.static_captures_len
 named_groups tree groups given tells = record {
   names_are = are_names _ groups.capture_names tree refl (regular_tree tree given) tells.captures
       tells.names;
@@ -104,8 +103,7 @@ module _ (bytes : List ℕ) (utf8 : IsUtf8 bytes) (list : List Expression) (comp
     -- which are those of what was found
     pub found_groups : (groups : Groups) → groups ≡ groups_of bytes slots stored
         → AreGroupsOf tree bytes found groups
-    found_groups groups are =
-        subst (λ g. AreGroupsOf tree bytes found g) (sym are)
+    found_groups groups are = subst (λ g. AreGroupsOf tree bytes found g) (sym are)
         (captured_of bytes utf8 tree own_grammar found.start found answer.answer slots cut_held
         stored (named_groups tree stored own_grammar tells))
 
@@ -140,8 +138,7 @@ module _ (bytes : List ℕ) (utf8 : IsUtf8 bytes) (start : ℕ) (list : List Exp
     -- all slots hold groups
     pub listed_groups_are : AreGroups
         (groups_of bytes slots (groups_at compiled.graph.groups number))
-    listed_groups_are =
-        found_groups_are bytes utf8 list compiled built given
+    listed_groups_are = found_groups_are bytes utf8 list compiled built given
         (search_start bytes start) number own.0
         own.1 outcome.slots.items own.2.slots own_span own_span_is width slots filled
 

@@ -75,8 +75,7 @@ module _ (list : List Expression) (bytes : List ℕ) (start : ℕ) (kept : List 
   found = own.0.1
 
   answer : IsFoundInList trees (chars bytes) (search_start bytes start) number found
-  answer =
-      subst (λ n. IsFoundInList trees (chars bytes) (search_start bytes start) n found)
+  answer = subst (λ n. IsFoundInList trees (chars bytes) (search_start bytes start) n found)
       (sym own.2.number) own.1.2
 
   abbrev tree : Tree
@@ -86,17 +85,14 @@ module _ (list : List Expression) (bytes : List ℕ) (start : ℕ) (kept : List 
   all = all_slots kept (span_of_match m)
 
   held : HasSlots (chars bytes) all found.marks
-  held =
-      held_all (chars bytes) tree found.start found
+  held = held_all (chars bytes) tree found.start found
       (pattern_tree list trees given number tree answer.numbered) answer.answer kept
       (span_of_match m) own.2.has_slots own.2.is_match.span
 
   enough : 2 * captures_len tree ≤ length all
-  enough =
-      enough_kept kept (span_of_match m) (most_captures trees) (captures_len tree)
+  enough = enough_kept kept (span_of_match m) (most_captures trees) (captures_len tree)
       (room.2 ∙ ap (λ (own : List Tree). kept_slots (most_captures own))
-      (one_list list room.0 trees room.1 given))
-      (most_in trees number tree answer.numbered)
+      (one_list list room.0 trees room.1 given)) (most_in trees number tree answer.numbered)
 
   -- the pattern is there
   pub number_within : number < length list
@@ -110,8 +106,7 @@ module _ (list : List Expression) (bytes : List ℕ) (start : ℕ) (kept : List 
       (own_two : OfTrees list (λ trees. (tree : Tree) → HasTree trees number tree
       → two ≡ 2 * captures_len tree)) where
     two_is : two ≡ 2 * captures_len tree
-    two_is =
-        own_two.2 tree (subst (λ own. HasTree own number tree)
+    two_is = own_two.2 tree (subst (λ own. HasTree own number tree)
         (one_list list trees own_two.0 given own_two.1) answer.numbered)
 
     -- they are there
@@ -119,8 +114,7 @@ module _ (list : List Expression) (bytes : List ℕ) (start : ℕ) (kept : List 
     own_within = let le = enough in let is = two_is in omega (arith, le, is)
 
     spans_are : spans_of (take two all) ≡ spans_from (chars bytes) found.marks 0 (captures_len tree)
-    spans_are =
-        slots_told (chars bytes) found.marks (take two all) 0 (captures_len tree) 0 refl
+    spans_are = slots_told (chars bytes) found.marks (take two all) 0 (captures_len tree) 0 refl
         (length-take-le two all own_within ∙ two_is)
         (λ k slot at. held k slot (in_whole all two k slot at)
         ∙ ap (λ n. option_map (offset (chars bytes)) (found.marks n)) (omega arith))

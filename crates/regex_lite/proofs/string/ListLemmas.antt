@@ -15,8 +15,7 @@ module _ {A : Type 0} (found_of : A → Found) (haystack : Text)
   -- what isn't empty there ends later
   ends_later : (e : ℕ) (answer : A) → IsWithin haystack e (found_of answer)
       → is_empty_answer found_of e (Some answer) ≡ false → e < (found_of answer).end
-  ends_later e answer within apart =
-      grind (arith, nat_tests, within.from, within.ordered, apart)
+  ends_later e answer within apart = grind (arith, nat_tests, within.from, within.ordered, apart)
 
   behind : (e : ℕ) (answer : A) (from_end : Option A) (empty : Bool)
       → is_empty_answer found_of e from_end ≡ empty → Answers e from_end
@@ -34,8 +33,7 @@ module _ {A : Type 0} (found_of : A → Found) (haystack : Text)
       ((own.from, ends_later e answer own (ap (is_empty_answer found_of e) next ∙ is)), own)
 
   -- each match follows the last one
-  pub follows : (ended : Option ℕ) (answer : A)
-      → IsNextAnswer found_of Answers ended (Some answer)
+  pub follows : (ended : Option ℕ) (answer : A) → IsNextAnswer found_of Answers ended (Some answer)
       → Follows ended (found_of answer) × IsWithin haystack 0 (found_of answer)
   follows None answer next = (tt, lawful.within 0 answer next)
   follows (Some e) answer (from_end, there, next) =
@@ -79,9 +77,8 @@ module _ {A : Type 0} (found_of : A → Found) (haystack : Text)
       each true p q = lawful.one (suc e) a b p q
       each false p q = p ∙ sym q
 
-  pub one_from : (ended : Option ℕ) (list other : List A)
-      → AreAnswers found_of Answers ended list → AreAnswers found_of Answers ended other
-      → list ≡ other
+  pub one_from : (ended : Option ℕ) (list other : List A) → AreAnswers found_of Answers ended list
+      → AreAnswers found_of Answers ended other → list ≡ other
   one_from ended [] [] over over_too = refl
   one_from ended [] (g ∷ other) over (next, rest) =
       absurd (not_there (one_next ended None (Some g) over next))

@@ -33,15 +33,13 @@ whole_in_list list bytes s (number, found) groups (trees, given, is) (re, at, ar
     let own = own_tree list trees number is.tree given is.numbered in
     whole_of_groups re bytes found.start found groups
     (subst (λ e. IsAnswerOf e (chars bytes) found.start (Some found)) (same_some (sym own.1 ∙ at))
-    (is.tree, own.2, is.answer))
-    are
+    (is.tree, own.2, is.answer)) are
 
 -- so those of the last match have its span
 pub span_of_last_in_list : (list : List Expression) (bytes : List ℕ) (kept : List (Option ℕ))
     (own : ℕ × Found) (told : ℕ × Match) (groups : Groups)
     → IsMatchOfPatterns list bytes kept own told
-    → AreGroupsFoundInList list bytes own.0 own.1 groups
-    → whole_span groups ≡ span_of_match told.1
+    → AreGroupsFoundInList list bytes own.0 own.1 groups → whole_span groups ≡ span_of_match told.1
 span_of_last_in_list list bytes kept own told groups (s, is, last) are =
     whole_in_list list bytes s own groups is are ∙ sym last.is_match.span
 
@@ -52,33 +50,26 @@ module _ (bytes : List ℕ) (utf8 : IsUtf8 bytes) (list : List Expression) (comp
     (own : ℕ × Found)
     (told : ℕ × Match) (last : IsMatchOfPatterns list bytes kept own told) where
   answer : IsFoundInList built.trees (chars bytes) last.0 told.0 own.1
-  answer =
-      subst (λ number. IsFoundInList built.trees (chars bytes) last.0 number own.1)
-      (sym last.2.number)
-      (subst (λ trees. IsFoundInList trees (chars bytes) last.0 own.0 own.1)
+  answer = subst (λ number. IsFoundInList built.trees (chars bytes) last.0 number own.1)
+      (sym last.2.number) (subst (λ trees. IsFoundInList trees (chars bytes) last.0 own.0 own.1)
       (one_list list last.1.0 built.trees last.1.1 given) last.1.2)
 
   width : length kept ≡ compiled.kept_slots
-  width =
-      room.2
+  width = room.2
       ∙ ap (λ (trees : List Tree). kept_slots (most_captures trees))
-      (one_list list room.0 built.trees room.1 given)
-      ∙ sym (built.slots
-      ∙ ap kept_slots
+      (one_list list room.0 built.trees room.1 given) ∙ sym (built.slots ∙ ap kept_slots
       (most_are built.trees compiled.graph.groups built.groups.all built.groups.each))
 
   -- its pattern is there
   pub last_there : told.0 < length compiled.graph.groups
-  last_there =
-      found_there bytes utf8 list compiled built given last.0 told.0 own.1 answer kept
+  last_there = found_there bytes utf8 list compiled built given last.0 told.0 own.1 answer kept
       last.2.has_slots (span_of_match told.1) last.2.is_match.span width slots
 
   module _
       (filled : slots ≡ take (2 * length (groups_at compiled.graph.groups told.0).capture_names)
       (all_slots kept (span_of_match told.1))) where
     -- all slots hold groups
-    pub last_groups_are : AreGroups
-        (groups_of bytes slots (groups_at compiled.graph.groups told.0))
+    pub last_groups_are : AreGroups (groups_of bytes slots (groups_at compiled.graph.groups told.0))
     last_groups_are =
         found_groups_are bytes utf8 list compiled built given last.0 told.0 own.1 answer kept
         last.2.has_slots (span_of_match told.1) last.2.is_match.span width slots filled

@@ -120,8 +120,7 @@ module _ (bytes : List ℕ) (utf8 : IsUtf8 bytes) (start : ℕ) (list : List Exp
 
   -- the match lies in the haystack
   pub list_span_lies : LiesIn bytes span
-  list_span_lies =
-      subst (LiesIn bytes) span_is
+  list_span_lies = subst (LiesIn bytes) span_is
       (found_lies bytes utf8 answer.tree of_grammar found.start found answer.answer)
 
   -- it is what is returned

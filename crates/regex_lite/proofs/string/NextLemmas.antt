@@ -30,8 +30,7 @@ module _ {A N : Type 0} (found_of : A → Found) (number_of : A → N) (bytes : 
     (Answers : (s : ℕ) → Option A → Type 0) (lawful : AreLawful found_of (chars bytes) Answers)
     (slots : List (Option ℕ)) (utf8 : IsUtf8 bytes) where
   abbrev Told : (s : ℕ) → Option (N × Match) → Type 0
-  Told s told =
-      TellsOfAnswer Answers (IsMatchWithSlots found_of number_of bytes slots) s told
+  Told s told = TellsOfAnswer Answers (IsMatchWithSlots found_of number_of bytes slots) s told
 
   abbrev Next : (ended : Option ℕ) → Option A → Type 0
   Next ended answer = IsNextAnswer found_of Answers (option_map (position_at bytes) ended) answer
@@ -92,8 +91,7 @@ module _ {A N : Type 0} (found_of : A → Found) (number_of : A → N) (bytes : 
   -- the first match
   pub first_told : (told : Option (N × Match)) → IsCharBoundary bytes 0
       → Told (search_start bytes 0) told → Tells None told
-  first_told told edge tells =
-      told_next 0 None told
+  first_told told edge tells = told_next 0 None told
       (subst (λ s. Told s told) (first_position bytes) (at_start 0 told edge tells))
       (λ answer is. is) (λ found within. tt)
 
@@ -126,14 +124,12 @@ module _ {A N : Type 0} (found_of : A → Found) (number_of : A → N) (bytes : 
         each : (p ≡ (found_of answer).end)
             ⊎ ((p < (found_of answer).end) ⊎ ((found_of answer).end < p))
             → is_empty_answer found_of p (Some answer) ≡ true
-        each (inl same) =
-            grind (arith, nat_tests, same, within.from, within.ordered)
+        each (inl same) = grind (arith, nat_tests, same, within.from, within.ordered)
         each (inr (inl less)) =
             let same = (position_is bytes at utf8 edge).1 in
             let below = offset_less (chars bytes) p (found_of answer).end less within.inside in
             absurd (omega (arith, same, below, early))
-        each (inr (inr more)) =
-            absurd (omega (arith, within.from, within.ordered, more))
+        each (inr (inr more)) = absurd (omega (arith, within.from, within.ordered, more))
 
     pub none_told : Told (search_start bytes at) None → Tells (Some at) None
     none_told tells = (None, at_start at None edge tells, refl)
@@ -186,11 +182,9 @@ module _ {A N : Type 0} (found_of : A → Found) (number_of : A → N) (bytes : 
     pub after_told : (next : ℕ) (further : Option (N × Match)) → Empty at
         → IsNextOffset bytes at next → Told (search_start bytes next) further
         → Tells (Some at) further
-    after_told next further empty goes_on tells_further =
-        told_next (suc p) (Some at) further
+    after_told next further empty goes_on tells_further = told_next (suc p) (Some at) further
         (subst (λ s. Told s further) goes_on.starts tells_further)
-        (λ answer is. passed answer empty is)
-        onward
+        (λ answer is. passed answer empty is) onward
       where
         onward : (found : Found) → IsWithin (chars bytes) (suc p) found
             → IsOnward (Some at) (span_of_found (chars bytes) found)

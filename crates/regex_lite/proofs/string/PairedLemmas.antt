@@ -47,8 +47,7 @@ paired_so R S f (x ∷ xs) (y ∷ ys) so (p, ps) = (so x y p, paired_so R S f xs
 
 -- where each has only one, all have
 pub paired_once : {A B : Type 0} (R : A → B → Type 0) (xs : List A) (ys zs : List B)
-    → ((x : A) (y z : B) → R x y → R x z → y ≡ z) → AllPaired R xs ys → AllPaired R xs zs
-    → ys ≡ zs
+    → ((x : A) (y z : B) → R x y → R x z → y ≡ z) → AllPaired R xs ys → AllPaired R xs zs → ys ≡ zs
 paired_once R [] [] [] once p q = refl
 paired_once R [] [] (z ∷ zs) once p q = absurd q
 paired_once R [] (y ∷ ys) zs once p q = absurd p

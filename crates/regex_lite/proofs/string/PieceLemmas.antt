@@ -15,8 +15,7 @@ pub cut_cons : (old new : Ahead) (from : ℕ) (found : Found) (span : ℕ × ℕ
 cut_cons old new from found span list passes is rest =
     let hay = old.haystack in
     let Spans : List Found → List (ℕ × ℕ) = map (found_span (chars hay)) in
-    let behind : list ≡ pieces hay span.1 (Spans rest.found) =
-    rest.cut
+    let behind : list ≡ pieces hay span.1 (Spans rest.found) = rest.cut
     ∙ ap (λ (a : Ahead). pieces a.haystack span.1 (map (found_span (chars a.haystack)) rest.found))
     passes.passed in
     record {

@@ -44,8 +44,7 @@ passed_on {text} {start} {old} {new} {found} {from} {span} {made} so_far passes 
           (map (found_span (chars start.haystack)) list) in
           subst (IsReplacedBy text start)
           (ap (λ (own : ℕ × ℕ). made ++ (slice_range start.haystack from own.0 ++ text ++ rest own))
-          (sym is)
-          ∙ sym (together made (slice_range start.haystack from span.0) text (rest span)))
+          (sym is) ∙ sym (together made (slice_range start.haystack from span.0) text (rest span)))
           (so_far.on (found ∷ list) (ahead_cons old new found list passes are));
     })
 

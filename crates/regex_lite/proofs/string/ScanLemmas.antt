@@ -38,18 +38,15 @@ module _ (bytes : List ℕ) (utf8 : IsUtf8 bytes) (re : Expression) (kept slots 
   tree = shares.0
 
   enough : length kept ≡ kept_slots (captures_len tree)
-  enough =
-      subst (λ own. length kept ≡ kept_slots (captures_len own))
+  enough = subst (λ own. length kept ≡ kept_slots (captures_len own))
       (one_tree re.flags (chars re.pattern) room.0 tree room.1 shares.1) room.2
 
   is_found : IsFound tree (chars bytes) last.0 found
-  is_found =
-      subst (λ own. IsFound own (chars bytes) last.0 found)
+  is_found = subst (λ own. IsFound own (chars bytes) last.0 found)
       (one_tree re.flags (chars re.pattern) last.1.0 tree last.1.1 shares.1) last.1.2
 
   all_held : AreAllSlots (chars bytes) tree found slots
-  all_held =
-      all_told (chars bytes) tree last.0 found (re.flags, _, shares.1) is_found kept slots
+  all_held = all_told (chars bytes) tree last.0 found (re.flags, _, shares.1) is_found kept slots
       (span_of_match told.1) filled enough last.2.has_slots last.2.is_match.span
 
   -- all slots hold groups
@@ -78,8 +75,7 @@ pub whole_of_groups : (re : Expression) (bytes : List ℕ) (s : ℕ) (found : Fo
     → IsAnswerOf re (chars bytes) s (Some found) → AreGroupsFound re bytes found groups
     → whole_span groups ≡ offsets (chars bytes) (found.start, found.end)
 whole_of_groups re bytes s found groups (tree, given, is) (own, given_too, are) =
-    ap (λ spans. unwrap_or (span_at spans 0) (0, 0)) are.spans
-    ∙ ap (λ span. unwrap_or span (0, 0))
+    ap (λ spans. unwrap_or (span_at spans 0) (0, 0)) are.spans ∙ ap (λ span. unwrap_or span (0, 0))
     (group_0 (chars bytes) own s found (captures_len own) (re.flags, _, given_too)
     (subst (λ t. IsFound t (chars bytes) s found)
     (one_tree re.flags (chars re.pattern) tree own given given_too) is) (omega arith))
@@ -145,8 +141,7 @@ module _ {A : Type 0} (found_of : A → Found) (bytes : List ℕ) (utf8 : IsUtf8
       ∙ position_of bytes utf8 (found_of answer).end (offset (chars bytes) (found_of answer).end)
       (within.inside, refl)
 
-  same : (span_of_match m).0 ≡ (span_of_match m).1
-      → (found_of answer).start ≡ (found_of answer).end
+  same : (span_of_match m).0 ≡ (span_of_match m).1 → (found_of answer).start ≡ (found_of answer).end
   same empty = each (cases_order (found_of answer).start (found_of answer).end)
     where
       each : ((found_of answer).start ≡ (found_of answer).end)

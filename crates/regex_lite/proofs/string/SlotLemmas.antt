@@ -123,8 +123,7 @@ behind (x ∷ xs) (suc k) own there =
 
 -- the slots of one more pattern, with those that are left
 pub most_on : (all : List StoredGroups) (k : ℕ) (own : StoredGroups) (most next slots : ℕ)
-    → slice_get all k ≡ Some own → slots ≡ 2 * length own.capture_names
-    → next ≡ max most slots
+    → slice_get all k ≡ Some own → slots ≡ 2 * length own.capture_names → next ≡ max most slots
     → max next (2 * most_groups (drop (k + 1) all)) ≡ max most (2 * most_groups (drop k all))
 most_on all k own most next slots there two is =
     let rest = most_groups (drop (k + 1) all) in

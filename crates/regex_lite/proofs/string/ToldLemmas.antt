@@ -38,8 +38,7 @@ TellsOutcome graph bytes start told =
     (tree : Tree) → IsRegular tree → IsGraphOf tree graph → IsOutcome tree bytes start told
 
 abbrev pub TellsSpanOfGraph : StoredGraph → (bytes : List ℕ) → (start : ℕ)
-    → (slots : List (Option ℕ))
-    → Option (ℕ × ℕ) → Type 0
+    → (slots : List (Option ℕ)) → Option (ℕ × ℕ) → Type 0
 TellsSpanOfGraph graph bytes start slots told =
     (tree : Tree) → IsRegular tree → IsGraphOf tree graph
     → IsSpanOutcome tree bytes start slots told
@@ -72,8 +71,7 @@ module _ (bytes : List ℕ) (utf8 : IsUtf8 bytes) (start : ℕ) (re : Expression
 
   -- the match lies in the haystack
   pub span_lies : LiesIn bytes span
-  span_lies =
-      subst (LiesIn bytes) span_is
+  span_lies = subst (LiesIn bytes) span_is
       (found_lies bytes utf8 own.0 (re.flags, _, own.1) (search_start bytes start) found own.2.1)
 
   -- it is what is returned
@@ -106,20 +104,17 @@ module _ (bytes : List ℕ) (utf8 : IsUtf8 bytes) (start : ℕ) (re : Expression
       (filled : all ≡ all_slots slots span) (shared : StoredGroups)
       (same : shared ≡ stored_groups compiled) where
     of_built : IsSpanOutcome built.tree bytes start slots (Some span)
-    of_built =
-        subst (λ tree. IsSpanOutcome tree bytes start slots (Some span))
+    of_built = subst (λ tree. IsSpanOutcome tree bytes start slots (Some span))
         (one_tree re.flags (chars re.pattern) own.0 built.tree own.1 given) own.2
 
     all_held : AreAllSlots (chars bytes) built.tree of_built.0 all
-    all_held =
-        all_told (chars bytes) built.tree (search_start bytes start) of_built.0
+    all_held = all_told (chars bytes) built.tree (search_start bytes start) of_built.0
         (compiled.flags, _, built.given) of_built.1 slots all span filled enough of_built.2.slots
         (same_pair of_built.2.start of_built.2.end)
 
     -- all slots hold groups
     pub groups_are : AreGroups (groups_of bytes all shared)
-    groups_are =
-        subst (λ c. AreGroups (groups_of bytes all c)) (sym same)
+    groups_are = subst (λ c. AreGroups (groups_of bytes all c)) (sym same)
         (captured bytes utf8 built.tree (compiled.flags, _, built.given) (search_start bytes start)
         of_built.0 of_built.1 all all_held (stored_groups compiled) (built_shares compiled built))
 

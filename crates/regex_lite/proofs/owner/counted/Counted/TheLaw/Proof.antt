@@ -18,7 +18,6 @@ shares T L = of_Lends (C.struct T) (C.the_codes T.Denot T.coded) (C.the_heap T) 
     (λ d p. let c = d.ptr in let x = d.value in
     rc_shr_laws 64 (block_of c, count_of c) (count_at c (lends T c x [])) only_one
     (owned T c x) ftrue ftrue (lends T c x) (lent_at_shr_laws T L.shr_laws (value_place T c x) x))
-    (copy_shared RawPtr-field RawPtr-copy, tt)
-    (λ M 𝓤 𝓛 d p. let c = d.ptr in let x = d.value in
+    (copy_shared RawPtr-field RawPtr-copy, tt) (λ M 𝓤 𝓛 d p. let c = d.ptr in let x = d.value in
     Lends-rc 64 (block_of c, count_of c) (count_at c (lends T c x [])) only_one (owned T c x) ftrue
     ftrue (lends T c x) 𝓛 (lent_at_shr_laws T L.shr_laws (value_place T c x) x) (C.the_row T).lives)

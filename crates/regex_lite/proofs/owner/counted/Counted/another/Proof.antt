@@ -84,8 +84,7 @@ another_spec 𝓤 𝓛 𝓜 𝓡 wired T L =
     ⊛ ‵ (owns (types_at En.signature.params z.0.0) z.0.3 z.0.4)) ∷ (‵ (ftok every) ⊛ asked) ∷ []) ∵
     split ! $ split ! $ move ! (3 ∷ []) $ split ! $ move ! (4 ∷ []) $ fsplit ! $ fsplit ! $
     feq_l ! (λ eu. keep ! (0 ∷ 4 ∷ 2 ∷ 5 ∷ []) $
-    use1 𝓛 (‵ (hidden_shr (Word (R ∷ []) ν) κ (c, tt) b o) ⊛ ‵ (fhide (lent R c x κ)))
-    (id⊢ 𝓤 _) $
+    use1 𝓛 (‵ (hidden_shr (Word (R ∷ []) ν) κ (c, tt) b o) ⊛ ‵ (fhide (lent R c x κ))) (id⊢ 𝓤 _) $
     split ! $
     suffices ! (Run us) (subst (λ (ws : List Val). ent 𝓤 (Run us) (Run ws)) (sym (λ i. eu i ++ []))
     (id⊢ 𝓤 (Run us))) $
@@ -101,28 +100,22 @@ another_spec 𝓤 𝓛 𝓜 𝓡 wired T L =
     sets ! (of_opd ! (load ! (through ! refl (fld ! refl (stop !))) (look ! 0 refl))) refl
     (tt, record { fits = fw }) $
     sets ! (bin ! (neg_lit ! tt) (lit ! tt) (lit< tt)) refl (tt, record { fits = lit< tt }) $
-    sets ! (bin ! (get ! refl) (get ! refl) tt) refl (tt, tt) $ first ! $
-    branches ! (get ! refl)
+    sets ! (bin ! (get ! refl) (get ! refl) tt) refl (tt, tt) $ first ! $ branches ! (get ! refl)
     (λ full. assigns ! (of_opd ! (neg_lit ! tt)) (through ! refl (fld ! refl (stop !)))
     (store ! 0 refl (tt, record { fits = lit< tt })) $
     sets ! (addr ! (through ! refl (fld ! refl (stop !)))) refl (tt, tt) $
     sets ! (agg ! (and_then ! (lit ! tt) (and_then ! (get ! refl) (no_more !)))) refl
-    (tt, (record { fits = lit< tt }, (tt, tt))) $
-    move ! (1 ∷ 2 ∷ 9 ∷ []) $
+    (tt, (record { fits = lit< tt }, (tt, tt))) $ move ! (1 ∷ 2 ∷ 9 ∷ []) $
     use3 𝓛 (later (‵ (static R c x) ⊛ ‵ (fex ℕ (value R c x a true))))
     (fills R (param_laws 0 T L).shr_laws c x 𝓛 a n w) $ await ! tt $ split ! $
     use1 𝓛 (‵ (static R c x) ⊛ ‵ (static R c x)) (contraction 𝓛 (lends R c x)
-    (lent_at_shr_laws R (param_laws 0 T L).shr_laws (value_place R c x) x) []) $
-    split ! $
+    (lent_at_shr_laws R (param_laws 0 T L).shr_laws (value_place R c x) x) []) $ split ! $
     -- [what is seen for ever, twice; the value; the word; the weaks; the share; what shuts; the
     -- handle; the way back; the invariant; the other tokens]
-    move ! (2 ∷ []) $
-    fpick ! (λ m. move ! (1 ∷ []) $ fpack ! (top ≡ top) (λ _. static R c x) refl $
+    move ! (2 ∷ []) $ fpick ! (λ m. move ! (1 ∷ []) $ fpack ! (top ≡ top) (λ _. static R c x) refl $
     fpack ! Bool (stands_for (static R c x) m top) false $
     move ! (3 ∷ 0 ∷ 1 ∷ 4 ∷ 6 ∷ []) $ shuts R c x a ! tt m top cb co e (lit< tt) $
-    move ! (2 ∷ 3 ∷ 4 ∷ []) $
-    lent_back R c x ν κ q b o ! tt a.0 s q' $
-    move ! (2 ∷ []) $
+    move ! (2 ∷ 3 ∷ 4 ∷ []) $ lent_back R c x ν κ q b o ! tt a.0 s q' $ move ! (2 ∷ []) $
     rewrite ! 0 (λ (r : Ptr). ‵ (lent_at R (r +ₚ value_at) x [])) e refl $ fsplit ! $
     drop ! $ hide ! $
     feq_i ! (List Val) (vptr cb (co + value_at) ∷ []) (vptr cb (co + value_at) ∷ []) refl $
@@ -131,13 +124,11 @@ another_spec 𝓤 𝓛 𝓜 𝓡 wired T L =
     use1 𝓛 (‵ ((Res.the_row Out Ref).own_val (Err seen)
     (live 1 (vcons (vptr cb (co + value_at)) vnil) ∷ [])))
     (err_of 𝓛 Out Ref seen (vptr cb (co + value_at))) $
-    returns_within ! Post refl (look_at ! 0 refl) $ free_all ! refl $
-    keep ! (0 ∷ 1 ∷ 4 ∷ 2 ∷ []) $
+    returns_within ! Post refl (look_at ! 0 refl) $ free_all ! refl $ keep ! (0 ∷ 1 ∷ 4 ∷ 2 ∷ []) $
     suffices ! _ (ends_at 𝓛 En hs (held 𝓛 En hs cl) z
     (live 1 (vcons (vptr cb (co + value_at)) vnil)) (Err seen) (tt, tt) (tt, tt)) $
     nothing ! $ nothing ! $ fjoin ! $ join ! $ move ! (1 ∷ 2 ∷ []) $ join ! $ join ! $ frame ! $
-    says ! refl $ done !))
-    (λ room. skips ! $
+    says ! refl $ done !)) (λ room. skips ! $
     exec ! 𝓣.C 𝓣.Λ Ev (after 4 (inside (head (after 2 fn.body))))
     (any_q (after_block 𝓤 H (after_seq 𝓤 H (Wp 𝓤 H 𝓣.C 𝓣.Λ Ev (after 3 fn.body)
     (at_return 𝓤 H Ev Post)) (at_return 𝓤 H Ev Post)))) $
@@ -148,8 +139,7 @@ another_spec 𝓤 𝓛 𝓜 𝓡 wired T L =
     rewrite ! 0 (λ (j : ℕ). ‵ (value R c x a true j)) (sym wn) refl $ move ! (1 ∷ []) $
     -- [the word; the value; the weaks; the share; what shuts; the handle; the way back; the
     -- invariant; what is seen; the other tokens]
-    sets ! (bin ! (get ! refl) (lit ! tt) (record { fits = f₁ })) refl
-    (tt, record { fits = f₁ }) $
+    sets ! (bin ! (get ! refl) (lit ! tt) (record { fits = f₁ })) refl (tt, record { fits = f₁ }) $
     assigns_last ! (of_opd ! (get ! refl)) (through ! refl (fld ! refl (stop !)))
     (store ! 0 refl (tt, record { fits = f₁ })) $
     exec ! 𝓣.C 𝓣.Λ Ev (after 3 fn.body) (at_ret Ev Post) $
@@ -159,8 +149,7 @@ another_spec 𝓤 𝓛 𝓜 𝓡 wired T L =
     (first_Good (word_ty ν) (word c) (word-Good ν c)) $
     move ! (1 ∷ []) $ more R c x a ! w f₁ $ says_n R c x a ! (w + 1) (omega arith) $
     move ! (3 ∷ 0 ∷ 1 ∷ 4 ∷ 6 ∷ []) $ shuts R c x a ! tt (w + 1) (w + 1) cb co e f₁ $
-    move ! (2 ∷ 3 ∷ 4 ∷ []) $ lent_back R c x ν κ q b o ! tt a.0 s q' $
-    move ! (2 ∷ 3 ∷ 4 ∷ []) $
+    move ! (2 ∷ 3 ∷ 4 ∷ []) $ lent_back R c x ν κ q b o ! tt a.0 s q' $ move ! (2 ∷ 3 ∷ 4 ∷ []) $
     handle_made R c x ! ν a $
     use1 𝓛 (‵ ((Res.the_row Out Ref).own_val (Ok made) (live 0 (vcons (word c) vnil) ∷ [])))
     (ok_of 𝓛 Out Ref made (word c)) $

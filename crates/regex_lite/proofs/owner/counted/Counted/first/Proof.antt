@@ -57,8 +57,7 @@ first_spec 𝓤 𝓛 𝓜 𝓡 wired T L =
     let Post : Val → SProp 𝓤 = (walk_of 𝓛 En hs cl).post z in
     let Run : List Val → SProp 𝓤 = λ ws. WpFn 𝓤 H 𝓣.C 𝓣.Λ fn ws Post in
     qed 𝓛 (((‵ (flft κs.0 qs.0) ⊛ ‵ ftrue) ⊛ ‵ (owns (types_at En.signature.params κs) z.0.3 z.0.4))
-    ∷ raw (fact 𝓤 (κs.0 ⊑ T.lives)) ∷ raw (fact 𝓤 (v.value.count ≡ 1)) ∷ []) ∵
-    move ! (1 ∷ 2 ∷ []) $
+    ∷ raw (fact 𝓤 (κs.0 ⊑ T.lives)) ∷ raw (fact 𝓤 (v.value.count ≡ 1)) ∷ []) ∵ move ! (1 ∷ 2 ∷ []) $
     heard ! (κs.0 ⊑ T.lives) (λ le. heard ! (v.value.count ≡ 1) (λ one. split ! $
     move ! (1 ∷ []) $ fsplit ! $ unboxed_had B Z LZ g ! v z.0.4.0 (λ b o h e ws fits.
     let w : Val = both (vptr b o) h in let typed = both_good B Z LZ g b o h fits in
@@ -70,14 +69,11 @@ first_spec 𝓤 𝓛 𝓜 𝓡 wired T L =
     suffices ! (Run (w ∷ [])) (subst (λ (us : List Val). ent 𝓤 (Run (w ∷ [])) (Run us))
     (sym (λ i. ws i ++ [])) (id⊢ 𝓤 (Run (w ∷ [])))) $
     enter ! 𝓣.C 𝓣.Λ fn (w ∷ []) Post $ alloc_all ! (λ l. pass_all ! refl (typed, tt) $
-    move ! (2 ∷ 3 ∷ 0 ∷ []) $
-    use3 𝓛 (later (‵ (fex Id (handle R c x)) ⊛ ‵ (flft κs.0 qs.0)))
-    (starts T L b o x 𝓛 κs.0 qs.0 le) $ await ! tt $
-    split ! $
+    move ! (2 ∷ 3 ∷ 0 ∷ []) $ use3 𝓛 (later (‵ (fex Id (handle R c x)) ⊛ ‵ (flft κs.0 qs.0)))
+    (starts T L b o x 𝓛 κs.0 qs.0 le) $ await ! tt $ split ! $
     sets ! (of_opd ! (get_in ! (fld ! refl (stop !)) (sub ! 0 refl (whole !)))) refl (tt, tt) $
     sets ! (agg ! (and_then ! (get ! refl) (no_more !))) refl (word-Good ν c) $
     word_made (R ∷ []) ν c ! $ fjoin ! $ move ! (1 ∷ 2 ∷ []) $ join ! $
     use0 𝓛 (raw (fact 𝓤 (x ≡ x))) (fact_i 𝓤 (x ≡ x) (emp 𝓤) refl) $ nothing ! $ nothing ! $
-    fjoin ! $
-    returns ! (look_at ! 0 refl) $ free_all ! refl $ keep ! (2 ∷ 0 ∷ 3 ∷ 1 ∷ []) $
+    fjoin ! $ returns ! (look_at ! 0 refl) $ free_all ! refl $ keep ! (2 ∷ 0 ∷ 3 ∷ 1 ∷ []) $
     by ! (leaves 𝓛 En hs cl z (word c) (record { ptr = c; value = x }) (tt, tt) (tt, tt)))))))

@@ -91,15 +91,12 @@ release_spec 𝓤 𝓛 𝓜 𝓡 wired T L =
     qed 𝓛 (((‵ (flft z.0.0.0 z.0.1.0) ⊛ ‵ ftrue)
     ⊛ ‵ (owns (types_at En.signature.params z.0.0) z.0.3 z.0.4))
     ∷ ‵ (ftok every) ∷ raw (fact 𝓤 (z.0.0.0 ⊑ T.lives)) ∷ ‵ ftrue ∷ []) ∵
-    split ! $ move ! (1 ∷ []) $ fsplit ! $
-    handle_had R c x ! ν us (λ a s one eu. move ! (3 ∷ []) $
-    fsplit ! $ handle_tells al ! z.0.3.1.0 vs (λ h ev fits.
-    keep ! (2 ∷ 3 ∷ 6 ∷ 0 ∷ 5 ∷ []) $
+    split ! $ move ! (1 ∷ []) $ fsplit ! $ handle_had R c x ! ν us (λ a s one eu. move ! (3 ∷ []) $
+    fsplit ! $ handle_tells al ! z.0.3.1.0 vs (λ h ev fits. keep ! (2 ∷ 3 ∷ 6 ∷ 0 ∷ 5 ∷ []) $
     suffices ! (Run (word c ∷ h ∷ []))
     (subst (λ (ws : List Val). ent 𝓤 (Run (word c ∷ h ∷ [])) (Run (ws ++ (vs ++ [])))) (sym eu)
     (subst (λ (ws : List Val). ent 𝓤 (Run (word c ∷ h ∷ [])) (Run (word c ∷ (ws ++ []))))
-    (sym ev) (id⊢ 𝓤 (Run (word c ∷ h ∷ []))))) $
-    enter ! 𝓣.C 𝓣.Λ fn (word c ∷ h ∷ []) Post $
+    (sym ev) (id⊢ 𝓤 (Run (word c ∷ h ∷ []))))) $ enter ! 𝓣.C 𝓣.Λ fn (word c ∷ h ∷ []) Post $
     alloc_all ! (λ l. pass_all ! refl (word-Good ν c, (fits, tt)) $
     let Ev : Env 𝓤 H = env fn.locals l in
     move ! (1 ∷ 0 ∷ 2 ∷ []) $ opens R c x a ! tt s (λ n w cb co e fw some_n.
@@ -121,9 +118,7 @@ release_spec 𝓤 𝓛 𝓜 𝓡 wired T L =
     suffices ! _
     (ends_at 𝓛 En hs (held 𝓛 En hs cl) z (live 0 vnil) None (tt, (tt, tt)) (tt, (tt, tt))) $
     nothing ! $ nothing ! $ fjoin ! $ nothing ! $ fjoin ! $ join ! $ move ! (1 ∷ 0 ∷ []) $
-    join ! $ frame ! $
-    says ! tt $ done !)
-    (λ below. skips ! $
+    join ! $ frame ! $ says ! tt $ done !) (λ below. skips ! $
     exec ! 𝓣.C 𝓣.Λ Ev (after 3 (inside (head (after 2 fn.body))))
     (any_q (after_block 𝓤 H (after_seq 𝓤 H
     (Wp 𝓤 H 𝓣.C 𝓣.Λ Ev (after 3 fn.body) (at_return 𝓤 H Ev Post)) (at_return 𝓤 H Ev Post)))) $
@@ -139,23 +134,19 @@ release_spec 𝓤 𝓛 𝓜 𝓡 wired T L =
     sets ! (bin ! (get ! refl) (lit ! tt) some_w) refl (tt, record { fits = f₁ }) $
     assigns ! (of_opd ! (get ! refl)) (through ! refl (fld ! refl (stop !)))
     (store ! 0 refl (tt, record { fits = f₁ })) $
-    sets ! (agg ! (and_then ! (lit ! tt) (no_more !))) refl
-    (tt, (record { fits = lit< tt }, tt)) $
-    move ! (1 ∷ 3 ∷ []) $ less R c x a ! w more $
-    says_n R c x a ! (w - 1) (omega arith) $
+    sets ! (agg ! (and_then ! (lit ! tt) (no_more !))) refl (tt, (record { fits = lit< tt }, tt)) $
+    move ! (1 ∷ 3 ∷ []) $ less R c x a ! w more $ says_n R c x a ! (w - 1) (omega arith) $
     move ! (2 ∷ 0 ∷ 1 ∷ 3 ∷ 4 ∷ []) $ shuts R c x a ! tt (w - 1) (w - 1) cb co e f₁ $
     use0 𝓛 (‵ ((Opt.the_row Out).own_val None (live 0 vnil ∷ []))) (none_of 𝓛 Out) $
     returns_within ! Post refl (look_at ! 0 refl) $ free_all ! refl $ keep ! (0 ∷ 3 ∷ 1 ∷ []) $
     suffices ! _
     (ends_at 𝓛 En hs (held 𝓛 En hs cl) z (live 0 vnil) None (tt, (tt, tt)) (tt, (tt, tt))) $
     nothing ! $ nothing ! $ fjoin ! $ nothing ! $ fjoin ! $ join ! $ move ! (1 ∷ 0 ∷ []) $
-    join ! $ frame ! $
-    says ! tt $ done !)
+    join ! $ frame ! $ says ! tt $ done !)
     (λ last. skips ! $ exec ! 𝓣.C 𝓣.Λ Ev (after 3 fn.body) (at_ret Ev Post) $
     let w1 : w ≡ 1 = is_so w 1 last in let n1 : n ≡ 1 = sym wn ∙ w1 in
     let block : B.Denot = record { count = 1; value = x } in
-    let made : Out.Denot =
-    record { ptr = block_ptr cb co; alloc = z.0.3.1.0; value = block } in
+    let made : Out.Denot = record { ptr = block_ptr cb co; alloc = z.0.3.1.0; value = block } in
     let typed = both_good B Z HeapLaws.the_row_laws HeapImpl.ghosts cb co h fits in
     rewrite ! 0 (λ (j : ℕ). ‵ (cell cb co 0 j)) w1 refl $
     rewrite ! 1 (λ (j : ℕ). ‵ (value R c x a true j)) n1 refl $
@@ -170,10 +161,8 @@ release_spec 𝓤 𝓛 𝓜 𝓡 wired T L =
     sets ! (agg ! (and_then ! (lit ! tt) (and_then ! (get ! refl) (no_more !)))) refl
     (some_Good (layout Out) (both (vptr cb co) h) typed) $
     use1 𝓛 (‵ ((Opt.the_row Out).own_val (Some made)
-    (live 1 (vcons (both (vptr cb co) h) vnil) ∷ [])))
-    (Some-of 𝓛 Out made (both (vptr cb co) h)) $
-    returns ! (look_at ! 0 refl) $ free_all ! refl $ keep ! (0 ∷ 2 ∷ 1 ∷ []) $
-    suffices ! _
+    (live 1 (vcons (both (vptr cb co) h) vnil) ∷ []))) (Some-of 𝓛 Out made (both (vptr cb co) h)) $
+    returns ! (look_at ! 0 refl) $ free_all ! refl $ keep ! (0 ∷ 2 ∷ 1 ∷ []) $ suffices ! _
     (ends_at 𝓛 En hs (held 𝓛 En hs cl) z (live 1 (vcons (both (vptr cb co) h) vnil))
     (Some made) (tt, (tt, tt)) (tt, (tt, tt))) $ nothing ! $ nothing ! $ fjoin ! $ nothing ! $
     fjoin ! $ join ! $ move ! (1 ∷ 0 ∷ []) $ join ! $ frame ! $ says ! refl $ done !))))))))

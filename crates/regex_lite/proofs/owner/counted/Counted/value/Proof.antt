@@ -71,15 +71,12 @@ value_spec 𝓤 𝓛 𝓜 𝓡 wired T L =
     ⊛ ‵ (owns (types_at En.signature.params κs) z.0.3 z.0.4)) ∷ asked ∷ []) ∵
     split ! $ split ! $ move ! (2 ∷ []) $ fsplit ! $ fsplit ! $ feq_l ! (λ is.
     keep ! (0 ∷ 2 ∷ 3 ∷ []) $
-    use1 𝓛 (‵ (hidden_shr (Word (R ∷ []) ν) κ (c, tt) b o) ⊛ ‵ (fhide (lent R c x κ)))
-    (id⊢ 𝓤 _) $
+    use1 𝓛 (‵ (hidden_shr (Word (R ∷ []) ν) κ (c, tt) b o) ⊛ ‵ (fhide (lent R c x κ))) (id⊢ 𝓤 _) $
     split ! $ move ! (1 ∷ []) $ unhide ! $
     use1 𝓛 (‵ (lends R c x κ)) (rc_sees 64 (key R c x) (S R c x) only_one (owned R c x) ftrue
     ftrue (lends R c x) 𝓛 (lent_at_shr_laws R (param_laws 0 T L).shr_laws (value_place R c x) x)
-    κ) $
-    in_a_block ! c (λ r. lent_at R (r +ₚ value_at) x κ)
-    (fst∗ 𝓤 (never 𝓤) (sem 𝓛 (shared_of R x 0 0 κ)))
-    (λ cb co e. fsplit ! $ drop ! $ hide ! $
+    κ) $ in_a_block ! c (λ r. lent_at R (r +ₚ value_at) x κ)
+    (fst∗ 𝓤 (never 𝓤) (sem 𝓛 (shared_of R x 0 0 κ))) (λ cb co e. fsplit ! $ drop ! $ hide ! $
     suffices ! (Run us) (subst (λ (ws : List Val). ent 𝓤 (Run us) (Run ws)) (sym (λ i. is i ++ []))
     (id⊢ 𝓤 (Run us))) $
     enter ! 𝓣.C 𝓣.Λ fn us Post $ alloc_all ! (λ l. pass_all ! refl ((tt, tt), tt) $
@@ -89,8 +86,7 @@ value_spec 𝓤 𝓛 𝓜 𝓡 wired T L =
     rewrite ! 0 (λ (r : Ptr). ‵ (fat q' (word_ty ν) b o (word r))) e refl $ first ! $ blocks ! $
     sets_last ! (addr ! (through ! refl
     (fld ! refl (hop ! (look_in ! 0 (sub ! 0 refl (whole !))) (fld ! refl (stop !)))))) refl
-    (tt, tt) $
-    exec ! 𝓣.C 𝓣.Λ Ev (after 1 fn.body) (at_ret Ev Post) $
+    (tt, tt) $ exec ! 𝓣.C 𝓣.Λ Ev (after 1 fn.body) (at_ret Ev Post) $
     sets ! (of_opd ! (get ! refl)) refl (tt, tt) $
     rewrite ! 0 (λ (r : Ptr). ‵ (fat q' (word_ty ν) b o (word r))) (sym e) refl $
     read (R ∷ []) ν c ! tt b o q' $

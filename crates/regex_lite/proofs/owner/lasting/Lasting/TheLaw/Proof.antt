@@ -46,8 +46,7 @@ module _ (T : RattleType) (L : Laws T) (p : Ptr) (x : T.Denot) where
       let back = wand 𝓤 (sem 𝓛 held) (𝓛.H.⇛ (sep 𝓤 (𝓛.A.bor κ held) (lfts 𝓛 ts))) in
       qed 𝓛 (‵ (fbor κ held) ∷ raw (lfts 𝓛 ts) ∷ []) {P = 𝓛.H.⇛ (sep 𝓤 (sem 𝓛 held) (lfts 𝓛 ts))} (
       updating ! $ use2 𝓛 (later (‵ held ⊛ raw back)) (𝓛.more.bor_acc_by κ ts held within) $
-      await ! tt $ split ! $
-      use1 𝓛 (‵ held ⊛ ‵ held) (twice 𝓛) $ split ! $ move ! (0 ∷ 2 ∷ []) $
+      await ! tt $ split ! $ use1 𝓛 (‵ held ⊛ ‵ held) (twice 𝓛) $ split ! $ move ! (0 ∷ 2 ∷ []) $
       use2 𝓛 (later (‵ (fbor κ held) ⊛ raw (lfts 𝓛 ts)))
       (apply∗ 𝓤 (sem 𝓛 held) (𝓛.H.⇛ (sep 𝓤 (𝓛.A.bor κ held) (lfts 𝓛 ts)))) $
       await ! tt $ split ! $ drop ! $ move ! (1 ∷ 0 ∷ []) $ now ! $ done !)
@@ -55,7 +54,6 @@ module _ (T : RattleType) (L : Laws T) (p : Ptr) (x : T.Denot) where
 pub shares : (T : RattleType) (L : Laws T) → statement T L
 shares T L =
     of_Lends (lasting.struct T) (lasting.the_codes T.Denot T.coded) (lasting.the_heap T)
-    (lasting.the_lent T)
-    (λ d p. held_laws T L d.ptr d.value)
+    (lasting.the_lent T) (λ d p. held_laws T L d.ptr d.value)
     (copy_shared RawPtr-field RawPtr-copy, tt)
     (λ M 𝓤 𝓛 d p. lends T L d.ptr d.value 𝓛 (lasting.the_row T).lives)

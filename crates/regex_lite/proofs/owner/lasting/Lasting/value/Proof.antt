@@ -62,26 +62,20 @@ value_spec 𝓤 𝓛 𝓜 𝓡 wired T L =
     qed 𝓛 (((‵ (flft κs.0 qs.0) ⊛ ‵ (flft κs.1.0 qs.1.0) ⊛ ‵ ftrue)
     ⊛ ‵ (owns (types_at En.signature.params κs) z.0.3 z.0.4)) ∷ asked ∷ []) ∵
     split ! $ split ! $ move ! (2 ∷ []) $ fsplit ! $ fsplit ! $ feq_l ! (λ is.
-    keep ! (0 ∷ 2 ∷ 3 ∷ []) $
-    use1 𝓛
+    keep ! (0 ∷ 2 ∷ 3 ∷ []) $ use1 𝓛
     (‵ (hidden_shr (Word (R ∷ []) ν) κs.0 (p, tt) b o) ⊛ ‵ (fhide (lent_static R p x)))
-    (id⊢ 𝓤 _) $
-    split ! $ move ! (1 ∷ []) $ unhide ! $
-    in_a_block ! p (λ r. lent_static R r x)
-    (fst∗ 𝓤 (never 𝓤) (sem 𝓛 (shared_of R x 0 0 []))) (λ cb co e.
-    fsplit ! $ drop ! $ hide ! $
+    (id⊢ 𝓤 _) $ split ! $ move ! (1 ∷ []) $ unhide ! $ in_a_block ! p (λ r. lent_static R r x)
+    (fst∗ 𝓤 (never 𝓤) (sem 𝓛 (shared_of R x 0 0 []))) (λ cb co e. fsplit ! $ drop ! $ hide ! $
     suffices ! (Run us) (subst (λ (ws : List Val). ent 𝓤 (Run us) (Run ws)) (sym (λ i. is i ++ []))
     (id⊢ 𝓤 (Run us))) $
     enter ! 𝓣.C 𝓣.Λ fn us Post $ alloc_all ! (λ l. pass_all ! refl ((tt, tt), tt) $
     let Ev : Env 𝓤 H = env fn.locals l in
     let at : Val = vptr cb co in
     move ! (1 ∷ 2 ∷ []) $ reads (R ∷ []) ν p ! tt b o (λ q'.
-    rewrite ! 0 (λ (r : Ptr). ‵ (fat q' (word_ty ν) b o (word r))) e refl $ first ! $
-    blocks ! $
+    rewrite ! 0 (λ (r : Ptr). ‵ (fat q' (word_ty ν) b o (word r))) e refl $ first ! $ blocks ! $
     sets_last ! (addr !
     (through ! refl (fld ! refl (hop ! (look_in ! 0 (sub ! 0 refl (whole !))) (stop !))))) refl
-    (tt, tt) $
-    exec ! 𝓣.C 𝓣.Λ Ev (after 1 fn.body) (at_ret Ev Post) $
+    (tt, tt) $ exec ! 𝓣.C 𝓣.Λ Ev (after 1 fn.body) (at_ret Ev Post) $
     sets ! (of_opd ! (get ! refl)) refl (tt, tt) $
     rewrite ! 0 (λ (r : Ptr). ‵ (fat q' (word_ty ν) b o (word r))) (sym e) refl $
     read (R ∷ []) ν p ! tt b o q' $

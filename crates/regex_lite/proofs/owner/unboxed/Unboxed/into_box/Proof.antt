@@ -58,8 +58,7 @@ module _ (E : box.Bx) where
         → ((r : B.Denot) → Good (layout B) u
         → Seq K 𝓛 (‵ (B.own_val r (u ∷ [])) ∷ tokens ∷ one r ∷ two r ∷ Γ) G)
         → Seq K 𝓛 (i ∷ Γ) G
-    box_comes t soaks tokens left one two u is then =
-        use1 𝓛 (later (some (λ (r : B.Denot).
+    box_comes t soaks tokens left one two u is then = use1 𝓛 (later (some (λ (r : B.Denot).
         (tokens ⊛ ‵ (B.own_val r (u ∷ []))) ⊛ some (λ x. left x ⊛ (one r ⊛ two r))))) is $
         await t soaks $ pick t (λ r. split t $ move t (1 ∷ []) $ pick t (λ x. split3 t $ drop t $
         move t (2 ∷ []) $ split t $ move t (1 ∷ []) $
@@ -87,8 +86,7 @@ into_box_spec 𝓤 𝓛 𝓜 𝓡 wired T A L LA g d dx dd allocator glue glued 
     let known = met 𝓤 𝓛 𝓜 𝓡
     (code.calls-std::boxed::Box::from_raw 𝓡.env wired) T A L LA g d dd allocator glued in
     proved_at 𝓛 En hs c 𝓜 𝓡 (Goes-blank 𝓛 2 (plain (λ _. Unboxed R Z LZ g)) no (λ κs x f. tt), tt)
-    (#self inst) fn
-    (code.unfolded 𝓤 H 𝓜 𝓡 wired (T, (A, tt)) d dx dd) (λ z are.
+    (#self inst) fn (code.unfolded 𝓤 H 𝓜 𝓡 wired (T, (A, tt)) d dx dd) (λ z are.
     let κs = z.0.0 in
     let qs = z.0.1 in
     let v = z.0.3.0 in
@@ -111,8 +109,7 @@ into_box_spec 𝓤 𝓛 𝓜 𝓡 wired T A L LA g d dx dd allocator glue glued 
     move ! (2 ∷ 0 ∷ []) $ fjoin ! $ move ! (2 ∷ 0 ∷ []) $ join ! $ join ! $
     use1 𝓛 (raw (k.pre y)) (id⊢ 𝓤 _) $
     suffices ! (Run (w ∷ [])) (subst (λ (us : List Val). ent 𝓤 (Run (w ∷ [])) (Run us))
-    (sym (λ i. ws i ++ [])) (id⊢ 𝓤 (Run (w ∷ [])))) $
-    enter ! 𝓣.C 𝓣.Λ fn (w ∷ []) Post $
+    (sym (λ i. ws i ++ [])) (id⊢ 𝓤 (Run (w ∷ [])))) $ enter ! 𝓣.C 𝓣.Λ fn (w ∷ []) Post $
     alloc_all ! (λ l.
     let Ev = env fn.locals l in
     let held = holding 𝓛 Ev ((5, h) ∷ (3, h) ∷ (2, vptr b o) ∷ (1, w) ∷ []) in

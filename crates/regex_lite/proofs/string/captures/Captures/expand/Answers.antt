@@ -13,8 +13,7 @@ pub returns-in_err-push_piece-clause-begun : goal.returns-in_err-push_piece-clau
 returns-in_err-push_piece-clause-begun c =
     let so_far = c.pieces.invariant.so_far in
     let left = one_text (texts_of c.args.self.now) c.pieces.rest.now in
-    handed_on c.from_residual.result c.from_residual.ensures.1
-    (λ e is.
+    handed_on c.from_residual.result c.from_residual.ensures.1 (λ e is.
     (so_far.0, (left.0, so_far.2 left.0 left.1), c.in_err-push_piece.ensures.same ∙ so_far.1))
 
 pub pieces-preserved : goal.pieces-preserved
@@ -29,8 +28,7 @@ pieces-preserved c =
         c.in_ok-push_piece.ensures.ok ∙ ap (λ x. x ++ given) so_far.1
             ∙ append_assoc _ so_far.0 given,
         λ more is. subst (IsInterpolation groups c.args.template.now)
-            (sym (append_assoc so_far.0 given more))
-            (so_far.2 (given ++ more) (piece_and_rest
+            (sym (append_assoc so_far.0 given more)) (so_far.2 (given ++ more) (piece_and_rest
             (piece_of c.in-Some.piece) c.in-Some.after.now more c.in-Some.ensures.cut is refl)),
       );
     }

@@ -8,8 +8,7 @@ returns-in-Some g c =
     first_text c.args.self.now c.args.from c.loop-k.k (c.in-Some.start, c.in-Some.end)
     (g.T.Text.bytes c.part.result) c.loop-k.invariant
     (subst (λ n. c.loop-k.k < n) c.groups-k-end.ensures c.loop-k-test.true)
-    (sym c.span.ensures.span ∙ c.in-Some.is)
-    (c.part.ensures
+    (sym c.span.ensures.span ∙ c.in-Some.is) (c.part.ensures
     ∙ ap (λ (own : Groups). text_at own.haystack (c.in-Some.start, c.in-Some.end)) c.self.view_is)
 
 pub loop-k-preserved : goal.loop-k-preserved

@@ -11,8 +11,7 @@ new-requires g c =
     span_lies f.found_of f.number_of bytes (f.IsAnswer (f.sought c.args.finder.now) (chars bytes))
     c.find_at.ensures.lawful (f.slots c.find_at.new.self) c.utf8.haystack
     (search_start bytes c.args.start)
-    (c.in_ok-number.number, (c.in_ok-number.from, c.in_ok-number.to))
-    c.in_ok-number.ensures.found
+    (c.in_ok-number.number, (c.in_ok-number.from, c.in_ok-number.to)) c.in_ok-number.ensures.found
 
 pub returns-clause-found : goal.returns-clause-found
 returns-clause-found g c =

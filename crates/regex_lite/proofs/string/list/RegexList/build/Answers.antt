@@ -25,8 +25,7 @@ new-requires-clause-regular c =
 
 pub new-requires-clause-fit : goal.new-requires-clause-fit
 new-requires-clause-fit c =
-    rw (c.deref.ensures.value)
-    (each_fits c.args.builders.now (map tree_of c.in_ok-hirs.hirs.items)
+    rw (c.deref.ensures.value) (each_fits c.args.builders.now (map tree_of c.in_ok-hirs.hirs.items)
     c.in_ok-hirs.ensures.accepted)
 
 pub returns-in_err-graph : goal.returns-in_err-graph

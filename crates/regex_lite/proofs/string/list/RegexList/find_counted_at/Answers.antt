@@ -29,5 +29,4 @@ returns-clause-found c =
     a.haystack.now a.start c.in_ok-told.told c.in-Some.number c.in-Some.outcome built.regular
     built.graph
     (ap (λ (compiled : CompiledList). compiled.graph) c.deref.ensures) c.in_ok-told.ensures.found
-    c.in-Some.is)
-    c.new-found.result c.new-found.ensures.haystack c.new-found.ensures.span
+    c.in-Some.is) c.new-found.result c.new-found.ensures.haystack c.new-found.ensures.span

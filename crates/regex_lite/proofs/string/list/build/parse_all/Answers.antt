@@ -15,8 +15,7 @@ returns-in_err-accepted_hir-clause-refused c =
     (map tree_of c.loop-builder.hirs.items) c.builder-item.result c.in_err-accepted_hir.field-0.0
     c.loop-builder.invariant
     (slice_get_read all _ c.loop-builder.builder-index c.builder-item.result refl
-    c.loop-builder-test.true c.builder-item.is)
-    c.in_err-accepted_hir.ensures.refused)
+    c.loop-builder-test.true c.builder-item.is) c.in_err-accepted_hir.ensures.refused)
 
 pub loop-builder-preserved : goal.loop-builder-preserved
 loop-builder-preserved c =

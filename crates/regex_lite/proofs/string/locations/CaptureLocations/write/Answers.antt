@@ -17,8 +17,7 @@ returns-clause-spans c =
     let two = c.self.invariant.2 in
     let whole = ap length c.as_mut_slice.ensures.value in
     let cut = c.split_at_mut-own.ensures.back_len in
-    let items = with_items_is vec (own ++ others)
-    (omega (
+    let items = with_items_is vec (own ++ others) (omega (
       arith,
       (length-append own others),
       c.copy_from_slice.ensures.len,

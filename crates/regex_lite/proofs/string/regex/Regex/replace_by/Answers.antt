@@ -28,8 +28,7 @@ loop-found-preserved c =
     record {
       can = tt;
       finite = tt;
-      so_far =
-          passed_on inv.so_far step.4 is (ap (λ at. unwrap_or at 0) done.ended) written;
+      so_far = passed_on inv.so_far step.4 is (ap (λ at. unwrap_or at 0) done.ended) written;
       begun = begun_on start old new made _ _ _ span.1 step.0 refl inv.begun step.4 done.ended;
       haystack = ap (λ a. a.haystack) step.4.passed ∙ inv.haystack;
       ended = done.ended ∙ sym step.3;

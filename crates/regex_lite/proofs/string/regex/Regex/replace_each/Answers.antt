@@ -59,8 +59,7 @@ items-preserved g c =
           done.ended;
       regex = sought_kept start passes inv.regex;
       haystack = haystack_kept start passes inv.haystack;
-      ended =
-          done.ended
+      ended = done.ended
           ∙ sym (ap (λ (own : Scanning RegexSearching). own.ended) c.take_back.ensures ∙ step.4);
       same = c.replace_with.ensures.haystack ∙ inv.same;
     }
@@ -75,8 +74,7 @@ returns-clause-replaced g c =
     so_finished start (ahead c.items.scan) (Borrowed rewrite.haystack)
     (string_bytes rewrite.text) rewrite.ended c.finish.result
     (IsReplacedInTurn g.R.Replacer.fixed g.R.Replacer.appends c.args.rep start) c.finish.ensures.ok
-    same inv.begun
-    (in_turn_at_end g.R.Replacer.fixed g.R.Replacer.appends inv.so_far
+    same inv.begun (in_turn_at_end g.R.Replacer.fixed g.R.Replacer.appends inv.so_far
     c.in_default.ensures.steps.over)
 
 pub returns-clause-borrowed : goal.returns-clause-borrowed

@@ -26,8 +26,7 @@ returns-in_default-clause-locations c = λ start told.
     let few = room_read re bytes c.utf8.haystack start m told slots held enough a.locs.now
     c.requires.few in
     locations_read re bytes c.utf8.haystack start m told slots held enough (length a.locs.now)
-    c.write.new.self
-    (c.write.ensures.spans
+    c.write.new.self (c.write.ensures.spans
     ∙ resized_few (length a.locs.now) (Some (c.start.result, c.end.result) ∷ []) few
     ∙ ap (λ (span : ℕ × ℕ). take (length a.locs.now) (Some span ∷ []))
     (same_pair c.start.ensures c.end.ensures))

@@ -27,8 +27,7 @@ returns-clause-groups c = λ found last.
     let filled = held ∙ ap (λ (own : RegexSearching). all_slots own.slots span) c.self.view_is in
     subst (AreGroupsFound a.self.now.regex a.haystack.now found) (sym c.new.ensures)
     (groups_kept a.haystack.now c.utf8.haystack a.self.now.regex a.self.now.slots slots
-    c.requires.room
-    c.in_ok-slots.source c.in_ok-slots.ensures.ok found a.last.now filled last)
+    c.requires.room c.in_ok-slots.source c.in_ok-slots.ensures.ok found a.last.now filled last)
 
 pub returns-clause-span : goal.returns-clause-span
 returns-clause-span c =

@@ -23,8 +23,7 @@ returns-in-Some-clause-steps c =
           let piece : c.range.result.now ≡ slice_range hay from c.in-Some.found.start =
           c.range.ensures.value
           ∙ ap (λ bytes. slice_range bytes c.unwrap_or-from.result c.start.result)
-          c.cursor-cursor.ensures.haystack
-          ∙ ap (λ n. slice_range hay n c.start.result) start
+          c.cursor-cursor.ensures.haystack ∙ ap (λ n. slice_range hay n c.start.result) start
           ∙ ap (slice_range hay from) c.start.ensures in
           chosen (c.range.result.now ∷ list ≡ []) _ goes_on
           (subst (λ p. IsCut (ahead_of it) from (p ∷ list)) (sym piece)
@@ -43,8 +42,7 @@ returns-in-None-clause-steps c =
       λ list left.
           let start =
           c.unwrap_or-from.ensures ∙ ap (λ at. unwrap_or at 0) c.cursor-cursor.ensures.ended in
-          let piece : c.range_from.result.now ≡ drop from hay =
-          c.range_from.ensures.value
+          let piece : c.range_from.result.now ≡ drop from hay = c.range_from.ensures.value
           ∙ ap (drop c.unwrap_or-from.result) c.cursor-cursor.ensures.haystack
           ∙ ap (λ n. drop n hay) start in
           let last : c.range_from.result.now ∷ list ≡ drop from hay ∷ [] =

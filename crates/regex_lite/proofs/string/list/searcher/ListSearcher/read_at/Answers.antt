@@ -65,5 +65,4 @@ returns-clause-found c =
     list_locations list a.haystack.now a.start kept room c.in_ok-number.number
     c.in_ok-number.found c.in_ok-number.ensures.found two
     (own.0, subst (λ list. AreTrees list own.0) same own.1, own.2) c.write.new.self n
-    c.write.ensures.len
-    (c.write.ensures.spans ∙ ap (λ all. resized n (spans_of (take two all))) is)
+    c.write.ensures.len (c.write.ensures.spans ∙ ap (λ all. resized n (spans_of (take two all))) is)
