@@ -40,11 +40,7 @@ impl<'r> Model for ListSearcher<'r> {
 impl<'r> ListSearcher<'r> {
     /// The patterns, with memory for searches in haystacks of about `bytes` bytes, whose matches
     /// have `slots` slots.
-    pub fn new(
-        list: &'r RegexList,
-        slots: usize,
-        bytes: usize,
-    ) -> Result<ListSearcher<'r>, Error>
+    pub fn new(list: &'r RegexList, slots: usize, bytes: usize) -> Result<ListSearcher<'r>, Error>
         ensures list { IfOk result (λ searcher. searcher.list ≡ list.now) }
         ensures slots { IfOk result (λ searcher. length searcher.slots ≡ slots) }
         ensures refused { IfErr result (λ error. error ≡ out_of_memory) }
