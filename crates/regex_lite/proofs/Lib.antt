@@ -1,3 +1,5 @@
+-- the definitions that most proofs cite
+pub mod Common
 -- lemmas that several modules use, and crates above
 pub mod StaticNumberLemmas
 pub mod PointerLemmas

@@ -1,24 +1,23 @@
 -- A struct with one pointer, by value and by reference.
-use mathlib.Core.Path.{◌≡◌, refl, subst}
+use Rattle.regex_lite.proofs.Common.{refl, subst, word, word_ty, Lft, Share, fat, flft, hidden_shr}
+use Rattle.regex_lite.proofs.Common.{part_at, RattleType, Ptr, ptr_val, Sym, Val, of_list, vstruct}
+use Rattle.regex_lite.proofs.Common.{Goal, Item, Seq, Soaks, Step, feq_i, feq_l, fjoin, fpack}
+use Rattle.regex_lite.proofs.Common.{fpick, fsplit, move, rewrite, step, use1, ‵, ◌$◌, Logic}
+use mathlib.Core.Path.{◌≡◌}
 use Prim.Native.Nat.{ℕ}
 use mathlib.Core.List.{List, [], ◌∷◌, ◌++◌}
 use seplogic.Ra.Ura.{Ura}
-use mir.Syntax.{Sym, ty_ptr}
-use mir.Val.{Val, vstruct, of_list}
+use mir.Syntax.{ty_ptr}
 use mir.Raw.{raw as bare}
-use base.Fml.{Lft, Share, fat, flft}
-use types.Logic.{Logic}
-use types.Kit.{Item, Goal, Seq, Step, Soaks, step, ‵, ◌$◌, move, drop}
-use types.Kit.{use1, fsplit, fjoin, fpick, fpack, feq_i, feq_l, rewrite}
-use denote.RattleType.{RattleType, Valss}
-use denote.Memory.{cell_at, part_at, hidden_shr}
+use types.Kit.{drop}
+use denote.RattleType.{Valss}
+use denote.Memory.{cell_at}
 use denote.Copied.{Copied, plain_Copied, Struct-Copied}
-use denote.RawPtr.{Ptr, RawPtr, ptr_val, coded_ptr, ptr_own, rawptr_pure}
+use denote.RawPtr.{RawPtr, coded_ptr, ptr_own, rawptr_pure}
 use denote.Opens.{Shut}
 use denote.Steps.{nothing, looks, shuts as shuts_part}
 use denote.Struct.Struct.{Shape, Struct, within}
 use denote.Struct.Laws.{RawPtr-laws}
-use Rattle.std.proofs.RcSteps.{word, word_ty}
 
 module _ (params : List RattleType) (ν : Sym) where
   abbrev pub one_field : Shape

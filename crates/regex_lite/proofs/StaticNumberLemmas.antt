@@ -1,11 +1,8 @@
 -- The groups of a match have the static number of their regex, which is what a call of
 -- `extract` asks for.
-use Rattle.std.proofs.Common.{◌≡◌, ◌∙◌, sym, ap, ℕ, List, Option, Some, None, chars}
-use Rattle.regex_lite_syntax.specs.Tree.Properties.{static_captures_len}
+use Rattle.regex_lite.proofs.Common.{◌≡◌, ℕ, List, Some, None, Option, chars, sym, ap, ◌∙◌}
+use Rattle.regex_lite.proofs.Common.{static_captures_len, Expression, OfTree, Groups, TellsGroups}
 use Rattle.regex_lite_engine.proofs.OptionLemmas.{not_there, same_some}
-use Rattle.regex_lite.specs.Expression.{Expression, OfTree}
-use Rattle.regex_lite.specs.Groups.{Groups}
-use Rattle.regex_lite.specs.Searches.{TellsGroups}
 use Rattle.regex_lite.proofs.string.OneTreeLemmas.{one_tree}
 
 pub static_number : (re : Expression) (haystack : List ℕ) (start : ℕ) (known : Option ℕ)

@@ -1,30 +1,28 @@
 -- An unboxed value is its place, the value there, and the right to free the place.
-use mathlib.Core.Path.{◌≡◌, refl, subst}
+use Rattle.regex_lite.proofs.Common.{refl, subst, handle_tells, Fml, fst∗, never, lone, layout}
+use Rattle.regex_lite.proofs.Common.{Laws, RattleType, Ptr, block_ptr, in_a_block, ptr_val, dnil}
+use Rattle.regex_lite.proofs.Common.{Val, of_list, vcons, vnil, vptr, vstruct, Goal, Item, Seq}
+use Rattle.regex_lite.proofs.Common.{Step, feq_i, feq_l, fjoin, fpack, fpick, fsplit, move, step, ‵}
+use Rattle.regex_lite.proofs.Common.{◌$◌, Logic, sem}
+use mathlib.Core.Path.{◌≡◌}
 use mathlib.Core.Bool.{true, ◌&&◌}
 use Prim.Native.Nat.{ℕ}
 use mathlib.Core.List.{List, [], ◌∷◌, ◌++◌}
 use lib.Dec.{T}
 use seplogic.Ra.Ura.{Ura}
-use base.Logic.{never, fst∗}
-use base.Fml.{Fml}
-use mir.Syntax.{Local, impl, tnil, dnil}
-use mir.Val.{Val, vptr, vstruct, vcons, vnil, of_list, has_ty, WT}
+use mir.Syntax.{Local, impl, tnil}
+use mir.Val.{has_ty, WT}
 use mir.Raw.{raw as bare}
-use types.Logic.{Logic, sem}
-use types.Kit.{Item, Goal, Seq, Step, step, ‵, ◌$◌, move, drop}
-use types.Kit.{fsplit, fjoin, fpick, fpack, feq_i, feq_l}
-use denote.RattleType.{RattleType, Valss}
+use types.Kit.{drop}
+use denote.RattleType.{Valss}
 use denote.Builtin.{RawPtr}
-use denote.Memory.{lone}
-use denote.Param.{layout}
-use denote.Param.Laws.{Laws}
-use denote.RawPtr.{Ptr, block_ptr, null_ptr, ptr_val, in_a_block}
+use denote.RawPtr.{null_ptr}
 use denote.Steps.{nothing}
 use denote.Struct.Owning.{shape}
 use denote.Struct.Struct.{within}
 use Rattle.std.specs.Box.Ownership.{box_owns}
 use Rattle.std.specs.declared.alloc.Allocator.{Ghosts}
-use Rattle.std.proofs.alloc.Calls.{Al, handle_tells}
+use Rattle.std.proofs.alloc.Calls.{Al}
 use Rattle.std.proofs.cell.Inside.{Good}
 use Rattle.std.proofs.ResultValues.{and_tt}
 use Rattle.regex_lite.specs.contracts.owner.unboxed.Unboxed as unboxed

@@ -1,15 +1,15 @@
 -- How many arrows a tree has, by its places.
-use Rattle.std.proofs.Common.{◌≤◌, ◌<◌, ℕ, zero, suc, ◌+◌, ◌-◌, ◌*◌, Bool, true}
-use Rattle.std.proofs.Common.{false, Option, Some, None, List, [], ◌∷◌, arith}
-use Rattle.std.proofs.Math.Nat.{mul-le-mul_left}
-use Rattle.regex_lite_syntax.specs.declared.class.ClassRange.{ClassRange}
-use Rattle.regex_lite_syntax.specs.Tree.{Tree, Trees, empty, character, class, look}
-use Rattle.regex_lite_syntax.specs.Tree.{repetition, capture, concat, alternation, none, more}
-use Rattle.regex_lite_syntax.specs.Tree.Properties.{nullable}
-use Rattle.regex_lite_syntax.specs.Tree.Regular.{IsRegular, AreRegular}
-use Rattle.regex_lite_engine.specs.Graph.PlaceCounts.{places, places_in, arrows, arrows_in, count}
-use Rattle.regex_lite_engine.specs.Graph.PlaceCounts.{copies, own_places, own_arrows}
-use Rattle.regex_lite_engine.specs.Graph.PlaceCounts.{bounded_places, bounded_arrows, class_arrows}
+use Rattle.regex_lite_engine.proofs.Common.{ℕ, zero, suc, ◌+◌, ◌-◌, ◌*◌, ◌<◌, ◌≤◌, Bool, true}
+use Rattle.regex_lite_engine.proofs.Common.{false, List, [], ◌∷◌, Some, None, Option, arith}
+use Rattle.regex_lite_engine.proofs.Common.{mul-le-mul_left, Tree, empty, character, class, look}
+use Rattle.regex_lite_engine.proofs.Common.{repetition, capture, concat, alternation, Trees, none}
+use Rattle.regex_lite_engine.proofs.Common.{more, nullable, IsRegular, ClassRange, copies}
+use Rattle.regex_lite_engine.proofs.Common.{own_places, class_arrows, places, places_in, arrows}
+use Rattle.regex_lite_engine.proofs.Common.{count}
+use Rattle.regex_lite_syntax.specs.Tree.Regular.{AreRegular}
+use Rattle.regex_lite_engine.specs.Graph.PlaceCounts.{arrows_in}
+use Rattle.regex_lite_engine.specs.Graph.PlaceCounts.{own_arrows}
+use Rattle.regex_lite_engine.specs.Graph.PlaceCounts.{bounded_places, bounded_arrows}
 
 own_few : (least above : ℕ)
     → bounded_arrows least above + 1 ≤ 2 * bounded_places least above + (least + above)

@@ -1,6 +1,6 @@
 -- That something is in a list.
-use Rattle.std.proofs.Common.{◌≡◌, ap, ◌⊎◌, inl, inr, List, [], ◌∷◌, ◌++◌, map, refl, ℕ, suc}
-use Rattle.std.proofs.Common.{slice_get, Some}
+use Rattle.regex_lite_engine.proofs.Common.{◌≡◌, ℕ, suc, ◌⊎◌, List, [], ◌∷◌, ◌++◌, map, slice_get}
+use Rattle.regex_lite_engine.proofs.Common.{Some, refl, ap, inl, inr}
 
 abbrev pub In : {A : Type 0} → A → List A → Type 0
 In a [] = ⊥

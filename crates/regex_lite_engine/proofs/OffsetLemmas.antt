@@ -1,15 +1,13 @@
 -- Offsets: they grow with the positions, and lie on character boundaries.
-use Rattle.std.proofs.Common.{◌≡◌, ℕ, zero, suc, ◌+◌, ◌<◌, ◌≤◌, List, [], ◌∷◌}
-use Rattle.std.proofs.Common.{◌++◌, length, take, drop, sum_by, slice_get, Some}
-use Rattle.std.proofs.Common.{refl, sym, ap, subst, ◌∙◌, arith, length-append}
-use Rattle.std.specs.Prelude.{IsUtf8, IsCharBoundary, chars}
-use Rattle.std.specs.Char.{len_utf8}
+use Rattle.regex_lite_engine.proofs.Common.{◌≡◌, ℕ, zero, suc, ◌+◌, ◌<◌, ◌≤◌, List, [], ◌∷◌, ◌++◌}
+use Rattle.regex_lite_engine.proofs.Common.{length, take, drop, slice_get, Some, IsUtf8, sum_by}
+use Rattle.regex_lite_engine.proofs.Common.{chars, IsCharBoundary, sym, refl, ap, ◌∙◌, subst, arith}
+use Rattle.regex_lite_engine.proofs.Common.{length-append, sum_by-cons, encodes-chars, len_utf8}
+use Rattle.regex_lite_engine.proofs.Common.{offset, IsOffset}
 use lib.Utf8.{encode, encodes}
 use Rattle.std.proofs.lemmas.List.{drop-drop}
-use Rattle.std.proofs.lemmas.List.Sums.{sum_by-cons}
-use Rattle.std.proofs.lemmas.Str.{encodes-chars, IsUtf8-past_char, length-encode}
+use Rattle.std.proofs.lemmas.Str.{IsUtf8-past_char, length-encode}
 use Rattle.std.proofs.lemmas.Str.{len_utf8_bounds, IsCharBoundary-from_drop}
-use Rattle.regex_lite_engine.specs.Search.Offsets.{offset, IsOffset}
 use Rattle.regex_lite_engine.proofs.OptionLemmas.{not_there, same_some}
 
 pub length_encodes : (cs : List ℕ) → length (encodes cs) ≡ sum_by len_utf8 cs

@@ -1,5 +1,5 @@
 -- What is there, and what is not.
-use Rattle.std.proofs.Common.{◌≡◌, Option, Some, None}
+use Rattle.regex_lite_engine.proofs.Common.{◌≡◌, Some, None, Option}
 
 pub not_there : {A : Type 0} {x : A} → ◌≡◌ {A = Option A} None (Some x) → ⊥
 not_there e = cc

@@ -1,17 +1,14 @@
 -- The positions of offsets: of the haystack's start and end, of a position, and of the next one.
-use Rattle.std.proofs.Common.{◌≡◌, ◌++◌, ◌+◌, ◌<◌, ◌≤◌, ◌⊎◌, inl, inr, ℕ, zero, suc, List, [], ◌∷◌}
-use Rattle.std.proofs.Common.{length, take, drop, sum_by, slice_get, Some, refl, sym, ap, subst}
-use Rattle.std.proofs.Common.{◌∙◌, chars, IsUtf8, arith, length-append}
-use Rattle.std.specs.Prelude.{IsCharBoundary}
-use Rattle.std.specs.Char.{len_utf8}
+use Rattle.regex_lite_engine.proofs.Common.{◌≡◌, ℕ, zero, suc, ◌+◌, ◌<◌, ◌≤◌, ◌⊎◌, List, [], ◌∷◌}
+use Rattle.regex_lite_engine.proofs.Common.{◌++◌, length, take, drop, slice_get, Some, IsUtf8}
+use Rattle.regex_lite_engine.proofs.Common.{sum_by, chars, IsCharBoundary, sym, refl, ap, ◌∙◌}
+use Rattle.regex_lite_engine.proofs.Common.{subst, inl, inr, arith, length-append, cases_order}
+use Rattle.regex_lite_engine.proofs.Common.{length-take-le, take-append-drop, slice_get_within}
+use Rattle.regex_lite_engine.proofs.Common.{IsUtf8-take, encodes-chars, len_utf8, after, offset}
+use Rattle.regex_lite_engine.proofs.Common.{IsOffset, position_at, search_start}
 use lib.Utf8.{encode, encodes}
-use Rattle.std.proofs.lemmas.Bool.{cases_order}
-use Rattle.std.proofs.lemmas.List.{take-append-drop, length-take-le}
-use Rattle.std.proofs.lemmas.Option.{slice_get_within}
-use Rattle.std.proofs.lemmas.Str.{encodes-chars, chars-append, IsUtf8-take, IsUtf8-drop, chars-nil}
+use Rattle.std.proofs.lemmas.Str.{chars-append, IsUtf8-drop, chars-nil}
 use Rattle.std.proofs.lemmas.Str.{chars_from_encodes, chars_past_char}
-use Rattle.regex_lite_syntax.specs.Text.{after}
-use Rattle.regex_lite_engine.specs.Search.Offsets.{offset, position_at, search_start, IsOffset}
 use Rattle.regex_lite_engine.proofs.OffsetLemmas.{boundary_at, length_encodes, offset_less}
 use Rattle.regex_lite_engine.proofs.OffsetLemmas.{offset_next, rest_at, utf8_rest}
 

@@ -1,14 +1,12 @@
 -- The bits of words of 64: those of words that are 0, and those where one bit is set.
-use Rattle.std.proofs.Common.{◌≡◌, ◌==◌, ◌||◌, ℕ, false, ◌*◌, ◌/◌, ◌%◌, ◌^◌, ◌<◌, inl, inr, List}
-use Rattle.std.proofs.Common.{length, replicate, slice_index, slice_set, bit_or, ap, sym, ◌∙◌}
-use Rattle.std.proofs.Common.{arith, w64}
-use Rattle.std.specs.Int.{bit_at}
-use Rattle.std.proofs.lemmas.Bool.{cases_lt, cases_eq}
-use Rattle.std.proofs.lemmas.Bool.Decides.{nat_tests}
-use Rattle.std.proofs.lemmas.List.{get_or-replicate, get_or_past, get_or-set_same, get_or-set_other}
-use Rattle.std.proofs.lemmas.List.{length-replicate}
+use Rattle.regex_lite_engine.proofs.Common.{◌≡◌, ℕ, ◌*◌, ◌/◌, ◌%◌, ◌^◌, ◌<◌, false, ◌||◌, List}
+use Rattle.regex_lite_engine.proofs.Common.{length, replicate, ◌==◌, slice_index, slice_set, bit_or}
+use Rattle.regex_lite_engine.proofs.Common.{sym, ap, ◌∙◌, inl, inr, arith, cases_eq, cases_lt}
+use Rattle.regex_lite_engine.proofs.Common.{nat_tests, get_or-replicate, get_or-set_other}
+use Rattle.regex_lite_engine.proofs.Common.{get_or-set_same, get_or_past, length-replicate, bit_at}
+use Rattle.regex_lite_engine.proofs.Common.{bit_of_words}
+use Rattle.std.proofs.Common.{w64}
 use Rattle.std.proofs.lemmas.Nat.Bits.{bit_at-zero, bit_at_set_same, bit_at_set_other}
-use Rattle.regex_lite_syntax.specs.AsciiMaps.{bit_of_words}
 
 pub zero_at : (n i : ℕ) → slice_index (replicate n 0) i ≡ 0
 zero_at n i = elim (cases_lt i n) [

@@ -1,12 +1,10 @@
 -- The characters of a text are Unicode scalar values.
-use Rattle.std.proofs.Common.{◌≡◌, refl, Bool, true, false, ◌&&◌, List}
-use Rattle.std.proofs.Common.{[], ◌∷◌, ◌++◌, ℕ, zero, suc, take, drop, chars, IsTrue, subst, arith}
-use Rattle.regex_lite_syntax.specs.Text.{Text}
+use Rattle.regex_lite_syntax.proofs.Common.{◌≡◌, ℕ, zero, suc, Bool, true, false, ◌&&◌, List, []}
+use Rattle.regex_lite_syntax.proofs.Common.{◌∷◌, ◌++◌, take, drop, IsTrue, chars, refl, subst}
+use Rattle.regex_lite_syntax.proofs.Common.{arith, nat_tests, chars_from_encodes, is_character}
+use Rattle.regex_lite_syntax.proofs.Common.{AreCharacters, Text}
 use Rattle.std.specs.Char.{IsScalar}
 use Rattle.std.specs.Str.{IsUtf8, all_scalars}
-use Rattle.std.proofs.lemmas.Bool.Decides.{nat_tests}
-use Rattle.std.proofs.lemmas.Str.{chars_from_encodes}
-use Rattle.regex_lite_syntax.specs.Characters.{is_character, AreCharacters}
 
 both : (a b : Bool) → (a && b) ≡ true → (a ≡ true) × (b ≡ true)
 both true b e = (refl, e)

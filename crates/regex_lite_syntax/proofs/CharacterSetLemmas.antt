@@ -1,13 +1,12 @@
 -- Sets that hold characters alone.
-use Rattle.std.proofs.Common.{inl, inr, sym, subst, ℕ, Bool, true, false, IsTrue, arith}
-use Rattle.std.proofs.Common.{List, ◌∷◌, if◌then◌else◌}
-use Rattle.std.proofs.lemmas.Bool.{or_cases, and_parts, eqb-true}
-use Rattle.std.proofs.lemmas.Bool.Decides.{nat_tests}
-use Rattle.regex_lite_syntax.specs.Characters.{is_character, is_letter}
-use Rattle.regex_lite_syntax.specs.Sets.{Set, just, span, union, complement, case_closure}
-use Rattle.regex_lite_syntax.specs.NamedSets.{SetName, members, alnum, alpha, ascii, blank}
+use Rattle.regex_lite_syntax.proofs.Common.{ℕ, Bool, true, false, List, ◌∷◌, if◌then◌else◌, IsTrue}
+use Rattle.regex_lite_syntax.proofs.Common.{sym, subst, inl, inr, arith, and_parts, eqb-true}
+use Rattle.regex_lite_syntax.proofs.Common.{or_cases, nat_tests, is_character, is_letter, SetName}
+use Rattle.regex_lite_syntax.proofs.Common.{members, word, Set, just, span, union, complement}
+use Rattle.regex_lite_syntax.proofs.Common.{case_closure}
+use Rattle.regex_lite_syntax.specs.NamedSets.{alnum, alpha, ascii, blank}
 use Rattle.regex_lite_syntax.specs.NamedSets.{cntrl, digit, graph, lower, print, punct, space}
-use Rattle.regex_lite_syntax.specs.NamedSets.{upper, word, xdigit}
+use Rattle.regex_lite_syntax.specs.NamedSets.{upper, xdigit}
 
 -- the set holds characters alone
 abbrev pub HoldsCharacters : Set → Type 0

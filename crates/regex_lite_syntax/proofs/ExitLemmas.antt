@@ -1,5 +1,5 @@
 -- What the exit of a `?` returns.
-use Rattle.std.proofs.Common.{◌≡◌, Result, IfErr}
+use Rattle.regex_lite_syntax.proofs.Common.{◌≡◌, IfErr, Result}
 use Rattle.std.specs.Prelude.{IsErrAnd}
 use Rattle.std.proofs.lemmas.Result.{err_from_is_err_and}
 

@@ -1,13 +1,11 @@
 -- The two cases of ASCII letters.
-use Rattle.std.proofs.Common.{inl, inr, ◌≡◌, ◌∙◌, ℕ, ◌+◌, ◌-◌, ◌<◌, ◌≤◌, max}
-use Rattle.std.proofs.Common.{min, ◌&&◌, ◌||◌, [], ◌∷◌, true, IsTrue, arith}
+use Rattle.regex_lite_syntax.proofs.Common.{◌≡◌, ℕ, ◌+◌, ◌-◌, ◌<◌, ◌≤◌, min, max, true, ◌&&◌, ◌||◌}
+use Rattle.regex_lite_syntax.proofs.Common.{[], ◌∷◌, IsTrue, ◌∙◌, inl, inr, arith, or_cases}
+use Rattle.regex_lite_syntax.proofs.Common.{or_left, or_right, nat_tests, is_lower, is_letter}
+use Rattle.regex_lite_syntax.proofs.Common.{in_ranges, AreRuns, AreRunsOf, just, span, case_closure}
+use Rattle.regex_lite_syntax.proofs.Common.{ClassRange}
 use Rattle.std.specs.Char.{is_ascii_alphabetic, to_ascii_uppercase, to_ascii_lowercase}
-use Rattle.std.proofs.lemmas.Bool.{or_cases, or_left, or_right}
-use Rattle.std.proofs.lemmas.Bool.Decides.{nat_tests}
-use Rattle.regex_lite_syntax.specs.declared.class.ClassRange.{ClassRange}
-use Rattle.regex_lite_syntax.specs.Characters.{is_upper, is_lower, is_letter}
-use Rattle.regex_lite_syntax.specs.Sets.{just, span, case_closure}
-use Rattle.regex_lite_syntax.specs.Ranges.{AreRuns, AreRunsOf, in_ranges}
+use Rattle.regex_lite_syntax.specs.Characters.{is_upper}
 
 pub upper_case : (start end first last c : ℕ) → first ≡ max start 97 → last ≡ min end 122
     → first ≤ last

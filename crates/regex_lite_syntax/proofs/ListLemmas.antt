@@ -1,5 +1,5 @@
 -- Equal lists have equal heads, tails and last items.
-use Rattle.std.proofs.Common.{◌≡◌, refl, sym, List, [], ◌∷◌, ◌++◌}
+use Rattle.regex_lite_syntax.proofs.Common.{◌≡◌, List, [], ◌∷◌, ◌++◌, sym, refl}
 
 pub same_head : {A : Type 0} {x y : A} {xs ys : List A} → x ∷ xs ≡ y ∷ ys → x ≡ y
 same_head e = cc

@@ -1,8 +1,7 @@
 -- Tables of names that have none.
-use Rattle.std.proofs.Common.{◌≡◌, ◌∙◌, refl, ap, ℕ, zero, suc}
-use Rattle.std.proofs.Common.{List, Option, None, Global, replicate}
-use Rattle.std.specs.declared.rc.RcStr.{RcStr}
-use Rattle.regex_lite_syntax.specs.Tree.NameTables.{name_at}
+use Rattle.regex_lite_syntax.proofs.Common.{◌≡◌, ℕ, zero, suc, List, None, Option, Global, refl, ap}
+use Rattle.regex_lite_syntax.proofs.Common.{◌∙◌, RcStr, name_at}
+use Rattle.std.proofs.Common.{replicate}
 
 none_at : (n k : ℕ) → name_at (replicate n None) k ≡ None
 none_at zero k = refl

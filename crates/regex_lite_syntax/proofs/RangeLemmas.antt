@@ -1,16 +1,12 @@
 -- Ranges of characters, and that a set has one list of maximal runs.
-use Rattle.std.proofs.Common.{◌≡◌, refl, sym, ◌∙◌, ap, ℕ, ◌+◌, ◌<◌, ◌≤◌, Bool, ◌||◌}
-use Rattle.std.proofs.Common.{List, [], ◌∷◌, ◌++◌, IsTrue, arith, length, take, get_or}
-use Rattle.std.specs.List.{list_any}
+use Rattle.regex_lite_syntax.proofs.Common.{◌≡◌, ℕ, ◌+◌, ◌<◌, ◌≤◌, Bool, ◌||◌, List, [], ◌∷◌, ◌++◌}
+use Rattle.regex_lite_syntax.proofs.Common.{length, get_or, take, IsTrue, sym, refl, ap, ◌∙◌, arith}
+use Rattle.regex_lite_syntax.proofs.Common.{nat_tests, list_any, is_character, in_ranges}
+use Rattle.regex_lite_syntax.proofs.Common.{next_character, AreRuns, span, ClassRange}
 use Rattle.std.specs.List.Sorted.{IsPermutation}
-use Rattle.std.proofs.lemmas.Bool.Decides.{nat_tests}
 use Rattle.std.proofs.lemmas.Grind.{common_steps}
 use Rattle.std.proofs.lemmas.List.Folds.{list_any_more}
 use Rattle.std.proofs.lemmas.List.Sorted.{list_any-IsPermutation}
-use Rattle.regex_lite_syntax.specs.Characters.{is_character}
-use Rattle.regex_lite_syntax.specs.Sets.{span}
-use Rattle.regex_lite_syntax.specs.declared.class.ClassRange.{ClassRange}
-use Rattle.regex_lite_syntax.specs.Ranges.{in_ranges, next_character, AreRuns}
 
 pub next_above : (c : ℕ) → c < next_character c
 next_above c = grind (arith, nat_tests)

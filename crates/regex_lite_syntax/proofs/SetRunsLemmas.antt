@@ -1,13 +1,9 @@
 -- Each set of characters has its maximal runs.
-use Rattle.std.proofs.Common.{◌≡◌, refl, ◌∙◌, sym, subst, ℕ, zero, suc, ◌+◌, ◌≤◌}
-use Rattle.std.proofs.Common.{Bool, true, false, ◌&&◌, ◌||◌, ◌==◌, nat_le, List, [], ◌∷◌}
-use Rattle.std.proofs.Common.{IsTrue, arith}
-use Rattle.std.proofs.lemmas.Bool.{eqb-true, eqb-false}
-use Rattle.std.proofs.lemmas.Bool.Decides.{nat_tests}
-use Rattle.regex_lite_syntax.specs.declared.class.ClassRange.{ClassRange}
-use Rattle.regex_lite_syntax.specs.Characters.{is_character}
-use Rattle.regex_lite_syntax.specs.Sets.{Set, span}
-use Rattle.regex_lite_syntax.specs.Ranges.{in_ranges, next_character, AreRuns, AreRunsOf}
+use Rattle.regex_lite_syntax.proofs.Common.{◌≡◌, ℕ, zero, suc, ◌+◌, ◌≤◌, Bool, true, false, ◌&&◌}
+use Rattle.regex_lite_syntax.proofs.Common.{◌||◌, List, [], ◌∷◌, IsTrue, nat_le, ◌==◌, sym, refl}
+use Rattle.regex_lite_syntax.proofs.Common.{◌∙◌, subst, arith, eqb-false, eqb-true, nat_tests}
+use Rattle.regex_lite_syntax.proofs.Common.{is_character, in_ranges, next_character, AreRuns}
+use Rattle.regex_lite_syntax.proofs.Common.{AreRunsOf, Set, span, ClassRange}
 use Rattle.regex_lite_syntax.proofs.CharacterSetLemmas.{HoldsCharacters}
 use Rattle.regex_lite_syntax.proofs.LetterCaseLemmas.{alone}
 use Rattle.regex_lite_syntax.proofs.RangeLemmas.{next_least}

@@ -1,11 +1,11 @@
 -- The equations of `tree_of`, and the trees of a list from some index on.
-use Rattle.std.proofs.Common.{◌≡◌, ℕ, ◌+◌, ◌<◌, Bool, Option, List, ◌∷◌}
-use Rattle.std.proofs.Common.{drop, length, get_or, map, Vec, Box, Global, sym, ap, ◌∙◌}
-use Rattle.std.proofs.lemmas.List.{drop_more}
-use Rattle.regex_lite_syntax.specs.Tree.{Tree, Trees, trees, more, repetition}
-use Rattle.regex_lite_syntax.specs.Tree.{concat, alternation}
-use Rattle.regex_lite_syntax.specs.Tree.Views.{tree_of, node_tree}
-use Rattle.regex_lite_syntax.specs.declared.hir.Hir.{Hir, Hir-F, fold-roll-Hir}
+use Rattle.regex_lite_syntax.proofs.Common.{◌≡◌, ℕ, ◌+◌, ◌<◌, Bool, List, ◌∷◌, map, length, get_or}
+use Rattle.regex_lite_syntax.proofs.Common.{drop, Option, Global, sym, ap, ◌∙◌, drop_more, Tree}
+use Rattle.regex_lite_syntax.proofs.Common.{repetition, concat, alternation, Trees, more, trees}
+use Rattle.regex_lite_syntax.proofs.Common.{tree_of, Hir}
+use Rattle.std.proofs.Common.{Vec, Box}
+use Rattle.regex_lite_syntax.specs.Tree.Views.{node_tree}
+use Rattle.regex_lite_syntax.specs.declared.hir.Hir.{Hir-F, fold-roll-Hir}
 use Rattle.regex_lite_syntax.specs.declared.hir.Hir.TheVariants.{Repetition, rolls-Repetition}
 use Rattle.regex_lite_syntax.specs.declared.hir.Hir.TheVariants.{Concat}
 use Rattle.regex_lite_syntax.specs.declared.hir.Hir.TheVariants.{rolls-Concat, Alternation}

@@ -1,12 +1,13 @@
 -- What is printed, buffered and written, step by step.
-use Rattle.std.proofs.Common.{◌≡◌, ℕ, Bool, true, false, not, List, [], ◌++◌, Option, Some}
-use Rattle.std.proofs.Common.{None, MatchBool, Result, Ok, Err, IsErr, OnOk, is_ok, is_err}
-use Rattle.std.proofs.Common.{refl, sym, ap, ◌∙◌, subst, take, drop, take-append-drop}
-use Rattle.std.specs.Io.KnownBytes.{Appends, Keeps}
-use Rattle.std.proofs.lemmas.List.{append_assoc, append-nil}
+use Rattle.rxl.proofs.Common.{◌≡◌, ℕ, Bool, true, false, List, [], ◌++◌, is_ok, Some, None, Ok, Err}
+use Rattle.rxl.proofs.Common.{Option, Result, sym, refl, ap, ◌∙◌, subst, append-nil, append_assoc}
+use Rattle.rxl.proofs.Common.{Appends, IsWritten, Puts, Output}
+use Rattle.std.proofs.Common.{not}
+use Rattle.std.proofs.Common.{MatchBool, IsErr, OnOk, is_err}
+use Rattle.std.proofs.Common.{take, drop, take-append-drop}
+use Rattle.std.specs.Io.KnownBytes.{Keeps}
 use Rattle.regex_lite.specs.Replacing.{Begins}
-use Rattle.rxl.specs.declared.output.Output.{Output}
-use Rattle.rxl.specs.Output.{IsPrinted, IsWritten, Puts}
+use Rattle.rxl.specs.Output.{IsPrinted}
 
 pub appends_nothing : (held : Option (List ℕ)) → Appends held held []
 appends_nothing None = tt

@@ -1,19 +1,15 @@
 -- Pieces and matches in turn are the haystack.
-use Rattle.std.proofs.Common.{◌≡◌, ◌≤◌, ℕ, ◌+◌, ◌-◌, List, [], ◌∷◌, ◌++◌, Option}
-use Rattle.std.proofs.Common.{Some, None, map, length, take, drop, slice_range}
-use Rattle.std.proofs.Common.{chars, unwrap_or, refl, sym, ap, ◌∙◌, subst, arith}
+use Rattle.regex_lite.proofs.Common.{◌≡◌, ℕ, ◌+◌, ◌-◌, ◌≤◌, List, [], ◌∷◌, ◌++◌, map, length, take}
+use Rattle.regex_lite.proofs.Common.{drop, slice_range, Some, None, Option, chars, unwrap_or, sym}
+use Rattle.regex_lite.proofs.Common.{refl, ap, ◌∙◌, subst, arith, length-map, Text, Found, offset}
+use Rattle.regex_lite.proofs.Common.{Expression, text_at, found_span}
 use Rattle.std.specs.List.{sum_by}
 use Rattle.std.specs.Char.{len_utf8}
-use Rattle.std.proofs.lemmas.List.{append-nil, drop-drop, length-map, take-append-drop, take-take}
+use Rattle.std.proofs.lemmas.List.{append-nil, drop-drop, take-append-drop, take-take}
 use Rattle.std.proofs.lemmas.List.Sums.{sum_by-take-le}
-use Rattle.regex_lite_syntax.specs.Text.{Text}
-use Rattle.regex_lite_engine.specs.Search.Answer.{Found}
-use Rattle.regex_lite_engine.specs.Search.Offsets.{offset}
-use Rattle.regex_lite.specs.Expression.{Expression}
-use Rattle.regex_lite.specs.Groups.{text_at}
 use Rattle.regex_lite.specs.MatchList.{AreMatches}
 use Rattle.regex_lite.specs.PieceLaws.{OnePieceList, PiecesAndMatches, in_turn, texts_of_matches}
-use Rattle.regex_lite.specs.Pieces.{found_span, pieces}
+use Rattle.regex_lite.specs.Pieces.{pieces}
 use Rattle.regex_lite.proofs.laws.NextMatchLemmas.{StandsFrom, first_stands, same_within}
 
 -- a part, and all that follows it

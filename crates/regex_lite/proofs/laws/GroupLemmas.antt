@@ -1,13 +1,9 @@
 -- The groups that a search returns lie inside the match, and enough of them took part.
-use Rattle.std.proofs.Common.{◌≡◌, ◌≤◌, ℕ, length, Option, Some, None, IfSome, chars}
-use Rattle.std.proofs.Common.{unwrap_or, option_map, sym, ap, subst, ◌∙◌, arith}
-use Rattle.std.specs.List.{filter_map}
-use Rattle.regex_lite_syntax.specs.Tree.Properties.{captures_len, static_captures_len}
-use Rattle.regex_lite_engine.specs.Search.Offsets.{search_start}
-use Rattle.regex_lite_engine.specs.WayLaws.{IsPatternTree}
-use Rattle.regex_lite.specs.Groups.{span_at, text_at, texts_from, whole_span}
+use Rattle.regex_lite.proofs.Common.{◌≡◌, ℕ, ◌≤◌, length, IfSome, Some, None, Option, option_map}
+use Rattle.regex_lite.proofs.Common.{chars, unwrap_or, sym, ap, ◌∙◌, subst, arith, filter_map}
+use Rattle.regex_lite.proofs.Common.{captures_len, static_captures_len, search_start, IsPatternTree}
+use Rattle.regex_lite.proofs.Common.{text_at, span_at, whole_span, texts_from, offsets, spans_from}
 use Rattle.regex_lite.specs.Laws.{EnoughGroupsTakePart, GroupsLieInside, LiesInside}
-use Rattle.regex_lite.specs.Searches.{offsets, spans_from}
 use Rattle.regex_lite.proofs.string.FoundLemmas.{enough_texts, group_0, groups_lie_inside}
 
 pub groups_inside_match : GroupsLieInside

@@ -1,6 +1,6 @@
 -- Clauses about the two sides of a result.
-use Rattle.std.proofs.Common.{Result, IfOk, IfErr}
-use Rattle.std.specs.Prelude.{Ok, Err}
+use Rattle.regex_lite.proofs.Common.{IfOk, Ok, Err, Result}
+use Rattle.std.proofs.Common.{IfErr}
 
 -- what is so whatever the value is
 pub on_ok : {A E : Type 0} (r : Result A E) (P : Type 0) → P → IfOk r (λ _. P)

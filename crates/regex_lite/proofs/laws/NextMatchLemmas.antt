@@ -1,16 +1,13 @@
 -- What comes next stands after what came before, and is one.
-use Rattle.std.proofs.Common.{◌≡◌, ◌≤◌, ℕ, zero, suc, List, [], ◌∷◌, Option}
-use Rattle.std.proofs.Common.{Some, None, unwrap_or, refl, ap, ◌∙◌, subst, arith}
-use Rattle.regex_lite_syntax.specs.Text.{Text}
-use Rattle.regex_lite_engine.specs.Search.Answer.{Found}
-use Rattle.regex_lite_engine.specs.Search.Marks.{span}
+use Rattle.regex_lite.proofs.Common.{◌≡◌, ℕ, zero, suc, ◌≤◌, List, [], ◌∷◌, Some, None, Option}
+use Rattle.regex_lite.proofs.Common.{unwrap_or, refl, ap, ◌∙◌, subst, arith, Text, Found, span}
+use Rattle.regex_lite.proofs.Common.{AreLawful, Expression, IsAnswerOf, one_less, IsNextAnswer}
+use Rattle.regex_lite.proofs.Common.{AreWithin}
 use Rattle.regex_lite_engine.proofs.laws.PatternTreeLemmas.{regular_tree}
 use Rattle.regex_lite_engine.proofs.laws.groups.SpanLemmas.{groups_inside}
 use Rattle.regex_lite_engine.proofs.OptionLemmas.{not_there, same_some}
-use Rattle.regex_lite.specs.Answers.{AreLawful}
-use Rattle.regex_lite.specs.Expression.{Expression}
-use Rattle.regex_lite.specs.MatchList.{AreAnswersWithin, AreFirstAnswers, AreWithin}
-use Rattle.regex_lite.specs.MatchList.{IsAnswerOf, IsNext, IsNextAnswer, one_less}
+use Rattle.regex_lite.specs.MatchList.{AreAnswersWithin, AreFirstAnswers}
+use Rattle.regex_lite.specs.MatchList.{IsNext}
 use Rattle.regex_lite.proofs.string.LawfulLemmas.{regex_lawful}
 use Rattle.regex_lite.proofs.string.ListLemmas.{one_next}
 use Rattle.regex_lite.proofs.string.NextLemmas.{next_answer}

@@ -1,37 +1,29 @@
 -- What a list of patterns returns, what its patterns return, and lists of one or of none.
-use Rattle.std.proofs.Common.{◌≡◌, ◌≤◌, ◌*◌, ◌+◌, ◌↔◌, ◌∙◌, refl, sym, ap, subst, ℕ}
-use Rattle.std.proofs.Common.{zero, suc, List, [], ◌∷◌, Bool, IsTrue, is_some, Option}
-use Rattle.std.proofs.Common.{Some, None, option_map, option_and_then, chars, arith}
-use Rattle.std.proofs.lemmas.Bool.{false≢true}
-use Rattle.regex_lite_syntax.specs.Grammar.{IsTree}
-use Rattle.regex_lite_syntax.specs.Tree.{Tree}
-use Rattle.regex_lite_syntax.specs.Tree.Properties.{captures_len}
+use Rattle.regex_lite.proofs.Common.{◌≡◌, ℕ, zero, suc, ◌+◌, ◌*◌, ◌≤◌, Bool, ◌↔◌, List, [], ◌∷◌}
+use Rattle.regex_lite.proofs.Common.{is_some, IsTrue, Some, None, Option, option_map, chars, sym}
+use Rattle.regex_lite.proofs.Common.{refl, ap, ◌∙◌, subst, arith, false≢true, IsTree, Tree}
+use Rattle.regex_lite.proofs.Common.{captures_len, whole_places, HasTree, places_of_all}
+use Rattle.regex_lite.proofs.Common.{HasMatchFrom, Found, IsFoundInList, search_start, Expression}
+use Rattle.regex_lite.proofs.Common.{IsAccepted, Groups, span_at, group_span, span_of_match}
+use Rattle.regex_lite.proofs.Common.{AreAcceptedAs, AreAccepted, AreTrees, AnyMatches}
+use Rattle.regex_lite.proofs.Common.{TellsMatchOfList, TellsGroupsOfList, MatchesFrom, offsets}
+use Rattle.regex_lite.proofs.Common.{TellsAnswer, IsMatchOf, AreGroupsOf, Settings, Match}
+use Rattle.std.proofs.Common.{option_and_then}
 use Rattle.regex_lite_engine.specs.declared.steps.Steps.{Steps}
-use Rattle.regex_lite_engine.specs.Graph.SideBySide.{places_of_all, tries_of_all}
-use Rattle.regex_lite_engine.specs.Graph.PlaceCounts.{whole_arrows, whole_places}
-use Rattle.regex_lite_engine.specs.Search.Answer.{Found, HasMatchFrom}
+use Rattle.regex_lite_engine.specs.Graph.SideBySide.{tries_of_all}
+use Rattle.regex_lite_engine.specs.Graph.PlaceCounts.{whole_arrows}
 use Rattle.regex_lite_engine.specs.Search.AnswerOfList.{AnyMatchesFrom}
-use Rattle.regex_lite_engine.specs.Graph.SideBySide.{HasTree}
-use Rattle.regex_lite_engine.specs.Search.AnswerOfList.{IsAnswerOfList, IsFoundInList}
+use Rattle.regex_lite_engine.specs.Search.AnswerOfList.{IsAnswerOfList}
 use Rattle.regex_lite_engine.specs.Search.Bounds.{IsBoundedBy, characters_left}
-use Rattle.regex_lite_engine.specs.Search.Offsets.{search_start}
 use Rattle.regex_lite_engine.specs.Search.Outcomes.{HasCostOfList}
 use Rattle.regex_lite_engine.proofs.laws.several.ListAnswerLemmas.{alone_by_itself}
 use Rattle.regex_lite_engine.proofs.laws.several.ListAnswerLemmas.{alone_in_list}
 use Rattle.regex_lite_engine.proofs.laws.several.ListAnswerLemmas.{none_match, one_list_answer}
 use Rattle.regex_lite_engine.proofs.OptionLemmas.{same_some}
-use Rattle.regex_lite.specs.declared.string.matches.Match.{Match}
-use Rattle.regex_lite.specs.Expression.{Expression, IsAccepted}
-use Rattle.regex_lite.specs.Groups.{Groups, group_span, span_at}
-use Rattle.regex_lite.specs.MatchViews.{span_of_match}
-use Rattle.regex_lite.specs.RegexList.{AreAccepted, AreAcceptedAs, AreTrees}
 use Rattle.regex_lite.specs.RegexListLaws.{AgreeOnList, AnswersAsItsRegex}
 use Rattle.regex_lite.specs.RegexListLaws.{FindsNothing, TellsAlike, of_the_only}
-use Rattle.regex_lite.specs.RegexListSearches.{AnyMatches, IsWithinListCost, TellsAnswerOfList}
-use Rattle.regex_lite.specs.RegexListSearches.{TellsGroupsOfList, TellsMatchOfList}
-use Rattle.regex_lite.specs.Searches.{AreGroupsOf, IsMatchOf, IsWithinCost}
-use Rattle.regex_lite.specs.Searches.{MatchesFrom, TellsAnswer, offsets}
-use Rattle.regex_lite.specs.Settings.{Settings}
+use Rattle.regex_lite.specs.RegexListSearches.{IsWithinListCost, TellsAnswerOfList}
+use Rattle.regex_lite.specs.Searches.{IsWithinCost}
 use Rattle.regex_lite.proofs.string.AgreementLemmas.{same_truth}
 use Rattle.regex_lite.proofs.string.FoundLemmas.{group_0}
 use Rattle.regex_lite.proofs.string.ListBuildLemmas.{one_list, pattern_tree, regular_trees}

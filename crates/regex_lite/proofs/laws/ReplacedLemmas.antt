@@ -1,27 +1,22 @@
 -- What the template `$0`, and what a template without a `$`, puts in the place of matches.
-use Rattle.std.proofs.Common.{◌≡◌, ◌<◌, ℕ, zero, suc, inr, List, [], ◌∷◌, ◌++◌, Option}
-use Rattle.std.proofs.Common.{Some, None, Contains, chars, codes, drop, map, option_map}
-use Rattle.std.proofs.Common.{slice_range, unwrap_or, refl, sym, ap, ◌∙◌, subst, arith}
-use Rattle.std.proofs.lemmas.List.{append-nil, append_assoc}
-use Rattle.regex_lite_syntax.specs.Text.{Text}
-use Rattle.regex_lite_engine.specs.Interpolation.{GroupTexts, IsInterpolation, nothing}
+use Rattle.regex_lite.proofs.Common.{◌≡◌, ℕ, zero, suc, ◌<◌, List, [], ◌∷◌, ◌++◌, map, drop}
+use Rattle.regex_lite.proofs.Common.{slice_range, Some, None, Option, option_map, chars, unwrap_or}
+use Rattle.regex_lite.proofs.Common.{sym, refl, ap, ◌∙◌, subst, inr, arith, append_assoc, Text}
+use Rattle.regex_lite.proofs.Common.{IsInterpolation, Found, span, offset, Ahead, Expression}
+use Rattle.regex_lite.proofs.Common.{text_at, Groups, span_at, group_span, whole_span}
+use Rattle.regex_lite.proofs.Common.{AreGroupsFound, one_less, AreWithin, found_span, offsets}
+use Rattle.regex_lite.proofs.Common.{spans_from, texts_of}
+use Rattle.std.proofs.Common.{Contains, codes}
+use Rattle.std.proofs.lemmas.List.{append-nil}
+use Rattle.regex_lite_engine.specs.Interpolation.{GroupTexts, nothing}
 use Rattle.regex_lite_engine.specs.Interpolation.{numbered, piece_and_rest, reference}
-use Rattle.regex_lite_engine.specs.Search.Answer.{Found}
-use Rattle.regex_lite_engine.specs.Search.Marks.{Marks, span}
-use Rattle.regex_lite_engine.specs.Search.Offsets.{offset}
+use Rattle.regex_lite_engine.specs.Search.Marks.{Marks}
 use Rattle.regex_lite_engine.proofs.laws.templates.OneTextLemmas.{one_text, plain_text}
-use Rattle.regex_lite.specs.Ahead.{Ahead}
-use Rattle.regex_lite.specs.Expression.{Expression}
-use Rattle.regex_lite.specs.Groups.{Groups, group_span, group_text, span_at, text_at, whole_span}
-use Rattle.regex_lite.specs.Items.{AreGroupsFound}
-use Rattle.regex_lite.specs.MatchList.{AreWithin, one_less}
+use Rattle.regex_lite.specs.Groups.{group_text}
 use Rattle.regex_lite.specs.PieceLaws.{FixedTextIsTemplate, LentReplacersReplaceAlike}
 use Rattle.regex_lite.specs.PieceLaws.{TemplateAppends, TemplateFixed, WholeMatchesGiveHaystack}
-use Rattle.regex_lite.specs.Pieces.{found_span}
 use Rattle.regex_lite.specs.Replacements.{AreGroupsOfEach, IsChain, IsReplaced, replaced_by}
 use Rattle.regex_lite.specs.Replacing.{Answer}
-use Rattle.regex_lite.specs.Searches.{offsets, spans_from}
-use Rattle.regex_lite.specs.Templates.{texts_of}
 use Rattle.regex_lite.proofs.laws.BetweenLemmas.{cut_around}
 use Rattle.regex_lite.proofs.laws.NextMatchLemmas.{StandsFrom, first_stands}
 use Rattle.regex_lite.proofs.laws.NextMatchLemmas.{same_within, within_first}

@@ -2,41 +2,40 @@
 --     apart       the block in memory is its count and its value, with the way back
 --     starts      of a block whose count is 1 the first owner is made
 --     ends        the last owner has the block back
-use mathlib.Core.Path.{◌≡◌, refl, sym, subst}
+use Rattle.regex_lite.proofs.Common.{sym, refl, subst, lit<, cell, Fml, Lft, Share, fex, flft, fsep}
+use Rattle.regex_lite.proofs.Common.{ftok, ftrue, full_share, SProp, ent, id⊢, sep, every, part_at}
+use Rattle.regex_lite.proofs.Common.{layout, param, Laws, param_laws, RattleType, Ptr, block_ptr}
+use Rattle.regex_lite.proofs.Common.{align, up, !, await, by, done, fjoin, fpack, fpick, frame}
+use Rattle.regex_lite.proofs.Common.{fsplit, group, join, later, move, now, pick, qed, raw, some}
+use Rattle.regex_lite.proofs.Common.{split, split3, updating, use1, use2, ‵, ◌$◌, ◌∵◌, ◌⊛◌, Logic}
+use Rattle.regex_lite.proofs.Common.{sem, top, stands_for, only_one, value_place, lends, owned}
+use mathlib.Core.Path.{◌≡◌}
 use mathlib.Core.Bool.{Bool, true, false}
 use Prim.Native.Nat.{ℕ, ◌+◌, ◌<◌, ◌^◌}
 use mathlib.Core.List.{List, [], ◌∷◌}
 use seplogic.Ra.Ura.{Ura}
-use lib.Dec.{lit<}
-use base.Fraction.{full_share}
-use base.Mask.{every}
 use mir.Syntax.{w64, ty_int}
 use mir.Raw.{raw as bare}
-use prog.Memory.{align, up}
-use base.Logic.{SProp, ent, sep, wand, id⊢, all_e, apply∗}
-use base.Fml.{Fml, Lft, Share, Incl, Incl-trans, ftrue, fsep, fex, fwand, flft, fbor, ftok}
+use base.Logic.{wand, all_e, apply∗}
+use base.Fml.{Incl, Incl-trans, fwand, fbor}
 use contract.BorrowLft.{meet_⊑_left, meet_⊑_right}
-use types.Logic.{Logic, sem}
-use types.Kit.{‵, raw, some, later, given, ◌⊛◌, ◌$◌, ◌∵◌, !, qed, by, move, drop, use1}
-use types.Kit.{use2, pick, learn, await, group, split, split3, join, frame, assume}
-use types.Kit.{fsplit, fjoin, fjoin3, fpick, fpack, flt_i, updating, now, done}
+use types.Kit.{given, drop}
+use types.Kit.{learn, assume}
+use types.Kit.{fjoin3, flt_i}
 use types.RcWeak as rc
-use denote.RattleType.{RattleType, Denots}
-use denote.Memory.{part_at, part_of}
-use denote.Param.{param, layout}
-use denote.Param.Laws.{Laws, param_laws}
+use denote.RattleType.{Denots}
+use denote.Memory.{part_of}
 use denote.Plain.{UInt, uint_out, uint_in}
-use denote.RawPtr.{Ptr, block_ptr, lies_at}
+use denote.RawPtr.{lies_at}
 use denote.Steps.{nothing}
 use denote.Struct.Laws.{usize-laws}
 use denote.Struct.Lending.{Lends-lies, Lends-first}
 use denote.Struct.Members.{Member, rows_of, parts_at}
 use denote.Struct.Parts.{shape_of, PartsBack, Struct-parts}
 use denote.Struct.Struct.{Struct}
-use Rattle.std.proofs.RcSteps.{cell}
 use Rattle.std.specs.Rc.Ownership.{counter_at}
-use Rattle.regex_lite.specs.Owner.Ownership.{top, stands_for, is_stored, only_one, value_place}
-use Rattle.regex_lite.specs.Owner.Ownership.{lends, owned, block_back, Whole, whole, frees}
+use Rattle.regex_lite.specs.Owner.Ownership.{is_stored}
+use Rattle.regex_lite.specs.Owner.Ownership.{block_back, Whole, whole, frees}
 use Rattle.regex_lite.proofs.owner.CountLemmas.{Id, key, S, static, box, value, weaks, handle}
 
 module _ (T : RattleType) (L : Laws T) (b o : ℕ) (x : T.Denot) {M : Type 1} {𝓤 : Ura M}

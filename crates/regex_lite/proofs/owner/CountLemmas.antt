@@ -5,42 +5,42 @@
 --     opens, shuts  the invariant is opened to the word, and shut
 --     more, less    one owner more and one less
 --     lent_out, lent_back      an owner that is borrowed
-use mathlib.Core.Path.{◌≡◌, refl, sym}
+use Rattle.regex_lite.proofs.Common.{sym, refl, arith, cell, word, word_ty, Fml, Lft, Share, fat}
+use Rattle.regex_lite.proofs.Common.{fex, fhide, flft, fsep, ftok, ftrue, SProp, ent, id⊢, never}
+use Rattle.regex_lite.proofs.Common.{sep, every, hidden_shr, part_at, unhide, RattleType, Ptr}
+use Rattle.regex_lite.proofs.Common.{block_ptr, in_a_block, lent_at_shr_laws, Sym, Val, !, Goal}
+use Rattle.regex_lite.proofs.Common.{Item, Seq, Soaks, Step, await, by, done, fjoin, fpack, fpick}
+use Rattle.regex_lite.proofs.Common.{fsplit, group, join, keep, later, move, now, pick, qed, raw}
+use Rattle.regex_lite.proofs.Common.{rewrite, some, split, split3, step, updating, use1, use2, use3}
+use Rattle.regex_lite.proofs.Common.{‵, ◌$◌, ◌∵◌, ◌⊛◌, Logic, sem, top, stands_for, only_one}
+use Rattle.regex_lite.proofs.Common.{value_place, lends, owned}
+use mathlib.Core.Path.{◌≡◌}
 use mathlib.Core.Bool.{Bool, true, false}
 use Prim.Native.Nat.{ℕ, ◌+◌, ◌-◌, ◌<◌, ◌^◌}
-use native.Mathlib.Omega.{arith}
 use mathlib.Core.List.{List, [], ◌∷◌}
 use seplogic.Ra.Ura.{Ura}
 use base.FractionLaws.{Counts}
 use base.Share
-use base.Mask.{every}
-use mir.Syntax.{Sym}
-use mir.Val.{Val}
-use base.Logic.{SProp, ent, sep, guard, never, id⊢}
-use base.Fml.{Fml, Lft, Key, Share, ftrue, fsep, fex, fhide, fat, flft, fobor, ftok}
+use base.Logic.{guard}
+use base.Fml.{Key, fobor}
 use contract.BorrowLft.{meet_⊑_left}
-use types.Logic.{Logic, sem}
-use types.Kit.{Item, Goal, Seq, Step, Soaks, step, ‵, raw, some, later, given, ◌⊛◌}
-use types.Kit.{◌$◌, ◌∵◌, !, qed, by, move, keep, drop, use1, use2, use3, pick, learn}
-use types.Kit.{check, await, group, split, split3, join, fsplit, fsplit3, fjoin}
-use types.Kit.{fjoin3, fpick, fpack, flt_i, flt_l, rewrite, updating, now, done}
+use types.Kit.{given}
+use types.Kit.{drop, learn}
+use types.Kit.{check, fsplit3}
+use types.Kit.{fjoin3, flt_i, flt_l}
 use types.Tokens.{bor_new, bor_fracture, shr_bor-open, obor_close}
 use types.Within.{tokens_halve}
 use types.Na.{na_inv_dup}
 use types.RcWeak as rc
 use denote.RcWeak as handles
-use denote.RattleType.{RattleType, RowLaws}
-use denote.Memory.{part_at, hidden_shr}
-use denote.RawPtr.{Ptr, block_ptr, block_of, count_of, in_a_block}
+use denote.RattleType.{RowLaws}
+use denote.RawPtr.{block_of, count_of}
 use denote.Moves.{moves_from}
-use denote.Opens.{Shut, unhide}
+use denote.Opens.{Shut}
 use denote.Sharing.{some as for_some}
 use denote.Steps.{nothing}
-use denote.Struct.Lending.{lent_at_shr_laws}
-use Rattle.std.proofs.RcSteps.{word, word_ty, cell}
 use Rattle.std.specs.Rc.Ownership.{counter_at}
-use Rattle.regex_lite.specs.Owner.Ownership.{top, stands_for, is_stored, count_at}
-use Rattle.regex_lite.specs.Owner.Ownership.{only_one, value_place, lends, owned}
+use Rattle.regex_lite.specs.Owner.Ownership.{is_stored, count_at}
 use Rattle.regex_lite.proofs.PointerLemmas.{Word, word_had, word_made, reads, read}
 
 abbrev pub Id : Type 0

@@ -1,27 +1,24 @@
 -- What a walk that holds the thread's token begins with.
-use mathlib.Core.Path.{subst}
+use Rattle.regex_lite.proofs.Common.{subst, ent, fst∗, every, owns, types_at, triple_of, Stays}
+use Rattle.regex_lite.proofs.Common.{walk_of, WpFn, Logic, sem}
 use seplogic.Ra.Ura.{Ura}
 use mir.Syntax.{Fn}
-use base.Logic.{ent, via, fst∗, snd∗}
-use base.Mask.{every}
+use base.Logic.{via, snd∗}
 use prog.Model.{Model}
 use prog.Routine.{Callee, over, ◌≼⁺◌}
-use prog.Wp.{WpFn}
-use types.Logic.{Logic, sem}
 use contract.Beside.{Carries}
 use contract.Monad.{fact_use}
 use contract.Named.{bare_unfolds}
 use contract.Running.{Running, MachineTables, tables_of, bare_tables}
 use sound.WpLaws.{WpFn-mono}
-use denote.RattleType.{owns}
 use denote.Laws.{Ises, Are, owns_show, showss}
-use denote.Signature.{Signature, types_at}
+use denote.Signature.{Signature}
 use denote.Triple.Clauses.{Ended, Clauses, closing}
 use denote.Triple.Entry.{on_entry, alive}
 use denote.Triple.Handed.{holding, hands}
-use denote.Triple.Spec.{Meets, triple_of}
+use denote.Triple.Spec.{Meets}
 use denote.Triple.Table.{entered}
-use denote.Triple.Walked.{Stays, AllGo, walk_of, walk_Meets}
+use denote.Triple.Walked.{AllGo, walk_Meets}
 
 module _ {M : Type 1} {𝓤 : Ura M} (𝓛 : Logic 𝓤) (T : Ended)
     (hs : Stays T.signature.params T.kept) (c : Clauses 𝓤 T) where

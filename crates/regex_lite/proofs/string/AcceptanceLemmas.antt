@@ -1,13 +1,11 @@
 -- A pattern that is accepted is refused only if memory runs out.
-use Rattle.std.proofs.Common.{◌≡◌, inl, inr, Err, chars, refl, subst, arith}
-use Rattle.regex_lite_syntax.specs.declared.error.Error.{Error}
+use Rattle.regex_lite.proofs.Common.{◌≡◌, Err, chars, refl, subst, inl, inr, arith, Refusal}
+use Rattle.regex_lite.proofs.Common.{syntax_error, too_deep, too_many_groups, passed_limit}
+use Rattle.regex_lite.proofs.Common.{out_of_memory, refused_replacement, Tree, Error, IsAccepted}
+use Rattle.regex_lite.proofs.Common.{IsDue, Settings}
 use Rattle.regex_lite_syntax.specs.declared.error.LimitFault.TheVariants as limit
-use Rattle.regex_lite_syntax.specs.Tree.{Tree}
-use Rattle.regex_lite_syntax.specs.Errors.{Refusal, syntax_error, too_deep, too_many_groups}
-use Rattle.regex_lite_syntax.specs.Errors.{passed_limit, out_of_memory, refused_replacement}
 use Rattle.regex_lite_engine.specs.Graph.Size.{Fits}
-use Rattle.regex_lite.specs.Settings.{Settings}
-use Rattle.regex_lite.specs.Expression.{IsReadAs, IsAccepted, IsDue, Builds}
+use Rattle.regex_lite.specs.Expression.{IsReadAs, Builds}
 use Rattle.regex_lite.proofs.string.OneTreeLemmas.{one_tree}
 
 -- two trees that the pattern is read as are the same

@@ -1,22 +1,16 @@
 -- The searches of a pattern agree.
-use Rattle.std.proofs.Common.{◌≡◌, ◌↔◌, ◌∙◌, refl, sym, ap, subst, ℕ, List, Bool}
-use Rattle.std.proofs.Common.{true, false, IsTrue, Option, Some, None, is_some}
-use Rattle.std.proofs.Common.{option_map, option_and_then, chars, arith}
-use Rattle.std.proofs.lemmas.Bool.{false≢true}
-use Rattle.regex_lite_syntax.specs.Tree.{Tree}
-use Rattle.regex_lite_syntax.specs.Tree.Properties.{captures_len}
-use Rattle.regex_lite_engine.specs.Search.Answer.{Found, HasMatchFrom, IsFound}
-use Rattle.regex_lite_engine.specs.Search.Offsets.{search_start}
+use Rattle.regex_lite.proofs.Common.{◌≡◌, ℕ, Bool, true, false, ◌↔◌, List, is_some, IsTrue, Some}
+use Rattle.regex_lite.proofs.Common.{None, Option, option_map, chars, sym, refl, ap, ◌∙◌, subst}
+use Rattle.regex_lite.proofs.Common.{arith, false≢true, Tree, captures_len, HasMatchFrom, Found}
+use Rattle.regex_lite.proofs.Common.{IsFound, search_start, Expression, Groups, span_at, group_span}
+use Rattle.regex_lite.proofs.Common.{span_of_match, MatchesFrom, offsets, TellsAnswer, TellsMatch}
+use Rattle.regex_lite.proofs.Common.{TellsGroups, Match}
+use Rattle.std.proofs.Common.{option_and_then}
 use Rattle.regex_lite_engine.proofs.laws.PatternTreeLemmas.{regular_tree}
 use Rattle.regex_lite_engine.proofs.laws.answer.AnswerLemmas.{found_match, one_answer}
 use Rattle.regex_lite_engine.proofs.OptionLemmas.{same_some}
-use Rattle.regex_lite.specs.declared.string.matches.Match.{Match}
-use Rattle.regex_lite.specs.Expression.{Expression}
-use Rattle.regex_lite.specs.Groups.{Groups, group_span, span_at}
 use Rattle.regex_lite.specs.Laws.{Agree}
-use Rattle.regex_lite.specs.MatchViews.{span_of_match}
-use Rattle.regex_lite.specs.Searches.{MatchesFrom, TellsAnswer, TellsEnd}
-use Rattle.regex_lite.specs.Searches.{TellsGroups, TellsMatch, offsets}
+use Rattle.regex_lite.specs.Searches.{TellsEnd}
 use Rattle.regex_lite.proofs.string.FoundLemmas.{group_0}
 use Rattle.regex_lite.proofs.string.OneTreeLemmas.{matches_told, one_tree}
 

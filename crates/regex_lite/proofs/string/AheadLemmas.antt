@@ -1,13 +1,11 @@
 -- Steps of what is ahead.
-use Rattle.std.proofs.Common.{◌≡◌, ◌≢◌, ◌⊎◌, ◌<◌, ◌≤◌, ◌+◌, ◌-◌, length, inl, inr, ℕ, zero, suc}
-use Rattle.std.proofs.Common.{List, [], ◌∷◌, Option, Some, None, refl, subst, arith, chars}
-use Rattle.regex_lite_syntax.specs.Text.{Text}
-use Rattle.regex_lite_engine.specs.Search.Answer.{Found}
-use Rattle.regex_lite.specs.Ahead.{Ahead, AreAhead, AreFirstAhead, IsOnward}
-use Rattle.regex_lite.specs.Ahead.{IsOver, Passes, most_ahead, most_left}
-use Rattle.regex_lite.specs.Expression.{Expression}
-use Rattle.regex_lite.specs.MatchList.{AreFirst, AreWithin, IsNext, one_less}
-use Rattle.regex_lite.specs.Scanning.{Scanning}
+use Rattle.regex_lite.proofs.Common.{◌≡◌, ℕ, zero, suc, ◌+◌, ◌-◌, ◌<◌, ◌≤◌, ◌≢◌, ◌⊎◌, List, [], ◌∷◌}
+use Rattle.regex_lite.proofs.Common.{length, Some, None, Option, chars, refl, subst, inl, inr}
+use Rattle.regex_lite.proofs.Common.{arith, Text, Found, Ahead, IsOver, Passes, IsOnward}
+use Rattle.regex_lite.proofs.Common.{most_ahead, Expression, one_less, AreWithin, Scanning}
+use Rattle.regex_lite.specs.Ahead.{AreAhead, AreFirstAhead}
+use Rattle.regex_lite.specs.Ahead.{most_left}
+use Rattle.regex_lite.specs.MatchList.{AreFirst, IsNext}
 
 module _ (re : Expression) (haystack : Text) where
   within_cons : (limit ended : Option ℕ) (found : Found) (list : List Found) → limit ≢ Some 0

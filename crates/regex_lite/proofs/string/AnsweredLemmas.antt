@@ -1,21 +1,17 @@
 -- Whether anything is ahead of a whole haystack.
-use Rattle.std.proofs.Common.{◌≡◌, ◌≢◌, ◌++◌, inl, inr, ℕ, suc, zero, List, [], Option}
-use Rattle.std.proofs.Common.{Some, None, Result, Ok, Err, IfOk, MatchOption, sym, ap}
-use Rattle.std.proofs.Common.{◌∙◌, subst, drop, chars, length, unwrap_or, arith}
-use Rattle.std.specs.Cow.{IsOwnedStr, cow_str_bytes}
+use Rattle.regex_lite.proofs.Common.{◌≡◌, ℕ, zero, suc, ◌≢◌, List, [], ◌++◌, length, drop, IfOk}
+use Rattle.regex_lite.proofs.Common.{Some, None, Ok, Err, Option, Result, chars, unwrap_or, sym, ap}
+use Rattle.regex_lite.proofs.Common.{◌∙◌, subst, inl, inr, arith, IsOwnedStr, Text, HasMatchFrom}
+use Rattle.regex_lite.proofs.Common.{Found, search_start, Ahead, IsOver, Passes, AreLawful}
+use Rattle.regex_lite.proofs.Common.{Expression, IsAnswerOf, MatchesFrom}
+use Rattle.std.proofs.Common.{MatchOption}
+use Rattle.std.specs.Cow.{cow_str_bytes}
 use Rattle.std.specs.declared.borrow.CowStr.{CowStr}
 use Rattle.std.proofs.lemmas.Result.{IfOk-weaker}
 use Rattle.std.proofs.lemmas.Str.{chars-nil}
-use Rattle.regex_lite_syntax.specs.Text.{Text}
-use Rattle.regex_lite_engine.specs.Search.Answer.{Found, HasMatchFrom}
-use Rattle.regex_lite_engine.specs.Search.Offsets.{search_start}
 use Rattle.regex_lite_engine.proofs.OptionLemmas.{not_there}
-use Rattle.regex_lite.specs.Answers.{AreLawful}
-use Rattle.regex_lite.specs.Expression.{Expression}
-use Rattle.regex_lite.specs.Ahead.{Ahead, AheadOf, IsOver, NoneIsAhead, Passes, PassesAnswer, whole}
-use Rattle.regex_lite.specs.MatchList.{IsAnswerOf}
+use Rattle.regex_lite.specs.Ahead.{AheadOf, NoneIsAhead, PassesAnswer, whole}
 use Rattle.regex_lite.specs.Replacements.{limit_of}
-use Rattle.regex_lite.specs.Searches.{MatchesFrom}
 use Rattle.regex_lite.proofs.string.LawfulLemmas.{regex_lawful}
 use Rattle.regex_lite.proofs.string.ListLemmas.{one_next}
 use Rattle.regex_lite.proofs.string.OneTreeLemmas.{one_tree}

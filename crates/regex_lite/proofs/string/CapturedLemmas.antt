@@ -1,25 +1,17 @@
 -- The slots of an outcome, or its span, determine the groups of what was found.
-use Rattle.std.proofs.Common.{◌≡◌, ◌≤◌, refl, sym, ap, subst, ◌∙◌, ℕ, zero, suc}
-use Rattle.std.proofs.Common.{◌*◌, List, [], ◌∷◌, length, Option, Some, None}
-use Rattle.std.proofs.Common.{IfSome, IsSome, option_map, chars, IsUtf8, arith}
-use Rattle.std.specs.List.{filter_map}
-use Rattle.std.specs.Option.{option_zip}
-use Rattle.regex_lite_syntax.specs.Text.{Text}
-use Rattle.regex_lite_syntax.specs.Tree.{Tree}
-use Rattle.regex_lite_syntax.specs.Tree.Properties.{captures_len, static_captures_len}
-use Rattle.regex_lite_engine.specs.WayLaws.{IsPatternTree}
-use Rattle.regex_lite_engine.specs.Graph.StoredList.{StoredGroups}
-use Rattle.regex_lite_engine.specs.Search.Answer.{Found, IsFound}
-use Rattle.regex_lite_engine.specs.Search.Offsets.{HasSlots, offset}
+use Rattle.regex_lite.proofs.Common.{◌≡◌, ℕ, zero, suc, ◌*◌, ◌≤◌, List, [], ◌∷◌, length, IfSome}
+use Rattle.regex_lite.proofs.Common.{Some, None, IsUtf8, Option, option_map, chars, sym, refl, ap}
+use Rattle.regex_lite.proofs.Common.{◌∙◌, subst, arith, filter_map, option_zip, Text, Tree}
+use Rattle.regex_lite.proofs.Common.{captures_len, static_captures_len, StoredGroups, Found}
+use Rattle.regex_lite.proofs.Common.{IsFound, offset, HasSlots, IsPatternTree, IsBuilt}
+use Rattle.regex_lite.proofs.Common.{stored_groups, names_of, NamesGroups, groups_of, LiesIn}
+use Rattle.regex_lite.proofs.Common.{text_at, spans_of, span_at, group_span, texts_from, AreGroups}
+use Rattle.regex_lite.proofs.Common.{offsets, spans_from, AreGroupsOf, kept_slots, all_slots}
+use Rattle.regex_lite.proofs.Common.{Compiled}
+use Rattle.std.proofs.Common.{IsSome}
 use Rattle.regex_lite_engine.proofs.laws.PatternTreeLemmas.{regular_tree}
 use Rattle.regex_lite_engine.proofs.laws.groups.SpanLemmas.{groups_inside}
 use Rattle.regex_lite_engine.proofs.OptionLemmas.{same_some}
-use Rattle.regex_lite.specs.declared.string.compiled.Compiled.{Compiled}
-use Rattle.regex_lite.specs.Compiled.{IsBuilt, NamesGroups, groups_of, names_of, stored_groups}
-use Rattle.regex_lite.specs.Groups.{AreGroups, LiesIn, span_at, spans_of}
-use Rattle.regex_lite.specs.Groups.{text_at, texts_from, group_span}
-use Rattle.regex_lite.specs.Searches.{AreGroupsOf, offsets, spans_from}
-use Rattle.regex_lite.specs.Slots.{all_slots, kept_slots}
 use Rattle.regex_lite.proofs.string.SlotLemmas.{none_kept, some_kept}
 use Rattle.regex_lite.proofs.string.FoundLemmas.{slots_told, length_spans}
 use Rattle.regex_lite.proofs.string.FoundLemmas.{groups_lie, group_0, enough_texts}

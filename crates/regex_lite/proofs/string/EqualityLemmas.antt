@@ -1,12 +1,11 @@
 -- Equality of matches.
-use Rattle.std.proofs.Common.{◌≡◌, refl, ap, ℕ, List}
+use Rattle.regex_lite.proofs.Common.{◌≡◌, ℕ, List, refl, ap, haystack_of_match, Match}
 use Rattle.std.specs.Bool.{Decides}
 use Rattle.std.specs.Cmp.{IsEquivalence, unsigned_Decides}
 use Rattle.std.proofs.lemmas.Bool.Decides.{Decides-and}
 use Rattle.std.proofs.lemmas.Cmp.{and_equiv, nat_eq_equiv, nat_list_eq_equiv, on_equiv}
 use Rattle.std.proofs.lemmas.Slice.Eq.{bytes_eq-Decides}
-use Rattle.regex_lite.specs.declared.string.matches.Match.{Match}
-use Rattle.regex_lite.specs.MatchViews.{is_same_match, haystack_of_match, match_with_haystack}
+use Rattle.regex_lite.specs.MatchViews.{is_same_match, match_with_haystack}
 
 pub same_match_equiv : IsEquivalence is_same_match
 same_match_equiv =

@@ -1,25 +1,24 @@
 -- The pattern that is made of a text: its characters, and why it can be refused.
-use Rattle.std.proofs.Common.{◌≡◌, ◌≤◌, inl, inr, refl, sym, ◌∙◌, ap, subst, cond, ℕ}
-use Rattle.std.proofs.Common.{true, false, List, [], ◌∷◌, map, chars, IsUtf8, arith}
+use Rattle.regex_lite.proofs.Common.{◌≡◌, ℕ, ◌≤◌, true, false, List, [], ◌∷◌, map, IsUtf8, chars}
+use Rattle.regex_lite.proofs.Common.{sym, refl, ap, ◌∙◌, subst, inl, inr, arith, Refusal}
+use Rattle.regex_lite.proofs.Common.{syntax_error, too_deep, too_many_groups, passed_limit}
+use Rattle.regex_lite.proofs.Common.{out_of_memory, refused_replacement, kind_of, Text}
+use Rattle.regex_lite.proofs.Common.{escaped_pattern, IsDue}
+use Rattle.std.proofs.Common.{cond}
 use Rattle.std.specs.Str.{all_scalars}
 use Rattle.std.proofs.lemmas.Bool.{and_from, and_parts}
 use Rattle.std.proofs.lemmas.Str.{chars-encodes, scalars-chars}
 use Rattle.regex_lite_syntax.specs.declared.error.LimitFault.TheVariants as limit
-use Rattle.regex_lite_syntax.specs.Text.{Text, the}
+use Rattle.regex_lite_syntax.specs.Text.{the}
 use Rattle.regex_lite_syntax.specs.Tree.{character, trees}
 use Rattle.regex_lite_syntax.specs.Tree.Properties.{greatest_index, greatest_index_in}
 use Rattle.regex_lite_syntax.specs.Escaped.{is_meta_character, escaped, literal}
 use Rattle.regex_lite_syntax.specs.Grammar.{Grammar}
 use Rattle.regex_lite_syntax.specs.Limits.{depth, depth_of_list, PassesNesting}
-use Rattle.regex_lite_syntax.specs.Errors.{Refusal, kind_of, syntax_error}
-use Rattle.regex_lite_syntax.specs.Errors.{too_deep, too_many_groups, passed_limit}
-use Rattle.regex_lite_syntax.specs.Errors.{out_of_memory, refused_replacement}
 use Rattle.regex_lite_syntax.proofs.grammar.EscapedLemmas.{escaped_literal}
 use Rattle.regex_lite_syntax.proofs.grammar.LiteralMatchLemmas.{literal_matches}
 use Rattle.regex_lite_syntax.proofs.CharacterLemmas.{chars_are}
 use Rattle.regex_lite.specs.Settings.{no_flags}
-use Rattle.regex_lite.specs.Escapes.{escaped_pattern}
-use Rattle.regex_lite.specs.Expression.{IsDue}
 use Rattle.regex_lite.specs.Laws.{escaped_settings, IsForSize, EscapedTextsMatchThemselves}
 use Rattle.regex_lite.proofs.string.OneTreeLemmas.{one_tree}
 

@@ -1,27 +1,20 @@
 -- What is found, by offsets: its match and its groups lie in the haystack.
-use Rattle.std.proofs.Common.{◌≡◌, ◌<◌, ◌≤◌, ◌⊎◌, inl, inr, refl, ap, ◌∙◌, ℕ, zero, suc}
-use Rattle.std.proofs.Common.{◌+◌, ◌*◌, List, [], ◌∷◌, length, take, Option, Some, None}
-use Rattle.std.proofs.Common.{IfSome, option_map, slice_get, chars, IsUtf8, arith}
-use Rattle.std.specs.Option.{option_zip}
-use Rattle.std.specs.List.{filter_map}
-use Rattle.std.proofs.lemmas.Bool.{cases_order}
-use Rattle.regex_lite_syntax.specs.Text.{Text}
-use Rattle.regex_lite_syntax.specs.Tree.{Tree}
-use Rattle.regex_lite_syntax.specs.Tree.Properties.{captures_len, static_captures_len}
+use Rattle.regex_lite.proofs.Common.{◌≡◌, ℕ, zero, suc, ◌+◌, ◌*◌, ◌<◌, ◌≤◌, ◌⊎◌, List, [], ◌∷◌}
+use Rattle.regex_lite.proofs.Common.{length, take, IfSome, slice_get, Some, None, IsUtf8, Option}
+use Rattle.regex_lite.proofs.Common.{option_map, chars, refl, ap, ◌∙◌, inl, inr, arith, cases_order}
+use Rattle.regex_lite.proofs.Common.{filter_map, option_zip, Text, Tree, captures_len}
+use Rattle.regex_lite.proofs.Common.{static_captures_len, Found, IsFound, span, offset}
+use Rattle.regex_lite.proofs.Common.{IsPatternTree, LiesIn, text_at, spans_of, span_at, offsets}
+use Rattle.regex_lite.proofs.Common.{spans_from}
 use Rattle.regex_lite_engine.specs.SearchLaws.{HasGroupsInside}
-use Rattle.regex_lite_engine.specs.WayLaws.{IsPatternTree}
-use Rattle.regex_lite_engine.specs.Search.Answer.{Found, IsFound}
-use Rattle.regex_lite_engine.specs.Search.Marks.{Marks, span, taking_part}
-use Rattle.regex_lite_engine.specs.Search.Offsets.{offset}
+use Rattle.regex_lite_engine.specs.Search.Marks.{Marks, taking_part}
 use Rattle.regex_lite_engine.specs.Graph.WrittenOut.{place_of_pattern, start_address, end_address}
 use Rattle.regex_lite_engine.proofs.OffsetLemmas.{offset_less, boundary_at}
 use Rattle.regex_lite_engine.proofs.laws.PatternTreeLemmas.{regular_tree, numbered_tree}
 use Rattle.regex_lite_engine.proofs.laws.answer.ReachLemmas.{walk_inside}
 use Rattle.regex_lite_engine.proofs.laws.groups.SpanLemmas.{groups_inside}
 use Rattle.regex_lite_engine.proofs.laws.groups.TakingPartLemmas.{enough_take_part}
-use Rattle.regex_lite.specs.Groups.{LiesIn, span_at, spans_of, text_at}
 use Rattle.regex_lite.specs.Laws.{LiesInside}
-use Rattle.regex_lite.specs.Searches.{offsets, spans_from}
 
 -- offsets are in the order of their positions
 offset_most : (haystack : Text) (p q : ℕ) → p ≤ q → q ≤ length haystack

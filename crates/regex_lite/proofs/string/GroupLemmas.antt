@@ -1,22 +1,21 @@
 -- Groups by their spans: one after another, and by their names.
-use Rattle.std.proofs.Common.{◌≡◌, refl, sym, ap, ◌∙◌, ◌⊎◌, inl, inr, ℕ, suc, ◌+◌, ◌<◌, ◌≤◌}
-use Rattle.std.proofs.Common.{add-one, nat_lt, true, false, List, [], ◌∷◌, length, drop}
-use Rattle.std.proofs.Common.{map, get_or, Option, Some, None, IfSome, option_map, arith}
-use Rattle.std.specs.List.{filter_map, cons_option, position_or_len}
+use Rattle.regex_lite.proofs.Common.{◌≡◌, ℕ, suc, ◌+◌, ◌<◌, ◌≤◌, true, false, ◌⊎◌, List, [], ◌∷◌}
+use Rattle.regex_lite.proofs.Common.{map, length, get_or, drop, IfSome, Some, None, Option}
+use Rattle.regex_lite.proofs.Common.{option_map, sym, refl, ap, ◌∙◌, inl, inr, add-one, arith}
+use Rattle.regex_lite.proofs.Common.{cases_order, nat_tests, length-map, slice_get-get_or}
+use Rattle.regex_lite.proofs.Common.{filter_map, rc_str_bytes, text_at, Groups, span_at, group_span}
+use Rattle.regex_lite.proofs.Common.{texts_from, haystack_of_match, span_of_match, Match}
+use Rattle.std.proofs.Common.{nat_lt}
+use Rattle.std.specs.List.{cons_option, position_or_len}
 use Rattle.std.specs.Option.{option_flatten}
 use Rattle.std.proofs.Math.Seq.{drop-cons}
-use Rattle.std.specs.Rc.{rc_str_bytes}
 use Rattle.std.specs.declared.alloc.Global.{Global}
 use Rattle.std.specs.declared.rc.RcStr.{RcStr}
-use Rattle.std.proofs.lemmas.List.{get_or-map, length-map}
-use Rattle.std.proofs.lemmas.Bool.{cases_order}
+use Rattle.std.proofs.lemmas.List.{get_or-map}
 use Rattle.std.proofs.lemmas.List.Sums.{position_or_len_is}
-use Rattle.std.proofs.lemmas.Bool.Decides.{nat_tests}
-use Rattle.std.proofs.lemmas.Option.{slice_get-get_or, IfSome_then}
-use Rattle.regex_lite.specs.Groups.{Groups, group_span, is_named, index_of}
-use Rattle.regex_lite.specs.Groups.{span_at, text_at, texts_from}
-use Rattle.regex_lite.specs.declared.string.matches.Match.{Match}
-use Rattle.regex_lite.specs.MatchViews.{haystack_of_match, span_of_match, match_with_haystack}
+use Rattle.std.proofs.lemmas.Option.{IfSome_then}
+use Rattle.regex_lite.specs.Groups.{is_named, index_of}
+use Rattle.regex_lite.specs.MatchViews.{match_with_haystack}
 
 -- the spans from index k on begin with that of group k
 pub spans_on : (spans : List (Option (ℕ × ℕ))) (k : ℕ) → k < length spans

@@ -1,13 +1,12 @@
 -- The names that a regex hands out are those of its tree.
-use Rattle.std.proofs.Common.{◌≡◌, ◌∙◌, refl, sym, ap, subst, ℕ, List, [], ◌∷◌, length}
-use Rattle.std.proofs.Common.{map, option_map, slice_index_or, Option, Some, None, chars}
-use Rattle.std.proofs.lemmas.List.{length-map}
-use Rattle.std.specs.Rc.{rc_str_bytes}
+use Rattle.regex_lite.proofs.Common.{◌≡◌, ℕ, List, [], ◌∷◌, map, length, Some, None, Option}
+use Rattle.regex_lite.proofs.Common.{option_map, chars, sym, refl, ap, ◌∙◌, subst, length-map}
+use Rattle.regex_lite.proofs.Common.{rc_str_bytes, Tree, captures_len}
+use Rattle.std.proofs.Common.{slice_index_or}
 use Rattle.std.specs.declared.alloc.Global.{Global}
 use Rattle.std.specs.declared.rc.RcStr.{RcStr}
-use Rattle.regex_lite_syntax.specs.Tree.{Tree}
 use Rattle.regex_lite_syntax.specs.Tree.Regular.{IsRegular}
-use Rattle.regex_lite_syntax.specs.Tree.Properties.{captures_len, group_name}
+use Rattle.regex_lite_syntax.specs.Tree.Properties.{group_name}
 use Rattle.regex_lite_syntax.specs.Tree.Views.{text_of_name}
 use Rattle.regex_lite_syntax.proofs.machine.WholeMatchLemmas.{no_name}
 use Rattle.regex_lite.specs.Expression.{name_at, AreNames}

@@ -1,24 +1,16 @@
 -- What a searcher that callers keep returns of a match, and of its groups.
-use Rattle.std.proofs.Common.{◌≡◌, ◌≤◌, ◌*◌, ◌/◌, ◌∙◌, refl, sym, ap, subst, ℕ, List, [], length}
-use Rattle.std.proofs.Common.{take, Option, Some, None, option_map, chars, IsUtf8, arith}
-use Rattle.regex_lite_syntax.specs.Tree.{Tree}
-use Rattle.regex_lite_syntax.specs.Tree.Properties.{captures_len}
-use Rattle.regex_lite_engine.specs.Graph.Renumbered.{IsGraphOf}
-use Rattle.regex_lite_engine.specs.Search.Answer.{Found}
-use Rattle.regex_lite_engine.specs.Search.Offsets.{HasSlots, offset, position_at, search_start}
-use Rattle.regex_lite_engine.specs.Search.Outcomes.{IsSpanOutcome}
+use Rattle.regex_lite.proofs.Common.{◌≡◌, ℕ, ◌*◌, ◌≤◌, List, [], length, take, Some, None, IsUtf8}
+use Rattle.regex_lite.proofs.Common.{Option, option_map, chars, sym, refl, ap, ◌∙◌, subst, arith}
+use Rattle.regex_lite.proofs.Common.{Tree, captures_len, IsGraphOf, Found, offset, position_at}
+use Rattle.regex_lite.proofs.Common.{search_start, HasSlots, IsSpanOutcome, IsWithin, Expression}
+use Rattle.regex_lite.proofs.Common.{OfTree, spans_of, IsAnswerOf, span_of_match, spans_from}
+use Rattle.regex_lite.proofs.Common.{IsMatchOf, TellsMatch, TellsLocations, all_slots, Match}
+use Rattle.std.proofs.Common.{◌/◌}
 use Rattle.regex_lite_engine.specs.Search.Searching.{Searching}
 use Rattle.regex_lite_engine.proofs.PositionLemmas.{position_of}
 use Rattle.regex_lite_engine.proofs.OptionLemmas.{not_there, same_some}
-use Rattle.regex_lite.specs.declared.string.matches.Match.{Match}
-use Rattle.regex_lite.specs.Answers.{IsWithin}
-use Rattle.regex_lite.specs.Expression.{Expression, OfTree}
-use Rattle.regex_lite.specs.Groups.{spans_of}
 use Rattle.regex_lite.specs.Keeping.{SearchesForGroups}
-use Rattle.regex_lite.specs.MatchList.{IsAnswerOf}
-use Rattle.regex_lite.specs.MatchViews.{span_of_match}
-use Rattle.regex_lite.specs.Searches.{CanRead, IsMatchOf, TellsLocations, TellsMatch, spans_from}
-use Rattle.regex_lite.specs.Slots.{all_slots}
+use Rattle.regex_lite.specs.Searches.{CanRead}
 use Rattle.regex_lite.proofs.string.CapturedLemmas.{held_all}
 use Rattle.regex_lite.proofs.string.FoundLemmas.{first_told, length_spans, slots_told}
 use Rattle.regex_lite.proofs.string.LawfulLemmas.{regex_lawful}

@@ -1,20 +1,16 @@
 -- The answers of a regex, and of a list of patterns, are lawful.
-use Rattle.std.proofs.Common.{◌≡◌, ◌≤◌, ℕ, List, Option, chars, subst, arith}
-use Rattle.regex_lite_syntax.specs.Text.{Text}
-use Rattle.regex_lite_syntax.specs.Tree.{Tree}
-use Rattle.regex_lite_engine.specs.WayLaws.{IsPatternTree}
+use Rattle.regex_lite.proofs.Common.{◌≡◌, ℕ, ◌≤◌, List, Option, chars, subst, arith, Text, Tree}
+use Rattle.regex_lite.proofs.Common.{Found, IsFound, IsPatternTree, IsWithin, AreLawful, Expression}
+use Rattle.regex_lite.proofs.Common.{IsAnswerOf, IsAnswerOfPatterns}
 use Rattle.regex_lite_engine.specs.Graph.WrittenOut.{place_of_pattern, start_address, end_address}
 use Rattle.regex_lite_engine.specs.ListSearchLaws.{ArePatternTrees}
-use Rattle.regex_lite_engine.specs.Search.Answer.{Found, IsFound, IsAnswer}
+use Rattle.regex_lite_engine.specs.Search.Answer.{IsAnswer}
 use Rattle.regex_lite_engine.specs.Search.AnswerOfList.{IsAnswerOfList}
 use Rattle.regex_lite_engine.proofs.laws.PatternTreeLemmas.{regular_tree}
 use Rattle.regex_lite_engine.proofs.laws.answer.AnswerLemmas.{one_answer}
 use Rattle.regex_lite_engine.proofs.laws.answer.ReachLemmas.{walk_inside}
 use Rattle.regex_lite_engine.proofs.laws.groups.SpanLemmas.{groups_inside}
 use Rattle.regex_lite_engine.proofs.laws.several.ListAnswerLemmas.{one_list_answer}
-use Rattle.regex_lite.specs.Answers.{AreLawful, IsWithin}
-use Rattle.regex_lite.specs.Expression.{Expression}
-use Rattle.regex_lite.specs.MatchList.{IsAnswerOf, IsAnswerOfPatterns}
 use Rattle.regex_lite.proofs.string.ListBuildLemmas.{one_list, pattern_tree}
 use Rattle.regex_lite.proofs.string.OneTreeLemmas.{one_tree}
 

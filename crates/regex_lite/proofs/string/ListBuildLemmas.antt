@@ -1,26 +1,23 @@
 -- A list of patterns is accepted, or refused by the lowest that fails, or for all places together.
-use Rattle.std.proofs.Common.{◌≡◌, ◌<◌, ◌≤◌, ◌^◌, ◌⊎◌, ◌+◌, ◌*◌, ◌++◌, ◌∙◌, inl, inr, refl, sym}
-use Rattle.std.proofs.Common.{ap, add-one, All, ℕ, zero, suc, List, [], ◌∷◌, length, map, take}
-use Rattle.std.proofs.Common.{take-suc, Some, Err, get_or, slice_get, slice_index_or, chars, arith}
+use Rattle.regex_lite.proofs.Common.{◌≡◌, ℕ, zero, suc, ◌+◌, ◌*◌, ◌<◌, ◌≤◌, ◌⊎◌, List, [], ◌∷◌}
+use Rattle.regex_lite.proofs.Common.{◌++◌, map, length, get_or, take, slice_get, Some, Err, chars}
+use Rattle.regex_lite.proofs.Common.{sym, refl, ap, ◌∙◌, inl, inr, add-one, arith, slice_get-get_or}
+use Rattle.regex_lite.proofs.Common.{Refusal, syntax_error, too_deep, too_many_groups, passed_limit}
+use Rattle.regex_lite.proofs.Common.{out_of_memory, refused_replacement, kind_of, IsTree, Tree}
+use Rattle.regex_lite.proofs.Common.{Error, whole_places, HasTree, AreRegular, places_of_all}
+use Rattle.regex_lite.proofs.Common.{IsPatternTree, Expression, expression_of, IsAccepted, IsDue}
+use Rattle.regex_lite.proofs.Common.{AreAcceptedAs, AreAccepted, AreTrees, Settings}
+use Rattle.std.proofs.Common.{◌^◌}
+use Rattle.std.proofs.Common.{All}
+use Rattle.std.proofs.Common.{take-suc, slice_index_or}
 use Rattle.std.proofs.lemmas.List.Sums.{sum_by-cons}
-use Rattle.std.proofs.lemmas.Option.{slice_get-get_or}
-use Rattle.regex_lite_syntax.specs.declared.error.Error.{Error}
 use Rattle.regex_lite_syntax.specs.declared.error.ErrorKind.TheVariants.{Places}
-use Rattle.regex_lite_syntax.specs.Errors.{Refusal, kind_of, syntax_error}
-use Rattle.regex_lite_syntax.specs.Errors.{too_deep, too_many_groups, passed_limit}
-use Rattle.regex_lite_syntax.specs.Errors.{out_of_memory, refused_replacement}
-use Rattle.regex_lite_syntax.specs.Tree.{Tree}
-use Rattle.regex_lite_syntax.specs.Grammar.{IsTree}
-use Rattle.regex_lite_engine.specs.Graph.SideBySide.{AreRegular, arrows_of_all, places_of_all}
-use Rattle.regex_lite_engine.specs.Graph.PlaceCounts.{whole_arrows, whole_places}
+use Rattle.regex_lite_engine.specs.Graph.SideBySide.{arrows_of_all}
+use Rattle.regex_lite_engine.specs.Graph.PlaceCounts.{whole_arrows}
 use Rattle.regex_lite_engine.specs.Graph.Size.{Fits}
-use Rattle.regex_lite_engine.specs.Graph.SideBySide.{HasTree}
-use Rattle.regex_lite_engine.specs.WayLaws.{IsPatternTree}
 use Rattle.regex_lite_engine.proofs.ArrowBoundLemmas.{arrows_few}
 use Rattle.regex_lite_engine.proofs.laws.PatternTreeLemmas.{regular_tree}
-use Rattle.regex_lite.specs.Expression.{Expression, IsAccepted, IsDue, expression_of}
-use Rattle.regex_lite.specs.Settings.{Settings}
-use Rattle.regex_lite.specs.RegexList.{AreAccepted, AreAcceptedAs, AreTrees, BuildsList}
+use Rattle.regex_lite.specs.RegexList.{BuildsList}
 use Rattle.regex_lite.specs.RegexList.{IsAcceptedAs, IsDueToAll, IsDueToLowest}
 use Rattle.regex_lite.proofs.string.AcceptanceLemmas.{for_memory, same_tree}
 use Rattle.regex_lite.proofs.string.OneTreeLemmas.{one_tree}

@@ -1,29 +1,18 @@
 -- The slots of an outcome determine the groups of what was found of several patterns.
-use Rattle.std.proofs.Common.{◌≡◌, ◌<◌, ◌*◌, ◌∙◌, refl, sym, ap, subst, ℕ, List, [], length, take}
-use Rattle.std.proofs.Common.{Option, Some, None, chars, IsUtf8, arith}
-use Rattle.std.proofs.lemmas.List.{length-take-le}
-use Rattle.std.proofs.lemmas.Option.{slice_get-get_or, slice_get_within, unwrap_or-slice_get}
-use Rattle.regex_lite_syntax.specs.Tree.{Tree}
-use Rattle.regex_lite_engine.specs.declared.search.outcome.Outcome.{Outcome}
-use Rattle.regex_lite_engine.specs.WayLaws.{IsPatternTree}
-use Rattle.regex_lite_engine.specs.Graph.SideBySide.{HasTree}
-use Rattle.regex_lite_engine.specs.Graph.StoredList.{HasGroupsOfList, StoredGroups, StoredList}
+use Rattle.regex_lite.proofs.Common.{◌≡◌, ℕ, ◌*◌, ◌<◌, List, [], length, take, Some, None, IsUtf8}
+use Rattle.regex_lite.proofs.Common.{Option, chars, sym, refl, ap, ◌∙◌, subst, arith}
+use Rattle.regex_lite.proofs.Common.{length-take-le, slice_get-get_or, Tree, HasTree, StoredGroups}
+use Rattle.regex_lite.proofs.Common.{Found, IsFoundInList, search_start, HasSlots, IsOutcomeOfList}
+use Rattle.regex_lite.proofs.Common.{IsPatternTree, Outcome, names_of, NamesGroups, groups_of}
+use Rattle.regex_lite.proofs.Common.{groups_at, Expression, Groups, AreGroups, AreGroupsFoundInList}
+use Rattle.regex_lite.proofs.Common.{AreTrees, TellsGroupsOfList, offsets, AreGroupsOf, all_slots}
+use Rattle.regex_lite.proofs.Common.{most_groups, CompiledList}
+use Rattle.std.proofs.lemmas.Option.{slice_get_within, unwrap_or-slice_get}
+use Rattle.regex_lite_engine.specs.Graph.StoredList.{HasGroupsOfList, StoredList}
 use Rattle.regex_lite_engine.specs.Graph.StoredList.{TellsGroupsOf}
-use Rattle.regex_lite_engine.specs.Search.Answer.{Found}
-use Rattle.regex_lite_engine.specs.Search.AnswerOfList.{IsFoundInList}
-use Rattle.regex_lite_engine.specs.Search.Offsets.{HasSlots, search_start}
-use Rattle.regex_lite_engine.specs.Search.Outcomes.{IsOutcomeOfList}
 use Rattle.regex_lite_engine.proofs.laws.PatternTreeLemmas.{regular_tree}
-use Rattle.regex_lite.specs.declared.string.list.compiled.CompiledList.{CompiledList}
-use Rattle.regex_lite.specs.Compiled.{NamesGroups, groups_of, names_of}
-use Rattle.regex_lite.specs.CompiledList.{IsBuiltList, groups_at}
-use Rattle.regex_lite.specs.Expression.{Expression}
-use Rattle.regex_lite.specs.Groups.{AreGroups, Groups}
-use Rattle.regex_lite.specs.ListAhead.{AreGroupsFoundInList}
-use Rattle.regex_lite.specs.RegexList.{AreTrees}
-use Rattle.regex_lite.specs.RegexListSearches.{AreOfPattern, TellsGroupsOfList}
-use Rattle.regex_lite.specs.Searches.{AreGroupsOf, offsets}
-use Rattle.regex_lite.specs.Slots.{all_slots, most_groups}
+use Rattle.regex_lite.specs.CompiledList.{IsBuiltList}
+use Rattle.regex_lite.specs.RegexListSearches.{AreOfPattern}
 use Rattle.regex_lite.proofs.string.CapturedLemmas.{AreAllSlots, captured, captured_of, held_all}
 use Rattle.regex_lite.proofs.string.GroupNameLemmas.{are_names}
 use Rattle.regex_lite.proofs.string.ListBuildLemmas.{own_tree, pattern_tree}

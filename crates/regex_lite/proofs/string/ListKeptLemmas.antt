@@ -1,27 +1,17 @@
 -- What a searcher for several patterns that callers keep returns of a match, and of its groups.
-use Rattle.std.proofs.Common.{◌≡◌, ◌≤◌, ◌<◌, ◌*◌, ◌∙◌, refl, sym, ap, subst, ℕ, zero, suc, List}
-use Rattle.std.proofs.Common.{[], ◌∷◌, length, take, Option, Some, None, option_map, chars, arith}
-use Rattle.std.proofs.lemmas.List.{length-take-le}
+use Rattle.regex_lite.proofs.Common.{◌≡◌, ℕ, zero, suc, ◌*◌, ◌<◌, ◌≤◌, List, [], ◌∷◌, length, take}
+use Rattle.regex_lite.proofs.Common.{Some, None, Option, option_map, chars, sym, refl, ap, ◌∙◌}
+use Rattle.regex_lite.proofs.Common.{subst, arith, length-take-le, IsTree, Tree, captures_len}
+use Rattle.regex_lite.proofs.Common.{HasTree, Found, IsFoundInList, offset, search_start, HasSlots}
+use Rattle.regex_lite.proofs.Common.{Expression, spans_of, resized, IsAnswerOfPatterns}
+use Rattle.regex_lite.proofs.Common.{span_of_match, AreTrees, TellsMatchOfList, most_captures}
+use Rattle.regex_lite.proofs.Common.{AreSlotsForAllGroups, spans_from, kept_slots, all_slots, Match}
 use Rattle.std.proofs.lemmas.Option.{slice_get_within}
-use Rattle.regex_lite_syntax.specs.Grammar.{IsTree}
-use Rattle.regex_lite_syntax.specs.Tree.{Tree}
-use Rattle.regex_lite_syntax.specs.Tree.Properties.{captures_len}
-use Rattle.regex_lite_engine.specs.Search.Answer.{Found}
-use Rattle.regex_lite_engine.specs.Search.AnswerOfList.{IsFoundInList}
-use Rattle.regex_lite_engine.specs.Graph.SideBySide.{HasTree}
-use Rattle.regex_lite_engine.specs.Search.Offsets.{HasSlots, offset, search_start}
 use Rattle.regex_lite_engine.proofs.OptionLemmas.{same_some}
-use Rattle.regex_lite.specs.declared.string.matches.Match.{Match}
 use Rattle.regex_lite.specs.Answers.{TellsOfAnswer}
-use Rattle.regex_lite.specs.Expression.{Expression}
-use Rattle.regex_lite.specs.Groups.{resized, spans_of}
-use Rattle.regex_lite.specs.MatchList.{IsAnswerOfPatterns}
-use Rattle.regex_lite.specs.MatchViews.{span_of_match}
-use Rattle.regex_lite.specs.RegexList.{AreTrees, OfTrees}
-use Rattle.regex_lite.specs.RegexListSearches.{TellsLocationsOfList, TellsMatchOfList}
-use Rattle.regex_lite.specs.Scanning.{AreSlotsForAllGroups, IsMatchWithSlots, most_captures}
-use Rattle.regex_lite.specs.Searches.{spans_from}
-use Rattle.regex_lite.specs.Slots.{all_slots, kept_slots}
+use Rattle.regex_lite.specs.RegexList.{OfTrees}
+use Rattle.regex_lite.specs.RegexListSearches.{TellsLocationsOfList}
+use Rattle.regex_lite.specs.Scanning.{IsMatchWithSlots}
 use Rattle.regex_lite.proofs.string.CapturedLemmas.{held_all}
 use Rattle.regex_lite.proofs.string.FoundLemmas.{slots_told}
 use Rattle.regex_lite.proofs.string.ListBuildLemmas.{one_list, pattern_tree}

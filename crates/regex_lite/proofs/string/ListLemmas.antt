@@ -1,13 +1,11 @@
 -- The answers after one another are apart, and one list.
-use Rattle.std.proofs.Common.{◌≡◌, ◌<◌, ◌≤◌, ◌+◌, Bool, true, false, MatchBool, ℕ, suc, List, []}
-use Rattle.std.proofs.Common.{◌∷◌, length, Option, Some, None, refl, sym, ap, subst, ◌∙◌, arith}
-use Rattle.std.proofs.lemmas.Bool.Decides.{nat_tests}
-use Rattle.regex_lite_syntax.specs.Text.{Text}
-use Rattle.regex_lite_engine.specs.Search.Answer.{Found}
+use Rattle.regex_lite.proofs.Common.{◌≡◌, ℕ, suc, ◌+◌, ◌<◌, ◌≤◌, Bool, true, false, List, [], ◌∷◌}
+use Rattle.regex_lite.proofs.Common.{length, Some, None, MatchBool, Option, sym, refl, ap, ◌∙◌}
+use Rattle.regex_lite.proofs.Common.{subst, arith, nat_tests, Text, Found, IsWithin, AreLawful}
+use Rattle.regex_lite.proofs.Common.{IsAnswerOf, IsNextAnswer}
 use Rattle.regex_lite_engine.proofs.OptionLemmas.{not_there, same_some}
-use Rattle.regex_lite.specs.Answers.{AreLawful, IsWithin}
 use Rattle.regex_lite.specs.ListLaws.{AreAnswersApart, Follows, MatchesAreApart, OneMatchList}
-use Rattle.regex_lite.specs.MatchList.{AreAnswers, IsAnswerOf, IsNextAnswer, is_empty_answer}
+use Rattle.regex_lite.specs.MatchList.{AreAnswers, is_empty_answer}
 use Rattle.regex_lite.proofs.string.LawfulLemmas.{regex_lawful}
 
 module _ {A : Type 0} (found_of : A → Found) (haystack : Text)

@@ -1,23 +1,14 @@
 -- The slots that a searcher keeps for several patterns determine the groups of the last match.
-use Rattle.std.proofs.Common.{◌≡◌, ◌<◌, ◌*◌, ◌∙◌, ℕ, List, length, take}
-use Rattle.std.proofs.Common.{Option, Some, chars, IsUtf8, sym, ap, subst}
-use Rattle.regex_lite_syntax.specs.Tree.{Tree}
-use Rattle.regex_lite_engine.specs.Search.Answer.{Found}
-use Rattle.regex_lite_engine.specs.Search.AnswerOfList.{IsFoundInList}
+use Rattle.regex_lite.proofs.Common.{◌≡◌, ℕ, ◌*◌, ◌<◌, List, length, take, Some, IsUtf8, Option}
+use Rattle.regex_lite.proofs.Common.{chars, sym, ap, ◌∙◌, subst, Tree, Found, IsFoundInList}
+use Rattle.regex_lite.proofs.Common.{groups_of, groups_at, Expression, Groups, whole_span}
+use Rattle.regex_lite.proofs.Common.{AreGroups, AreGroupsFoundInList, IsAnswerOf}
+use Rattle.regex_lite.proofs.Common.{IsAnswerOfPatterns, span_of_match, AreTrees, most_captures}
+use Rattle.regex_lite.proofs.Common.{AreSlotsForAllGroups, offsets, kept_slots, all_slots}
+use Rattle.regex_lite.proofs.Common.{CompiledList, Match}
 use Rattle.regex_lite_engine.proofs.OptionLemmas.{same_some}
-use Rattle.regex_lite.specs.declared.string.list.compiled.CompiledList.{CompiledList}
-use Rattle.regex_lite.specs.declared.string.matches.Match.{Match}
-use Rattle.regex_lite.specs.Compiled.{groups_of}
-use Rattle.regex_lite.specs.CompiledList.{IsBuiltList, groups_at}
-use Rattle.regex_lite.specs.Expression.{Expression}
-use Rattle.regex_lite.specs.Groups.{AreGroups, Groups, whole_span}
-use Rattle.regex_lite.specs.ListAhead.{AreGroupsFoundInList}
-use Rattle.regex_lite.specs.MatchList.{IsAnswerOf, IsAnswerOfPatterns}
-use Rattle.regex_lite.specs.MatchViews.{span_of_match}
-use Rattle.regex_lite.specs.RegexList.{AreTrees}
-use Rattle.regex_lite.specs.Scanning.{AreSlotsForAllGroups, IsMatchOfPatterns, most_captures}
-use Rattle.regex_lite.specs.Searches.{offsets}
-use Rattle.regex_lite.specs.Slots.{all_slots, kept_slots}
+use Rattle.regex_lite.specs.CompiledList.{IsBuiltList}
+use Rattle.regex_lite.specs.Scanning.{IsMatchOfPatterns}
 use Rattle.regex_lite.proofs.string.ListBuildLemmas.{one_list, own_tree}
 use Rattle.regex_lite.proofs.string.ListGroupLemmas.{found_groups_are, found_groups_in_list}
 use Rattle.regex_lite.proofs.string.ListGroupLemmas.{found_there}

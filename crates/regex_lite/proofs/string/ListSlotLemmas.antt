@@ -1,13 +1,10 @@
 -- The slots that searches for several patterns keep are enough for the groups of each pattern.
-use Rattle.std.proofs.Common.{◌≡◌, ◌≤◌, ◌<◌, ◌*◌, ◌∙◌, refl, sym, ap, ℕ, zero, suc, List, [], ◌∷◌}
-use Rattle.std.proofs.Common.{length, take, Option, Some, None, IfSome, slice_get, arith}
-use Rattle.regex_lite_syntax.specs.Tree.{Tree}
-use Rattle.regex_lite_engine.specs.declared.search.outcome.Outcome.{Outcome}
-use Rattle.regex_lite_engine.specs.Graph.StoredList.{StoredGroups, TellGroupsOf}
+use Rattle.regex_lite.proofs.Common.{◌≡◌, ℕ, zero, suc, ◌*◌, ◌<◌, ◌≤◌, List, [], ◌∷◌, length, take}
+use Rattle.regex_lite.proofs.Common.{IfSome, slice_get, Some, None, Option, sym, refl, ap, ◌∙◌}
+use Rattle.regex_lite.proofs.Common.{arith, Tree, StoredGroups, Outcome, groups_at, most_captures}
+use Rattle.regex_lite.proofs.Common.{kept_slots, all_slots, most_groups}
+use Rattle.regex_lite_engine.specs.Graph.StoredList.{TellGroupsOf}
 use Rattle.regex_lite_engine.proofs.OptionLemmas.{not_there, same_some}
-use Rattle.regex_lite.specs.CompiledList.{groups_at}
-use Rattle.regex_lite.specs.Scanning.{most_captures}
-use Rattle.regex_lite.specs.Slots.{all_slots, kept_slots, most_groups}
 
 -- as many slots are kept as were asked for
 pub kept_width : (told : Option (ℕ × Outcome)) (number : ℕ) (outcome : Outcome) (n : ℕ)

@@ -1,27 +1,20 @@
 -- From the outcome of a search for several patterns to what is returned of it.
-use Rattle.std.proofs.Common.{◌≡◌, ◌↔◌, ◌∙◌, refl, sym, subst, ℕ, List, Bool, IsTrue, Option, Some}
-use Rattle.std.proofs.Common.{None, is_some, slice_get, chars, IsUtf8}
-use Rattle.std.proofs.lemmas.Bool.{false≢true}
-use Rattle.regex_lite_syntax.specs.Tree.{Tree}
-use Rattle.regex_lite_engine.specs.declared.search.outcome.Outcome.{Outcome}
-use Rattle.regex_lite_engine.specs.WayLaws.{IsPatternTree}
-use Rattle.regex_lite_engine.specs.Graph.SideBySide.{AreRegular}
-use Rattle.regex_lite_engine.specs.Graph.StoredList.{IsGraphOfList, StoredList}
-use Rattle.regex_lite_engine.specs.Search.Answer.{Found, IsAnswer}
-use Rattle.regex_lite_engine.specs.Search.AnswerOfList.{AnyMatchesFrom, IsFoundInList}
-use Rattle.regex_lite_engine.specs.Search.Offsets.{search_start}
-use Rattle.regex_lite_engine.specs.Search.Outcomes.{IsOutcomeOfList, IsSpanOutcomeOfList}
+use Rattle.regex_lite.proofs.Common.{◌≡◌, ℕ, Bool, ◌↔◌, List, is_some, IsTrue, slice_get, Some}
+use Rattle.regex_lite.proofs.Common.{None, IsUtf8, Option, chars, sym, refl, ◌∙◌, subst, false≢true}
+use Rattle.regex_lite.proofs.Common.{Tree, AreRegular, IsGraphOfList, Found, IsFoundInList}
+use Rattle.regex_lite.proofs.Common.{search_start, IsOutcomeOfList, IsPatternTree, Outcome}
+use Rattle.regex_lite.proofs.Common.{Expression, LiesIn, haystack_of_match, span_of_match, AreTrees}
+use Rattle.regex_lite.proofs.Common.{AnyMatches, TellsMatchOfList, offsets, TellsAnswer, Match}
+use Rattle.regex_lite_engine.specs.Graph.StoredList.{StoredList}
+use Rattle.regex_lite_engine.specs.Search.Answer.{IsAnswer}
+use Rattle.regex_lite_engine.specs.Search.AnswerOfList.{AnyMatchesFrom}
+use Rattle.regex_lite_engine.specs.Search.Outcomes.{IsSpanOutcomeOfList}
 use Rattle.regex_lite_engine.specs.Search.Searching.{ListSearching}
 use Rattle.regex_lite_engine.proofs.laws.several.ListAnswerLemmas.{list_answers}
 use Rattle.regex_lite_engine.proofs.OptionLemmas.{same_some}
-use Rattle.regex_lite.specs.declared.string.matches.Match.{Match}
-use Rattle.regex_lite.specs.Expression.{Expression}
-use Rattle.regex_lite.specs.Groups.{LiesIn}
 use Rattle.regex_lite.specs.Scanning.{SearchesForList, TellsListSpan}
-use Rattle.regex_lite.specs.MatchViews.{haystack_of_match, span_of_match}
-use Rattle.regex_lite.specs.RegexList.{AreTrees, OfTrees}
-use Rattle.regex_lite.specs.RegexListSearches.{AnyMatches, TellsAnswerOfList, TellsMatchOfList}
-use Rattle.regex_lite.specs.Searches.{TellsAnswer, offsets}
+use Rattle.regex_lite.specs.RegexList.{OfTrees}
+use Rattle.regex_lite.specs.RegexListSearches.{TellsAnswerOfList}
 use Rattle.regex_lite.proofs.string.FoundLemmas.{found_lies}
 use Rattle.regex_lite.proofs.string.ListBuildLemmas.{one_list, own_tree, pattern_tree}
 use Rattle.regex_lite.proofs.string.ListBuildLemmas.{regular_trees}

@@ -1,25 +1,19 @@
 -- What a search returns that goes on after a match.
-use Rattle.std.proofs.Common.{◌≡◌, ◌<◌, ◌≤◌, ◌⊎◌, inl, inr, true, false, MatchBool}
-use Rattle.std.proofs.Common.{Bool, ℕ, suc, List, Option, Some, None, refl, sym, ap}
-use Rattle.std.proofs.Common.{subst, ◌∙◌, chars, IsUtf8, option_map, unwrap_or, arith}
+use Rattle.regex_lite.proofs.Common.{◌≡◌, ℕ, suc, ◌<◌, ◌≤◌, Bool, true, false, ◌⊎◌, List, Some}
+use Rattle.regex_lite.proofs.Common.{None, IsUtf8, MatchBool, Option, option_map, chars, unwrap_or}
+use Rattle.regex_lite.proofs.Common.{sym, refl, ap, ◌∙◌, subst, inl, inr, arith, cases_order}
+use Rattle.regex_lite.proofs.Common.{nat_tests, Text, Found, offset, position_at, search_start}
+use Rattle.regex_lite.proofs.Common.{IsOnward, IsWithin, AreLawful, IsEmptyAnswerFrom, LiesIn}
+use Rattle.regex_lite.proofs.Common.{IsNextAnswer, haystack_of_match, span_of_match, IsNextOffset}
+use Rattle.regex_lite.proofs.Common.{offsets, Match}
 use Rattle.std.specs.Prelude.{IsCharBoundary}
-use Rattle.std.proofs.lemmas.Bool.{cases_order}
-use Rattle.std.proofs.lemmas.Bool.Decides.{nat_tests}
-use Rattle.regex_lite_syntax.specs.Text.{Text}
-use Rattle.regex_lite_engine.specs.Search.Answer.{Found}
-use Rattle.regex_lite_engine.specs.Search.Offsets.{offset, position_at, search_start}
 use Rattle.regex_lite_engine.proofs.OffsetLemmas.{offset_less}
 use Rattle.regex_lite_engine.proofs.PositionLemmas.{first_position, position_is}
 use Rattle.regex_lite_engine.proofs.PositionLemmas.{position_of, start_position}
-use Rattle.regex_lite.specs.declared.string.matches.Match.{Match}
-use Rattle.regex_lite.specs.Ahead.{IsOnward}
-use Rattle.regex_lite.specs.Answers.{AreLawful, IsEmptyAnswerFrom, IsWithin, TellsOfAnswer}
-use Rattle.regex_lite.specs.Groups.{LiesIn}
-use Rattle.regex_lite.specs.MatchList.{IsNextAnswer, is_empty_answer}
-use Rattle.regex_lite.specs.MatchViews.{haystack_of_match, span_of_match}
-use Rattle.regex_lite.specs.NextMatch.{IsNextOffset, TellsNextMatch}
+use Rattle.regex_lite.specs.Answers.{TellsOfAnswer}
+use Rattle.regex_lite.specs.MatchList.{is_empty_answer}
+use Rattle.regex_lite.specs.NextMatch.{TellsNextMatch}
 use Rattle.regex_lite.specs.Scanning.{IsMatchWithSlots, IsSpanWithSlots}
-use Rattle.regex_lite.specs.Searches.{offsets}
 use Rattle.regex_lite.proofs.string.FoundLemmas.{positions_lie}
 
 -- what is found, as offsets

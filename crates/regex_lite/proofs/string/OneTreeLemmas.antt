@@ -1,16 +1,10 @@
 -- A pattern has one tree at most, so that a search for its tree is a search for the pattern.
-use Rattle.std.proofs.Common.{◌≡◌, ◌↔◌, ◌∙◌, sym, ℕ, Bool, IsTrue, List}
-use Rattle.std.proofs.Common.{Option, Some, None, is_some, chars, subst}
-use Rattle.std.proofs.lemmas.Bool.{false≢true}
+use Rattle.regex_lite.proofs.Common.{◌≡◌, ℕ, Bool, ◌↔◌, List, is_some, IsTrue, Some, None, Option}
+use Rattle.regex_lite.proofs.Common.{chars, sym, ◌∙◌, subst, false≢true, IsTree, Text, Tree}
+use Rattle.regex_lite.proofs.Common.{HasMatchFrom, search_start, Expression, MatchesFrom}
 use Rattle.regex_lite_syntax.specs.declared.flags.Flags.{Flags}
-use Rattle.regex_lite_syntax.specs.Text.{Text}
-use Rattle.regex_lite_syntax.specs.Tree.{Tree}
-use Rattle.regex_lite_syntax.specs.Grammar.{IsTree}
-use Rattle.regex_lite_engine.specs.Search.Answer.{HasMatchFrom}
-use Rattle.regex_lite_engine.specs.Search.Offsets.{search_start}
 use Rattle.regex_lite_syntax.proofs.machine.WholeLemmas.{grammar_once}
-use Rattle.regex_lite.specs.Expression.{Expression}
-use Rattle.regex_lite.specs.Searches.{MatchesFrom, TellsEnd}
+use Rattle.regex_lite.specs.Searches.{TellsEnd}
 
 -- two trees of a pattern are the same
 pub one_tree : (flags : Flags) (pattern : Text) (a b : Tree)

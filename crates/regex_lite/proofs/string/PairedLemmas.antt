@@ -1,6 +1,6 @@
 -- Lists of which the elements belong together pairwise.
-use Rattle.std.proofs.Common.{◌≡◌, refl, ap, ℕ, zero, suc, List, [], ◌∷◌}
-use Rattle.std.proofs.Common.{◌++◌, length, map, Some, slice_get}
+use Rattle.regex_lite.proofs.Common.{◌≡◌, ℕ, zero, suc, List, [], ◌∷◌, ◌++◌, map, length, slice_get}
+use Rattle.regex_lite.proofs.Common.{Some, refl, ap}
 use Rattle.regex_lite_engine.proofs.OptionLemmas.{same_some}
 use Rattle.regex_lite.specs.RegexList.{AllPaired}
 

@@ -1,11 +1,10 @@
 -- Pieces, one after another.
-use Rattle.std.proofs.Common.{◌≡◌, ◌↔◌, ◌<◌, ◌-◌, ℕ, zero, suc, Bool, false, MatchBool}
-use Rattle.std.proofs.Common.{Option, Some, None, unwrap_or, List, [], ◌∷◌, map, drop}
-use Rattle.std.proofs.Common.{slice_range, chars, refl, sym, ap, ◌∙◌, subst, arith}
-use Rattle.regex_lite_engine.specs.Search.Answer.{Found}
-use Rattle.regex_lite.specs.Expression.{Expression}
-use Rattle.regex_lite.specs.Ahead.{Ahead, IsOver, Passes, whole}
-use Rattle.regex_lite.specs.Pieces.{ArePiecesWithin, IsCut, found_span, pieces}
+use Rattle.regex_lite.proofs.Common.{◌≡◌, ℕ, zero, suc, ◌-◌, ◌<◌, Bool, false, ◌↔◌, List, [], ◌∷◌}
+use Rattle.regex_lite.proofs.Common.{map, drop, slice_range, Some, None, MatchBool, Option, chars}
+use Rattle.regex_lite.proofs.Common.{unwrap_or, sym, refl, ap, ◌∙◌, subst, arith, Found, Ahead}
+use Rattle.regex_lite.proofs.Common.{IsOver, Passes, Expression, found_span}
+use Rattle.regex_lite.specs.Ahead.{whole}
+use Rattle.regex_lite.specs.Pieces.{ArePiecesWithin, IsCut, pieces}
 use Rattle.regex_lite.proofs.string.AheadLemmas.{ahead_cons, ahead_nil}
 
 -- what stands before a match that was passed comes before the pieces after it

@@ -1,16 +1,12 @@
 -- Replacements, match after match.
-use Rattle.std.proofs.Common.{◌≡◌, ◌++◌, inl, inr, ℕ, List, [], ◌∷◌, Option, Result, Ok, Err, IfErr}
-use Rattle.std.proofs.Common.{refl, sym, ap, ◌∙◌, subst, map, drop, slice_range, chars}
+use Rattle.regex_lite.proofs.Common.{◌≡◌, ℕ, List, [], ◌∷◌, ◌++◌, map, drop, slice_range, Ok, Err}
+use Rattle.regex_lite.proofs.Common.{Option, Result, chars, sym, refl, ap, ◌∙◌, subst, inl, inr}
+use Rattle.regex_lite.proofs.Common.{append_assoc, Error, Found, Ahead, IsOver, Passes, Expression}
+use Rattle.regex_lite.proofs.Common.{Groups, whole_span, AreGroupsFound, found_span}
+use Rattle.std.proofs.Common.{IfErr}
 use Rattle.std.specs.Result.{IsErrAnd}
-use Rattle.std.proofs.lemmas.List.{append_assoc}
-use Rattle.regex_lite_syntax.specs.declared.error.Error.{Error}
-use Rattle.regex_lite_engine.specs.Search.Answer.{Found}
-use Rattle.regex_lite.specs.Ahead.{Ahead, AreAhead, AreFirstAhead, IsOver, Passes}
+use Rattle.regex_lite.specs.Ahead.{AreAhead, AreFirstAhead}
 use Rattle.regex_lite.specs.Compiled.{AreOfRegex}
-use Rattle.regex_lite.specs.Expression.{Expression}
-use Rattle.regex_lite.specs.Groups.{Groups, whole_span}
-use Rattle.regex_lite.specs.Items.{AreGroupsFound}
-use Rattle.regex_lite.specs.Pieces.{found_span}
 use Rattle.regex_lite.specs.Replacements.{AreGroupsOfEach, IsChain, IsRefused, IsRefusedAt}
 use Rattle.regex_lite.specs.Replacements.{IsReplacedBy, IsReplacedInTurn, replaced_by}
 use Rattle.regex_lite.specs.Replacing.{Answer}

@@ -1,29 +1,19 @@
 -- The slots that a searcher keeps determine the groups of the last match, and after an empty match
 -- that is the answer.
-use Rattle.std.proofs.Common.{◌≡◌, ◌<◌, ◌⊎◌, inl, inr, refl, ◌∙◌, ℕ, List, length, Option}
-use Rattle.std.proofs.Common.{Some, chars, IsUtf8, unwrap_or, sym, ap, subst, arith}
-use Rattle.std.proofs.lemmas.Bool.{cases_order}
-use Rattle.std.proofs.lemmas.Bool.Decides.{nat_tests}
-use Rattle.regex_lite_syntax.specs.Text.{Text}
-use Rattle.regex_lite_syntax.specs.Tree.{Tree}
-use Rattle.regex_lite_syntax.specs.Tree.Properties.{captures_len}
-use Rattle.regex_lite_engine.specs.Graph.StoredList.{StoredGroups}
-use Rattle.regex_lite_engine.specs.Search.Answer.{Found, IsFound}
-use Rattle.regex_lite_engine.specs.Search.Offsets.{offset, position_at}
+use Rattle.regex_lite.proofs.Common.{◌≡◌, ℕ, ◌<◌, ◌⊎◌, List, length, Some, IsUtf8, Option, chars}
+use Rattle.regex_lite.proofs.Common.{unwrap_or, sym, refl, ap, ◌∙◌, subst, inl, inr, arith}
+use Rattle.regex_lite.proofs.Common.{cases_order, nat_tests, Text, Tree, captures_len, StoredGroups}
+use Rattle.regex_lite.proofs.Common.{Found, IsFound, offset, position_at, IsOnward, IsWithin}
+use Rattle.regex_lite.proofs.Common.{AreLawful, IsEmptyAnswerFrom, groups_of, Expression, Groups}
+use Rattle.regex_lite.proofs.Common.{span_at, whole_span, AreGroups, AreGroupsFound, IsAnswerOf}
+use Rattle.regex_lite.proofs.Common.{span_of_match, Scanning, offsets, IsMatchOf, kept_slots}
+use Rattle.regex_lite.proofs.Common.{all_slots, Match}
 use Rattle.regex_lite_engine.proofs.OffsetLemmas.{offset_less}
 use Rattle.regex_lite_engine.proofs.PositionLemmas.{position_of}
-use Rattle.regex_lite.specs.declared.string.matches.Match.{Match}
-use Rattle.regex_lite.specs.Ahead.{AheadOf, IsOnward, ahead_by}
-use Rattle.regex_lite.specs.Answers.{AreLawful, IsEmptyAnswerFrom, IsWithin}
-use Rattle.regex_lite.specs.Compiled.{AreOfRegex, SharesGroups, groups_of}
-use Rattle.regex_lite.specs.Expression.{Expression}
-use Rattle.regex_lite.specs.Groups.{Groups, AreGroups, span_at, whole_span}
-use Rattle.regex_lite.specs.Items.{AreGroupsFound, Came, GroupsCame}
-use Rattle.regex_lite.specs.MatchList.{IsAnswerOf}
-use Rattle.regex_lite.specs.MatchViews.{span_of_match}
-use Rattle.regex_lite.specs.Scanning.{AreSlotsForGroups, IsMatchOfRegex, IsMatchOfSearch, Scanning}
-use Rattle.regex_lite.specs.Searches.{IsMatchOf, offsets}
-use Rattle.regex_lite.specs.Slots.{all_slots, kept_slots}
+use Rattle.regex_lite.specs.Ahead.{AheadOf, ahead_by}
+use Rattle.regex_lite.specs.Compiled.{AreOfRegex, SharesGroups}
+use Rattle.regex_lite.specs.Items.{Came, GroupsCame}
+use Rattle.regex_lite.specs.Scanning.{AreSlotsForGroups, IsMatchOfRegex, IsMatchOfSearch}
 use Rattle.regex_lite.proofs.string.CapturedLemmas.{AreAllSlots, all_told, captured, captured_of}
 use Rattle.regex_lite.proofs.string.FoundLemmas.{group_0}
 use Rattle.regex_lite.proofs.string.NextLemmas.{next_answer}

@@ -1,15 +1,15 @@
 -- Slots, and the spans that they hold.
-use Rattle.std.proofs.Common.{◌≡◌, ◌∙◌, refl, sym, ap, ℕ, zero, suc, ◌+◌, ◌*◌, ◌≤◌, ◌<◌}
-use Rattle.std.proofs.Common.{◌/◌, List, [], ◌∷◌, ◌++◌, length, take, drop, max, min, replicate}
-use Rattle.std.proofs.Common.{get_or, slice_get, Option, Some, None, arith}
-use Rattle.std.proofs.lemmas.List.{length-append, length-replicate, length-take-le}
+use Rattle.regex_lite.proofs.Common.{◌≡◌, ℕ, zero, suc, ◌+◌, ◌*◌, ◌<◌, ◌≤◌, max, List, [], ◌∷◌}
+use Rattle.regex_lite.proofs.Common.{◌++◌, length, get_or, take, drop, replicate, slice_get, Some}
+use Rattle.regex_lite.proofs.Common.{None, Option, sym, refl, ap, ◌∙◌, arith, length-take-le}
+use Rattle.regex_lite.proofs.Common.{option_zip, StoredGroups, spans_of, resized, span_at}
+use Rattle.regex_lite.proofs.Common.{kept_slots, most_groups}
+use Rattle.std.proofs.Common.{◌/◌, min}
+use Rattle.std.proofs.lemmas.List.{length-append, length-replicate}
 use Rattle.std.proofs.lemmas.List.{take-append-le}
-use Rattle.std.specs.Option.{option_zip, option_flatten}
+use Rattle.std.specs.Option.{option_flatten}
 use Rattle.std.proofs.lemmas.Option.{slice_get_past}
-use Rattle.regex_lite_engine.specs.Graph.StoredList.{StoredGroups}
 use Rattle.regex_lite_engine.proofs.OptionLemmas.{same_some}
-use Rattle.regex_lite.specs.Groups.{resized, span_at, spans_of}
-use Rattle.regex_lite.specs.Slots.{kept_slots, most_groups}
 
 none_behind : (start : Option ℕ) → None ≡ option_zip {U = ℕ} start None
 none_behind None = refl

@@ -1,29 +1,19 @@
 -- From the outcome of a search of the graph to what the search for the pattern returns.
-use Rattle.std.proofs.Common.{◌≡◌, ◌≤◌, refl, sym, ap, subst, ◌∙◌, ℕ, List, length, take}
-use Rattle.std.proofs.Common.{Option, Some, None, IfSome, option_map, chars, IsUtf8, arith}
-use Rattle.regex_lite_syntax.specs.Tree.{Tree}
-use Rattle.regex_lite_syntax.specs.Tree.Properties.{captures_len}
+use Rattle.regex_lite.proofs.Common.{◌≡◌, ℕ, ◌≤◌, List, length, take, IfSome, Some, None, IsUtf8}
+use Rattle.regex_lite.proofs.Common.{Option, option_map, chars, sym, refl, ap, ◌∙◌, subst, arith}
+use Rattle.regex_lite.proofs.Common.{IsTree, Tree, captures_len, IsGraphOf, StoredGroups, Found}
+use Rattle.regex_lite.proofs.Common.{search_start, IsSpanOutcome, Outcome, IsBuilt, stored_groups}
+use Rattle.regex_lite.proofs.Common.{groups_of, Expression, OfTree, LiesIn, Groups, span_at}
+use Rattle.regex_lite.proofs.Common.{group_span, AreGroups, haystack_of_match, span_of_match}
+use Rattle.regex_lite.proofs.Common.{offsets, spans_from, TellsMatch, AreGroupsOf, TellsGroups}
+use Rattle.regex_lite.proofs.Common.{TellsLocations, kept_slots, all_slots, Compiled, Match}
 use Rattle.regex_lite_syntax.specs.Tree.Regular.{IsRegular}
-use Rattle.regex_lite_syntax.specs.Grammar.{IsTree}
-use Rattle.regex_lite_engine.specs.declared.search.outcome.Outcome.{Outcome}
-use Rattle.regex_lite_engine.specs.Graph.Renumbered.{IsGraphOf}
 use Rattle.regex_lite_engine.specs.Graph.Stored.{StoredGraph}
-use Rattle.regex_lite_engine.specs.Graph.StoredList.{StoredGroups}
-use Rattle.regex_lite_engine.specs.Search.Answer.{Found}
-use Rattle.regex_lite_engine.specs.Search.Offsets.{search_start}
-use Rattle.regex_lite_engine.specs.Search.Outcomes.{IsSpanOutcome, IsOutcome}
+use Rattle.regex_lite_engine.specs.Search.Outcomes.{IsOutcome}
 use Rattle.regex_lite_engine.specs.Search.Searching.{Searching}
 use Rattle.regex_lite_engine.proofs.OptionLemmas.{not_there, same_some}
-use Rattle.regex_lite.specs.declared.string.compiled.Compiled.{Compiled}
-use Rattle.regex_lite.specs.declared.string.matches.Match.{Match}
-use Rattle.regex_lite.specs.Compiled.{IsBuilt, SearchesFor, groups_of, stored_groups}
-use Rattle.regex_lite.specs.Expression.{Expression, OfTree}
-use Rattle.regex_lite.specs.Groups.{Groups, AreGroups, LiesIn, group_span, span_at}
-use Rattle.regex_lite.specs.MatchViews.{haystack_of_match, span_of_match}
+use Rattle.regex_lite.specs.Compiled.{SearchesFor}
 use Rattle.regex_lite.specs.Scanning.{TellsSpan}
-use Rattle.regex_lite.specs.Searches.{AreGroupsOf, TellsMatch, TellsGroups}
-use Rattle.regex_lite.specs.Searches.{TellsLocations, offsets, spans_from}
-use Rattle.regex_lite.specs.Slots.{all_slots, kept_slots}
 use Rattle.regex_lite.proofs.string.CapturedLemmas.{AreAllSlots, all_told, built_shares}
 use Rattle.regex_lite.proofs.string.CapturedLemmas.{captured, captured_of}
 use Rattle.regex_lite.proofs.string.FoundLemmas.{first_told, found_lies, group_0, length_spans}

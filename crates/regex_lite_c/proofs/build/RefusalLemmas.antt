@@ -1,8 +1,7 @@
 -- The numbers of refusals.
-use Rattle.std.proofs.Common.{◌<◌, lit<}
+use Rattle.regex_lite_c.proofs.Common.{◌<◌, lit<, number_of}
 use Rattle.regex_lite_syntax.specs.declared.error.ErrorKind.{ErrorKind}
 use Rattle.regex_lite_syntax.specs.declared.error.ErrorKind.TheVariants as kind
-use Rattle.regex_lite_c.specs.Answers.{number_of}
 
 -- they are greater than those of what is told without an error
 pub above_five : (k : ErrorKind) → 5 < number_of k

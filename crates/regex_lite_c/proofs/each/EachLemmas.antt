@@ -1,15 +1,17 @@
 -- Texts one after another, and what is returned of each.
-use Rattle.std.proofs.Common.{◌≡◌, ◌∙◌, ◌++◌, ◌+◌, ◌<◌, ◌≤◌, ℕ, zero, suc, List, [], ◌∷◌}
-use Rattle.std.proofs.Common.{Option, Some, None, add-one, ap, append_assoc, append-nil, arith}
-use Rattle.std.proofs.Common.{IsCharBoundary, drop, drop-cons, get_or, length, length-append}
-use Rattle.std.proofs.Common.{option_map, refl, slice_range, slice_set, subst, sym}
+use Rattle.regex_lite_c.proofs.Common.{◌≡◌, ℕ, zero, suc, ◌+◌, ◌<◌, ◌≤◌, List, [], ◌∷◌, ◌++◌}
+use Rattle.regex_lite_c.proofs.Common.{length, get_or, drop, slice_set, Some, None, Option}
+use Rattle.regex_lite_c.proofs.Common.{option_map, IsCharBoundary, sym, refl, ap, ◌∙◌, subst}
+use Rattle.regex_lite_c.proofs.Common.{append_assoc, append-nil, arith, length-append, Expression}
+use Rattle.regex_lite_c.proofs.Common.{span_of, AreWritten, Span}
+use Rattle.std.proofs.Common.{add-one}
+use Rattle.std.proofs.Common.{drop-cons}
+use Rattle.std.proofs.Common.{slice_range}
 use Rattle.regex_lite.specs.declared.string.matches.Match.{Match}
-use Rattle.regex_lite.specs.Expression.{Expression}
 use Rattle.regex_lite.specs.MatchViews.{span_of_match}
 use Rattle.regex_lite.specs.Searches.{TellsMatch}
 use Rattle.regex_lite_c.specs.Each.{AreFirstOfEach, AreFoundEach, AreTextLengths}
-use Rattle.regex_lite_c.specs.Spans.{AreWritten, TellsSpan, span_of}
-use Rattle.regex_lite_c.specs.declared.types.Span.{Span}
+use Rattle.regex_lite_c.specs.Spans.{TellsSpan}
 use Rattle.regex_lite_c.proofs.walk.WalkLemmas.{written_more}
 
 -- the length at an index comes first in what is left from there on

@@ -1,8 +1,8 @@
 -- What a walk over groups returns of a text that can be searched.
-use Rattle.std.proofs.Common.{◌≡◌, ◌⊎◌, ◌≤◌, ℕ, List, IsUtf8, IsCharBoundary, arith, inl, inr}
+use Rattle.regex_lite_c.proofs.Common.{◌≡◌, ℕ, ◌≤◌, ◌⊎◌, List, IsUtf8, IsCharBoundary, inl, inr}
+use Rattle.regex_lite_c.proofs.Common.{arith, NO_ROOM, OUT_OF_MEMORY, YES}
 use Rattle.regex_lite_c.specs.Answers.{RefusesText}
-use Rattle.regex_lite_c.specs.declared.answer.TheConstants.{YES, NOT_TEXT, BAD_OFFSET, NO_ROOM}
-use Rattle.regex_lite_c.specs.declared.answer.TheConstants.{OUT_OF_MEMORY}
+use Rattle.regex_lite_c.specs.declared.answer.TheConstants.{NOT_TEXT, BAD_OFFSET}
 
 -- the answers of such a walk
 abbrev IsOne : (answer : ℕ) → Type 0

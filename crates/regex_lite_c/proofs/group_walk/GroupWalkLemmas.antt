@@ -1,19 +1,16 @@
 -- Groups of matches of a regex that are written one after another.
-use Rattle.std.proofs.Common.{◌≡◌, ◌≢◌, ◌+◌, ◌++◌, ◌<◌, ◌≤◌, ◌⊎◌, ℕ, List, [], ◌∷◌, Option}
-use Rattle.std.proofs.Common.{Some, None, ap, arith, chars, inl, inr, length, IsSome, Bool, cond}
-use Rattle.std.proofs.Common.{false, true, unwrap_or, subst, sym}
-use Rattle.std.proofs.lemmas.Bool.{cases_lt}
-use Rattle.regex_lite_engine.specs.Search.Answer.{Found}
-use Rattle.regex_lite.specs.Ahead.{ComesNext}
-use Rattle.regex_lite.specs.Expression.{Expression}
-use Rattle.regex_lite.specs.Groups.{Groups, group_span, span_at}
+use Rattle.regex_lite_c.proofs.Common.{◌≡◌, ℕ, ◌+◌, ◌<◌, ◌≤◌, true, false, ◌⊎◌, List, [], ◌∷◌, ◌++◌}
+use Rattle.regex_lite_c.proofs.Common.{length, Some, None, Option, chars, unwrap_or, sym, ap, subst}
+use Rattle.regex_lite_c.proofs.Common.{inl, inr, arith, cases_lt, Found, ComesNext, Expression}
+use Rattle.regex_lite_c.proofs.Common.{Groups, group_span, IsAnswerOf, spans_of_all, span_of}
+use Rattle.regex_lite_c.proofs.Common.{AreWritten, NO, NO_ROOM, OUT_OF_MEMORY, YES, Span}
+use Rattle.std.proofs.Common.{◌≢◌}
+use Rattle.std.proofs.Common.{IsSome, Bool, cond}
+use Rattle.regex_lite.specs.Groups.{span_at}
 use Rattle.regex_lite.specs.Items.{AreGroupsFound}
-use Rattle.regex_lite.specs.MatchList.{AreFirst, IsAnswerOf}
+use Rattle.regex_lite.specs.MatchList.{AreFirst}
 use Rattle.regex_lite.specs.Replacements.{AreGroupsOfEach}
-use Rattle.regex_lite_c.specs.GroupWalks.{AreGroupsListed, IsFilled, IsWithoutRoom, spans_of_all}
-use Rattle.regex_lite_c.specs.Spans.{AreWritten, span_of}
-use Rattle.regex_lite_c.specs.declared.answer.TheConstants.{NO, YES, NO_ROOM, OUT_OF_MEMORY}
-use Rattle.regex_lite_c.specs.declared.types.Span.{Span}
+use Rattle.regex_lite_c.specs.GroupWalks.{AreGroupsListed, IsFilled, IsWithoutRoom}
 use Rattle.regex_lite_c.proofs.group_walk.StageLemmas.{AreSoFar, Searched, Stage}
 use Rattle.regex_lite_c.proofs.walk.WalkLemmas.{lists_all}
 

@@ -1,19 +1,15 @@
 -- How far a walk has written the groups of matches, whatever is searched for, a regex or several
 -- patterns.
-use Rattle.std.proofs.Common.{◌≡◌, ◌∙◌, ◌+◌, ◌-◌, ◌++◌, ◌<◌, ◌≤◌, ℕ, suc, List}
-use Rattle.std.proofs.Common.{[], ◌∷◌, Option, None, Some, ap, append-nil, arith, inl, inr}
-use Rattle.std.proofs.Common.{length, length-append, option_map, refl, slice_get, subst, sym}
-use Rattle.std.proofs.lemmas.Bool.{cases_lt}
+use Rattle.regex_lite_c.proofs.Common.{◌≡◌, ℕ, suc, ◌+◌, ◌-◌, ◌<◌, ◌≤◌, List, [], ◌∷◌, ◌++◌, length}
+use Rattle.regex_lite_c.proofs.Common.{slice_get, Some, None, Option, option_map, sym, refl, ap}
+use Rattle.regex_lite_c.proofs.Common.{◌∙◌, subst, inl, inr, append-nil, arith, length-append}
+use Rattle.regex_lite_c.proofs.Common.{cases_lt, Found, Groups, spans_of_all, span_of, AreWritten}
+use Rattle.regex_lite_c.proofs.Common.{ended_of, Span, Walk}
 use Rattle.std.proofs.lemmas.Grind.{flat_map-append}
 use Rattle.regex_lite_syntax.specs.Text.{Text}
-use Rattle.regex_lite_engine.specs.Search.Answer.{Found}
 use Rattle.regex_lite.specs.Ahead.{AheadOf, PassesAnswer}
-use Rattle.regex_lite.specs.Groups.{Groups, whole_span}
-use Rattle.regex_lite_c.specs.GroupWalks.{spans_of_all}
-use Rattle.regex_lite_c.specs.Spans.{AreWritten, AreWrittenAt, span_of}
-use Rattle.regex_lite_c.specs.Walks.{ended_of}
-use Rattle.regex_lite_c.specs.declared.types.Span.{Span}
-use Rattle.regex_lite_c.specs.declared.types.Walk.{Walk}
+use Rattle.regex_lite.specs.Groups.{whole_span}
+use Rattle.regex_lite_c.specs.Spans.{AreWrittenAt}
 use Rattle.regex_lite_c.proofs.walk.WalkLemmas.{ListsAnswers, get_before, lists_more, lists_none}
 
 -- what is searched for: the match in an answer, and how it is related to the groups of a match, and

@@ -1,30 +1,27 @@
 -- A handle by value: one pointer, and what is at it.
-use mathlib.Core.Path.{◌≡◌, refl, subst, sym}
+use Rattle.regex_lite_c.proofs.Common.{Some, None, Option, sym, refl, subst, word, SProp, layout}
+use Rattle.regex_lite_c.proofs.Common.{RattleType, Ptr, block_ptr, null_ptr, Sym, Val, vcons, vnil}
+use Rattle.regex_lite_c.proofs.Common.{vptr, move, raw, use0, ‵, ◌$◌, live}
+use mathlib.Core.Path.{◌≡◌}
 use Prim.Native.Nat.{ℕ}
 use mathlib.Core.List.{List, [], ◌∷◌, ◌++◌}
 use seplogic.Ra.Ura.{Ura}
 use mir.Raw.{raw as bare}
-use mir.Syntax.{Sym, impl, tnil, dnil}
-use mir.Val.{Val, vptr, vcons, vnil}
-use base.Logic.{SProp, ent, emp, via, snd∗, guard, guard_i, id⊢}
+use mir.Syntax.{impl, tnil, dnil}
+use base.Logic.{ent, emp, via, snd∗, guard, guard_i, id⊢}
 use base.Fml.{Fml}
 use base.Fraction.{full_share}
 use types.Logic.{Logic, sem}
-use types.Kit.{Item, Goal, Seq, Step, step, ‵, raw, given, ◌$◌, drop, use0, use1, learn, fpick}
-use types.Kit.{move}
-use types.Match.{live}
+use types.Kit.{Item, Goal, Seq, Step, step, given, drop, use1, learn, fpick}
 use contract.Monad.{fact, fact_i, fact_use}
 use denote.Memory.{lone}
-use denote.Param.{layout}
-use denote.RattleType.{RattleType}
-use denote.RawPtr.{Ptr, Testable, block_ptr, null_ptr, lies_at}
-use Rattle.std.specs.Prelude.{Option, None, Some}
+use denote.RawPtr.{Testable, lies_at}
 use Rattle.std.specs.Box.Ownership.{box_owns}
 use Rattle.std.specs.contracts.alloc.Global as Heap
 use Rattle.std.specs.contracts.impls.GlobalAllocator.TheImpl as HeapImpl
 use Rattle.std.specs.contracts.option.Option as Opt
 use Rattle.std.proofs.GlobalToken.{dealloc_token-Testable}
-use Rattle.std.proofs.RcSteps.{word, Some-of}
+use Rattle.std.proofs.RcSteps.{Some-of}
 use Rattle.std.proofs.alloc.Calls.{Al, handle_tells}
 use Rattle.std.proofs.alloc.Global.TheLaws as HeapLaws
 use Rattle.std.proofs.cell.Inside.{Good}

@@ -1,25 +1,25 @@
 -- Patterns that are cut out of bytes, and the first of them that is refused.
-use Rattle.std.proofs.Common.{◌≡◌, ◌∙◌, ◌+◌, ◌++◌, ◌<◌, ◌≤◌, ℕ, zero, suc, List, [], ◌∷◌}
-use Rattle.std.proofs.Common.{◌⊎◌, inl, inr, false, Some, Err, IsUtf8, add-one, ap, append_assoc}
-use Rattle.std.proofs.Common.{append-nil, arith, drop}
-use Rattle.std.proofs.Common.{drop-cons, get_or, length, length-append, map, refl}
-use Rattle.std.proofs.Common.{option_map, slice_get, subst, sym, take, unwrap_or}
-use Rattle.std.proofs.lemmas.List.{length-map, map-append}
+use Rattle.regex_lite_c.proofs.Common.{◌≡◌, ℕ, zero, suc, ◌+◌, ◌<◌, ◌≤◌, false, ◌⊎◌, List, [], ◌∷◌}
+use Rattle.regex_lite_c.proofs.Common.{◌++◌, map, length, get_or, drop, slice_get, Some, IsUtf8}
+use Rattle.regex_lite_c.proofs.Common.{option_map, unwrap_or, sym, refl, ap, ◌∙◌, subst, inl, inr}
+use Rattle.regex_lite_c.proofs.Common.{append_assoc, append-nil, arith, length-append, cases_lt}
+use Rattle.regex_lite_c.proofs.Common.{length-map, map-append, IsAccepted, settings_of_all}
+use Rattle.regex_lite_c.proofs.Common.{settings_of_source, IsFirstOtherBytes, settings_of}
+use Rattle.std.proofs.Common.{Err, add-one}
+use Rattle.std.proofs.Common.{drop-cons}
+use Rattle.std.proofs.Common.{take}
 use Rattle.std.proofs.lemmas.List.Sums.{sum_by-cons}
-use Rattle.std.proofs.lemmas.Bool.{cases_lt}
 use Rattle.std.proofs.lemmas.Option.{slice_get-get_or, slice_get-map}
 use Rattle.regex_lite_syntax.specs.Errors.{Refusal, out_of_memory, passed_limit}
 use Rattle.regex_lite_syntax.specs.Errors.{refused_replacement, syntax_error, too_deep}
 use Rattle.regex_lite_syntax.specs.Errors.{too_many_groups}
 use Rattle.regex_lite_syntax.specs.Tree.{Tree}
-use Rattle.regex_lite.specs.Expression.{Builds, IsAccepted}
+use Rattle.regex_lite.specs.Expression.{Builds}
 use Rattle.regex_lite.specs.RegexList.{AreAccepted, AreAcceptedAs, BuildsList, IsDueToAll}
 use Rattle.regex_lite.specs.RegexList.{IsDueToLowest}
 use Rattle.regex_lite.specs.Settings.{Settings}
 use Rattle.regex_lite_c.specs.ListBuilding.{AreTexts, IsDueAt, IsEachAccepted}
-use Rattle.regex_lite_c.specs.ListBuilding.{IsFirstOtherBytes, all_len}
-use Rattle.regex_lite_c.specs.ListBuilding.{settings_of_all, settings_of_source}
-use Rattle.regex_lite_c.specs.Options.{settings_of}
+use Rattle.regex_lite_c.specs.ListBuilding.{all_len}
 use Rattle.regex_lite_c.specs.declared.list.patterns.Source.{Source}
 use Rattle.regex_lite_c.specs.declared.list.types.ListPattern.{ListPattern}
 use Rattle.regex_lite_c.specs.declared.types.Options.{Options}

@@ -1,18 +1,12 @@
 -- Pieces of a text, one after another.
-use Rattle.std.proofs.Common.{◌≡◌, ◌∙◌, ◌++◌, ◌+◌, ◌-◌, ◌<◌, ℕ, suc, List, [], ◌∷◌, Option, Some}
-use Rattle.std.proofs.Common.{ap, append-nil, arith, chars, false, length}
-use Rattle.std.proofs.Common.{length-append, refl, slice_set, subst, sym, true, unwrap_or}
-use Rattle.std.proofs.lemmas.List.{length-map, map-append}
-use Rattle.regex_lite_engine.specs.Search.Answer.{Found}
+use Rattle.regex_lite_c.proofs.Common.{◌≡◌, ℕ, suc, ◌+◌, ◌-◌, ◌<◌, true, false, List, [], ◌∷◌, ◌++◌}
+use Rattle.regex_lite_c.proofs.Common.{length, slice_set, Some, Option, chars, unwrap_or, sym, refl}
+use Rattle.regex_lite_c.proofs.Common.{ap, ◌∙◌, subst, append-nil, arith, length-append, length-map}
+use Rattle.regex_lite_c.proofs.Common.{map-append, Found, IsAnswerOf, found_span, span_of}
+use Rattle.regex_lite_c.proofs.Common.{AreWritten, ended_of, Span, Walk}
 use Rattle.regex_lite.specs.Ahead.{Ahead, IsOver, Passes}
-use Rattle.regex_lite.specs.MatchList.{IsAnswerOf}
-use Rattle.regex_lite.specs.Pieces.{found_span}
 use Rattle.regex_lite_c.specs.Cuts.{ArePiecesListed, last_end, pieces_before, rest_after, spans_in}
-use Rattle.regex_lite_c.specs.Spans.{AreWritten, span_of}
-use Rattle.regex_lite_c.specs.Walks.{ended_of}
 use Rattle.regex_lite_c.specs.declared.types.Cut.{Cut}
-use Rattle.regex_lite_c.specs.declared.types.Span.{Span}
-use Rattle.regex_lite_c.specs.declared.types.Walk.{Walk}
 use Rattle.regex_lite_c.proofs.walk.WalkLemmas.{Lists, lists_all, lists_more}
 use Rattle.regex_lite_c.proofs.walk.WalkLemmas.{lists_to_end, written_more}
 

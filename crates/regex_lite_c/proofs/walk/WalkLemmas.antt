@@ -1,13 +1,13 @@
 -- Matches that are listed one after another, and spans that are written one after another.
-use Rattle.std.proofs.Common.{◌≡◌, ◌≢◌, ◌∙◌, ◌++◌, ◌<◌, ℕ, zero, suc, List, [], ◌∷◌, Option, Some}
-use Rattle.std.proofs.Common.{None, ap, append_assoc, append-nil, arith, chars, inl, inr, length}
-use Rattle.std.proofs.Common.{length-append, option_map, refl, slice_get, slice_set, subst, sym}
-use Rattle.std.proofs.lemmas.Bool.{cases_lt}
+use Rattle.regex_lite_c.proofs.Common.{◌≡◌, ℕ, zero, suc, ◌<◌, List, [], ◌∷◌, ◌++◌, length}
+use Rattle.regex_lite_c.proofs.Common.{slice_get, slice_set, Some, None, Option, option_map, chars}
+use Rattle.regex_lite_c.proofs.Common.{sym, refl, ap, ◌∙◌, subst, inl, inr, append_assoc}
+use Rattle.regex_lite_c.proofs.Common.{append-nil, arith, length-append, cases_lt, Found}
+use Rattle.regex_lite_c.proofs.Common.{IsAnswerOf, AreWrittenAs}
+use Rattle.std.proofs.Common.{◌≢◌}
 use Rattle.regex_lite_syntax.specs.Text.{Text}
-use Rattle.regex_lite_engine.specs.Search.Answer.{Found}
 use Rattle.regex_lite.specs.Ahead.{Ahead, AheadOf, AnswerComesNext, NoneIsAhead, PassesAnswer}
-use Rattle.regex_lite.specs.MatchList.{AreFirstAnswers, IsAnswerOf, IsNextAnswer, one_less}
-use Rattle.regex_lite_c.specs.Spans.{AreWrittenAs}
+use Rattle.regex_lite.specs.MatchList.{AreFirstAnswers, IsNextAnswer, one_less}
 
 -- whatever is searched for, a regex or several patterns
 module _ {S A : Type 0} (found_of : A → Found)

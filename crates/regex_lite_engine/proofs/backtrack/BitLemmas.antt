@@ -1,21 +1,18 @@
 -- Bits in words of 64.
-use Rattle.std.proofs.Common.{◌≡◌, ◌==◌, ℕ, ◌++◌, refl, ◌*◌, ◌-◌, ◌/◌, ◌%◌, ◌^◌, ◌<◌, ◌↔◌}
-use Rattle.std.proofs.Common.{inl, inr, Bool, IsTrue, true, false, List, length, replicate}
-use Rattle.std.proofs.Common.{slice_index, slice_index_or, slice_set, set, bit_and, bit_or}
-use Rattle.std.proofs.Common.{ap, sym, subst, ◌∙◌, arith, length-set}
-use Rattle.std.specs.Int.{bit_at}
-use Rattle.std.proofs.lemmas.Bool.{cases_lt, cases_eq}
-use Rattle.std.proofs.lemmas.Bool.Decides.{nat_tests}
-use Rattle.std.proofs.lemmas.List.{get_or-replicate, get_or_append_left}
-use Rattle.std.proofs.lemmas.List.{get_or-append_right, get_or_past, get_or-set_same}
-use Rattle.std.proofs.lemmas.List.{get_or-set_other, set-get_or, length-replicate}
-use Rattle.std.proofs.lemmas.List.FromFn.{fill_by_all, get_or-map-range_with_len}
-use Rattle.std.proofs.lemmas.List.FromFn.{length-map-range_with_len}
-use Rattle.std.proofs.lemmas.Nat.Bits.{shr_and_one}
-use Rattle.regex_lite_syntax.specs.AsciiMaps.{bit_of_words}
+use Rattle.regex_lite_engine.proofs.Common.{◌≡◌, ℕ, ◌-◌, ◌*◌, ◌/◌, ◌%◌, ◌^◌, ◌<◌, Bool, true, false}
+use Rattle.regex_lite_engine.proofs.Common.{◌↔◌, List, ◌++◌, length, set, replicate, IsTrue, ◌==◌}
+use Rattle.regex_lite_engine.proofs.Common.{slice_index, slice_index_or, slice_set, bit_and, bit_or}
+use Rattle.regex_lite_engine.proofs.Common.{sym, refl, ap, ◌∙◌, subst, inl, inr, arith, length-set}
+use Rattle.regex_lite_engine.proofs.Common.{cases_eq, cases_lt, nat_tests, get_or-replicate}
+use Rattle.regex_lite_engine.proofs.Common.{get_or-set_other, get_or-set_same, get_or_past}
+use Rattle.regex_lite_engine.proofs.Common.{length-replicate, set-get_or, get_or-map-range_with_len}
+use Rattle.regex_lite_engine.proofs.Common.{length-map-range_with_len, shr_and_one, bit_at}
+use Rattle.regex_lite_engine.proofs.Common.{bit_of_words, bits_of, Pairs, pair_number, was_entered}
+use Rattle.std.proofs.lemmas.List.{get_or_append_left}
+use Rattle.std.proofs.lemmas.List.{get_or-append_right}
+use Rattle.std.proofs.lemmas.List.FromFn.{fill_by_all}
 use Rattle.regex_lite_engine.specs.declared.backtrack.visited.Visited.TheInside.{Inside}
-use Rattle.regex_lite_engine.specs.Backtrack.Bits.{bits_of, words_of}
-use Rattle.regex_lite_engine.specs.Backtrack.Machine.{Pairs, pair_number, was_entered}
+use Rattle.regex_lite_engine.specs.Backtrack.Bits.{words_of}
 use Rattle.regex_lite_engine.proofs.WordBitLemmas.{zero_at, zero_bit, words_with, set_bit}
 use Rattle.regex_lite_engine.proofs.WordBitLemmas.{other_bit}
 

@@ -1,12 +1,10 @@
 -- What a depth-first walk keeps true when it enters a node, and that the first match is the best.
-use Rattle.std.proofs.Common.{◌≡◌, ℕ, ◌<◌, ◌≤◌, ◌⊎◌, inl, inr, Bool, IsTrue, List, []}
-use Rattle.std.proofs.Common.{◌∷◌, ◌++◌, Option, Some, None, refl, sym, ap, subst, ◌∙◌}
-use Rattle.std.proofs.lemmas.Bool.{cases_lt}
+use Rattle.regex_lite_engine.proofs.Common.{◌≡◌, ℕ, ◌<◌, ◌≤◌, Bool, ◌⊎◌, List, [], ◌∷◌, ◌++◌}
+use Rattle.regex_lite_engine.proofs.Common.{IsTrue, Some, None, Option, sym, refl, ap, ◌∙◌, subst}
+use Rattle.regex_lite_engine.proofs.Common.{inl, inr, cases_lt, NotAfter, StartsAt, StartsBelow}
 use Rattle.regex_lite_engine.specs.Backtrack.DepthFirst as walk
 use Rattle.regex_lite_engine.specs.Search.Explored as explored
-use Rattle.regex_lite_engine.specs.Search.Explored.{NotAfter, StartsAt}
 use Rattle.regex_lite_engine.specs.Search.Offers as offered
-use Rattle.regex_lite_engine.specs.Search.Offers.{StartsBelow}
 use Rattle.regex_lite_engine.proofs.backtrack.DepthFirstLemmas.{at_starts}
 use Rattle.regex_lite_engine.proofs.laws.search.WayOrderLemmas.{NotAfter-trans, NotAfter-append}
 use Rattle.regex_lite_engine.proofs.search.RecordLemmas.{or_dead}

@@ -1,35 +1,26 @@
 -- Entering a place in a depth-first walk, by what stands there.
-use Rattle.std.proofs.Common.{◌≡◌, ℕ, zero, suc, ◌+◌, ◌<◌, ◌≤◌, inl, inr, Bool}
-use Rattle.std.proofs.Common.{true, false, IsTrue, List, [], ◌∷◌, ◌++◌, length, map}
-use Rattle.std.proofs.Common.{slice_get, slice_set, slice_index_or, if◌then◌else◌}
-use Rattle.std.proofs.Common.{Option, Some, None, refl, sym, ap, subst, ◌∙◌, arith}
-use Rattle.std.specs.Char.{len_utf8}
-use Rattle.std.proofs.lemmas.List.{length-map, set-set, set-get_or}
-use Rattle.std.proofs.lemmas.Option.{slice_get_within}
-use Rattle.regex_lite_syntax.specs.declared.class.ClassRange.{ClassRange}
-use Rattle.regex_lite_syntax.specs.Ranges.{in_ranges}
-use Rattle.regex_lite_syntax.specs.Sets.{Set, just}
-use Rattle.regex_lite_syntax.specs.Text.{before, after}
-use Rattle.regex_lite_syntax.specs.Tree.Looks.{holds_between}
+use Rattle.regex_lite_engine.proofs.Common.{◌≡◌, ℕ, zero, suc, ◌+◌, ◌<◌, ◌≤◌, Bool, true, false}
+use Rattle.regex_lite_engine.proofs.Common.{List, [], ◌∷◌, ◌++◌, map, length, if◌then◌else◌, IsTrue}
+use Rattle.regex_lite_engine.proofs.Common.{slice_get, slice_index_or, slice_set, Some, None}
+use Rattle.regex_lite_engine.proofs.Common.{Option, sym, refl, ap, ◌∙◌, subst, inl, inr, arith}
+use Rattle.regex_lite_engine.proofs.Common.{length-map, set-get_or, slice_get_within, len_utf8}
+use Rattle.regex_lite_engine.proofs.Common.{in_ranges, Set, just, after, holds_between, ClassRange}
+use Rattle.regex_lite_engine.proofs.Common.{Pairs, pair_number, was_entered, Held, WayHolds}
+use Rattle.regex_lite_engine.proofs.Common.{SearchFrom, Arrow, with_arrows, behind, go, go_marking}
+use Rattle.regex_lite_engine.proofs.Common.{go_holding, go_reading, one_of, arrived, step_from}
+use Rattle.regex_lite_engine.proofs.Common.{arrow_count, place_of, Marks, marked, over, mark_of}
+use Rattle.regex_lite_engine.proofs.Common.{place_with, is_complete, numbered_step}
+use Rattle.regex_lite_engine.proofs.Common.{IsNumberedOutcome, Node, Offer, offset, IsOffset}
+use Rattle.regex_lite_engine.proofs.Common.{HasSlots, Row}
+use Rattle.std.proofs.lemmas.List.{set-set}
+use Rattle.regex_lite_syntax.specs.Text.{before}
 use Rattle.regex_lite_engine.specs.declared.nfa.place.Place as code
 use Rattle.regex_lite_engine.specs.declared.nfa.place.Place.TheVariants as stored
 use Rattle.regex_lite_engine.specs.Backtrack.Entering.{Enters, read_on}
-use Rattle.regex_lite_engine.specs.Backtrack.Machine.{Frame, explore, restore, Held, Pairs}
-use Rattle.regex_lite_engine.specs.Backtrack.Machine.{pair_number, was_entered}
+use Rattle.regex_lite_engine.specs.Backtrack.Machine.{Frame, explore, restore}
 use Rattle.regex_lite_engine.specs.Backtrack.Walking as walk
-use Rattle.regex_lite_engine.specs.Graph.Places.{Arrow, Place, with_arrows, go, go_holding}
-use Rattle.regex_lite_engine.specs.Graph.Places.{go_marking, go_reading, one_of, arrived}
-use Rattle.regex_lite_engine.specs.Graph.Places.{behind, step_from}
-use Rattle.regex_lite_engine.specs.Graph.Renumbered.{arrow_count}
-use Rattle.regex_lite_engine.specs.Graph.Stored.{place_of}
-use Rattle.regex_lite_engine.specs.Search.Marks.{Marks, marked, over, mark_of}
-use Rattle.regex_lite_engine.specs.Search.Offsets.{offset, IsOffset, HasSlots}
-use Rattle.regex_lite_engine.specs.Search.Offers.{Offer, Node}
-use Rattle.regex_lite_engine.specs.Search.Rows.{Row}
-use Rattle.regex_lite_engine.specs.Search.NumberedAnswer.{place_with, is_complete}
-use Rattle.regex_lite_engine.specs.Search.NumberedAnswer.{numbered_step}
-use Rattle.regex_lite_engine.specs.Search.NumberedOutcomes.{IsNumberedOutcome}
-use Rattle.regex_lite_engine.specs.Backtrack.Walking.{IsWalking, SearchFrom, WayHolds}
+use Rattle.regex_lite_engine.specs.Graph.Places.{Place}
+use Rattle.regex_lite_engine.specs.Backtrack.Walking.{IsWalking}
 use Rattle.regex_lite_engine.proofs.OffsetLemmas.{offset_next}
 use Rattle.regex_lite_engine.proofs.backtrack.WalkLemmas.{walk_entered, walk_complete}
 use Rattle.regex_lite_engine.proofs.search.PlaceLemmas.{free_marks, hops, none_offered}

@@ -1,23 +1,19 @@
 -- Where the steps of a depth-first walk lead, by the offsets of a haystack's bytes.
-use Rattle.std.proofs.Common.{◌≡◌, ℕ, suc, ◌<◌, ◌≤◌, ◌⊎◌, inl, inr, Bool, true, false}
-use Rattle.std.proofs.Common.{List, [], ◌∷◌, length, slice_set, Option, Some, None}
-use Rattle.std.proofs.Common.{if◌then◌else◌, subst, arith}
-use Rattle.std.specs.Prelude.{IsUtf8, IsCharBoundary, chars}
-use Rattle.std.proofs.lemmas.Bool.{cases_lt}
+use Rattle.regex_lite_engine.proofs.Common.{◌≡◌, ℕ, suc, ◌<◌, ◌≤◌, Bool, true, false, ◌⊎◌, List, []}
+use Rattle.regex_lite_engine.proofs.Common.{◌∷◌, length, if◌then◌else◌, slice_set, Some, None}
+use Rattle.regex_lite_engine.proofs.Common.{IsUtf8, Option, chars, IsCharBoundary, subst, inl, inr}
+use Rattle.regex_lite_engine.proofs.Common.{arith, cases_lt, Pairs, pair_number, was_entered, Held}
+use Rattle.regex_lite_engine.proofs.Common.{searching, SearchFrom, place_of, place_with}
+use Rattle.regex_lite_engine.proofs.Common.{IsNumberedOutcome, offset, IsOffset, position_at}
+use Rattle.regex_lite_engine.proofs.Common.{IsDeadAt}
 use Rattle.regex_lite_engine.specs.declared.backtrack.walk.Walk.{Walk}
 use Rattle.regex_lite_engine.specs.declared.nfa.place.Place as code
 use Rattle.regex_lite_engine.specs.Backtrack.Entering.{Enters}
-use Rattle.regex_lite_engine.specs.Backtrack.Machine.{explore, Held, Pairs}
-use Rattle.regex_lite_engine.specs.Backtrack.Machine.{pair_number, was_entered}
-use Rattle.regex_lite_engine.specs.Backtrack.Room.{searching, with_frames, AreAll}
+use Rattle.regex_lite_engine.specs.Backtrack.Machine.{explore}
+use Rattle.regex_lite_engine.specs.Backtrack.Room.{with_frames, AreAll}
 use Rattle.regex_lite_engine.specs.Backtrack.Room.{IsWalkingOrDone, WalksTo}
-use Rattle.regex_lite_engine.specs.Backtrack.Walking.{IsWalking, SearchFrom}
+use Rattle.regex_lite_engine.specs.Backtrack.Walking.{IsWalking}
 use Rattle.regex_lite_engine.specs.Graph.Places.{Place}
-use Rattle.regex_lite_engine.specs.Graph.Stored.{place_of}
-use Rattle.regex_lite_engine.specs.Search.Offsets.{offset, position_at, IsOffset}
-use Rattle.regex_lite_engine.specs.Search.NumberedAnswer.{place_with}
-use Rattle.regex_lite_engine.specs.Search.NumberedOutcomes.{IsNumberedOutcome}
-use Rattle.regex_lite_engine.specs.Search.Starts.{IsDeadAt}
 use Rattle.regex_lite_engine.proofs.OffsetLemmas.{offset_less}
 use Rattle.regex_lite_engine.proofs.backtrack.EnterLemmas.{walk_enters, Entered}
 use Rattle.regex_lite_engine.proofs.backtrack.WalkLemmas.{walk_between, walk_passed, walk_started}

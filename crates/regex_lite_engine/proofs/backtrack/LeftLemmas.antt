@@ -1,21 +1,16 @@
 -- What is left of a search: the sum over the pairs that were not entered.
-use Rattle.std.proofs.Common.{◌≡◌, ℕ, zero, suc, ◌+◌, ◌-◌, ◌*◌, ◌<◌, ◌≤◌, ◌⊎◌, inl}
-use Rattle.std.proofs.Common.{inr, Bool, true, false, List, [], ◌∷◌, length, set}
-use Rattle.std.proofs.Common.{replicate, slice_get, slice_set, slice_index_or}
-use Rattle.std.proofs.Common.{sum_by, if◌then◌else◌, Some, refl, sym, ap, ◌∙◌, arith}
-use Rattle.std.specs.Prelude.{IsUtf8, IsCharBoundary, chars}
-use Rattle.std.proofs.lemmas.Bool.{cases_lt}
-use Rattle.std.proofs.lemmas.List.{get_or-set_same, get_or-set_other}
-use Rattle.std.proofs.lemmas.List.{get_or-replicate, get_or_past, length-replicate}
-use Rattle.std.proofs.lemmas.List.Sums.{sum_by-cons}
-use Rattle.std.proofs.lemmas.Option.{slice_get_within}
-use Rattle.std.proofs.Math.Nat.{mul-le-mul_left, mul-suc, mul_comm}
-use Rattle.regex_lite_engine.specs.Backtrack.Machine.{Pairs, pair_number, was_entered}
+use Rattle.regex_lite_engine.proofs.Common.{◌≡◌, ℕ, zero, suc, ◌+◌, ◌-◌, ◌*◌, ◌<◌, ◌≤◌, Bool, true}
+use Rattle.regex_lite_engine.proofs.Common.{false, ◌⊎◌, List, [], ◌∷◌, length, set, replicate}
+use Rattle.regex_lite_engine.proofs.Common.{if◌then◌else◌, slice_get, slice_index_or, slice_set}
+use Rattle.regex_lite_engine.proofs.Common.{Some, IsUtf8, sum_by, chars, IsCharBoundary, sym, refl}
+use Rattle.regex_lite_engine.proofs.Common.{ap, ◌∙◌, inl, inr, arith, mul-le-mul_left, mul-suc}
+use Rattle.regex_lite_engine.proofs.Common.{cases_lt, get_or-replicate, get_or-set_other}
+use Rattle.regex_lite_engine.proofs.Common.{get_or-set_same, get_or_past, length-replicate}
+use Rattle.regex_lite_engine.proofs.Common.{sum_by-cons, slice_get_within, Pairs, pair_number}
+use Rattle.regex_lite_engine.proofs.Common.{was_entered, characters_left, lone, offset, position_at}
+use Rattle.std.proofs.Math.Nat.{mul_comm}
 use Rattle.regex_lite_engine.specs.Backtrack.Room.{AreAll, left_in, left_from, left_of}
 use Rattle.regex_lite_engine.specs.Graph.Places.{Place}
-use Rattle.regex_lite_engine.specs.Search.Bounds.{characters_left}
-use Rattle.regex_lite_engine.specs.Search.Offsets.{offset, position_at}
-use Rattle.regex_lite_engine.specs.Search.Counting.{lone}
 use Rattle.regex_lite_engine.proofs.OffsetLemmas.{offset_less}
 use Rattle.regex_lite_engine.proofs.OptionLemmas.{not_there, same_some}
 use Rattle.regex_lite_engine.proofs.search.CountLemmas.{test_most}

@@ -1,24 +1,16 @@
 -- A depth-first walk over a table of numbered places: its steps, and what it has found at its end.
-use Rattle.std.proofs.Common.{◌≡◌, ℕ, ◌≤◌, IsTrue, List, [], ◌∷◌, ◌++◌, length}
-use Rattle.std.proofs.Common.{Option, Some, None, refl, sym, ap, subst}
-use Rattle.regex_lite_syntax.specs.Text.{Text}
+use Rattle.regex_lite_engine.proofs.Common.{◌≡◌, ℕ, ◌≤◌, List, [], ◌∷◌, ◌++◌, length, IsTrue, Some}
+use Rattle.regex_lite_engine.proofs.Common.{None, Option, sym, refl, ap, subst, Text, WayHolds}
+use Rattle.regex_lite_engine.proofs.Common.{Found, Marks, marked, over, mark_of, marks_along}
+use Rattle.regex_lite_engine.proofs.Common.{place_with, numbered_step, is_end, IsNumberedOutcome}
+use Rattle.regex_lite_engine.proofs.Common.{Node, Offer, offset, HasSlots, Row, IsDeadAt}
 use Rattle.regex_lite_engine.specs.Backtrack.DepthFirst as walk
 use Rattle.regex_lite_engine.specs.Graph.Places.{Place}
-use Rattle.regex_lite_engine.specs.Search.Offsets.{offset}
-use Rattle.regex_lite_engine.specs.Search.Offers.{Offer, Node}
-use Rattle.regex_lite_engine.specs.Search.Rows.{Row}
-use Rattle.regex_lite_engine.specs.Search.NumberedAnswer.{place_with, numbered_step, is_end}
-use Rattle.regex_lite_engine.specs.Search.NumberedOutcomes.{IsNumberedOutcome}
-use Rattle.regex_lite_engine.specs.Search.Starts.{IsDeadAt}
-use Rattle.regex_lite_engine.specs.Backtrack.Walking.{WayHolds}
 use Rattle.regex_lite_engine.proofs.backtrack.DepthFirstEnterLemmas.{
   depth_first_entered,
   depth_first_complete,
 }
 use Rattle.regex_lite_engine.proofs.backtrack.DepthFirstLemmas.{depth_first_over}
-use Rattle.regex_lite_engine.specs.Search.Answer.{Found}
-use Rattle.regex_lite_engine.specs.Search.Marks.{Marks, marked, over, mark_of, marks_along}
-use Rattle.regex_lite_engine.specs.Search.Offsets.{HasSlots}
 use Rattle.regex_lite_engine.proofs.laws.LeadsLemmas.{leads_append}
 use Rattle.regex_lite_engine.proofs.laws.search.OverLemmas.{answer_when_over}
 use Rattle.regex_lite_engine.proofs.search.MarkLemmas.{same_slots, marks_append}

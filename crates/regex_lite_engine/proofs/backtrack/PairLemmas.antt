@@ -1,12 +1,10 @@
 -- Pairs of a place and an offset, and their numbers.
-use Rattle.std.proofs.Common.{◌≡◌, ℕ, ◌-◌, ◌<◌, ◌≤◌, ◌⊎◌, inl, inr}
-use Rattle.std.proofs.Common.{false, length, replicate, slice_index_or, ap, ◌∙◌, arith}
-use Rattle.std.proofs.lemmas.Bool.{cases_lt, cases_eq}
-use Rattle.std.proofs.lemmas.List.{get_or-replicate, get_or_past, length-replicate}
+use Rattle.regex_lite_engine.proofs.Common.{◌≡◌, ℕ, ◌-◌, ◌<◌, ◌≤◌, false, ◌⊎◌, length, replicate}
+use Rattle.regex_lite_engine.proofs.Common.{slice_index_or, ap, ◌∙◌, inl, inr, arith, cases_eq}
+use Rattle.regex_lite_engine.proofs.Common.{cases_lt, get_or-replicate, get_or_past}
+use Rattle.regex_lite_engine.proofs.Common.{length-replicate, Text, Pairs, pair_number, was_entered}
+use Rattle.regex_lite_engine.proofs.Common.{offset}
 use Rattle.std.proofs.lemmas.Nat.{same_from_place}
-use Rattle.regex_lite_syntax.specs.Text.{Text}
-use Rattle.regex_lite_engine.specs.Backtrack.Machine.{Pairs, pair_number, was_entered}
-use Rattle.regex_lite_engine.specs.Search.Offsets.{offset}
 use Rattle.regex_lite_engine.proofs.OffsetLemmas.{offset_less}
 
 -- one pair only has the number

@@ -1,27 +1,20 @@
 -- What entering a place adds to what is left to do.
-use Rattle.std.proofs.Common.{◌≡◌, ℕ, zero, suc, ◌+◌, ◌<◌, ◌≤◌, inl, inr, Bool, true}
-use Rattle.std.proofs.Common.{false, List, [], ◌∷◌, ◌++◌, length, map, slice_set}
-use Rattle.std.proofs.Common.{slice_index_or, if◌then◌else◌, Option, Some, None, refl}
-use Rattle.std.proofs.Common.{sym, ap, subst, ◌∙◌, arith, length-append, length-set}
-use Rattle.std.specs.Prelude.{IsUtf8, IsCharBoundary, chars}
-use Rattle.std.specs.Char.{len_utf8}
-use Rattle.std.proofs.lemmas.List.{length-map}
-use Rattle.std.proofs.lemmas.Option.{slice_get_within}
-use Rattle.regex_lite_syntax.specs.declared.class.ClassRange.{ClassRange}
-use Rattle.regex_lite_syntax.specs.Ranges.{in_ranges}
-use Rattle.regex_lite_syntax.specs.Sets.{Set, just}
-use Rattle.regex_lite_syntax.specs.Text.{Text, before, after}
-use Rattle.regex_lite_syntax.specs.Tree.Looks.{holds_between}
+use Rattle.regex_lite_engine.proofs.Common.{◌≡◌, ℕ, zero, suc, ◌+◌, ◌<◌, ◌≤◌, Bool, true, false}
+use Rattle.regex_lite_engine.proofs.Common.{List, [], ◌∷◌, ◌++◌, map, length, if◌then◌else◌}
+use Rattle.regex_lite_engine.proofs.Common.{slice_index_or, slice_set, Some, None, IsUtf8, Option}
+use Rattle.regex_lite_engine.proofs.Common.{chars, IsCharBoundary, sym, refl, ap, ◌∙◌, subst, inl}
+use Rattle.regex_lite_engine.proofs.Common.{inr, arith, length-append, length-set, length-map}
+use Rattle.regex_lite_engine.proofs.Common.{slice_get_within, len_utf8, in_ranges, Set, just, Text}
+use Rattle.regex_lite_engine.proofs.Common.{after, holds_between, ClassRange, Held, with_arrows, go}
+use Rattle.regex_lite_engine.proofs.Common.{go_marking, one_of, kept_back_with, arrow_count}
+use Rattle.regex_lite_engine.proofs.Common.{place_of, LeadBelow, LeadsBelow, position_at}
+use Rattle.regex_lite_syntax.specs.Text.{before}
 use Rattle.regex_lite_engine.specs.declared.nfa.place.Place as code
 use Rattle.regex_lite_engine.specs.declared.nfa.place.Place.TheVariants as stored
 use Rattle.regex_lite_engine.specs.Backtrack.Entering.{Enters, read_on}
-use Rattle.regex_lite_engine.specs.Backtrack.Machine.{Frame, explore, restore, Held}
+use Rattle.regex_lite_engine.specs.Backtrack.Machine.{Frame, explore, restore}
 use Rattle.regex_lite_engine.specs.Backtrack.Room.{explores, FramesBelow}
-use Rattle.regex_lite_engine.specs.Graph.Places.{Place, with_arrows, go, go_marking}
-use Rattle.regex_lite_engine.specs.Graph.Places.{one_of, kept_back_with}
-use Rattle.regex_lite_engine.specs.Graph.Renumbered.{arrow_count}
-use Rattle.regex_lite_engine.specs.Graph.Stored.{LeadBelow, LeadsBelow, place_of}
-use Rattle.regex_lite_engine.specs.Search.Offsets.{position_at}
+use Rattle.regex_lite_engine.specs.Graph.Places.{Place}
 use Rattle.regex_lite_engine.proofs.OffsetLemmas.{boundary_at, offset_next}
 use Rattle.regex_lite_engine.proofs.PositionLemmas.{position_is}
 

@@ -1,25 +1,19 @@
 -- What holds of a depth-first search between two starts, from the first to the last.
-use Rattle.std.proofs.Common.{◌≡◌, ℕ, ◌+◌, ◌-◌, ◌*◌, ◌<◌, ◌≤◌, ◌⊎◌, inl, inr}
-use Rattle.std.proofs.Common.{false, List, [], ◌∷◌, length, drop, sum_by, chars}
-use Rattle.std.proofs.Common.{Option, None, Some, refl, sym, ap, subst, ◌∙◌, arith}
-use Rattle.std.specs.Prelude.{IsUtf8, IsCharBoundary, is_some}
+use Rattle.regex_lite_engine.proofs.Common.{◌≡◌, ℕ, ◌+◌, ◌-◌, ◌*◌, ◌<◌, ◌≤◌, false, ◌⊎◌, List, []}
+use Rattle.regex_lite_engine.proofs.Common.{◌∷◌, length, drop, is_some, Some, None, IsUtf8, sum_by}
+use Rattle.regex_lite_engine.proofs.Common.{Option, chars, IsCharBoundary, sym, refl, ap, ◌∙◌}
+use Rattle.regex_lite_engine.proofs.Common.{subst, inl, inr, arith, mul-le-mul_left, suc-mul, Text}
+use Rattle.regex_lite_engine.proofs.Common.{searching, kept_back_with, arrow_count, arrows_of}
+use Rattle.regex_lite_engine.proofs.Common.{characters_left, lone, CanCount, IsOffset, position_at}
+use Rattle.regex_lite_engine.proofs.Common.{IsHere, IsDeadAt, Here}
 use Rattle.std.proofs.lemmas.List.{length-drop}
 use Rattle.std.proofs.lemmas.Str.{IsUtf8-drop}
-use Rattle.std.proofs.Math.Nat.{mul-le-mul_left, suc-mul}
-use Rattle.regex_lite_syntax.specs.Text.{Text}
 use Rattle.regex_lite_engine.specs.declared.backtrack.walk.Walk.{Walk}
-use Rattle.regex_lite_engine.specs.declared.search.here.Here.{Here}
 use Rattle.regex_lite_engine.specs.Backtrack.Machine.{explore}
-use Rattle.regex_lite_engine.specs.Backtrack.Room.{explores, searching, HasRoom, left_of}
+use Rattle.regex_lite_engine.specs.Backtrack.Room.{explores, HasRoom, left_of}
 use Rattle.regex_lite_engine.specs.Backtrack.Searching.{Explores, IsFresh, IsUnderWay}
 use Rattle.regex_lite_engine.specs.Backtrack.Walking.{IsWalking}
-use Rattle.regex_lite_engine.specs.Graph.Places.{Place, kept_back_with}
-use Rattle.regex_lite_engine.specs.Graph.Renumbered.{arrow_count, arrows_of}
-use Rattle.regex_lite_engine.specs.Search.Bounds.{characters_left}
-use Rattle.regex_lite_engine.specs.Search.Offsets.{position_at, IsOffset}
-use Rattle.regex_lite_engine.specs.Search.Counting.{CanCount, lone}
-use Rattle.regex_lite_engine.specs.Search.Standing.{IsHere}
-use Rattle.regex_lite_engine.specs.Search.Starts.{IsDeadAt}
+use Rattle.regex_lite_engine.specs.Graph.Places.{Place}
 use Rattle.regex_lite_engine.proofs.OffsetLemmas.{boundary_at}
 use Rattle.regex_lite_engine.proofs.backtrack.LeadsLemmas.{start_left}
 use Rattle.regex_lite_engine.proofs.backtrack.LeftLemmas.{left_blank, left_most, lone_all}

@@ -1,11 +1,11 @@
 -- Frames in a list that grows at its end.
-use Rattle.std.proofs.Common.{◌≡◌, ℕ, zero, suc, ◌-◌, ◌<◌, ◌≤◌, List, [], ◌∷◌, ◌++◌, drop}
-use Rattle.std.proofs.Common.{length, map, reverse, slice_index, ap, sym, subst, ◌∙◌, arith}
-use Rattle.std.proofs.Math.Seq.{drop-cons}
-use Rattle.std.proofs.lemmas.List.{length-map, length-reverse, map-append, reverse-append}
+use Rattle.regex_lite_engine.proofs.Common.{◌≡◌, ℕ, zero, suc, ◌-◌, ◌<◌, ◌≤◌, List, [], ◌∷◌, ◌++◌}
+use Rattle.regex_lite_engine.proofs.Common.{map, reverse, length, drop, slice_index, sym, ap, ◌∙◌}
+use Rattle.regex_lite_engine.proofs.Common.{subst, arith, drop-cons, length-map, map-append, Held}
+use Rattle.regex_lite_engine.proofs.Common.{Row}
+use Rattle.std.proofs.lemmas.List.{length-reverse, reverse-append}
 use Rattle.regex_lite_engine.specs.declared.backtrack.frame.Frame as code
-use Rattle.regex_lite_engine.specs.Backtrack.Machine.{Frame, Held, explore, frame_of}
-use Rattle.regex_lite_engine.specs.Search.Rows.{Row}
+use Rattle.regex_lite_engine.specs.Backtrack.Machine.{Frame, explore, frame_of}
 
 pub held_is : (a b : Held) → a.frames ≡ b.frames → a.row ≡ b.row → a.room ≡ b.room → a ≡ b
 held_is a b f r m =

@@ -1,11 +1,11 @@
 -- Frames that come off.
-use Rattle.std.proofs.Common.{◌≡◌, ℕ, ◌≤◌, List, [], ◌∷◌, length, slice_set}
-use Rattle.std.proofs.Common.{Option, None, sym, ap, subst, ◌∙◌, arith}
+use Rattle.regex_lite_engine.proofs.Common.{◌≡◌, ℕ, ◌≤◌, List, [], ◌∷◌, length, slice_set, None}
+use Rattle.regex_lite_engine.proofs.Common.{Option, sym, ap, ◌∙◌, subst, arith, Unwinds, taken_up}
+use Rattle.regex_lite_engine.proofs.Common.{Row}
 use Rattle.regex_lite_engine.specs.Backtrack.Machine.{Frame, explore, restore}
 use Rattle.regex_lite_engine.specs.Backtrack.Room.{explores, FramesBelow}
-use Rattle.regex_lite_engine.specs.Backtrack.Searching.{SlotsBelow, Unwinds, taken_up}
+use Rattle.regex_lite_engine.specs.Backtrack.Searching.{SlotsBelow}
 use Rattle.regex_lite_engine.specs.Graph.Places.{Place}
-use Rattle.regex_lite_engine.specs.Search.Rows.{Row}
 
 module _ (next : Option (ℕ × ℕ)) (row' : Row) (frames' : List Frame) where
   -- what comes next was among them

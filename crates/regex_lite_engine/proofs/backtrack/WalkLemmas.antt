@@ -1,23 +1,19 @@
 -- The steps of a depth-first walk over pairs of a place and an offset.
-use Rattle.std.proofs.Common.{◌≡◌, ℕ, suc, ◌<◌, ◌≤◌, ◌⊎◌, inl, inr, true, false, IsTrue, List}
-use Rattle.std.proofs.Common.{[], ◌∷◌, ◌++◌, length, replicate, slice_set, slice_index_or}
-use Rattle.std.proofs.Common.{Option, Some, None, refl, sym, ap, subst, ◌∙◌, arith}
-use Rattle.std.proofs.lemmas.Bool.{cases_eq, both_ways}
-use Rattle.std.proofs.lemmas.List.{get_or-set_same, get_or-set_other}
+use Rattle.regex_lite_engine.proofs.Common.{◌≡◌, ℕ, suc, ◌<◌, ◌≤◌, true, false, ◌⊎◌, List, [], ◌∷◌}
+use Rattle.regex_lite_engine.proofs.Common.{◌++◌, length, replicate, IsTrue, slice_index_or}
+use Rattle.regex_lite_engine.proofs.Common.{slice_set, Some, None, Option, sym, refl, ap, ◌∙◌}
+use Rattle.regex_lite_engine.proofs.Common.{subst, inl, inr, arith, cases_eq, get_or-set_other}
+use Rattle.regex_lite_engine.proofs.Common.{get_or-set_same, Pairs, pair_number, was_entered, Held}
+use Rattle.regex_lite_engine.proofs.Common.{Unwinds, taken_up, WayHolds, SearchFrom, place_with}
+use Rattle.regex_lite_engine.proofs.Common.{numbered_step, is_end, IsNumberedOutcome, Node, Offer}
+use Rattle.regex_lite_engine.proofs.Common.{offset, IsOffset, Row, IsBlank, IsDeadAt}
+use Rattle.std.proofs.lemmas.Bool.{both_ways}
 use Rattle.regex_lite_syntax.specs.Tree.Matches.{IsPosition}
 use Rattle.regex_lite_engine.specs.Backtrack.DepthFirst as order
-use Rattle.regex_lite_engine.specs.Backtrack.Machine.{Frame, explore, restore, Held, Pairs}
-use Rattle.regex_lite_engine.specs.Backtrack.Machine.{pair_number, was_entered}
-use Rattle.regex_lite_engine.specs.Backtrack.Searching.{Unwinds, taken_up}
+use Rattle.regex_lite_engine.specs.Backtrack.Machine.{Frame, explore, restore}
 use Rattle.regex_lite_engine.specs.Backtrack.Walking as walk
 use Rattle.regex_lite_engine.specs.Graph.Places.{Place}
-use Rattle.regex_lite_engine.specs.Search.Offsets.{offset, IsOffset}
-use Rattle.regex_lite_engine.specs.Search.Offers.{Offer, Node}
-use Rattle.regex_lite_engine.specs.Search.Rows.{Row, IsBlank}
-use Rattle.regex_lite_engine.specs.Search.NumberedAnswer.{place_with, numbered_step, is_end}
-use Rattle.regex_lite_engine.specs.Search.NumberedOutcomes.{IsNumberedOutcome}
-use Rattle.regex_lite_engine.specs.Search.Starts.{IsDeadAt}
-use Rattle.regex_lite_engine.specs.Backtrack.Walking.{IsWalking, SearchFrom, WayHolds}
+use Rattle.regex_lite_engine.specs.Backtrack.Walking.{IsWalking}
 use Rattle.regex_lite_engine.proofs.backtrack.DepthFirstLemmas.{
   depth_first_begun,
   depth_first_passed,

@@ -1,21 +1,17 @@
 -- A frame was taken off: the memory still suffices, and the counts stay within what is left.
-use Rattle.std.proofs.Common.{◌≡◌, ℕ, ◌+◌, ◌≤◌, Bool, true, false, List, ◌∷◌, length, set}
-use Rattle.std.proofs.Common.{slice_get, Some, None, if◌then◌else◌}
-use Rattle.std.proofs.Common.{refl, sym, ap, subst, ◌∙◌, arith, length-set}
-use Rattle.std.specs.Prelude.{IsUtf8, chars}
-use Rattle.std.proofs.lemmas.List.{set-get_or}
+use Rattle.regex_lite_engine.proofs.Common.{◌≡◌, ℕ, ◌+◌, ◌≤◌, Bool, true, false, List, ◌∷◌, length}
+use Rattle.regex_lite_engine.proofs.Common.{set, if◌then◌else◌, slice_get, Some, None, IsUtf8}
+use Rattle.regex_lite_engine.proofs.Common.{chars, sym, refl, ap, ◌∙◌, subst, arith, length-set}
+use Rattle.regex_lite_engine.proofs.Common.{set-get_or, Pairs, pair_number, was_entered, Held}
+use Rattle.regex_lite_engine.proofs.Common.{kept_back_with, arrow_count, place_of, LeadsBelow}
+use Rattle.regex_lite_engine.proofs.Common.{StepCounts, lone, position_at}
 use Rattle.regex_lite_engine.specs.declared.backtrack.walk.Walk.{Walk}
 use Rattle.regex_lite_engine.specs.declared.nfa.place.Place as code
 use Rattle.regex_lite_engine.specs.Backtrack.Entering.{Enters}
-use Rattle.regex_lite_engine.specs.Backtrack.Machine.{explore, Pairs, Held}
-use Rattle.regex_lite_engine.specs.Backtrack.Machine.{pair_number, was_entered}
+use Rattle.regex_lite_engine.specs.Backtrack.Machine.{explore}
 use Rattle.regex_lite_engine.specs.Backtrack.Room.{with_frames, Went, HasRoom, WalksTo, left_of}
-use Rattle.regex_lite_engine.specs.Graph.Places.{Place, kept_back_with}
-use Rattle.regex_lite_engine.specs.Graph.Renumbered.{arrow_count}
-use Rattle.regex_lite_engine.specs.Graph.Stored.{LeadsBelow, place_of}
-use Rattle.regex_lite_engine.specs.Search.Bounds.{StepCounts}
-use Rattle.regex_lite_engine.specs.Search.Offsets.{position_at}
-use Rattle.regex_lite_engine.specs.Search.Counting.{lone, weight}
+use Rattle.regex_lite_engine.specs.Graph.Places.{Place}
+use Rattle.regex_lite_engine.specs.Search.Counting.{weight}
 use Rattle.regex_lite_engine.proofs.backtrack.LeadsLemmas.{entered_at}
 use Rattle.regex_lite_engine.proofs.backtrack.LeftLemmas.{left_enter, left_room}
 use Rattle.regex_lite_engine.proofs.backtrack.RoomLemmas.{enters_few, enters_within}

@@ -1,15 +1,13 @@
 -- The places in the layout of a tree have as many arrows as the tree.
-use Rattle.std.proofs.Common.{◌≡◌, refl, ap, arith, ℕ, ◌*◌, List, [], ◌∷◌, sym}
-use Rattle.std.proofs.lemmas.List.{length-map, length-replicate}
-use Rattle.regex_lite_syntax.specs.declared.class.ClassRange.{ClassRange}
-use Rattle.regex_lite_syntax.specs.Tree.{Tree, Trees, empty, character, class, look, repetition}
-use Rattle.regex_lite_syntax.specs.Tree.{capture, concat, alternation, none, more}
-use Rattle.regex_lite_engine.specs.Graph.Places.{Place, with_arrows, go, one_of, complete, Arrow}
-use Rattle.regex_lite_engine.specs.Graph.Places.{renamed_arrow}
-use Rattle.regex_lite_engine.specs.Graph.Renumbered.{arrow_count, arrows_of}
-use Rattle.regex_lite_engine.specs.Graph.PlaceCounts.{copies, class_arrows, arrows, arrows_in}
-use Rattle.regex_lite_engine.specs.Graph.PlaceCounts.{count, whole_arrows}
-use Rattle.regex_lite_engine.specs.Nfa.Layout.{pattern_table, whole_table}
+use Rattle.regex_lite_engine.proofs.Common.{◌≡◌, ℕ, ◌*◌, List, [], ◌∷◌, sym, refl, ap, arith}
+use Rattle.regex_lite_engine.proofs.Common.{length-map, length-replicate, Tree, empty, character}
+use Rattle.regex_lite_engine.proofs.Common.{class, look, repetition, capture, concat, alternation}
+use Rattle.regex_lite_engine.proofs.Common.{Trees, none, more, ClassRange, copies, class_arrows}
+use Rattle.regex_lite_engine.proofs.Common.{arrows, count, whole_arrows, Arrow, complete}
+use Rattle.regex_lite_engine.proofs.Common.{with_arrows, renamed_arrow, go, one_of, arrow_count}
+use Rattle.regex_lite_engine.proofs.Common.{arrows_of, pattern_table, whole_table}
+use Rattle.regex_lite_engine.specs.Graph.Places.{Place}
+use Rattle.regex_lite_engine.specs.Graph.PlaceCounts.{arrows_in}
 use Rattle.regex_lite_engine.proofs.count.MeasureLemmas.{unnumbered, forget, measured}
 use Rattle.regex_lite_engine.proofs.count.MeasureLemmas.{measured_in, sum_pattern}
 

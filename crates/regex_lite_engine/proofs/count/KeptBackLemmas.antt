@@ -1,18 +1,14 @@
 -- A search keeps back less at the places in the layout of a tree than there are.
-use Rattle.std.proofs.Common.{◌≡◌, ◌≤◌, ◌<◌, refl, arith, ℕ, zero, suc, ◌+◌, List, [], ◌∷◌}
-use Rattle.std.proofs.Common.{replicate}
-use Rattle.std.proofs.lemmas.List.{length-map, length-replicate}
-use Rattle.std.proofs.Math.Nat.{mul-le-mul_left}
-use Rattle.regex_lite_syntax.specs.declared.class.ClassRange.{ClassRange}
-use Rattle.regex_lite_syntax.specs.Tree.{Tree, Trees, empty, character, class, look, repetition}
-use Rattle.regex_lite_syntax.specs.Tree.{capture, concat, alternation, none, more}
-use Rattle.regex_lite_syntax.specs.Tree.Properties.{nullable}
-use Rattle.regex_lite_syntax.specs.Tree.Regular.{IsRegular, AreRegular}
-use Rattle.regex_lite_engine.specs.Graph.Places.{Place, with_arrows, go, one_of, kept_back}
-use Rattle.regex_lite_engine.specs.Graph.Places.{kept_back_of, complete, Arrow, renamed_arrow}
-use Rattle.regex_lite_engine.specs.Graph.PlaceCounts.{copies, places, places_in, count}
-use Rattle.regex_lite_engine.specs.Graph.PlaceCounts.{whole_places}
-use Rattle.regex_lite_engine.specs.Nfa.Layout.{pattern_table, whole_table}
+use Rattle.regex_lite_engine.proofs.Common.{◌≡◌, ℕ, zero, suc, ◌+◌, ◌<◌, ◌≤◌, List, [], ◌∷◌}
+use Rattle.regex_lite_engine.proofs.Common.{replicate, refl, arith, mul-le-mul_left, length-map}
+use Rattle.regex_lite_engine.proofs.Common.{length-replicate, Tree, empty, character, class, look}
+use Rattle.regex_lite_engine.proofs.Common.{repetition, capture, concat, alternation, Trees, none}
+use Rattle.regex_lite_engine.proofs.Common.{more, nullable, IsRegular, ClassRange, copies, places}
+use Rattle.regex_lite_engine.proofs.Common.{places_in, count, whole_places, Arrow, complete}
+use Rattle.regex_lite_engine.proofs.Common.{with_arrows, renamed_arrow, go, one_of, kept_back}
+use Rattle.regex_lite_engine.proofs.Common.{kept_back_of, pattern_table, whole_table}
+use Rattle.regex_lite_syntax.specs.Tree.Regular.{AreRegular}
+use Rattle.regex_lite_engine.specs.Graph.Places.{Place}
 use Rattle.regex_lite_engine.proofs.ArrowBoundLemmas.{repeated_few}
 use Rattle.regex_lite_engine.proofs.count.MeasureLemmas.{unnumbered, forget, measured}
 use Rattle.regex_lite_engine.proofs.count.MeasureLemmas.{measured_in, sum_pattern}

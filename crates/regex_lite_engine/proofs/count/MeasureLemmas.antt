@@ -1,21 +1,19 @@
 -- The sum of a measure of places over the layout of a tree, where it depends on no place's number.
-use Rattle.std.proofs.Common.{◌≡◌, refl, ap, ◌∙◌, arith, ℕ, zero, suc, ◌+◌, ◌-◌, ◌*◌, Bool}
-use Rattle.std.proofs.Common.{replicate, sum_by, true, false, List, [], ◌∷◌, ◌++◌, map, length}
-use Rattle.std.proofs.Common.{Option, Some, None}
-use Rattle.std.proofs.lemmas.List.Sums.{sum_by-cons}
-use Rattle.regex_lite_syntax.specs.declared.class.ClassRange.{ClassRange}
-use Rattle.regex_lite_syntax.specs.Tree.{Tree, Trees, empty, character, class, look, repetition}
-use Rattle.regex_lite_syntax.specs.Tree.{capture, concat, alternation, none, more}
-use Rattle.regex_lite_syntax.specs.Tree.Properties.{nullable}
-use Rattle.regex_lite_engine.specs.Graph.Places.{Place, with_arrows, go, go_holding, go_marking}
-use Rattle.regex_lite_engine.specs.Graph.Places.{choice, one_char, one_of, complete, renamed}
-use Rattle.regex_lite_engine.specs.Graph.Places.{renamed_arrow}
-use Rattle.regex_lite_engine.specs.Graph.PlaceCounts.{copies, count, own_places, own_arrows}
+use Rattle.regex_lite_engine.proofs.Common.{◌≡◌, ℕ, zero, suc, ◌+◌, ◌-◌, ◌*◌, Bool, true, false}
+use Rattle.regex_lite_engine.proofs.Common.{List, [], ◌∷◌, ◌++◌, map, length, replicate, Some, None}
+use Rattle.regex_lite_engine.proofs.Common.{sum_by, Option, refl, ap, ◌∙◌, arith, sum_by-cons, Tree}
+use Rattle.regex_lite_engine.proofs.Common.{empty, character, class, look, repetition, capture}
+use Rattle.regex_lite_engine.proofs.Common.{concat, alternation, Trees, none, more, nullable}
+use Rattle.regex_lite_engine.proofs.Common.{ClassRange, copies, own_places, count, complete}
+use Rattle.regex_lite_engine.proofs.Common.{with_arrows, renamed_arrow, renamed, go, go_marking}
+use Rattle.regex_lite_engine.proofs.Common.{go_holding, choice, one_of, whole, Fragment}
+use Rattle.regex_lite_engine.proofs.Common.{copies_layout, choices_layout, star_layout, layout}
+use Rattle.regex_lite_engine.proofs.Common.{chain_layout, branches_layout, pattern_table}
+use Rattle.regex_lite_engine.specs.Graph.Places.{Place}
+use Rattle.regex_lite_engine.specs.Graph.Places.{one_char}
+use Rattle.regex_lite_engine.specs.Graph.PlaceCounts.{own_arrows}
 use Rattle.regex_lite_engine.specs.Graph.PlaceCounts.{bounded_places, bounded_arrows}
-use Rattle.regex_lite_engine.specs.Graph.WrittenOut.{whole}
-use Rattle.regex_lite_engine.specs.Nfa.Layout.{Fragment, copies_layout, choices_layout, star_layout}
-use Rattle.regex_lite_engine.specs.Nfa.Layout.{bounded_layout, repetition_layout, layout}
-use Rattle.regex_lite_engine.specs.Nfa.Layout.{chain_layout, branches_layout, pattern_table}
+use Rattle.regex_lite_engine.specs.Nfa.Layout.{bounded_layout, repetition_layout}
 
 -- a place that has forgotten the numbers of those to which it leads
 abbrev pub forget : ℕ → ℕ

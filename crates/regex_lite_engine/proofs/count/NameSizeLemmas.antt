@@ -1,19 +1,17 @@
 -- What a name takes, by the bytes of its text.
-use Rattle.std.proofs.Common.{◌≡◌, refl, ◌==◌, Bool, true, false, Option, Some, None, ap}
-use Rattle.std.proofs.Common.{◌∙◌, ℕ, List, [], ◌∷◌, length, Global, length-append, arith}
-use Rattle.std.specs.Char.{len_utf8}
+use Rattle.regex_lite_engine.proofs.Common.{◌≡◌, ℕ, Bool, true, false, List, [], ◌∷◌, length, ◌==◌}
+use Rattle.regex_lite_engine.proofs.Common.{Some, None, Option, refl, ap, ◌∙◌, arith, length-append}
+use Rattle.regex_lite_engine.proofs.Common.{sum_by-cons, encodes-chars, len_utf8, option_or, Text}
+use Rattle.regex_lite_engine.proofs.Common.{Tree, empty, character, class, look, repetition}
+use Rattle.regex_lite_engine.proofs.Common.{capture, concat, alternation, Trees, none, more}
+use Rattle.regex_lite_engine.proofs.Common.{text_of_name}
+use Rattle.std.proofs.Common.{Global}
 use Rattle.std.specs.List.{sum_by}
 use Rattle.std.proofs.Math.Utf8.{encode, encodes}
-use Rattle.std.proofs.lemmas.List.Sums.{sum_by-cons}
-use Rattle.std.proofs.lemmas.Str.{IsUtf8-string_bytes, encodes-chars, length-encode}
-use Rattle.std.specs.Option.{option_or}
+use Rattle.std.proofs.lemmas.Str.{IsUtf8-string_bytes, length-encode}
 use Rattle.std.specs.Rc.{rc_str_bytes}
 use Rattle.std.specs.declared.rc.RcStr.{RcStr}
-use Rattle.regex_lite_syntax.specs.Text.{Text}
-use Rattle.regex_lite_syntax.specs.Tree.{Tree, Trees, empty, character, class, look}
-use Rattle.regex_lite_syntax.specs.Tree.{repetition, capture, concat, alternation, none, more}
 use Rattle.regex_lite_syntax.specs.Tree.Properties.{name_if, group_name, group_name_in}
-use Rattle.regex_lite_syntax.specs.Tree.Views.{text_of_name}
 use Rattle.regex_lite_engine.specs.Graph.Size.{name_size, names_size, names_size_in}
 
 -- characters have as many bytes as each of them, in all

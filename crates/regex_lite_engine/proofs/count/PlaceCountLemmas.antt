@@ -1,11 +1,10 @@
 -- The layout of a tree has as many places as the tree.
-use Rattle.std.proofs.Common.{◌≡◌, refl, arith, ℕ, ◌*◌, [], ◌∷◌, length, List, sum_by, ap}
-use Rattle.std.proofs.lemmas.List.Sums.{sum_by-cons}
-use Rattle.regex_lite_syntax.specs.Tree.{Tree, Trees, empty, character, class, look, repetition}
-use Rattle.regex_lite_syntax.specs.Tree.{capture, concat, alternation, none, more}
+use Rattle.regex_lite_engine.proofs.Common.{◌≡◌, ℕ, ◌*◌, List, [], ◌∷◌, length, sum_by, refl, ap}
+use Rattle.regex_lite_engine.proofs.Common.{arith, sum_by-cons, Tree, empty, character, class, look}
+use Rattle.regex_lite_engine.proofs.Common.{repetition, capture, concat, alternation, Trees, none}
+use Rattle.regex_lite_engine.proofs.Common.{more, copies, places, places_in, whole_places}
+use Rattle.regex_lite_engine.proofs.Common.{pattern_table}
 use Rattle.regex_lite_engine.specs.Graph.Places.{Place}
-use Rattle.regex_lite_engine.specs.Graph.PlaceCounts.{copies, places, places_in, whole_places}
-use Rattle.regex_lite_engine.specs.Nfa.Layout.{pattern_table}
 use Rattle.regex_lite_engine.proofs.count.MeasureLemmas.{measured, measured_in, sum_pattern}
 
 -- each place counts

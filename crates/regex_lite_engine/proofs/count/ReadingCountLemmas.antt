@@ -1,20 +1,17 @@
 -- As many places in the layout of a tree read a character as in the tree, and no table has more
 -- places that read than arrows.
-use Rattle.std.proofs.Common.{◌≡◌, ◌≤◌, refl, ap, arith, ℕ, zero, suc, ◌*◌, List, [], ◌∷◌, map}
-use Rattle.std.proofs.Common.{replicate, length}
-use Rattle.std.proofs.Math.Nat.{mul-le-mul_left}
-use Rattle.std.proofs.lemmas.List.Sums.{sum_by-cons}
-use Rattle.regex_lite_syntax.specs.declared.class.ClassRange.{ClassRange}
-use Rattle.regex_lite_syntax.specs.Tree.{Tree, Trees, empty, character, class, look, repetition}
-use Rattle.regex_lite_syntax.specs.Tree.{capture, concat, alternation, none, more}
-use Rattle.regex_lite_engine.specs.Graph.Places.{Place, with_arrows, go, one_of, reading_arrows}
-use Rattle.regex_lite_engine.specs.Graph.Places.{reading_count, reading_of, complete, Arrow}
-use Rattle.regex_lite_engine.specs.Graph.Places.{renamed_arrow, Condition, condition_reads, free}
-use Rattle.regex_lite_engine.specs.Graph.Places.{holding, reading}
-use Rattle.regex_lite_engine.specs.Graph.Renumbered.{arrow_count, arrows_of}
-use Rattle.regex_lite_engine.specs.Graph.PlaceCounts.{count, copies, class_arrows, places}
-use Rattle.regex_lite_engine.specs.Graph.PlaceCounts.{places_in, reading_places, reading_places_in}
-use Rattle.regex_lite_engine.specs.Nfa.Layout.{pattern_table, whole_table}
+use Rattle.regex_lite_engine.proofs.Common.{◌≡◌, ℕ, zero, suc, ◌*◌, ◌≤◌, List, [], ◌∷◌, map, length}
+use Rattle.regex_lite_engine.proofs.Common.{replicate, refl, ap, arith, mul-le-mul_left}
+use Rattle.regex_lite_engine.proofs.Common.{sum_by-cons, Tree, empty, character, class, look}
+use Rattle.regex_lite_engine.proofs.Common.{repetition, capture, concat, alternation, Trees, none}
+use Rattle.regex_lite_engine.proofs.Common.{more, ClassRange, copies, class_arrows, places}
+use Rattle.regex_lite_engine.proofs.Common.{places_in, count, reading_places, Condition, free}
+use Rattle.regex_lite_engine.proofs.Common.{holding, reading, Arrow, complete, with_arrows}
+use Rattle.regex_lite_engine.proofs.Common.{renamed_arrow, go, one_of, reading_count, reading_of}
+use Rattle.regex_lite_engine.proofs.Common.{arrow_count, arrows_of, pattern_table, whole_table}
+use Rattle.regex_lite_engine.specs.Graph.Places.{Place, reading_arrows}
+use Rattle.regex_lite_engine.specs.Graph.Places.{condition_reads}
+use Rattle.regex_lite_engine.specs.Graph.PlaceCounts.{reading_places_in}
 use Rattle.regex_lite_engine.proofs.count.MeasureLemmas.{unnumbered, forget, measured, measured_in}
 use Rattle.regex_lite_engine.proofs.count.MeasureLemmas.{sum_pattern}
 

@@ -1,13 +1,12 @@
 -- How many groups at least take part in every match: no more than there are places.
-use Rattle.std.proofs.Common.{◌≡◌, refl, ◌≤◌, ◌<◌, ◌^◌, ℕ, zero, suc, ◌+◌, ◌-◌, ◌*◌, ◌==◌, Bool}
-use Rattle.std.proofs.Common.{true, false, if◌then◌else◌, nat_lt, Option, Some, None, IfSome, arith}
-use Rattle.std.proofs.Math.Nat.{suc-mul}
-use Rattle.std.proofs.lemmas.Bool.Decides.{nat_tests}
-use Rattle.regex_lite_syntax.specs.Tree.{Tree, Trees, empty, character, class, look}
-use Rattle.regex_lite_syntax.specs.Tree.{repetition, capture, concat, alternation, none, more}
-use Rattle.regex_lite_syntax.specs.Tree.Properties.{nullable, sum, common, in_passes, in_32_bits}
+use Rattle.regex_lite_engine.proofs.Common.{◌≡◌, ℕ, zero, suc, ◌+◌, ◌-◌, ◌*◌, ◌^◌, ◌<◌, ◌≤◌, Bool}
+use Rattle.regex_lite_engine.proofs.Common.{true, false, IfSome, if◌then◌else◌, nat_lt, ◌==◌, Some}
+use Rattle.regex_lite_engine.proofs.Common.{None, Option, refl, arith, suc-mul, nat_tests, Tree}
+use Rattle.regex_lite_engine.proofs.Common.{empty, character, class, look, repetition, capture}
+use Rattle.regex_lite_engine.proofs.Common.{concat, alternation, Trees, none, more, nullable, sum}
+use Rattle.regex_lite_engine.proofs.Common.{copies, own_places, places, places_in}
+use Rattle.regex_lite_syntax.specs.Tree.Properties.{common, in_passes, in_32_bits}
 use Rattle.regex_lite_syntax.specs.Tree.Properties.{static_groups, static_sum, static_common}
-use Rattle.regex_lite_engine.specs.Graph.PlaceCounts.{places, places_in, copies, own_places}
 
 -- at most this many, where it is known
 abbrev pub Few : Option ℕ → ℕ → Type 0

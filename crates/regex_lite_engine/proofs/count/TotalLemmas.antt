@@ -1,15 +1,12 @@
 -- What several patterns take together, one after another.
-use Rattle.std.proofs.Common.{◌≡◌, ◌≤◌, ◌<◌, sym, ap, ◌∙◌, arith, refl, ℕ, suc, ◌+◌, ◌*◌, List}
-use Rattle.std.proofs.Common.{[], ◌∷◌, map, drop, length, get_or, slice_get, Some, option_map}
+use Rattle.regex_lite_engine.proofs.Common.{◌≡◌, ℕ, suc, ◌+◌, ◌*◌, ◌<◌, ◌≤◌, List, [], ◌∷◌, map}
+use Rattle.regex_lite_engine.proofs.Common.{length, get_or, drop, slice_get, Some, option_map, sym}
+use Rattle.regex_lite_engine.proofs.Common.{refl, ap, ◌∙◌, arith, sum_by-cons, slice_get-get_or}
+use Rattle.regex_lite_engine.proofs.Common.{slice_get-map, Tree, tree_of, Hir, reading_places}
+use Rattle.regex_lite_engine.proofs.Common.{whole_places, whole_arrows, places_of_all}
+use Rattle.regex_lite_engine.proofs.Common.{arrows_of_all, reading_of_all}
 use Rattle.std.proofs.lemmas.List.{drop_more}
-use Rattle.std.proofs.lemmas.List.Sums.{sum_by-cons}
-use Rattle.std.proofs.lemmas.Option.{slice_get-get_or, slice_get-map}
-use Rattle.regex_lite_syntax.specs.declared.hir.Hir.{Hir}
-use Rattle.regex_lite_syntax.specs.Tree.{Tree}
-use Rattle.regex_lite_syntax.specs.Tree.Views.{tree_of}
-use Rattle.regex_lite_engine.specs.Graph.PlaceCounts.{whole_places, whole_arrows, reading_places}
-use Rattle.regex_lite_engine.specs.Graph.SideBySide.{AreRegular, places_of_all, arrows_of_all}
-use Rattle.regex_lite_engine.specs.Nfa.Totals.{reading_of_all}
+use Rattle.regex_lite_engine.specs.Graph.SideBySide.{AreRegular}
 use Rattle.regex_lite_engine.proofs.ArrowBoundLemmas.{arrows_few}
 use Rattle.regex_lite_engine.proofs.count.ReadingCountLemmas.{reading_few}
 

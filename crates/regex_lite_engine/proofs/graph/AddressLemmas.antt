@@ -1,10 +1,8 @@
 -- The addresses of a tree's places in the order of its layout, without the tree's own in front.
-use Rattle.std.proofs.Common.{ℕ, zero, suc, ◌-◌, Bool, true, false, List}
-use Rattle.std.proofs.Common.{[], ◌∷◌, ◌++◌, map, Option, Some, None}
-use Rattle.regex_lite_syntax.specs.Tree.{Tree, Trees, empty, character, class, look}
-use Rattle.regex_lite_syntax.specs.Tree.{repetition, capture, concat, alternation, none, more}
-use Rattle.regex_lite_syntax.specs.Tree.Properties.{nullable}
-use Rattle.regex_lite_engine.specs.Graph.Addresses.{Address}
+use Rattle.regex_lite_engine.proofs.Common.{ℕ, zero, suc, ◌-◌, Bool, true, false, List, [], ◌∷◌}
+use Rattle.regex_lite_engine.proofs.Common.{◌++◌, map, Some, None, Option, Tree, empty, character}
+use Rattle.regex_lite_engine.proofs.Common.{class, look, repetition, capture, concat, alternation}
+use Rattle.regex_lite_engine.proofs.Common.{Trees, none, more, nullable, Address}
 
 -- the address of the tree's own place k
 abbrev pub own_place : ℕ → Address

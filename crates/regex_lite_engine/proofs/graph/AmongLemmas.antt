@@ -1,8 +1,7 @@
 -- That an address is in a list of addresses.
-use Rattle.std.proofs.Common.{◌≡◌, ◌<◌, subst, arith, ℕ, suc, ◌+◌}
-use Rattle.std.proofs.Common.{inr, List, [], ◌∷◌, length, get_or}
-use Rattle.std.proofs.lemmas.Option.{slice_get_within, get_or_from_slice_get}
-use Rattle.regex_lite_engine.specs.Graph.Addresses.{Address}
+use Rattle.regex_lite_engine.proofs.Common.{◌≡◌, ℕ, suc, ◌+◌, ◌<◌, List, [], ◌∷◌, length, get_or}
+use Rattle.regex_lite_engine.proofs.Common.{subst, inr, arith, get_or_from_slice_get}
+use Rattle.regex_lite_engine.proofs.Common.{slice_get_within, Address}
 use Rattle.regex_lite_engine.proofs.graph.AddressLemmas.{own_place, framed}
 use Rattle.regex_lite_engine.proofs.InLemmas.{In, in_left, number_of}
 

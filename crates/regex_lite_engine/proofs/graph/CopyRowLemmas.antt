@@ -1,7 +1,6 @@
 -- Copies in a row, and what is given by numbers from some one on.
-use Rattle.std.proofs.Common.{◌≡◌, refl, ap, subst, ◌∙◌, arith, ℕ, zero, suc, ◌+◌, Bool, ◌∷◌}
-use Rattle.regex_lite_engine.specs.Graph.Addresses.{Address, part}
-use Rattle.regex_lite_engine.specs.Graph.Repetitions.{Content, next_copy, in_copies}
+use Rattle.regex_lite_engine.proofs.Common.{◌≡◌, ℕ, zero, suc, ◌+◌, Bool, ◌∷◌, refl, ap, ◌∙◌, subst}
+use Rattle.regex_lite_engine.proofs.Common.{arith, Address, part, Content, next_copy, in_copies}
 
 -- from part k on, what stands inside is given by part
 abbrev pub PartsAre : (content : Address → Content) → ℕ → (parts : ℕ → Address → Content) → Type 0

@@ -1,15 +1,13 @@
 -- Each address at which a tree has a place is among the addresses of the tree.
-use Rattle.std.proofs.Common.{◌≡◌, refl, ℕ, zero, suc, ◌+◌, inl, inr, List, [], ◌∷◌, Some}
-use Rattle.regex_lite_syntax.specs.Tree.{Tree, Trees, empty, character, class, look}
-use Rattle.regex_lite_syntax.specs.Tree.{repetition, capture, concat, alternation, none, more}
-use Rattle.regex_lite_syntax.specs.Tree.Properties.{nullable}
+use Rattle.regex_lite_engine.proofs.Common.{◌≡◌, ℕ, zero, suc, ◌+◌, List, [], ◌∷◌, Some, refl, inl}
+use Rattle.regex_lite_engine.proofs.Common.{inr, Tree, empty, character, class, look, repetition}
+use Rattle.regex_lite_engine.proofs.Common.{capture, concat, alternation, Trees, none, more}
+use Rattle.regex_lite_engine.proofs.Common.{nullable, Address, part, own, entry, branch_entries}
+use Rattle.regex_lite_engine.proofs.Common.{Content, place_at, place_in_chain, place_in_branch}
+use Rattle.regex_lite_engine.proofs.Common.{whole, end_address, written_out}
 use Rattle.regex_lite_engine.specs.Graph.Places.{Place}
-use Rattle.regex_lite_engine.specs.Graph.Addresses.{Address, part, own, entry, branch_entries}
-use Rattle.regex_lite_engine.specs.Graph.Repetitions.{Content}
 use Rattle.regex_lite_engine.specs.Graph.WrittenOut.{leaf_row, capture_row}
-use Rattle.regex_lite_engine.specs.Graph.WrittenOut.{alternation_row, concat_row, place_at}
-use Rattle.regex_lite_engine.specs.Graph.WrittenOut.{place_in_chain, place_in_branch, whole}
-use Rattle.regex_lite_engine.specs.Graph.WrittenOut.{end_address, written_out}
+use Rattle.regex_lite_engine.specs.Graph.WrittenOut.{alternation_row, concat_row}
 use Rattle.regex_lite_engine.proofs.graph.AddressLemmas.{own_place, in_part, framed, addresses}
 use Rattle.regex_lite_engine.proofs.graph.AddressLemmas.{chain_addresses, branches_addresses}
 use Rattle.regex_lite_engine.proofs.graph.AmongLemmas.{from_0, from_first, from_later}

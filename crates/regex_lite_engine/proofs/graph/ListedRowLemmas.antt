@@ -1,12 +1,12 @@
 -- Each address at which a repetition has a place is among its addresses, given that of its body.
-use Rattle.std.proofs.Common.{◌≡◌, refl, sym, subst, ◌∙◌, arith, ℕ, zero, suc, ◌+◌, ◌-◌, ◌⊎◌, inl}
-use Rattle.std.proofs.Common.{inr, Bool, true, false, List, [], ◌∷◌, ◌++◌, Option, Some, None}
+use Rattle.regex_lite_engine.proofs.Common.{◌≡◌, ℕ, zero, suc, ◌+◌, ◌-◌, Bool, true, false, ◌⊎◌}
+use Rattle.regex_lite_engine.proofs.Common.{List, [], ◌∷◌, ◌++◌, Some, None, Option, sym, refl, ◌∙◌}
+use Rattle.regex_lite_engine.proofs.Common.{subst, inl, inr, arith, Address, part, own, Content}
+use Rattle.regex_lite_engine.proofs.Common.{in_copies, no_place, exactly_row, choice_at, in_choices}
+use Rattle.regex_lite_engine.proofs.Common.{between_row, bounded_row, repetition_row}
 use Rattle.regex_lite_engine.specs.Graph.Places.{Place}
-use Rattle.regex_lite_engine.specs.Graph.Addresses.{Address, part, own}
-use Rattle.regex_lite_engine.specs.Graph.Repetitions.{Content, in_copies, no_place, choice_at}
-use Rattle.regex_lite_engine.specs.Graph.Repetitions.{in_choices, optional_row, star_row}
-use Rattle.regex_lite_engine.specs.Graph.Repetitions.{nullable_star_row, at_least_row, exactly_row}
-use Rattle.regex_lite_engine.specs.Graph.Repetitions.{between_row, bounded_row, repetition_row}
+use Rattle.regex_lite_engine.specs.Graph.Repetitions.{optional_row, star_row}
+use Rattle.regex_lite_engine.specs.Graph.Repetitions.{nullable_star_row, at_least_row}
 use Rattle.regex_lite_engine.proofs.graph.AddressLemmas.{own_place, in_part, framed}
 use Rattle.regex_lite_engine.proofs.graph.AddressLemmas.{copies_addresses, choices_addresses}
 use Rattle.regex_lite_engine.proofs.graph.AddressLemmas.{bounded_addresses}

@@ -1,12 +1,12 @@
 -- The number that digits write.
-use Rattle.std.proofs.Common.{◌≡◌, ◌≤◌, ◌<◌, ◌^◌, ℕ, suc, ◌+◌, ◌*◌, ◌-◌, Bool, true, false}
-use Rattle.std.proofs.Common.{not, ◌&&◌, eqb, ltb, cond, Some, None, List, [], ◌∷◌, fold}
-use Rattle.std.proofs.Common.{length, get_or, take, drop, refl, sym, ap, ◌∙◌, subst, arith}
+use Rattle.regex_lite_engine.proofs.Common.{◌≡◌, ℕ, suc, ◌+◌, ◌-◌, ◌*◌, ◌^◌, ◌<◌, ◌≤◌, Bool, true}
+use Rattle.regex_lite_engine.proofs.Common.{false, cond, not, ◌&&◌, List, [], ◌∷◌, length, get_or}
+use Rattle.regex_lite_engine.proofs.Common.{take, drop, Some, None, sym, refl, ap, ◌∙◌, subst}
+use Rattle.regex_lite_engine.proofs.Common.{arith, nat_tests, take-append-drop, is_digit, number_of}
+use Rattle.std.proofs.Common.{eqb, ltb, fold}
 use Rattle.std.specs.List.{list_all}
-use Rattle.std.proofs.lemmas.Bool.Decides.{nat_tests}
-use Rattle.std.proofs.lemmas.List.{take-append-drop}
 use Rattle.std.proofs.lemmas.List.Sums.{fold-append, fold_more}
-use Rattle.regex_lite_syntax.specs.Characters.{is_digit, is_lower, digit_value, number_of}
+use Rattle.regex_lite_syntax.specs.Characters.{is_lower, digit_value}
 use Rattle.regex_lite_engine.specs.Interpolation.{is_index}
 
 abbrev with_digit : ℕ → ℕ → ℕ

@@ -1,14 +1,14 @@
 -- Where a name and a text without a `$` end.
-use Rattle.std.proofs.Common.{◌≡◌, ◌≢◌, ◌≤◌, ◌<◌, ℕ, zero, suc, ◌+◌, true}
-use Rattle.std.proofs.Common.{List, [], ◌∷◌, ◌++◌, Contains, length, get_or}
-use Rattle.std.proofs.Common.{take, drop, refl, sym, ap, ◌∙◌, subst, arith}
+use Rattle.regex_lite_engine.proofs.Common.{◌≡◌, ℕ, zero, suc, ◌+◌, ◌<◌, ◌≤◌, true, ◌≢◌, List, []}
+use Rattle.regex_lite_engine.proofs.Common.{◌∷◌, ◌++◌, length, get_or, take, drop, sym, refl, ap}
+use Rattle.regex_lite_engine.proofs.Common.{◌∙◌, subst, arith, nat_tests, get_or-take}
+use Rattle.regex_lite_engine.proofs.Common.{get_or_default, length-take, take-append-drop, plain}
+use Rattle.regex_lite_engine.proofs.Common.{is_name_character, BeginsWith, no_dollar}
+use Rattle.std.proofs.Common.{Contains}
 use Rattle.std.specs.List.{prefix_len}
 use Rattle.std.specs.Str.{IsUtf8, IsCharBoundary}
-use Rattle.std.proofs.lemmas.Bool.Decides.{nat_tests}
-use Rattle.std.proofs.lemmas.List.{length-take, get_or-take, get_or_default, take-append-drop}
 use Rattle.std.proofs.lemmas.List.Sums.{prefix_len_passes, prefix_len-le-length}
 use Rattle.std.proofs.lemmas.Str.{IsCharBoundary-after_ascii}
-use Rattle.regex_lite_engine.specs.Interpolation.{is_name_character, BeginsWith, no_dollar, plain}
 
 name_is_ascii : (b : ℕ) → is_name_character b ≡ true → b < 128
 name_is_ascii b named = grind (arith, nat_tests)

@@ -1,6 +1,6 @@
 -- Where arrows lead: on from where others lead, and to one node.
-use Rattle.std.proofs.Common.{◌≡◌, refl, sym, subst, ◌∙◌, ℕ, List, [], ◌∷◌, ◌++◌, Option, Some, ap}
-use Rattle.regex_lite_engine.specs.Graph.Ways.{Leads}
+use Rattle.regex_lite_engine.proofs.Common.{◌≡◌, ℕ, List, [], ◌∷◌, ◌++◌, Some, Option, sym, refl}
+use Rattle.regex_lite_engine.proofs.Common.{ap, ◌∙◌, subst, Leads}
 use Rattle.regex_lite_engine.proofs.OptionLemmas.{same_some}
 
 pub leads_append : {N : Type 0} (step : N → ℕ → Option N) (us vs : List ℕ) (a b c : N)

@@ -1,8 +1,8 @@
 -- Arrows that lead to a node lead there on a way too, once the loops are left out.
-use Rattle.std.proofs.Common.{◌≡◌, ◌≢◌, ◌⊎◌, inl, inr, refl, sym, ◌∙◌, ap, subst}
-use Rattle.std.proofs.Common.{ℕ, List, [], ◌∷◌, ◌++◌, Option, Some, append_assoc}
+use Rattle.regex_lite_engine.proofs.Common.{◌≡◌, ℕ, ◌≢◌, ◌⊎◌, List, [], ◌∷◌, ◌++◌, Some, Option}
+use Rattle.regex_lite_engine.proofs.Common.{sym, refl, ap, ◌∙◌, subst, inl, inr, append_assoc}
+use Rattle.regex_lite_engine.proofs.Common.{Leads, NoneTwice, IsWay}
 use Rattle.regex_lite_syntax.proofs.ListLemmas.{same_head, same_tail}
-use Rattle.regex_lite_engine.specs.Graph.Ways.{Leads, NoneTwice, IsWay}
 use Rattle.regex_lite_engine.proofs.laws.LeadsLemmas.{leads_append, leads_behind}
 
 module _ {N : Type 0} (step : N → ℕ → Option N) where

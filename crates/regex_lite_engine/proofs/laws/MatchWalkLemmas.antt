@@ -1,18 +1,13 @@
 -- A match of a tree that stands in a graph is a walk through it.
-use Rattle.std.proofs.Common.{◌≡◌, inl, inr, refl, subst, ℕ, suc, ◌+◌, ◌*◌}
-use Rattle.std.proofs.Common.{IsTrue, List, [], ◌∷◌, map, Some, slice_get}
-use Rattle.std.proofs.lemmas.Option.{slice_get-map}
+use Rattle.regex_lite_engine.proofs.Common.{◌≡◌, ℕ, suc, ◌+◌, ◌*◌, List, [], ◌∷◌, map, IsTrue}
+use Rattle.regex_lite_engine.proofs.Common.{slice_get, Some, refl, subst, inl, inr, slice_get-map}
+use Rattle.regex_lite_engine.proofs.Common.{in_ranges, Set, just, Text, after, Tree, empty}
+use Rattle.regex_lite_engine.proofs.Common.{character, class, look, repetition, capture, concat}
+use Rattle.regex_lite_engine.proofs.Common.{alternation, Trees, none, more, Matches, Chain}
+use Rattle.regex_lite_engine.proofs.Common.{SomeBranch, nullable, ClassRange, with_arrows, go}
+use Rattle.regex_lite_engine.proofs.Common.{go_marking, go_holding, go_reading, one_of, step_from}
 use Rattle.std.proofs.lemmas.Bool.{eq-eqb}
-use Rattle.regex_lite_syntax.specs.declared.class.ClassRange.{ClassRange}
-use Rattle.regex_lite_syntax.specs.Text.{Text, after}
-use Rattle.regex_lite_syntax.specs.Ranges.{in_ranges}
-use Rattle.regex_lite_syntax.specs.Sets.{Set, just}
-use Rattle.regex_lite_syntax.specs.Tree.{Tree, Trees, empty, character, class, look}
-use Rattle.regex_lite_syntax.specs.Tree.{repetition, capture, concat, alternation, none, more}
-use Rattle.regex_lite_syntax.specs.Tree.Properties.{nullable}
-use Rattle.regex_lite_syntax.specs.Tree.Matches.{Matches, Chain, SomeBranch}
-use Rattle.regex_lite_engine.specs.Graph.Places.{Place, with_arrows, go, go_marking}
-use Rattle.regex_lite_engine.specs.Graph.Places.{go_holding, go_reading, one_of, step_from}
+use Rattle.regex_lite_engine.specs.Graph.Places.{Place}
 use Rattle.regex_lite_engine.proofs.laws.StandingLemmas.{Stands, StandInChain, StandAsBranches}
 use Rattle.regex_lite_engine.proofs.laws.WalkLemmas.{Walk, walk_on, no_arrow, one_arrow, by_go}
 use Rattle.regex_lite_engine.proofs.laws.PassWalkLemmas.{in_repetition}

@@ -1,9 +1,9 @@
 -- The passes of a repetition that stands in a graph are walks through it.
-use Rattle.std.proofs.Common.{◌≡◌, refl, subst, ℕ, zero, suc, ◌+◌, ◌-◌, ◌≤◌}
-use Rattle.std.proofs.Common.{Bool, true, false, Option, Some, None, arith}
-use Rattle.regex_lite_syntax.specs.Text.{Text}
-use Rattle.regex_lite_syntax.specs.Tree.Matches.{Passes, AtMost}
-use Rattle.regex_lite_engine.specs.Graph.Places.{Place, choice}
+use Rattle.regex_lite_engine.proofs.Common.{◌≡◌, ℕ, zero, suc, ◌+◌, ◌-◌, ◌≤◌, Bool, true, false}
+use Rattle.regex_lite_engine.proofs.Common.{Some, None, Option, refl, subst, arith, Text, AtMost}
+use Rattle.regex_lite_engine.proofs.Common.{choice}
+use Rattle.regex_lite_syntax.specs.Tree.Matches.{Passes}
+use Rattle.regex_lite_engine.specs.Graph.Places.{Place}
 use Rattle.regex_lite_engine.proofs.laws.StandingLemmas.{InRow, InChoices, IsNullableStar}
 use Rattle.regex_lite_engine.proofs.laws.StandingLemmas.{IsAtLeast, IsBetween, IsBounded}
 use Rattle.regex_lite_engine.proofs.laws.StandingLemmas.{IsRepetition}

@@ -1,6 +1,5 @@
 -- The trees that the grammar gives are regular, and their groups are numbered in order.
-use Rattle.regex_lite_syntax.specs.Tree.{Tree}
-use Rattle.regex_lite_syntax.specs.Tree.Regular.{IsRegular}
+use Rattle.regex_lite_engine.proofs.Common.{Tree, IsRegular}
 use Rattle.regex_lite_syntax.proofs.grammar.NumberedTreeLemmas.{IsNumbered}
 use Rattle.regex_lite_syntax.proofs.grammar.NumberingLemmas.{grammar_numbered}
 use Rattle.regex_lite_syntax.proofs.machine.RegularLemmas.{grammar_regular}

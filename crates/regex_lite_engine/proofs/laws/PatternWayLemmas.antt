@@ -1,18 +1,9 @@
 -- Matches of a pattern and ways through its written-out places.
-use Rattle.std.proofs.Common.{◌≡◌, ◌≢◌, ◌⊎◌, inl, inr, refl, ap}
-use Rattle.std.proofs.Common.{ℕ, List, [], ◌∷◌}
-use Rattle.std.proofs.lemmas.Bool.{cases_eq}
+use Rattle.regex_lite_engine.proofs.Common.{◌≡◌, ℕ, ◌≢◌, ◌⊎◌, List, [], ◌∷◌, refl, ap, inl, inr}
+use Rattle.regex_lite_engine.proofs.Common.{cases_eq, Text, Tree, Matches, IsRegular, Address, step}
+use Rattle.regex_lite_engine.proofs.Common.{Leads, whole, end_address, start_address}
+use Rattle.regex_lite_engine.proofs.Common.{place_of_pattern, IsWayThrough, marks_of_way}
 use Rattle.regex_lite_syntax.proofs.ListLemmas.{same_head, same_tail}
-use Rattle.regex_lite_syntax.specs.Text.{Text}
-use Rattle.regex_lite_syntax.specs.Tree.{Tree}
-use Rattle.regex_lite_syntax.specs.Tree.Regular.{IsRegular}
-use Rattle.regex_lite_syntax.specs.Tree.Matches.{Matches}
-use Rattle.regex_lite_engine.specs.Graph.Ways.{Leads}
-use Rattle.regex_lite_engine.specs.Graph.Places.{step}
-use Rattle.regex_lite_engine.specs.Graph.Addresses.{Address}
-use Rattle.regex_lite_engine.specs.Graph.WrittenOut.{whole, start_address, end_address}
-use Rattle.regex_lite_engine.specs.Graph.WrittenOut.{place_of_pattern, IsWayThrough}
-use Rattle.regex_lite_engine.specs.Search.Marks.{marks_of_way}
 use Rattle.regex_lite_engine.proofs.laws.LoopLemmas.{without_loops}
 use Rattle.regex_lite_engine.proofs.laws.MatchWalkLemmas.{match_walk}
 use Rattle.regex_lite_engine.proofs.laws.WrittenTreeLemmas.{whole_stands}

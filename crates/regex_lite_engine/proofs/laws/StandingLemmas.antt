@@ -1,11 +1,11 @@
 -- A tree stands in a graph, whatever the addresses: from where it is entered to what follows it.
-use Rattle.std.proofs.Common.{◌≡◌, ℕ, zero, suc, ◌+◌, ◌-◌, ◌*◌, Bool, true}
-use Rattle.std.proofs.Common.{false, List, [], ◌∷◌, map, Option, Some, None}
-use Rattle.regex_lite_syntax.specs.Tree.{Tree, Trees, empty, character, class, look}
-use Rattle.regex_lite_syntax.specs.Tree.{repetition, capture, concat, alternation, none, more}
-use Rattle.regex_lite_syntax.specs.Tree.Properties.{nullable}
-use Rattle.regex_lite_engine.specs.Graph.Places.{Place, with_arrows, go, go_marking}
-use Rattle.regex_lite_engine.specs.Graph.Places.{go_holding, choice, one_char, one_of}
+use Rattle.regex_lite_engine.proofs.Common.{◌≡◌, ℕ, zero, suc, ◌+◌, ◌-◌, ◌*◌, Bool, true, false}
+use Rattle.regex_lite_engine.proofs.Common.{List, [], ◌∷◌, map, Some, None, Option, Tree, empty}
+use Rattle.regex_lite_engine.proofs.Common.{character, class, look, repetition, capture, concat}
+use Rattle.regex_lite_engine.proofs.Common.{alternation, Trees, none, more, nullable, with_arrows}
+use Rattle.regex_lite_engine.proofs.Common.{go, go_marking, go_holding, choice, one_of}
+use Rattle.regex_lite_engine.specs.Graph.Places.{Place}
+use Rattle.regex_lite_engine.specs.Graph.Places.{one_char}
 
 module _ {A : Type 0} (Body : A → A → Type 0) where
   -- this many bodies, one after another

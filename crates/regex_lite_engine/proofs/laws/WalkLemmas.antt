@@ -1,11 +1,9 @@
 -- Walks in a graph of places: arrows that lead from one place and position to another.
-use Rattle.std.proofs.Common.{◌≡◌, refl, ◌∙◌, ap, ℕ, Bool, true, false, List, [], ◌∷◌, ◌++◌, Some}
-use Rattle.std.proofs.Common.{Option, None, IsTrue, suc, sym, if◌then◌else◌}
-use Rattle.regex_lite_syntax.specs.Text.{Text}
-use Rattle.regex_lite_syntax.specs.Sets.{Set}
-use Rattle.regex_lite_engine.specs.Graph.Ways.{Leads}
-use Rattle.regex_lite_engine.specs.Graph.Places.{Place, with_arrows, go, choice, step, step_from}
-use Rattle.regex_lite_engine.specs.Graph.Places.{behind}
+use Rattle.regex_lite_engine.proofs.Common.{◌≡◌, ℕ, suc, Bool, true, false, List, [], ◌∷◌, ◌++◌}
+use Rattle.regex_lite_engine.proofs.Common.{if◌then◌else◌, IsTrue, Some, None, Option, sym, refl}
+use Rattle.regex_lite_engine.proofs.Common.{ap, ◌∙◌, Set, Text, with_arrows, behind, go, choice}
+use Rattle.regex_lite_engine.proofs.Common.{step_from, step, Leads}
+use Rattle.regex_lite_engine.specs.Graph.Places.{Place}
 use Rattle.regex_lite_engine.proofs.laws.LeadsLemmas.{leads_append}
 use Rattle.regex_lite_engine.proofs.OptionLemmas.{same_some}
 

@@ -1,9 +1,7 @@
 -- What a graph has at the addresses of a row of the table, and of its parts.
-use Rattle.std.proofs.Common.{◌≡◌, ap, subst, ◌∙◌, ℕ, suc, ◌+◌, []}
-use Rattle.std.proofs.Common.{◌∷◌, ◌++◌, Some, arith, append_assoc}
+use Rattle.regex_lite_engine.proofs.Common.{◌≡◌, ℕ, suc, ◌+◌, [], ◌∷◌, ◌++◌, Some, ap, ◌∙◌, subst}
+use Rattle.regex_lite_engine.proofs.Common.{append_assoc, arith, Address, part, Content}
 use Rattle.regex_lite_engine.specs.Graph.Places.{Place}
-use Rattle.regex_lite_engine.specs.Graph.Addresses.{Address, part}
-use Rattle.regex_lite_engine.specs.Graph.Repetitions.{Content}
 
 -- after the address the graph has what the row gives
 pub record HasRow (place : Address → Place Address) (pre : Address) (row : Address → Content)

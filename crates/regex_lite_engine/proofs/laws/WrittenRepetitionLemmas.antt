@@ -1,11 +1,11 @@
 -- A repetition stands in the graph that has its row, if its body does wherever it is written out.
-use Rattle.std.proofs.Common.{◌≡◌, refl, subst, ℕ, zero, suc, ◌+◌, ◌-◌, Bool}
-use Rattle.std.proofs.Common.{true, false, [], ◌∷◌, Option, Some, None, arith}
+use Rattle.regex_lite_engine.proofs.Common.{◌≡◌, ℕ, zero, suc, ◌+◌, ◌-◌, Bool, true, false, [], ◌∷◌}
+use Rattle.regex_lite_engine.proofs.Common.{Some, None, Option, refl, subst, arith, Address, part}
+use Rattle.regex_lite_engine.proofs.Common.{own, Content, next_copy, in_copies, no_place, choice_at}
+use Rattle.regex_lite_engine.proofs.Common.{in_choices, between_row, bounded_row, repetition_row}
 use Rattle.regex_lite_engine.specs.Graph.Places.{Place}
-use Rattle.regex_lite_engine.specs.Graph.Addresses.{Address, part, own, repetition_entry}
-use Rattle.regex_lite_engine.specs.Graph.Repetitions.{Content, next_copy, in_copies, no_place}
-use Rattle.regex_lite_engine.specs.Graph.Repetitions.{choice_at, next_choice, in_choices}
-use Rattle.regex_lite_engine.specs.Graph.Repetitions.{between_row, bounded_row, repetition_row}
+use Rattle.regex_lite_engine.specs.Graph.Addresses.{repetition_entry}
+use Rattle.regex_lite_engine.specs.Graph.Repetitions.{next_choice}
 use Rattle.regex_lite_engine.proofs.laws.StandingLemmas.{InRow, InChoices, IsBetween}
 use Rattle.regex_lite_engine.proofs.laws.StandingLemmas.{IsBounded, IsRepetition}
 use Rattle.regex_lite_engine.proofs.laws.WrittenPartLemmas.{HasRow, HasParts, has_part}

@@ -1,16 +1,14 @@
 -- A tree stands in the graph that has its places, and so a whole pattern where it is written out.
-use Rattle.std.proofs.Common.{refl, ap, ℕ, suc, [], ◌∷◌, Option, None, unwrap_or}
-use Rattle.regex_lite_syntax.specs.Text.{Text}
-use Rattle.regex_lite_syntax.specs.Tree.{Tree, Trees, empty, character, class, look}
-use Rattle.regex_lite_syntax.specs.Tree.{repetition, capture, concat, alternation, none, more}
-use Rattle.regex_lite_syntax.specs.Tree.Properties.{nullable}
-use Rattle.regex_lite_syntax.specs.Tree.Regular.{IsRegular, AreRegular}
-use Rattle.regex_lite_engine.specs.Graph.Places.{Place, with_arrows}
-use Rattle.regex_lite_engine.specs.Graph.Addresses.{Address, part, own, entry}
-use Rattle.regex_lite_engine.specs.Graph.Addresses.{chain_entry, branch_entries}
-use Rattle.regex_lite_engine.specs.Graph.WrittenOut.{place_at, place_in_chain}
-use Rattle.regex_lite_engine.specs.Graph.WrittenOut.{place_in_branch, whole, start_address}
-use Rattle.regex_lite_engine.specs.Graph.WrittenOut.{end_address, place_of_pattern}
+use Rattle.regex_lite_engine.proofs.Common.{ℕ, suc, [], ◌∷◌, None, Option, unwrap_or, refl, ap}
+use Rattle.regex_lite_engine.proofs.Common.{Text, Tree, empty, character, class, look, repetition}
+use Rattle.regex_lite_engine.proofs.Common.{capture, concat, alternation, Trees, none, more}
+use Rattle.regex_lite_engine.proofs.Common.{nullable, IsRegular, Address, part, own, entry}
+use Rattle.regex_lite_engine.proofs.Common.{branch_entries, with_arrows, place_at, place_in_chain}
+use Rattle.regex_lite_engine.proofs.Common.{place_in_branch, whole, end_address, start_address}
+use Rattle.regex_lite_engine.proofs.Common.{place_of_pattern}
+use Rattle.regex_lite_syntax.specs.Tree.Regular.{AreRegular}
+use Rattle.regex_lite_engine.specs.Graph.Places.{Place}
+use Rattle.regex_lite_engine.specs.Graph.Addresses.{chain_entry}
 use Rattle.regex_lite_engine.proofs.laws.StandingLemmas.{Stands, StandInChain, StandAsBranches}
 use Rattle.regex_lite_engine.proofs.laws.WrittenPartLemmas.{HasRow, HasParts, has_part}
 use Rattle.regex_lite_engine.proofs.laws.WrittenPartLemmas.{has_parts, first_part, later_parts}

@@ -1,13 +1,9 @@
 -- The character at an offset.
-use Rattle.std.proofs.Common.{◌≡◌, ℕ, ◌<◌, inl, inr, List, length}
-use Rattle.std.proofs.Common.{take, drop, sum_by, slice_get, slice_index, Some, sym, ap, subst}
-use Rattle.std.proofs.Common.{◌∙◌, arith}
-use Rattle.std.specs.Prelude.{IsUtf8, IsCharBoundary, chars}
-use Rattle.std.specs.Char.{len_utf8}
-use Rattle.std.proofs.lemmas.Bool.{cases_lt}
-use Rattle.std.proofs.lemmas.List.{take_all}
-use Rattle.std.proofs.lemmas.Str.{encodes-chars}
-use Rattle.regex_lite_engine.specs.Search.Offsets.{offset, position_at, IsOffset}
+use Rattle.regex_lite_engine.proofs.Common.{◌≡◌, ℕ, ◌<◌, List, length, take, drop, slice_get}
+use Rattle.regex_lite_engine.proofs.Common.{slice_index, Some, IsUtf8, sum_by, chars}
+use Rattle.regex_lite_engine.proofs.Common.{IsCharBoundary, sym, ap, ◌∙◌, subst, inl, inr, arith}
+use Rattle.regex_lite_engine.proofs.Common.{cases_lt, take_all, encodes-chars, len_utf8, offset}
+use Rattle.regex_lite_engine.proofs.Common.{IsOffset, position_at}
 use Rattle.regex_lite_engine.proofs.PositionLemmas.{position_is, after_at}
 use Rattle.regex_lite_engine.proofs.search.FirstByteLemmas.{ascii_there}
 use Rattle.regex_lite_engine.proofs.OffsetLemmas.{length_encodes}

@@ -1,28 +1,24 @@
 -- Positions that no place of a graph distinguishes.
-use Rattle.std.proofs.Common.{◌≡◌, ◌==◌, ℕ, zero, suc, ◌&&◌, ◌||◌, not, Bool, true}
-use Rattle.std.proofs.Common.{false, All, List, [], ◌∷◌, map, slice_get, Option}
-use Rattle.std.proofs.Common.{Some, None, refl, sym, ap, subst, ◌∙◌, arith}
-use Rattle.regex_lite_syntax.specs.declared.hir.look.Look.{Look}
+use Rattle.regex_lite_engine.proofs.Common.{◌≡◌, ℕ, zero, suc, Bool, true, false, not, ◌&&◌, ◌||◌}
+use Rattle.regex_lite_engine.proofs.Common.{List, [], ◌∷◌, map, ◌==◌, slice_get, Some, None, All}
+use Rattle.regex_lite_engine.proofs.Common.{Option, sym, refl, ap, ◌∙◌, subst, arith, in_ranges}
+use Rattle.regex_lite_engine.proofs.Common.{Set, just, Look, go, place_of, Intervals, interval_of}
+use Rattle.regex_lite_engine.proofs.Common.{class_of, IsBoundary, IsBoundedPlace, character_bounds}
+use Rattle.regex_lite_engine.proofs.Common.{look_bounds, AreIntervalsOf, side_of, AreAlike, reads}
+use Rattle.regex_lite_engine.proofs.Common.{Here}
 use Rattle.regex_lite_syntax.specs.declared.hir.look.Look.TheVariants.{Start, End, StartLF, EndLF}
 use Rattle.regex_lite_syntax.specs.declared.hir.look.Look.TheVariants.{StartCRLF, EndCRLF, Word}
 use Rattle.regex_lite_syntax.specs.declared.hir.look.Look.TheVariants.{WordNegate, WordStart}
 use Rattle.regex_lite_syntax.specs.declared.hir.look.Look.TheVariants.{WordEnd, WordStartHalf}
 use Rattle.regex_lite_syntax.specs.declared.hir.look.Look.TheVariants.{WordEndHalf}
 use Rattle.regex_lite_syntax.specs.Characters.{is_between}
-use Rattle.regex_lite_syntax.specs.Ranges.{in_ranges}
-use Rattle.regex_lite_syntax.specs.Sets.{Set, just}
 use Rattle.regex_lite_syntax.specs.Tree.Looks.{holds_between, is_word}
 use Rattle.regex_lite_engine.specs.declared.lazy_dfa.side.Side.{Side}
 use Rattle.regex_lite_engine.specs.declared.nfa.place.Place as code
 use Rattle.regex_lite_engine.specs.declared.nfa.place.Place.TheVariants as stored
-use Rattle.regex_lite_engine.specs.declared.search.here.Here.{Here}
-use Rattle.regex_lite_engine.specs.Graph.Places.{Place, go}
-use Rattle.regex_lite_engine.specs.Graph.Stored.{place_of}
-use Rattle.regex_lite_engine.specs.LazyDfa.Intervals.{Intervals, AreIntervalsOf, IsBoundary}
-use Rattle.regex_lite_engine.specs.LazyDfa.Intervals.{IsBoundedPlace, LooksAlike, character_bounds}
-use Rattle.regex_lite_engine.specs.LazyDfa.Intervals.{class_of, interval_of, look_bounds, side_of}
-use Rattle.regex_lite_engine.specs.Pikevm.Again.{AreAlike, FitAlike, FitsAlike}
-use Rattle.regex_lite_engine.specs.Pikevm.Entering.{reads}
+use Rattle.regex_lite_engine.specs.Graph.Places.{Place}
+use Rattle.regex_lite_engine.specs.LazyDfa.Intervals.{LooksAlike}
+use Rattle.regex_lite_engine.specs.Pikevm.Again.{FitAlike, FitsAlike}
 use Rattle.regex_lite_engine.proofs.lazy_dfa.IntervalLemmas.{interval_within, same_between}
 use Rattle.regex_lite_engine.proofs.lazy_dfa.IntervalLemmas.{same_char, same_set}
 use Rattle.regex_lite_engine.proofs.OptionLemmas.{not_there, same_some}

@@ -1,17 +1,13 @@
 -- Boundaries of intervals, gathered one by one.
-use Rattle.std.proofs.Common.{◌≡◌, ℕ, zero, suc, ◌+◌, ◌<◌, ◌≤◌, inl, inr, drop, All}
-use Rattle.std.proofs.Common.{List, [], ◌∷◌, ◌++◌, length, slice_get, slice_index}
-use Rattle.std.proofs.Common.{Some, refl, sym, ap, subst, ◌∙◌, slice_index_or, arith}
-use Rattle.std.proofs.Math.Seq.{drop-cons}
-use Rattle.std.proofs.lemmas.Bool.{cases_lt}
-use Rattle.std.proofs.lemmas.List.{get_or_default}
-use Rattle.std.proofs.lemmas.Option.{get_or_from_slice_get, slice_get_within}
-use Rattle.regex_lite_syntax.specs.declared.class.ClassRange.{ClassRange}
+use Rattle.regex_lite_engine.proofs.Common.{◌≡◌, ℕ, zero, suc, ◌+◌, ◌<◌, ◌≤◌, List, [], ◌∷◌, ◌++◌}
+use Rattle.regex_lite_engine.proofs.Common.{length, drop, slice_get, slice_index, slice_index_or}
+use Rattle.regex_lite_engine.proofs.Common.{Some, All, sym, refl, ap, ◌∙◌, subst, inl, inr, arith}
+use Rattle.regex_lite_engine.proofs.Common.{drop-cons, cases_lt, get_or_default}
+use Rattle.regex_lite_engine.proofs.Common.{get_or_from_slice_get, slice_get_within, ClassRange}
+use Rattle.regex_lite_engine.proofs.Common.{Grows, Intervals, IsBoundary, AreBounded}
+use Rattle.regex_lite_engine.proofs.Common.{IsBoundedPlace}
 use Rattle.regex_lite_engine.specs.declared.nfa.place.Place as code
 use Rattle.regex_lite_engine.specs.declared.nfa.place.Place.TheVariants as stored
-use Rattle.regex_lite_engine.specs.LazyDfa.Boundaries.{Grows}
-use Rattle.regex_lite_engine.specs.LazyDfa.Intervals.{Intervals, IsBoundary}
-use Rattle.regex_lite_engine.specs.LazyDfa.Intervals.{AreBounded, IsBoundedPlace}
 
 -- what stands in the list is a boundary
 pub boundary_at : (bs : List ℕ) (k : ℕ) → k < length bs → IsBoundary bs (slice_index bs k)

@@ -1,17 +1,14 @@
 -- Characters of one interval are in the same sets.
-use Rattle.std.proofs.Common.{not, ◌≡◌, ◌==◌, ℕ, ◌+◌, ◌-◌, ◌<◌, ◌≤◌, ◌&&◌, ◌||◌, inl, inr}
-use Rattle.std.proofs.Common.{Bool, true, false, All, drop, length, suc, slice_index}
-use Rattle.std.proofs.Common.{List, [], ◌∷◌, nat_le, refl, sym, ap, ◌∙◌, arith}
-use Rattle.std.proofs.Math.Seq.{drop-cons}
+use Rattle.regex_lite_engine.proofs.Common.{◌≡◌, ℕ, suc, ◌+◌, ◌-◌, ◌<◌, ◌≤◌, Bool, true, false, not}
+use Rattle.regex_lite_engine.proofs.Common.{◌&&◌, ◌||◌, List, [], ◌∷◌, length, drop, ◌==◌}
+use Rattle.regex_lite_engine.proofs.Common.{slice_index, All, sym, refl, ap, ◌∙◌, inl, inr, arith}
+use Rattle.regex_lite_engine.proofs.Common.{drop-cons, cases_lt, nat_tests, in_ranges, ClassRange}
+use Rattle.regex_lite_engine.proofs.Common.{interval_of, IsBoundary, AreBounded, character_bounds}
+use Rattle.std.proofs.Common.{nat_le}
 use Rattle.std.proofs.lemmas.List.{length-drop}
-use Rattle.std.proofs.lemmas.Bool.Decides.{nat_tests}
-use Rattle.std.proofs.lemmas.Bool.{cases_lt}
-use Rattle.regex_lite_syntax.specs.declared.class.ClassRange.{ClassRange}
-use Rattle.regex_lite_syntax.specs.Ranges.{in_ranges}
 use Rattle.regex_lite_syntax.specs.Characters.{is_character, is_between}
 use Rattle.regex_lite_syntax.specs.Sets.{span}
-use Rattle.regex_lite_engine.specs.LazyDfa.Intervals.{tick, interval_of, IsBoundary}
-use Rattle.regex_lite_engine.specs.LazyDfa.Intervals.{AreBounded, character_bounds}
+use Rattle.regex_lite_engine.specs.LazyDfa.Intervals.{tick}
 
 tick_most : (x y : Bool) → (x ≡ true → y ≡ true) → tick x ≤ tick y
 tick_most true y f = let e : tick y ≡ 1 = ap (λ b. tick b) (f refl) in omega (arith, e)

@@ -1,31 +1,20 @@
 -- Where a match ends is known, and its slots are searched for in the text up to there. If no arrow
 -- requires a look, the search finds what it finds in the whole text.
-use Rattle.std.proofs.Common.{◌≡◌, ◌==◌, ℕ, ◌≤◌, ◌⊎◌, inl, inr, Bool, true, false, List, [], ◌∷◌}
-use Rattle.std.proofs.Common.{Option, Some, None, length, take, drop, sum_by, slice_get}
-use Rattle.std.proofs.Common.{if◌then◌else◌, option_map, unwrap_or, refl, sym, ap, subst, ◌∙◌}
-use Rattle.std.proofs.Common.{arith, slice_range}
-use Rattle.std.specs.Prelude.{IsUtf8, IsCharBoundary, chars}
-use Rattle.std.specs.Char.{len_utf8}
-use Rattle.std.specs.Option.{option_or}
-use Rattle.std.proofs.lemmas.Bool.{cases_lt}
-use Rattle.std.proofs.lemmas.List.{length-take-le, take-take, take_at}
-use Rattle.std.proofs.lemmas.Str.{IsUtf8-take}
-use Rattle.regex_lite_syntax.specs.Text.{Text}
-use Rattle.regex_lite_engine.specs.Graph.NoLooks.{HasNoLooks, RequiresNoLook}
-use Rattle.regex_lite_engine.specs.Graph.Places.{Place, with_arrows, step}
-use Rattle.regex_lite_engine.specs.Graph.Ways.{Leads}
-use Rattle.regex_lite_engine.specs.LazyDfa.Scanning.{span_told}
-use Rattle.regex_lite_engine.specs.Search.Rows.{Row}
-use Rattle.regex_lite_engine.specs.Search.NumberedOutcomes.{IsBestOutcome, IsBestOutcomeOf}
-use Rattle.regex_lite_engine.specs.Search.NumberedOutcomes.{IsNumberedOutcome, with_start_kept}
-use Rattle.regex_lite_engine.specs.Search.NumberedOutcomes.{best_at}
-use Rattle.regex_lite_engine.specs.Search.Answer.{Found}
-use Rattle.regex_lite_engine.specs.Search.Marks.{mark_of, marked, marks_along}
-use Rattle.regex_lite_engine.specs.Search.NumberedAnswer.{place_with, numbered_step}
-use Rattle.regex_lite_engine.specs.Search.NumberedAnswer.{IsNumberedFound, IsNumberedMatch}
-use Rattle.regex_lite_engine.specs.Search.NumberedAnswer.{IsNumberedWay}
-use Rattle.regex_lite_engine.specs.Search.Offsets.{offset, position_at, HasSlots, IsOffset}
-use Rattle.regex_lite_engine.specs.Search.Preference.{IsPreferred}
+use Rattle.regex_lite_engine.proofs.Common.{◌≡◌, ℕ, ◌≤◌, Bool, true, false, ◌⊎◌, List, [], ◌∷◌}
+use Rattle.regex_lite_engine.proofs.Common.{length, take, drop, if◌then◌else◌, ◌==◌, slice_get}
+use Rattle.regex_lite_engine.proofs.Common.{Some, None, IsUtf8, sum_by, Option, option_map, chars}
+use Rattle.regex_lite_engine.proofs.Common.{IsCharBoundary, unwrap_or, sym, refl, ap, ◌∙◌, subst}
+use Rattle.regex_lite_engine.proofs.Common.{inl, inr, arith, cases_lt, length-take-le, take-take}
+use Rattle.regex_lite_engine.proofs.Common.{IsUtf8-take, len_utf8, option_or, Text, RequiresNoLook}
+use Rattle.regex_lite_engine.proofs.Common.{HasNoLooks, with_arrows, step, Leads, span_told, Found}
+use Rattle.regex_lite_engine.proofs.Common.{marked, mark_of, marks_along, place_with, numbered_step}
+use Rattle.regex_lite_engine.proofs.Common.{IsNumberedWay, IsNumberedMatch, IsNumberedFound}
+use Rattle.regex_lite_engine.proofs.Common.{best_at, with_start_kept, IsBestOutcome}
+use Rattle.regex_lite_engine.proofs.Common.{IsBestOutcomeOf, IsNumberedOutcome, offset, IsOffset}
+use Rattle.regex_lite_engine.proofs.Common.{position_at, HasSlots, IsPreferred, Row}
+use Rattle.std.proofs.Common.{slice_range}
+use Rattle.std.proofs.lemmas.List.{take_at}
+use Rattle.regex_lite_engine.specs.Graph.Places.{Place}
 use Rattle.regex_lite_engine.proofs.OffsetLemmas.{boundary_at, offset_less}
 use Rattle.regex_lite_engine.proofs.OptionLemmas.{same_some}
 use Rattle.regex_lite_engine.proofs.PositionLemmas.{position_of, chars_cut}

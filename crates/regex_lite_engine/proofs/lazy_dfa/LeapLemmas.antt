@@ -1,14 +1,10 @@
 -- A search that goes by remembered turns passes over positions in the same state.
-use Rattle.std.proofs.Common.{◌≡◌, ℕ, inr, Bool, true, false, List, [], slice_get, Some, None, refl}
-use Rattle.std.proofs.Common.{sym, ap, subst}
-use Rattle.regex_lite_syntax.specs.Text.{Text}
-use Rattle.regex_lite_engine.specs.declared.lazy_dfa.scan.Standing.{Standing}
-use Rattle.regex_lite_engine.specs.declared.search.here.Here.{Here}
+use Rattle.regex_lite_engine.proofs.Common.{◌≡◌, ℕ, Bool, true, false, List, [], slice_get, Some}
+use Rattle.regex_lite_engine.proofs.Common.{None, sym, refl, ap, subst, inr, Text, Automaton, Suits}
+use Rattle.regex_lite_engine.proofs.Common.{best_told, IsSince, IsScanning, Best, AreDeadAt}
+use Rattle.regex_lite_engine.proofs.Common.{PassesTo, Standing, Here}
 use Rattle.regex_lite_engine.specs.Graph.Places.{Place}
-use Rattle.regex_lite_engine.specs.LazyDfa.Automaton.{Automaton, State, Suits}
-use Rattle.regex_lite_engine.specs.LazyDfa.Scanning.{best_told, IsScanning, IsSince}
-use Rattle.regex_lite_engine.specs.Search.Starts.{AreDeadAt, PassesTo}
-use Rattle.regex_lite_engine.specs.Search.NumberedOutcomes.{Best}
+use Rattle.regex_lite_engine.specs.LazyDfa.Automaton.{State}
 use Rattle.regex_lite_engine.proofs.lazy_dfa.ScanLemmas.{is_idle, skipped}
 
 -- a match is searched for where there is none

@@ -1,24 +1,18 @@
 -- A turn that is remembered when it has been taken.
-use Rattle.std.proofs.Common.{◌≡◌, ℕ, zero, suc, ◌<◌, ◌≤◌, inl, inr, Bool, true}
-use Rattle.std.proofs.Common.{false, Option, None, slice_set, List, [], ◌∷◌, ◌++◌, length}
-use Rattle.std.proofs.Common.{slice_get, Some, refl, sym, ap, subst, ◌∙◌, arith}
-use Rattle.std.proofs.lemmas.Bool.{cases_eq}
-use Rattle.std.proofs.lemmas.List.{length-map}
-use Rattle.regex_lite_engine.specs.declared.search.here.Here.{Here}
-use Rattle.regex_lite_engine.specs.declared.pikevm.cache.Cache.{Cache}
-use Rattle.regex_lite_engine.specs.Graph.Places.{Place, reading_of}
-use Rattle.regex_lite_engine.specs.LazyDfa.Automaton.{Automaton, FitsTable, LeadsOn, KeptOrigin}
-use Rattle.regex_lite_engine.specs.LazyDfa.Automaton.{Remembers, Sees, State, Suits, Way}
-use Rattle.regex_lite_engine.specs.LazyDfa.Automaton.{hit_of, searching_after, way_of, ways_of}
-use Rattle.regex_lite_engine.specs.LazyDfa.Extending.{Extends}
-use Rattle.regex_lite_engine.specs.LazyDfa.Intervals.{class_of, side_of}
-use Rattle.regex_lite_engine.specs.LazyDfa.Learning.{HasTurned, IsIn}
-use Rattle.regex_lite_engine.specs.Pikevm.Again.{AreAlike}
-use Rattle.regex_lite_engine.specs.Pikevm.Machine.{Thread, thread_at}
-use Rattle.regex_lite_engine.specs.Pikevm.Room.{ThreadsBelow}
+use Rattle.regex_lite_engine.proofs.Common.{◌≡◌, ℕ, zero, suc, ◌<◌, ◌≤◌, Bool, true, false, List}
+use Rattle.regex_lite_engine.proofs.Common.{[], ◌∷◌, ◌++◌, length, slice_get, slice_set, Some, None}
+use Rattle.regex_lite_engine.proofs.Common.{Option, sym, refl, ap, ◌∙◌, subst, inl, inr, arith}
+use Rattle.regex_lite_engine.proofs.Common.{cases_eq, length-map, reading_of, Way, Automaton}
+use Rattle.regex_lite_engine.proofs.Common.{ways_of, searching_after, Suits, LeadsOn, FitsTable}
+use Rattle.regex_lite_engine.proofs.Common.{Remembers, Extends, class_of, side_of, IsIn, AreAlike}
+use Rattle.regex_lite_engine.proofs.Common.{Thread, thread_at, ThreadsBelow, best_of, Best, Cache}
+use Rattle.regex_lite_engine.proofs.Common.{Here}
+use Rattle.regex_lite_engine.specs.Graph.Places.{Place}
+use Rattle.regex_lite_engine.specs.LazyDfa.Automaton.{KeptOrigin}
+use Rattle.regex_lite_engine.specs.LazyDfa.Automaton.{Sees, State}
+use Rattle.regex_lite_engine.specs.LazyDfa.Automaton.{hit_of, way_of}
+use Rattle.regex_lite_engine.specs.LazyDfa.Learning.{HasTurned}
 use Rattle.regex_lite_engine.specs.Pikevm.Searching.{IsHit}
-use Rattle.regex_lite_engine.specs.Pikevm.Turns.{best_of}
-use Rattle.regex_lite_engine.specs.Search.NumberedOutcomes.{Best}
 use Rattle.regex_lite_engine.proofs.lazy_dfa.AlikeLemmas.{same_side_of}
 use Rattle.regex_lite_engine.proofs.lazy_dfa.RememberedLemmas.{remembered, set_other, set_there}
 use Rattle.regex_lite_engine.proofs.lazy_dfa.RememberedLemmas.{still_remembers}

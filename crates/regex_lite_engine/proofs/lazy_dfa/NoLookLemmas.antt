@@ -1,12 +1,11 @@
 -- Where no place looks at its neighbours, no arrow requires a look.
-use Rattle.std.proofs.Common.{◌≡◌, ℕ, zero, suc, true, false, List, [], ◌∷◌, map, slice_get}
-use Rattle.std.proofs.Common.{Some, ap, sym, subst, ◌∙◌}
+use Rattle.regex_lite_engine.proofs.Common.{◌≡◌, ℕ, zero, suc, true, false, List, [], ◌∷◌, map}
+use Rattle.regex_lite_engine.proofs.Common.{slice_get, Some, sym, ap, ◌∙◌, subst, RequiresNoLook}
+use Rattle.regex_lite_engine.proofs.Common.{HasNoLooks, place_of, Automaton, Intervals}
+use Rattle.regex_lite_engine.proofs.Common.{IsBoundedPlace, AreIntervalsOf}
 use Rattle.regex_lite_engine.specs.declared.nfa.place.Place as code
 use Rattle.regex_lite_engine.specs.declared.nfa.place.Place.TheVariants as stored
-use Rattle.regex_lite_engine.specs.Graph.NoLooks.{HasNoLooks, RequiresNoLook}
-use Rattle.regex_lite_engine.specs.Graph.Stored.{place_of}
-use Rattle.regex_lite_engine.specs.LazyDfa.Intervals.{Intervals, AreIntervalsOf, IsBoundedPlace}
-use Rattle.regex_lite_engine.specs.LazyDfa.Automaton.{AreIntervalsFor, Automaton, State}
+use Rattle.regex_lite_engine.specs.LazyDfa.Automaton.{AreIntervalsFor, State}
 use Rattle.regex_lite_engine.specs.LazyDfa.Remembering.{RemembersFor}
 use Rattle.regex_lite_engine.proofs.lazy_dfa.AlikeLemmas.{alike_at}
 use Rattle.regex_lite_engine.proofs.OptionLemmas.{not_there, same_some}

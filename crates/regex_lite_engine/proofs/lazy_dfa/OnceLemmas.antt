@@ -1,19 +1,11 @@
 -- A search that gets an automaton on its way.
-use Rattle.std.proofs.Common.{◌≡◌, ℕ, List, [], Option, Some, None, MatchOption, false, ap, sym, subst, ◌∙◌}
-use Rattle.std.proofs.lemmas.List.{nil_from_length}
-use Rattle.regex_lite_syntax.specs.Text.{Text}
+use Rattle.regex_lite_engine.proofs.Common.{◌≡◌, ℕ, false, List, [], Some, None, Option}
+use Rattle.regex_lite_engine.proofs.Common.{MatchOption, sym, ap, ◌∙◌, subst, nil_from_length, Text}
+use Rattle.regex_lite_engine.proofs.Common.{Automaton, IsIn, IsOnItsWay, Stands, best_told, best_of}
+use Rattle.regex_lite_engine.proofs.Common.{best_at, with_start_kept, best_kept, span_of}
+use Rattle.regex_lite_engine.proofs.Common.{IsBestOutcomeOf, Row, Origin, Cache}
 use Rattle.regex_lite_engine.specs.declared.lazy_dfa.run.Progress.{Progress}
-use Rattle.regex_lite_engine.specs.declared.pikevm.beginning.Origin.{Origin}
-use Rattle.regex_lite_engine.specs.declared.pikevm.cache.Cache.{Cache}
 use Rattle.regex_lite_engine.specs.Graph.Places.{Place}
-use Rattle.regex_lite_engine.specs.LazyDfa.Automaton.{Automaton}
-use Rattle.regex_lite_engine.specs.LazyDfa.Learning.{IsIn}
-use Rattle.regex_lite_engine.specs.LazyDfa.Running.{IsOnItsWay, Stands}
-use Rattle.regex_lite_engine.specs.LazyDfa.Scanning.{best_told}
-use Rattle.regex_lite_engine.specs.Search.NumberedOutcomes.{IsBestOutcomeOf, best_at, best_kept, span_of}
-use Rattle.regex_lite_engine.specs.Search.NumberedOutcomes.{with_start_kept}
-use Rattle.regex_lite_engine.specs.Search.Rows.{Row}
-use Rattle.regex_lite_engine.specs.Pikevm.Turns.{best_of}
 
 -- one that remembers nothing
 pub empty : Automaton

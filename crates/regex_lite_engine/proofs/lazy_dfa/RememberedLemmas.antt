@@ -1,30 +1,21 @@
 -- A turn that a search has taken may be remembered.
-use Rattle.std.proofs.Common.{◌≡◌, ◌==◌, ℕ, zero, suc, ◌+◌, ◌<◌, ◌≤◌, ◌⊎◌, inl, inr, Bool}
-use Rattle.std.proofs.Common.{true, false, List, [], ◌∷◌, slice_get, slice_index}
-use Rattle.std.proofs.Common.{slice_set, Option, Some, None, refl, sym, ap, subst, ◌∙◌, arith}
-use Rattle.std.proofs.lemmas.Bool.{cases_eq}
-use Rattle.std.proofs.lemmas.Bool.Decides.{nat_tests}
-use Rattle.regex_lite_syntax.specs.Text.{Text}
-use Rattle.regex_lite_engine.specs.declared.search.here.Here.{Here}
-use Rattle.regex_lite_engine.specs.declared.search.patterns.Start.{Start}
-use Rattle.regex_lite_engine.specs.declared.pikevm.cache.Cache.{Cache}
+use Rattle.regex_lite_engine.proofs.Common.{◌≡◌, ℕ, zero, suc, ◌+◌, ◌<◌, ◌≤◌, Bool, true, false}
+use Rattle.regex_lite_engine.proofs.Common.{◌⊎◌, List, [], ◌∷◌, ◌==◌, slice_get, slice_index}
+use Rattle.regex_lite_engine.proofs.Common.{slice_set, Some, None, Option, sym, refl, ap, ◌∙◌}
+use Rattle.regex_lite_engine.proofs.Common.{subst, inl, inr, arith, cases_eq, nat_tests, Text}
+use Rattle.regex_lite_engine.proofs.Common.{Automaton, most_classes, unknown, told_by, threads_of}
+use Rattle.regex_lite_engine.proofs.Common.{ways_of, best_left, searching_after, Suits, LeadsOn}
+use Rattle.regex_lite_engine.proofs.Common.{FitsTable, Remembers, Extends, Intervals, class_of}
+use Rattle.regex_lite_engine.proofs.Common.{side_of, IsFirstStart, AreAlike, retold, all_retold}
+use Rattle.regex_lite_engine.proofs.Common.{best_again, Thread, best_of, IsComing, Told, Best}
+use Rattle.regex_lite_engine.proofs.Common.{IsHere, AreStartsAt, Cache, Here, Start}
 use Rattle.regex_lite_engine.specs.Graph.Places.{Place}
-use Rattle.regex_lite_engine.specs.LazyDfa.Automaton.{AreIntervalsFor, Automaton, FitsTable, LeadsOn}
-use Rattle.regex_lite_engine.specs.LazyDfa.Automaton.{Remembers, Sees, State, Suits, began}
-use Rattle.regex_lite_engine.specs.LazyDfa.Automaton.{best_left, hit_of, origin_of}
-use Rattle.regex_lite_engine.specs.LazyDfa.Automaton.{searching_after, threads_of, told_by}
-use Rattle.regex_lite_engine.specs.LazyDfa.Automaton.{most_classes, told_if, unknown, ways_of}
-use Rattle.regex_lite_engine.specs.LazyDfa.Extending.{Extends}
-use Rattle.regex_lite_engine.specs.LazyDfa.Learning.{IsFirstStart}
-use Rattle.regex_lite_engine.specs.LazyDfa.Intervals.{Intervals, class_of, side_of}
-use Rattle.regex_lite_engine.specs.Pikevm.Again.{AreAlike, retold, all_retold, best_again}
-use Rattle.regex_lite_engine.specs.Search.Beginnings.{Told, TellsStart, IsTold}
-use Rattle.regex_lite_engine.specs.Pikevm.Machine.{Thread}
+use Rattle.regex_lite_engine.specs.LazyDfa.Automaton.{AreIntervalsFor}
+use Rattle.regex_lite_engine.specs.LazyDfa.Automaton.{Sees, State, began}
+use Rattle.regex_lite_engine.specs.LazyDfa.Automaton.{hit_of, origin_of}
+use Rattle.regex_lite_engine.specs.LazyDfa.Automaton.{told_if}
+use Rattle.regex_lite_engine.specs.Search.Beginnings.{TellsStart, IsTold}
 use Rattle.regex_lite_engine.specs.Pikevm.Searching.{TurnsAgain}
-use Rattle.regex_lite_engine.specs.Search.Standing.{IsHere}
-use Rattle.regex_lite_engine.specs.Pikevm.Turns.{best_of, IsComing}
-use Rattle.regex_lite_engine.specs.Search.Starts.{AreStartsAt}
-use Rattle.regex_lite_engine.specs.Search.NumberedOutcomes.{Best}
 use Rattle.regex_lite_engine.proofs.OptionLemmas.{not_there, same_some}
 
 eq_same : (a b : ℕ) → a ≡ b → (a == b) ≡ true

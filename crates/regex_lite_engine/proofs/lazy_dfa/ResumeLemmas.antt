@@ -1,35 +1,20 @@
 -- A search that is taken up where remembered turns end.
-use Rattle.std.proofs.Common.{◌≡◌, ◌==◌, ℕ, zero, suc, ◌<◌, ◌≤◌, ◌⊎◌, inl, inr, All, Bool, true}
-use Rattle.std.proofs.Common.{false, List, [], ◌∷◌, length, map, slice_get, Option, Some, None}
-use Rattle.std.proofs.Common.{is_some, IsSome, not, refl, sym, ap, subst, ◌∙◌, arith, true≢false}
-use Rattle.std.proofs.lemmas.Bool.Decides.{nat_tests}
-use Rattle.std.proofs.lemmas.List.{length-map}
-use Rattle.regex_lite_syntax.specs.Text.{Text}
-use Rattle.regex_lite_engine.specs.declared.lazy_dfa.scan.Standing.{Standing}
-use Rattle.regex_lite_engine.specs.declared.lazy_dfa.state.StoredWay.{StoredWay}
-use Rattle.regex_lite_engine.specs.declared.pikevm.beginning.Origin.{Origin}
-use Rattle.regex_lite_engine.specs.declared.search.here.Here.{Here}
-use Rattle.regex_lite_engine.specs.declared.pikevm.cache.Cache.{Cache}
-use Rattle.regex_lite_engine.specs.Graph.Places.{Place, reading_of}
-use Rattle.regex_lite_engine.specs.LazyDfa.Automaton.{Automaton, FitsTable, Suits, Way, began}
-use Rattle.regex_lite_engine.specs.LazyDfa.Automaton.{origin_of, threads_of, told_by, told_if}
-use Rattle.regex_lite_engine.specs.LazyDfa.Automaton.{ways_of}
-use Rattle.regex_lite_engine.specs.LazyDfa.Learning.{IsFirstStart, IsIn}
-use Rattle.regex_lite_engine.specs.LazyDfa.Running.{GoesOnWith, IsOnItsWay, thread_from}
-use Rattle.regex_lite_engine.specs.LazyDfa.Scanning.{best_told, IsIdleAt, IsScanning}
-use Rattle.regex_lite_engine.specs.LazyDfa.Stored.{way_in}
-use Rattle.regex_lite_engine.specs.Search.Bounds.{StepCounts}
-use Rattle.regex_lite_engine.specs.Search.Offsets.{offset}
-use Rattle.regex_lite_engine.specs.Search.Beginnings.{IsTold, Told}
-use Rattle.regex_lite_engine.specs.Search.Offers.{Offer, Node}
-use Rattle.regex_lite_engine.specs.Pikevm.Machine.{Thread, thread_at}
-use Rattle.regex_lite_engine.specs.Search.Rows.{Row}
-use Rattle.regex_lite_engine.specs.Pikevm.Room.{ThreadsBelow}
-use Rattle.regex_lite_engine.specs.Pikevm.Searching.{IsBetween}
-use Rattle.regex_lite_engine.specs.Search.Standing.{IsHere}
-use Rattle.regex_lite_engine.specs.Pikevm.Turns.{best_of, IsComing}
-use Rattle.regex_lite_engine.specs.Pikevm.Walking.{ThreadsHold, WayTold}
-use Rattle.regex_lite_engine.specs.Search.NumberedOutcomes.{Best}
+use Rattle.regex_lite_engine.proofs.Common.{◌≡◌, ℕ, zero, suc, ◌<◌, ◌≤◌, Bool, true, false, not}
+use Rattle.regex_lite_engine.proofs.Common.{◌⊎◌, List, [], ◌∷◌, map, length, is_some, IsSome, ◌==◌}
+use Rattle.regex_lite_engine.proofs.Common.{slice_get, Some, None, All, Option, sym, refl, ap, ◌∙◌}
+use Rattle.regex_lite_engine.proofs.Common.{subst, inl, inr, true≢false, arith, nat_tests}
+use Rattle.regex_lite_engine.proofs.Common.{length-map, Text, reading_of, Way, Automaton, told_by}
+use Rattle.regex_lite_engine.proofs.Common.{threads_of, ways_of, Suits, FitsTable, IsFirstStart}
+use Rattle.regex_lite_engine.proofs.Common.{IsIn, IsOnItsWay, best_told, IsIdleAt, IsScanning}
+use Rattle.regex_lite_engine.proofs.Common.{way_in, Thread, thread_at, ThreadsBelow, IsBetween}
+use Rattle.regex_lite_engine.proofs.Common.{best_of, IsComing, WayTold, ThreadsHold, Told}
+use Rattle.regex_lite_engine.proofs.Common.{StepCounts, Best, Node, Offer, offset, Row, IsHere}
+use Rattle.regex_lite_engine.proofs.Common.{Standing, StoredWay, Origin, Cache, Here}
+use Rattle.regex_lite_engine.specs.Graph.Places.{Place}
+use Rattle.regex_lite_engine.specs.LazyDfa.Automaton.{began}
+use Rattle.regex_lite_engine.specs.LazyDfa.Automaton.{origin_of, told_if}
+use Rattle.regex_lite_engine.specs.LazyDfa.Running.{GoesOnWith, thread_from}
+use Rattle.regex_lite_engine.specs.Search.Beginnings.{IsTold}
 use Rattle.regex_lite_engine.proofs.lazy_dfa.RunLemmas.{moved_on}
 use Rattle.regex_lite_engine.proofs.OptionLemmas.{not_there}
 use Rattle.regex_lite_engine.proofs.count.ReadingCountLemmas.{reads_within}

@@ -1,33 +1,21 @@
 -- A search that goes on at the same position or at a later one.
-use Rattle.std.proofs.Common.{◌≡◌, ℕ, zero, suc, ◌+◌, ◌-◌, ◌*◌, ◌^◌, ◌<◌, ◌≤◌, ◌⊎◌, inl}
-use Rattle.std.proofs.Common.{true, inr, Bool, List, [], ◌∷◌, length, Option, Some, None, IfSome}
-use Rattle.std.proofs.Common.{option_map, MatchOption, refl, sym, ap, subst, ◌∙◌, arith}
-use Rattle.std.proofs.Math.Nat.{mul-le-mul_left, mul-suc}
-use Rattle.std.proofs.lemmas.Bool.{cases_lt}
-use Rattle.std.proofs.lemmas.List.{length-map}
-use Rattle.regex_lite_syntax.specs.Text.{Text}
-use Rattle.regex_lite_engine.specs.declared.pikevm.beginning.Origin.{Origin}
-use Rattle.regex_lite_engine.specs.declared.search.here.Here.{Here}
-use Rattle.regex_lite_engine.specs.declared.search.patterns.Start.{Start}
-use Rattle.regex_lite_engine.specs.declared.pikevm.cache.Cache.{Cache}
+use Rattle.regex_lite_engine.proofs.Common.{◌≡◌, ℕ, zero, suc, ◌+◌, ◌-◌, ◌*◌, ◌^◌, ◌<◌, ◌≤◌, Bool}
+use Rattle.regex_lite_engine.proofs.Common.{true, ◌⊎◌, List, [], ◌∷◌, length, IfSome, Some, None}
+use Rattle.regex_lite_engine.proofs.Common.{Option, MatchOption, option_map, sym, refl, ap, ◌∙◌}
+use Rattle.regex_lite_engine.proofs.Common.{subst, inl, inr, arith, mul-le-mul_left, mul-suc}
+use Rattle.regex_lite_engine.proofs.Common.{cases_lt, length-map, Text, arrows_of, StoredGraph}
+use Rattle.regex_lite_engine.proofs.Common.{place_of, table_of, Automaton, ways_of, Suits, side_of}
+use Rattle.regex_lite_engine.proofs.Common.{IsFirstStart, IsIn, IsOnItsWay, Thread, IsBetween}
+use Rattle.regex_lite_engine.proofs.Common.{best_of, IsComing, StepCounts, IsBoundedBy, IsEntry}
+use Rattle.regex_lite_engine.proofs.Common.{Best, best_kept, offset, Row, IsHere, AreDeadAt}
+use Rattle.regex_lite_engine.proofs.Common.{IsAmong, AreStartsAt, PassesTo, Origin, Cache, Here}
+use Rattle.regex_lite_engine.proofs.Common.{Start}
 use Rattle.regex_lite_engine.specs.Graph.Places.{Place}
-use Rattle.regex_lite_engine.specs.Graph.Renumbered.{arrows_of}
-use Rattle.regex_lite_engine.specs.Graph.Stored.{StoredGraph, place_of, table_of}
-use Rattle.regex_lite_engine.specs.LazyDfa.Automaton.{Automaton, IsEmptyState, Suits, ways_of}
-use Rattle.regex_lite_engine.specs.LazyDfa.Intervals.{side_of}
-use Rattle.regex_lite_engine.specs.LazyDfa.Learning.{HasTurned, IsFirstStart, IsIn}
-use Rattle.regex_lite_engine.specs.LazyDfa.Running.{IsOnItsWay, started_at}
-use Rattle.regex_lite_engine.specs.Search.Offsets.{offset}
-use Rattle.regex_lite_engine.specs.Search.Bounds.{IsBoundedBy, StepCounts}
-use Rattle.regex_lite_engine.specs.Pikevm.Machine.{Thread}
-use Rattle.regex_lite_engine.specs.Search.Rows.{Row}
-use Rattle.regex_lite_engine.specs.Search.NumberedList.{IsEntry}
-use Rattle.regex_lite_engine.specs.Pikevm.Searching.{IsFresh, IsBetween, IsHit, TurnsAgain}
-use Rattle.regex_lite_engine.specs.Search.NumberedOutcomes.{Best, best_kept}
-use Rattle.regex_lite_engine.specs.Search.Standing.{IsHere}
-use Rattle.regex_lite_engine.specs.Search.Starts.{PassesTo}
-use Rattle.regex_lite_engine.specs.Search.Starts.{AreAllStarts, AreDeadAt, AreStartsAt, IsAmong}
-use Rattle.regex_lite_engine.specs.Pikevm.Turns.{best_of, IsComing}
+use Rattle.regex_lite_engine.specs.LazyDfa.Automaton.{IsEmptyState}
+use Rattle.regex_lite_engine.specs.LazyDfa.Learning.{HasTurned}
+use Rattle.regex_lite_engine.specs.LazyDfa.Running.{started_at}
+use Rattle.regex_lite_engine.specs.Pikevm.Searching.{IsFresh, IsHit, TurnsAgain}
+use Rattle.regex_lite_engine.specs.Search.Starts.{AreAllStarts}
 use Rattle.regex_lite_engine.proofs.OffsetLemmas.{offset_less}
 use Rattle.regex_lite_engine.proofs.OptionLemmas.{not_there, same_some}
 use Rattle.regex_lite_engine.proofs.search.OneStartLemmas.{one_inside}

@@ -1,23 +1,17 @@
 -- A search that goes on by remembered turns.
-use Rattle.std.proofs.Common.{◌≡◌, ℕ, suc, ◌+◌, ◌⊎◌, inl, inr, Bool, true, false}
-use Rattle.std.proofs.Common.{List, [], length, slice_get, Option, Some, None, is_some}
-use Rattle.std.proofs.Common.{option_map, refl, sym, ap, subst, ◌∙◌, arith}
-use Rattle.regex_lite_syntax.specs.Text.{Text, before}
-use Rattle.regex_lite_engine.specs.declared.lazy_dfa.scan.Standing.{Standing}
-use Rattle.regex_lite_engine.specs.declared.pikevm.beginning.Origin.{Origin}
-use Rattle.regex_lite_engine.specs.declared.search.here.Here.{Here}
+use Rattle.regex_lite_engine.proofs.Common.{◌≡◌, ℕ, suc, ◌+◌, Bool, true, false, ◌⊎◌, List, []}
+use Rattle.regex_lite_engine.proofs.Common.{length, is_some, slice_get, Some, None, Option}
+use Rattle.regex_lite_engine.proofs.Common.{option_map, sym, refl, ap, ◌∙◌, subst, inl, inr, arith}
+use Rattle.regex_lite_engine.proofs.Common.{Text, Way, Automaton, told_by, threads_of, best_left}
+use Rattle.regex_lite_engine.proofs.Common.{searching_after, Suits, LeadsOn, class_of, side_of}
+use Rattle.regex_lite_engine.proofs.Common.{best_told, end_told, IsIdleAt, IsScanning, IsComing}
+use Rattle.regex_lite_engine.proofs.Common.{Best, IsBestOutcomeOf, IsNumberedEndOf, IsHere}
+use Rattle.regex_lite_engine.proofs.Common.{AreDeadAt, PassesTo, Standing, Origin, Here}
+use Rattle.regex_lite_syntax.specs.Text.{before}
 use Rattle.regex_lite_engine.specs.Graph.Places.{Place}
-use Rattle.regex_lite_engine.specs.LazyDfa.Automaton.{Automaton, LeadsOn, KeptOrigin, State}
-use Rattle.regex_lite_engine.specs.LazyDfa.Automaton.{Suits, Way, best_left}
-use Rattle.regex_lite_engine.specs.LazyDfa.Automaton.{searching_after, threads_of, told_by}
-use Rattle.regex_lite_engine.specs.LazyDfa.Intervals.{class_of, side_of}
-use Rattle.regex_lite_engine.specs.LazyDfa.Scanning.{best_told, end_told}
-use Rattle.regex_lite_engine.specs.LazyDfa.Scanning.{IsIdleAt, IsScanning, LedTo}
-use Rattle.regex_lite_engine.specs.Search.NumberedOutcomes.{IsBestOutcomeOf, IsNumberedEndOf, Best}
-use Rattle.regex_lite_engine.specs.Search.Standing.{IsHere}
-use Rattle.regex_lite_engine.specs.Search.Starts.{PassesTo}
-use Rattle.regex_lite_engine.specs.Pikevm.Turns.{EndsAt, IsComing}
-use Rattle.regex_lite_engine.specs.Search.Starts.{AreDeadAt}
+use Rattle.regex_lite_engine.specs.LazyDfa.Automaton.{KeptOrigin, State}
+use Rattle.regex_lite_engine.specs.LazyDfa.Scanning.{LedTo}
+use Rattle.regex_lite_engine.specs.Pikevm.Turns.{EndsAt}
 use Rattle.regex_lite_engine.proofs.pikevm.EndLemmas.{ended_all}
 use Rattle.regex_lite_engine.proofs.search.here.HereLemmas.{over_at}
 use Rattle.regex_lite_engine.proofs.OptionLemmas.{not_there, same_some}

@@ -1,27 +1,20 @@
 -- A search that goes by remembered turns, by offsets alone.
-use Rattle.std.proofs.Common.{◌≡◌, ℕ, ◌+◌, ◌^◌, ◌<◌, ◌≤◌, ◌⊎◌, inl, inr, List, [], length}
-use Rattle.std.proofs.Common.{drop, suc, slice_get, Option, Some, None, IfSome, refl, sym, ap}
-use Rattle.std.proofs.Common.{subst, ◌∙◌, arith}
-use Rattle.std.specs.Prelude.{IsUtf8, IsCharBoundary, chars}
-use Rattle.std.specs.Char.{len_utf8}
-use Rattle.regex_lite_syntax.specs.Text.{Text}
-use Rattle.regex_lite_engine.specs.declared.lazy_dfa.scan.Standing.{Standing}
+use Rattle.regex_lite_engine.proofs.Common.{◌≡◌, ℕ, suc, ◌+◌, ◌^◌, ◌<◌, ◌≤◌, ◌⊎◌, List, [], length}
+use Rattle.regex_lite_engine.proofs.Common.{drop, IfSome, slice_get, Some, None, IsUtf8, Option}
+use Rattle.regex_lite_engine.proofs.Common.{chars, IsCharBoundary, sym, refl, ap, ◌∙◌, subst, inl}
+use Rattle.regex_lite_engine.proofs.Common.{inr, arith, len_utf8, Text, Automaton, threads_of}
+use Rattle.regex_lite_engine.proofs.Common.{best_left, class_of, side_of, best_told, IsIdleAt}
+use Rattle.regex_lite_engine.proofs.Common.{IsSince, IsScanning, IsSpotAt, IsComing}
+use Rattle.regex_lite_engine.proofs.Common.{IsBestOutcomeOf, IsOffset, position_at, IsHere}
+use Rattle.regex_lite_engine.proofs.Common.{Standing, Origin, Here}
 use Rattle.regex_lite_engine.specs.declared.lazy_dfa.spot.Spot.{Spot}
 use Rattle.regex_lite_engine.specs.declared.lazy_dfa.spot.Step.{Step}
 use Rattle.regex_lite_engine.specs.declared.lazy_dfa.spot.Step.TheVariants.{On, Over, Stuck}
 use Rattle.regex_lite_engine.specs.declared.lazy_dfa.spot.Turn.{Turn}
-use Rattle.regex_lite_engine.specs.declared.pikevm.beginning.Origin.{Origin}
-use Rattle.regex_lite_engine.specs.declared.search.here.Here.{Here}
 use Rattle.regex_lite_engine.specs.Graph.Places.{Place}
-use Rattle.regex_lite_engine.specs.LazyDfa.Automaton.{Automaton, State, best_left, threads_of}
-use Rattle.regex_lite_engine.specs.LazyDfa.Intervals.{class_of, side_of}
-use Rattle.regex_lite_engine.specs.LazyDfa.Scanning.{best_told, IsIdleAt, IsScanning}
-use Rattle.regex_lite_engine.specs.LazyDfa.Scanning.{IsSince, LedTo}
-use Rattle.regex_lite_engine.specs.LazyDfa.Spots.{EndsScan, IsSpotAt, IsTaken, IsTurn, Takes}
-use Rattle.regex_lite_engine.specs.Search.Offsets.{position_at, IsOffset}
-use Rattle.regex_lite_engine.specs.Search.Standing.{IsHere}
-use Rattle.regex_lite_engine.specs.Search.NumberedOutcomes.{IsBestOutcomeOf}
-use Rattle.regex_lite_engine.specs.Pikevm.Turns.{IsComing}
+use Rattle.regex_lite_engine.specs.LazyDfa.Automaton.{State}
+use Rattle.regex_lite_engine.specs.LazyDfa.Scanning.{LedTo}
+use Rattle.regex_lite_engine.specs.LazyDfa.Spots.{EndsScan, IsTaken, IsTurn, Takes}
 use Rattle.regex_lite_engine.proofs.PositionLemmas.{position_of, after_at}
 use Rattle.regex_lite_engine.proofs.lazy_dfa.ScanLemmas.{led_step, scan_over, scanned_on}
 use Rattle.regex_lite_engine.proofs.OptionLemmas.{same_some}

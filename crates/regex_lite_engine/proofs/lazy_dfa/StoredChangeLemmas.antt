@@ -1,16 +1,17 @@
 -- How an automaton changes when a way, a state or a turn is stored, or pending ways are dropped.
-use Rattle.std.proofs.Common.{◌≡◌, ℕ, zero, suc, ◌+◌, ◌-◌, ◌<◌, ◌≤◌, List, [], ◌∷◌, ◌++◌, length}
-use Rattle.std.proofs.Common.{map, take, drop, slice_get, slice_index, slice_index_or, slice_set}
-use Rattle.std.proofs.Common.{replicate, Some, refl, sym, ap, ◌∙◌, arith}
-use Rattle.std.proofs.lemmas.List.{length-take-le, take-append-drop, take-append-le, drop-append-le}
-use Rattle.std.proofs.lemmas.List.{map-append, map-set, get_or-replicate, take_rest, length-drop}
+use Rattle.regex_lite_engine.proofs.Common.{◌≡◌, ℕ, zero, suc, ◌+◌, ◌-◌, ◌<◌, ◌≤◌, List, [], ◌∷◌}
+use Rattle.regex_lite_engine.proofs.Common.{◌++◌, map, length, take, drop, replicate, slice_get}
+use Rattle.regex_lite_engine.proofs.Common.{slice_index, slice_index_or, slice_set, Some, sym, refl}
+use Rattle.regex_lite_engine.proofs.Common.{ap, ◌∙◌, arith, drop-append-le, get_or-replicate}
+use Rattle.regex_lite_engine.proofs.Common.{length-take-le, map-append, map-set, take-append-drop}
+use Rattle.regex_lite_engine.proofs.Common.{take-append-le, Automaton, most_classes, unknown}
+use Rattle.regex_lite_engine.proofs.Common.{Extends, Intervals, way_in, state_in, StoredState}
+use Rattle.regex_lite_engine.proofs.Common.{StoredWay}
+use Rattle.std.proofs.lemmas.List.{take_rest, length-drop}
 use Rattle.std.proofs.Math.Seq.{drop-length}
-use Rattle.regex_lite_engine.specs.declared.lazy_dfa.state.StoredState.{StoredState}
-use Rattle.regex_lite_engine.specs.declared.lazy_dfa.state.StoredWay.{StoredWay}
-use Rattle.regex_lite_engine.specs.LazyDfa.Automaton.{Automaton, State, most_classes, unknown}
-use Rattle.regex_lite_engine.specs.LazyDfa.Extending.{Extends, IsState}
-use Rattle.regex_lite_engine.specs.LazyDfa.Intervals.{Intervals}
-use Rattle.regex_lite_engine.specs.LazyDfa.Stored.{LieWithin, state_in, way_in}
+use Rattle.regex_lite_engine.specs.LazyDfa.Automaton.{State}
+use Rattle.regex_lite_engine.specs.LazyDfa.Extending.{IsState}
+use Rattle.regex_lite_engine.specs.LazyDfa.Stored.{LieWithin}
 use Rattle.regex_lite_engine.proofs.OptionLemmas.{not_there, same_some}
 use Rattle.regex_lite_engine.proofs.LookupLemmas.{still_there, get_last}
 use Rattle.regex_lite_engine.proofs.lazy_dfa.StoredStateLemmas.{seen, state_at}

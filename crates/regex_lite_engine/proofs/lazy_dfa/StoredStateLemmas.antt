@@ -1,16 +1,15 @@
 -- The automaton that stored states and ways stand for, and what is known of each stored state.
-use Rattle.std.proofs.Common.{◌≡◌, ℕ, zero, suc, ◌<◌, ◌≤◌, List, [], ◌∷◌, length, map, take, drop}
-use Rattle.std.proofs.Common.{slice_get, slice_index, slice_index_or, true, None, Some, refl, sym}
-use Rattle.std.proofs.Common.{ap, subst, ◌∙◌, arith}
-use Rattle.std.proofs.lemmas.List.{length-take-le, length-map, nil_from_length, length-drop}
-use Rattle.std.proofs.lemmas.Option.{slice_get_within}
+use Rattle.regex_lite_engine.proofs.Common.{◌≡◌, ℕ, zero, suc, ◌<◌, ◌≤◌, true, List, [], ◌∷◌, map}
+use Rattle.regex_lite_engine.proofs.Common.{length, take, drop, slice_get, slice_index}
+use Rattle.regex_lite_engine.proofs.Common.{slice_index_or, Some, None, sym, refl, ap, ◌∙◌, subst}
+use Rattle.regex_lite_engine.proofs.Common.{arith, length-map, length-take-le, nil_from_length}
+use Rattle.regex_lite_engine.proofs.Common.{slice_get_within, Automaton, most_classes, unknown}
+use Rattle.regex_lite_engine.proofs.Common.{LeadsOn, Remembers, Intervals, way_in, state_in}
+use Rattle.regex_lite_engine.proofs.Common.{StoredState, StoredWay}
+use Rattle.std.proofs.lemmas.List.{length-drop}
 use Rattle.regex_lite_engine.specs.Graph.Places.{Place}
-use Rattle.regex_lite_engine.specs.declared.lazy_dfa.state.StoredState.{StoredState}
-use Rattle.regex_lite_engine.specs.declared.lazy_dfa.state.StoredWay.{StoredWay}
-use Rattle.regex_lite_engine.specs.LazyDfa.Automaton.{Automaton, LeadsOn, Remembers, State}
-use Rattle.regex_lite_engine.specs.LazyDfa.Automaton.{most_classes, unknown}
-use Rattle.regex_lite_engine.specs.LazyDfa.Intervals.{Intervals}
-use Rattle.regex_lite_engine.specs.LazyDfa.Stored.{ArePlain, LieWithin, state_in, way_in}
+use Rattle.regex_lite_engine.specs.LazyDfa.Automaton.{State}
+use Rattle.regex_lite_engine.specs.LazyDfa.Stored.{ArePlain, LieWithin}
 use Rattle.regex_lite_engine.proofs.OptionLemmas.{same_some}
 
 -- a state that stands in the list

@@ -1,29 +1,17 @@
 -- Where the tree of a graph does not match, no arrows of the graph lead to a complete match.
-use Rattle.std.proofs.Common.{◌≡◌, ◌<◌, length, inl, inr, sym, subst}
-use Rattle.std.proofs.Common.{◌∙◌, arith, ℕ, suc, List, Option, Some, None, slice_get}
-use Rattle.std.specs.Prelude.{IfSome, MatchOption}
-use Rattle.std.proofs.lemmas.Bool.{cases_eq}
-use Rattle.std.proofs.lemmas.Option.{slice_get_within}
-use Rattle.regex_lite_syntax.specs.Text.{Text}
-use Rattle.regex_lite_syntax.specs.Tree.{Tree}
-use Rattle.regex_lite_syntax.specs.Tree.Matches.{Matches}
-use Rattle.regex_lite_syntax.specs.Tree.Regular.{IsRegular}
+use Rattle.regex_lite_engine.proofs.Common.{◌≡◌, ℕ, suc, ◌<◌, List, length, IfSome, slice_get, Some}
+use Rattle.regex_lite_engine.proofs.Common.{None, Option, MatchOption, sym, ◌∙◌, subst, inl, inr}
+use Rattle.regex_lite_engine.proofs.Common.{arith, cases_eq, slice_get_within, Text, Tree, Matches}
+use Rattle.regex_lite_engine.proofs.Common.{IsRegular, Address, IsRenumbered, IsNumberOf}
+use Rattle.regex_lite_engine.proofs.Common.{side_by_side, start_of, AreEntries, start_address}
+use Rattle.regex_lite_engine.proofs.Common.{written_out, whole_layout, whole_table, AreHeadsOfTree}
+use Rattle.regex_lite_engine.proofs.Common.{NeverBegins, MayBegin, numbered_step, IsEntry, IsDeadAt}
+use Rattle.regex_lite_engine.proofs.Common.{AreListHeadsOf, Heads, ListHeads, Starts}
 use Rattle.regex_lite_engine.specs.Graph.Places.{Place}
-use Rattle.regex_lite_engine.specs.Graph.Addresses.{Address}
-use Rattle.regex_lite_engine.specs.Graph.WrittenOut.{start_address, written_out}
-use Rattle.regex_lite_engine.specs.Graph.Renumbered.{IsRenumbered, IsNumberOf}
-use Rattle.regex_lite_engine.specs.Graph.SideBySide.{side_by_side, start_of, AreEntries, AreRegular}
-use Rattle.regex_lite_engine.specs.Search.NumberedAnswer.{numbered_step}
-use Rattle.regex_lite_engine.specs.Search.Starts.{IsDeadAt}
-use Rattle.regex_lite_engine.specs.Search.NumberedList.{IsEntry}
-use Rattle.regex_lite_engine.specs.Search.Starts.{AreHeadsOf, AreListHeadsOf}
-use Rattle.regex_lite_engine.specs.Nfa.Layout.{whole_layout, whole_table}
-use Rattle.regex_lite_engine.specs.Prefilter.Heads.{AreHeadsOfTree, AreSecondOfTree, NeverBegins}
+use Rattle.regex_lite_engine.specs.Graph.SideBySide.{AreRegular}
+use Rattle.regex_lite_engine.specs.Search.Starts.{AreHeadsOf}
+use Rattle.regex_lite_engine.specs.Prefilter.Heads.{AreSecondOfTree}
 use Rattle.regex_lite_engine.specs.Prefilter.ListHeads.{AreHeadsOfTrees}
-use Rattle.regex_lite_engine.specs.Prefilter.Starts.{MayBegin}
-use Rattle.regex_lite_engine.specs.declared.prefilter.heads.Heads.{Heads}
-use Rattle.regex_lite_engine.specs.declared.prefilter.list_heads.ListHeads.{ListHeads}
-use Rattle.regex_lite_engine.specs.declared.prefilter.starts.Starts.{Starts}
 use Rattle.regex_lite_engine.proofs.prefilter.list_heads.IndexLemmas.{walkable}
 use Rattle.regex_lite_engine.proofs.prefilter.list_heads.ThirdLemmas.{stuck_matches}
 use Rattle.regex_lite_engine.proofs.prefilter.list_heads.TreeLemmas.{left_out_matches}

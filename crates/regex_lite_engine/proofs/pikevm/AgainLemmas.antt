@@ -1,30 +1,21 @@
 -- A turn that holds again at a position that looks the same.
-use Rattle.std.proofs.Common.{◌≡◌, ℕ, ◌<◌, ◌⊎◌, inl, inr, Bool, true, false}
-use Rattle.std.proofs.Common.{List, [], ◌∷◌, ◌++◌, length, replicate, slice_get}
-use Rattle.std.proofs.Common.{slice_index, slice_index_or, if◌then◌else◌, Option, Some}
-use Rattle.std.proofs.Common.{None, unwrap_or, refl, sym, ap, subst, ◌∙◌, arith}
-use Rattle.std.proofs.lemmas.List.{map-append}
-use Rattle.regex_lite_syntax.specs.declared.class.ClassRange.{ClassRange}
-use Rattle.regex_lite_syntax.specs.Ranges.{in_ranges}
-use Rattle.regex_lite_syntax.specs.Sets.{just}
-use Rattle.regex_lite_syntax.specs.Tree.Looks.{holds_between}
+use Rattle.regex_lite_engine.proofs.Common.{◌≡◌, ℕ, ◌<◌, Bool, true, false, ◌⊎◌, List, [], ◌∷◌}
+use Rattle.regex_lite_engine.proofs.Common.{◌++◌, length, replicate, if◌then◌else◌, slice_get}
+use Rattle.regex_lite_engine.proofs.Common.{slice_index, slice_index_or, Some, None, Option}
+use Rattle.regex_lite_engine.proofs.Common.{unwrap_or, sym, refl, ap, ◌∙◌, subst, inl, inr, arith}
+use Rattle.regex_lite_engine.proofs.Common.{map-append, in_ranges, just, holds_between, ClassRange}
+use Rattle.regex_lite_engine.proofs.Common.{with_arrows, place_of, retold, all_retold, state_retold}
+use Rattle.regex_lite_engine.proofs.Common.{best_again, reads, pushing, reading_on, Thread, begun}
+use Rattle.regex_lite_engine.proofs.Common.{with_starts, SearchAt, Told, Best, Row, Here, Start}
 use Rattle.regex_lite_engine.specs.declared.nfa.place.Place as code
 use Rattle.regex_lite_engine.specs.declared.nfa.place.Place.TheVariants as stored
-use Rattle.regex_lite_engine.specs.declared.search.here.Here.{Here}
-use Rattle.regex_lite_engine.specs.Graph.Places.{Place, with_arrows}
-use Rattle.regex_lite_engine.specs.Graph.Stored.{place_of}
-use Rattle.regex_lite_engine.specs.Pikevm.Again.{FitsAlike, retold, all_retold, best_again}
-use Rattle.regex_lite_engine.specs.Pikevm.Again.{state_retold}
-use Rattle.regex_lite_engine.specs.declared.search.patterns.Start.{Start}
-use Rattle.regex_lite_engine.specs.Search.Beginnings.{Told}
-use Rattle.regex_lite_engine.specs.Pikevm.Entering.{Enters, pushing, reading_on, reads}
-use Rattle.regex_lite_engine.specs.Pikevm.Machine.{Frame, explore, restore, Thread}
-use Rattle.regex_lite_engine.specs.Search.Rows.{Row}
+use Rattle.regex_lite_engine.specs.Graph.Places.{Place}
+use Rattle.regex_lite_engine.specs.Pikevm.Again.{FitsAlike}
+use Rattle.regex_lite_engine.specs.Pikevm.Entering.{Enters}
+use Rattle.regex_lite_engine.specs.Pikevm.Machine.{Frame, explore, restore}
 use Rattle.regex_lite_engine.specs.Pikevm.Machine.{State}
 use Rattle.regex_lite_engine.specs.Pikevm.Room.{WalksTo}
-use Rattle.regex_lite_engine.specs.Pikevm.Turns.{begun, with_starts}
-use Rattle.regex_lite_engine.specs.Pikevm.Walking.{SearchAt, IsWalking}
-use Rattle.regex_lite_engine.specs.Search.NumberedOutcomes.{Best}
+use Rattle.regex_lite_engine.specs.Pikevm.Walking.{IsWalking}
 use Rattle.regex_lite_engine.proofs.pikevm.EnterLemmas.{reads_none, walk_enters}
 use Rattle.regex_lite_engine.proofs.pikevm.WalkLemmas.{marked_in, walk_framed}
 

@@ -1,10 +1,7 @@
 -- What several searches cost together.
-use Rattle.std.proofs.Common.{◌+◌, ◌*◌, ◌≤◌, inl, inr, ℕ, arith}
-use Rattle.std.specs.Prelude.{min}
+use Rattle.regex_lite_engine.proofs.Common.{ℕ, ◌+◌, ◌*◌, ◌≤◌, min, inl, inr, arith, cases_lt, Text}
+use Rattle.regex_lite_engine.proofs.Common.{characters_left, IsBoundedBy}
 use Rattle.std.proofs.Math.Nat.{add-mul, le-min, min-eq_left, min-le_left, min-le_right}
-use Rattle.std.proofs.lemmas.Bool.{cases_lt}
-use Rattle.regex_lite_syntax.specs.Text.{Text}
-use Rattle.regex_lite_engine.specs.Search.Bounds.{IsBoundedBy, characters_left}
 
 -- a sum that is cut off at the greatest number is no more than twice one that is
 twice_cut : (a b most : ℕ) → a ≤ 2 * b → min a most ≤ 2 * min b most

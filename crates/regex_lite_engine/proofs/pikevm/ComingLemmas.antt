@@ -1,18 +1,11 @@
 -- What is known before a position: nothing before the first one, and the same where positions are
 -- passed over at which no match can start.
-use Rattle.std.proofs.Common.{◌≡◌, ℕ, ◌<◌, ◌≤◌, ◌⊎◌, inl, inr, List, [], Option, None, refl, sym}
-use Rattle.std.proofs.Common.{subst, arith}
-use Rattle.std.proofs.lemmas.Bool.{cases_lt}
-use Rattle.regex_lite_syntax.specs.Text.{Text}
+use Rattle.regex_lite_engine.proofs.Common.{◌≡◌, ℕ, ◌<◌, ◌≤◌, ◌⊎◌, List, [], None, Option, sym}
+use Rattle.regex_lite_engine.proofs.Common.{refl, subst, inl, inr, arith, cases_lt, Text, Thread}
+use Rattle.regex_lite_engine.proofs.Common.{IsComing, ThreadsHold, InStep, IsDead, numbered_step}
+use Rattle.regex_lite_engine.proofs.Common.{is_end, IsEntry, StartsOf, Node, Offer, StartsBelow}
+use Rattle.regex_lite_engine.proofs.Common.{IsDeadAt}
 use Rattle.regex_lite_engine.specs.Graph.Places.{Place}
-use Rattle.regex_lite_engine.specs.Search.Explored.{IsDead}
-use Rattle.regex_lite_engine.specs.Search.Offers.{Offer, StartsBelow, Node}
-use Rattle.regex_lite_engine.specs.Search.NumberedList.{IsEntry, StartsOf}
-use Rattle.regex_lite_engine.specs.Pikevm.Machine.{Thread}
-use Rattle.regex_lite_engine.specs.Search.NumberedAnswer.{numbered_step, is_end}
-use Rattle.regex_lite_engine.specs.Pikevm.Turns.{IsComing}
-use Rattle.regex_lite_engine.specs.Search.Starts.{IsDeadAt}
-use Rattle.regex_lite_engine.specs.Pikevm.Walking.{ThreadsHold, InStep}
 use Rattle.regex_lite_engine.proofs.OptionLemmas.{not_there}
 use Rattle.regex_lite_engine.proofs.pikevm.InStepNextLemmas as deep
 use Rattle.regex_lite_engine.proofs.pikevm.WalkLemmas.{none_held}

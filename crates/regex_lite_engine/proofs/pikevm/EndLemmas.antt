@@ -1,27 +1,21 @@
 -- The end of a search, and its counts.
-use Rattle.std.proofs.Common.{◌≡◌, ℕ, suc, ◌+◌, ◌*◌, ◌-◌, ◌<◌, ◌≤◌, ◌⊎◌, inl, inr, Bool}
-use Rattle.std.proofs.Common.{true, false, List, [], ◌∷◌, length, slice_get, Option, Some}
-use Rattle.std.proofs.Common.{None, if◌then◌else◌, IsTrue, refl, sym, ap, subst, ◌∙◌, arith}
+use Rattle.regex_lite_engine.proofs.Common.{◌≡◌, ℕ, suc, ◌+◌, ◌-◌, ◌*◌, ◌<◌, ◌≤◌, Bool, true, false}
+use Rattle.regex_lite_engine.proofs.Common.{◌⊎◌, List, [], ◌∷◌, length, if◌then◌else◌, IsTrue}
+use Rattle.regex_lite_engine.proofs.Common.{slice_get, Some, None, Option, sym, refl, ap, ◌∙◌}
+use Rattle.regex_lite_engine.proofs.Common.{subst, inl, inr, arith, mul-suc, nil_from_length}
+use Rattle.regex_lite_engine.proofs.Common.{slice_get_within, Text, after, holds_between, Condition}
+use Rattle.regex_lite_engine.proofs.Common.{free, holding, reading, Arrow, complete, with_arrows}
+use Rattle.regex_lite_engine.proofs.Common.{behind, taken, arrived, arrow_taken, step_from, Thread}
+use Rattle.regex_lite_engine.proofs.Common.{IsComing, ThreadsHold, InStep, Found, IsGrown}
+use Rattle.regex_lite_engine.proofs.Common.{marks_along, place_with, numbered_step, is_end}
+use Rattle.regex_lite_engine.proofs.Common.{IsNumberedFound, StartsOf, Best, IsBestOutcome}
+use Rattle.regex_lite_engine.proofs.Common.{IsBestOutcomeOf, Node, Offer, StartsBelow}
 use Rattle.std.specs.Option.{IsSome}
-use Rattle.std.proofs.lemmas.List.{nil_from_length}
-use Rattle.std.proofs.lemmas.Option.{slice_get_within}
-use Rattle.std.proofs.Math.Nat.{mul-suc}
-use Rattle.regex_lite_syntax.specs.Text.{Text, before, after}
-use Rattle.regex_lite_syntax.specs.Tree.Looks.{holds_between}
-use Rattle.regex_lite_engine.specs.Graph.Places.{Condition, Arrow, Place, complete}
-use Rattle.regex_lite_engine.specs.Graph.Places.{with_arrows, free, holding, reading, taken}
-use Rattle.regex_lite_engine.specs.Graph.Places.{behind, arrived, arrow_taken, step_from}
-use Rattle.regex_lite_engine.specs.Search.Answer.{Found}
-use Rattle.regex_lite_engine.specs.Search.Marks.{marks_along}
-use Rattle.regex_lite_engine.specs.Search.Explored.{IsGrown}
-use Rattle.regex_lite_engine.specs.Search.NumberedAnswer.{place_with, numbered_step}
-use Rattle.regex_lite_engine.specs.Search.NumberedAnswer.{is_end, IsNumberedFound}
-use Rattle.regex_lite_engine.specs.Search.NumberedList.{StartsOf, IsOverOf}
-use Rattle.regex_lite_engine.specs.Search.Offers.{Offer, StartsBelow, Node}
-use Rattle.regex_lite_engine.specs.Search.NumberedOutcomes.{IsBestOutcome, IsBestOutcomeOf, Best}
-use Rattle.regex_lite_engine.specs.Pikevm.Turns.{IsComing, FromIs}
-use Rattle.regex_lite_engine.specs.Pikevm.Machine.{Thread}
-use Rattle.regex_lite_engine.specs.Pikevm.Walking.{BestHolds, InStep, ThreadsHold}
+use Rattle.regex_lite_syntax.specs.Text.{before}
+use Rattle.regex_lite_engine.specs.Graph.Places.{Place}
+use Rattle.regex_lite_engine.specs.Search.NumberedList.{IsOverOf}
+use Rattle.regex_lite_engine.specs.Pikevm.Turns.{FromIs}
+use Rattle.regex_lite_engine.specs.Pikevm.Walking.{BestHolds}
 use Rattle.regex_lite_engine.proofs.laws.several.OverListLemmas.{list_answer_when_over}
 use Rattle.regex_lite_engine.proofs.search.OneStartLemmas.{only_entry}
 use Rattle.regex_lite_engine.proofs.pikevm.WalkLemmas.{none_held}

@@ -1,34 +1,24 @@
 -- Entering a place, by what stands there.
-use Rattle.std.proofs.Common.{◌≡◌, ℕ, zero, suc, ◌+◌, ◌<◌, inl, inr, Bool, true, false, IsTrue}
-use Rattle.std.proofs.Common.{List, [], ◌∷◌, ◌++◌, length, set, map, slice_get, slice_set}
-use Rattle.std.proofs.Common.{slice_index, slice_index_or, if◌then◌else◌, Option, Some, None, refl}
-use Rattle.std.proofs.Common.{sym, ap, subst, ◌∙◌, arith}
-use Rattle.std.proofs.lemmas.List.{length-map, set-set, set-get_or}
-use Rattle.regex_lite_syntax.specs.declared.class.ClassRange.{ClassRange}
-use Rattle.regex_lite_syntax.specs.Text.{after}
-use Rattle.regex_lite_syntax.specs.Ranges.{in_ranges}
-use Rattle.regex_lite_syntax.specs.Sets.{Set, just}
-use Rattle.regex_lite_syntax.specs.Tree.Looks.{holds_between}
-use Rattle.regex_lite_engine.specs.Search.Beginnings.{Told}
+use Rattle.regex_lite_engine.proofs.Common.{◌≡◌, ℕ, zero, suc, ◌+◌, ◌<◌, Bool, true, false, List}
+use Rattle.regex_lite_engine.proofs.Common.{[], ◌∷◌, ◌++◌, map, length, set, if◌then◌else◌, IsTrue}
+use Rattle.regex_lite_engine.proofs.Common.{slice_get, slice_index, slice_index_or, slice_set, Some}
+use Rattle.regex_lite_engine.proofs.Common.{None, Option, sym, refl, ap, ◌∙◌, subst, inl, inr}
+use Rattle.regex_lite_engine.proofs.Common.{arith, length-map, set-get_or, in_ranges, Set, just}
+use Rattle.regex_lite_engine.proofs.Common.{after, holds_between, ClassRange, Arrow, with_arrows}
+use Rattle.regex_lite_engine.proofs.Common.{behind, go, go_marking, go_holding, go_reading, one_of}
+use Rattle.regex_lite_engine.proofs.Common.{arrived, step_from, arrow_count, place_of, reads}
+use Rattle.regex_lite_engine.proofs.Common.{pushing, reading_on, Thread, WayTold, ThreadsHold}
+use Rattle.regex_lite_engine.proofs.Common.{SearchAt, Told, Marks, marked, over, mark_of}
+use Rattle.regex_lite_engine.proofs.Common.{place_with, is_complete, numbered_step, Best, Node}
+use Rattle.regex_lite_engine.proofs.Common.{Offer, HasSlots, Row, IsHere, Here}
+use Rattle.std.proofs.lemmas.List.{set-set}
 use Rattle.regex_lite_engine.specs.declared.nfa.place.Place as code
 use Rattle.regex_lite_engine.specs.declared.nfa.place.Place.TheVariants as stored
-use Rattle.regex_lite_engine.specs.declared.search.here.Here.{Here}
-use Rattle.regex_lite_engine.specs.Graph.Places.{Arrow, Place, with_arrows, go, go_holding}
-use Rattle.regex_lite_engine.specs.Graph.Places.{go_marking, go_reading, one_of, arrived, behind}
-use Rattle.regex_lite_engine.specs.Graph.Places.{step_from}
-use Rattle.regex_lite_engine.specs.Graph.Renumbered.{arrow_count}
-use Rattle.regex_lite_engine.specs.Graph.Stored.{place_of}
-use Rattle.regex_lite_engine.specs.Search.Marks.{Marks, marked, over, mark_of}
-use Rattle.regex_lite_engine.specs.Pikevm.Entering.{Enters, pushing, reading_on, reads}
-use Rattle.regex_lite_engine.specs.Search.Offers.{Offer, Node}
-use Rattle.regex_lite_engine.specs.Pikevm.Machine.{Frame, explore, restore, Thread, State}
-use Rattle.regex_lite_engine.specs.Search.Rows.{Row}
-use Rattle.regex_lite_engine.specs.Search.NumberedAnswer.{place_with, is_complete, numbered_step}
-use Rattle.regex_lite_engine.specs.Search.Standing.{IsHere}
-use Rattle.regex_lite_engine.specs.Search.Offsets.{HasSlots}
-use Rattle.regex_lite_engine.specs.Pikevm.Walking.{WayTold, FramesHold}
-use Rattle.regex_lite_engine.specs.Search.NumberedOutcomes.{Best}
-use Rattle.regex_lite_engine.specs.Pikevm.Walking.{ThreadsHold, SearchAt, IsWalking}
+use Rattle.regex_lite_engine.specs.Graph.Places.{Place}
+use Rattle.regex_lite_engine.specs.Pikevm.Entering.{Enters}
+use Rattle.regex_lite_engine.specs.Pikevm.Machine.{Frame, explore, restore, State}
+use Rattle.regex_lite_engine.specs.Pikevm.Walking.{FramesHold}
+use Rattle.regex_lite_engine.specs.Pikevm.Walking.{IsWalking}
 use Rattle.regex_lite_engine.proofs.search.MarkLemmas.{slots_set, slots_past}
 use Rattle.regex_lite_engine.proofs.OptionLemmas.{not_there, same_some}
 use Rattle.regex_lite_engine.proofs.search.PlaceLemmas.{free_stays, free_marks, hops, no_second}

@@ -1,11 +1,10 @@
 -- What a walk keeps true when it enters a node.
-use Rattle.std.proofs.Common.{◌≡◌, ℕ, suc, ◌≤◌, ◌⊎◌, inl, inr, Bool, IsTrue, List, [], ◌∷◌, ◌++◌}
-use Rattle.std.proofs.Common.{Option, Some, None, refl, sym, ap, subst, ◌∙◌, arith}
-use Rattle.regex_lite_engine.specs.Search.Preference.{IsPreferred}
-use Rattle.regex_lite_engine.specs.Search.Explored.{NotAfter, IsAnswered, IsGrown}
+use Rattle.regex_lite_engine.proofs.Common.{◌≡◌, ℕ, suc, ◌≤◌, Bool, ◌⊎◌, List, [], ◌∷◌, ◌++◌}
+use Rattle.regex_lite_engine.proofs.Common.{IsTrue, Some, None, Option, sym, refl, ap, ◌∙◌, subst}
+use Rattle.regex_lite_engine.proofs.Common.{inl, inr, arith, NotAfter, IsAnswered, IsGrown}
+use Rattle.regex_lite_engine.proofs.Common.{StartsBelow, IsPreferred}
 use Rattle.regex_lite_engine.specs.Pikevm.InStep as walk
 use Rattle.regex_lite_engine.specs.Search.Offers as offer
-use Rattle.regex_lite_engine.specs.Search.Offers.{StartsBelow}
 use Rattle.regex_lite_engine.proofs.search.RecordLemmas.{or_dead}
 use Rattle.regex_lite_engine.proofs.search.OfferLemmas as order
 use Rattle.regex_lite_engine.proofs.search.OfferLemmas.{preferred_before, preferred_append}

@@ -1,12 +1,11 @@
 -- What a walk keeps true from one position to the next, and what it knows when nothing is left.
-use Rattle.std.proofs.Common.{◌≡◌, ℕ, suc, ◌<◌, ◌≤◌, ◌⊎◌, inl, inr, ⊎_elim, Bool, List, []}
-use Rattle.std.proofs.Common.{◌∷◌, ◌++◌, Option, Some, None, refl, sym, subst, ◌∙◌, arith}
-use Rattle.std.proofs.lemmas.Bool.{cases_lt}
-use Rattle.regex_lite_engine.specs.Search.Preference.{IsPreferred}
-use Rattle.regex_lite_engine.specs.Search.Explored.{IsAnswered, IsGrown, IsExplored, IsDead}
+use Rattle.regex_lite_engine.proofs.Common.{◌≡◌, ℕ, suc, ◌<◌, ◌≤◌, Bool, ◌⊎◌, List, [], ◌∷◌, ◌++◌}
+use Rattle.regex_lite_engine.proofs.Common.{Some, None, Option, sym, refl, ◌∙◌, subst, inl, inr}
+use Rattle.regex_lite_engine.proofs.Common.{⊎_elim, arith, cases_lt, IsDead, IsAnswered, IsGrown}
+use Rattle.regex_lite_engine.proofs.Common.{StartsBelow, IsPreferred}
+use Rattle.regex_lite_engine.specs.Search.Explored.{IsExplored}
 use Rattle.regex_lite_engine.specs.Pikevm.InStep as walk
 use Rattle.regex_lite_engine.specs.Search.Offers as offer
-use Rattle.regex_lite_engine.specs.Search.Offers.{StartsBelow}
 use Rattle.regex_lite_engine.proofs.OptionLemmas.{not_there}
 use Rattle.regex_lite_engine.proofs.search.OfferLemmas as order
 use Rattle.regex_lite_engine.proofs.search.OfferLemmas.{preferred_before, below_front, below_up}

@@ -1,10 +1,9 @@
 -- What a walk keeps true when it passes over a node that it has entered before.
-use Rattle.std.proofs.Common.{◌≡◌, ℕ, ◌⊎◌, inl, inr, Bool, List, [], ◌∷◌, ◌++◌, Option, Some, refl}
-use Rattle.std.proofs.Common.{sym, ap, subst, ◌∙◌}
-use Rattle.regex_lite_engine.specs.Search.Explored.{NotAfter, IsAnswered}
+use Rattle.regex_lite_engine.proofs.Common.{◌≡◌, ℕ, Bool, ◌⊎◌, List, [], ◌∷◌, ◌++◌, Some, Option}
+use Rattle.regex_lite_engine.proofs.Common.{sym, refl, ap, ◌∙◌, subst, inl, inr, NotAfter}
+use Rattle.regex_lite_engine.proofs.Common.{IsAnswered, StartsBelow}
 use Rattle.regex_lite_engine.specs.Pikevm.InStep as walk
 use Rattle.regex_lite_engine.specs.Search.Offers as offer
-use Rattle.regex_lite_engine.specs.Search.Offers.{StartsBelow}
 use Rattle.regex_lite_engine.proofs.search.RecordLemmas.{or_dead}
 
 module _ (N : Type 0) (step : N → ℕ → Option N) (IsStart : List ℕ → N → Type 0)

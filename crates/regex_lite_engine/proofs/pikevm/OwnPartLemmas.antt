@@ -1,17 +1,12 @@
 -- A search stays in the part of the table in which its patterns are entered, and pays for no other.
-use Rattle.std.proofs.Common.{◌≡◌, ℕ, zero, suc, ◌+◌, ◌<◌, ◌≤◌, ◌==◌, List, []}
-use Rattle.std.proofs.Common.{◌∷◌, length, take, drop, slice_index, sum_by}
-use Rattle.std.proofs.Common.{if◌then◌else◌, Option, Some, sym, ap, subst, arith}
+use Rattle.regex_lite_engine.proofs.Common.{◌≡◌, ℕ, zero, suc, ◌+◌, ◌<◌, ◌≤◌, List, [], ◌∷◌, length}
+use Rattle.regex_lite_engine.proofs.Common.{take, drop, if◌then◌else◌, ◌==◌, slice_index, Some}
+use Rattle.regex_lite_engine.proofs.Common.{sum_by, Option, sym, ap, subst, arith, length-take}
+use Rattle.regex_lite_engine.proofs.Common.{sum_by-cons, IsWithin, row_of, IsOwnPart, InStep}
+use Rattle.regex_lite_engine.proofs.Common.{SearchAt, numbered_step, is_end, StartsOf, Node, Offer}
 use Rattle.std.proofs.lemmas.Bool.{ne_eqb}
-use Rattle.std.proofs.lemmas.List.{length-take}
-use Rattle.std.proofs.lemmas.List.Sums.{sum_by-cons}
-use Rattle.regex_lite_engine.specs.Graph.Parts.{IsOwnPart, IsWithin, row_of}
 use Rattle.regex_lite_engine.specs.Graph.Places.{Place}
-use Rattle.regex_lite_engine.specs.Search.Offers.{Offer, Node}
-use Rattle.regex_lite_engine.specs.Search.NumberedAnswer.{numbered_step, is_end}
-use Rattle.regex_lite_engine.specs.Search.NumberedList.{StartsOf}
 use Rattle.regex_lite_engine.specs.Pikevm.Room.{left_of}
-use Rattle.regex_lite_engine.specs.Pikevm.Walking.{InStep, SearchAt}
 use Rattle.regex_lite_engine.proofs.laws.search.NumberedWayLemmas.{leads_within}
 use Rattle.regex_lite_engine.proofs.laws.search.RecordedWayLemmas.{traced}
 

@@ -1,20 +1,11 @@
 -- What holds of a search between two positions, from its start to its end.
-use Rattle.std.proofs.Common.{ℕ, ◌+◌, ◌-◌, ◌*◌, ◌≤◌, List, length, ap, sym, subst, arith}
-use Rattle.std.proofs.Common.{inl, inr}
-use Rattle.std.proofs.Math.Nat.{mul-le-mul_left}
-use Rattle.regex_lite_syntax.specs.Text.{Text}
-use Rattle.regex_lite_engine.specs.declared.pikevm.cache.Cache.{Cache}
-use Rattle.regex_lite_engine.specs.Graph.Parts.{IsOwnPart, row_of}
+use Rattle.regex_lite_engine.proofs.Common.{ℕ, ◌+◌, ◌-◌, ◌*◌, ◌≤◌, List, length, sym, ap, subst}
+use Rattle.regex_lite_engine.proofs.Common.{inl, inr, arith, mul-le-mul_left, Text, row_of}
+use Rattle.regex_lite_engine.proofs.Common.{IsOwnPart, arrows_of, Thread, IsComing, IsBoundedBy}
+use Rattle.regex_lite_engine.proofs.Common.{Best, IsHere, Cache, Here}
 use Rattle.regex_lite_engine.specs.Graph.Places.{Place}
-use Rattle.regex_lite_engine.specs.Graph.Renumbered.{arrows_of}
-use Rattle.regex_lite_engine.specs.Search.Bounds.{IsBoundedBy}
 use Rattle.regex_lite_engine.specs.Pikevm.Searching.{IsFresh}
-use Rattle.regex_lite_engine.specs.Pikevm.Machine.{Thread}
 use Rattle.regex_lite_engine.specs.Pikevm.Passing.{GoesOnAt, IsUnderWay}
-use Rattle.regex_lite_engine.specs.Pikevm.Turns.{IsComing}
-use Rattle.regex_lite_engine.specs.Search.NumberedOutcomes.{Best}
-use Rattle.regex_lite_engine.specs.declared.search.here.Here.{Here}
-use Rattle.regex_lite_engine.specs.Search.Standing.{IsHere}
 use Rattle.regex_lite_engine.proofs.pikevm.EndLemmas.{bound_more}
 use Rattle.regex_lite_engine.proofs.search.SkipLemmas.{bound_later}
 use Rattle.regex_lite_engine.proofs.pikevm.ComingLemmas.{jumped, none_coming}

@@ -1,30 +1,21 @@
 -- What entering a place takes of what is left, and what it adds to frames and threads.
-use Rattle.std.proofs.Common.{rules, ◌≡◌, ℕ, zero, suc, ◌+◌, ◌<◌, ◌≤◌, ◌⊎◌, inl, inr}
-use Rattle.std.proofs.Common.{Bool, true, false, List, [], ◌∷◌, ◌++◌, length, set, map}
-use Rattle.std.proofs.Common.{slice_get, slice_index, slice_index_or, slice_set, sum_by}
-use Rattle.std.proofs.Common.{if◌then◌else◌, ◌==◌, Some, None}
-use Rattle.std.proofs.Common.{refl, sym, ap, subst, ◌∙◌, arith, length-append, length-set}
-use Rattle.std.proofs.lemmas.List.{length-map}
-use Rattle.std.proofs.lemmas.List.Sums.{sum_by-cons}
-use Rattle.std.proofs.lemmas.Bool.{cases_lt}
-use Rattle.std.proofs.lemmas.Bool.Decides.{nat_tests}
-use Rattle.regex_lite_syntax.specs.declared.class.ClassRange.{ClassRange}
-use Rattle.regex_lite_syntax.specs.Ranges.{in_ranges}
-use Rattle.regex_lite_syntax.specs.Sets.{Set, just}
-use Rattle.regex_lite_syntax.specs.Tree.Looks.{holds_between}
-use Rattle.regex_lite_engine.specs.Search.Beginnings.{Told}
+use Rattle.regex_lite_engine.proofs.Common.{◌≡◌, ℕ, zero, suc, ◌+◌, ◌<◌, ◌≤◌, Bool, true, false}
+use Rattle.regex_lite_engine.proofs.Common.{◌⊎◌, List, [], ◌∷◌, ◌++◌, map, length, set}
+use Rattle.regex_lite_engine.proofs.Common.{if◌then◌else◌, ◌==◌, slice_get, slice_index}
+use Rattle.regex_lite_engine.proofs.Common.{slice_index_or, slice_set, Some, None, sum_by, sym}
+use Rattle.regex_lite_engine.proofs.Common.{refl, ap, ◌∙◌, subst, inl, inr, arith, length-append}
+use Rattle.regex_lite_engine.proofs.Common.{length-set, rules, cases_lt, nat_tests, length-map}
+use Rattle.regex_lite_engine.proofs.Common.{sum_by-cons, in_ranges, Set, just, holds_between}
+use Rattle.regex_lite_engine.proofs.Common.{ClassRange, with_arrows, go, go_marking, go_reading}
+use Rattle.regex_lite_engine.proofs.Common.{one_of, reading_count, kept_back, arrow_count, place_of}
+use Rattle.regex_lite_engine.proofs.Common.{LeadBelow, LeadsBelow, reads, pushing, reading_on}
+use Rattle.regex_lite_engine.proofs.Common.{Thread, thread_at, ThreadsBelow, Told, Here}
 use Rattle.regex_lite_engine.specs.declared.nfa.place.Place as code
 use Rattle.regex_lite_engine.specs.declared.nfa.place.Place.TheVariants as stored
-use Rattle.regex_lite_engine.specs.declared.search.here.Here.{Here}
-use Rattle.regex_lite_engine.specs.Graph.Places.{Place, with_arrows, go, go_marking}
-use Rattle.regex_lite_engine.specs.Graph.Places.{go_reading, one_of}
-use Rattle.regex_lite_engine.specs.Graph.Places.{kept_back, reading_count}
-use Rattle.regex_lite_engine.specs.Graph.Renumbered.{arrow_count}
-use Rattle.regex_lite_engine.specs.Graph.Stored.{LeadBelow, LeadsBelow, place_of}
-use Rattle.regex_lite_engine.specs.Pikevm.Entering.{Enters, pushing, reading_on, reads}
-use Rattle.regex_lite_engine.specs.Pikevm.Machine.{Frame, explore, restore, State, Thread}
-use Rattle.regex_lite_engine.specs.Pikevm.Machine.{thread_at}
-use Rattle.regex_lite_engine.specs.Pikevm.Room.{left_of, explores, FramesBelow, ThreadsBelow}
+use Rattle.regex_lite_engine.specs.Graph.Places.{Place}
+use Rattle.regex_lite_engine.specs.Pikevm.Entering.{Enters}
+use Rattle.regex_lite_engine.specs.Pikevm.Machine.{Frame, explore, restore, State}
+use Rattle.regex_lite_engine.specs.Pikevm.Room.{left_of, explores, FramesBelow}
 use Rattle.regex_lite_engine.proofs.pikevm.EnterLemmas.{reads_none}
 use Rattle.regex_lite_engine.proofs.OptionLemmas.{not_there, same_some}
 use Rattle.regex_lite_engine.proofs.pikevm.ThreadLemmas.{at_end, at_front}

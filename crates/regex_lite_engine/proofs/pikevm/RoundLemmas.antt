@@ -1,21 +1,17 @@
 -- What a round begins with: the room that it needs, and the threads and starts that are followed.
-use Rattle.std.proofs.Common.{◌≡◌, ℕ, ◌+◌, ◌-◌, ◌^◌, ◌<◌, ◌≤◌, ◌⊎◌, inl, inr, List, [], ◌∷◌, ◌++◌}
-use Rattle.std.proofs.Common.{length, replicate, slice_index, slice_index_or, sum_by, Some, None}
-use Rattle.std.proofs.Common.{refl, sym, ap, subst, ◌∙◌, arith, length-append}
+use Rattle.regex_lite_engine.proofs.Common.{◌≡◌, ℕ, ◌+◌, ◌-◌, ◌^◌, ◌<◌, ◌≤◌, ◌⊎◌, List, [], ◌∷◌}
+use Rattle.regex_lite_engine.proofs.Common.{◌++◌, length, replicate, slice_index, slice_index_or}
+use Rattle.regex_lite_engine.proofs.Common.{Some, None, sum_by, sym, refl, ap, ◌∙◌, subst, inl, inr}
+use Rattle.regex_lite_engine.proofs.Common.{arith, length-append, cases_lt, sum_by-cons}
+use Rattle.regex_lite_engine.proofs.Common.{slice_get-get_or, reading_count, kept_back, arrow_count}
+use Rattle.regex_lite_engine.proofs.Common.{arrows_of, Thread, thread_at, BestState, ThreadsBelow}
+use Rattle.regex_lite_engine.proofs.Common.{begun, Begun, with_starts, Told, lone, Best, Start}
 use Rattle.std.specs.List.{All}
-use Rattle.std.proofs.lemmas.Bool.{cases_lt}
-use Rattle.std.proofs.lemmas.List.Sums.{sum_by-cons}
-use Rattle.std.proofs.lemmas.Option.{slice_get-get_or}
 use Rattle.regex_lite_engine.specs.declared.pikevm.walk.Walk.{Walk}
-use Rattle.regex_lite_engine.specs.Graph.Places.{Place, kept_back, reading_count}
-use Rattle.regex_lite_engine.specs.Graph.Renumbered.{arrow_count, arrows_of}
-use Rattle.regex_lite_engine.specs.Pikevm.Machine.{BestState, Thread, thread_at, State}
-use Rattle.regex_lite_engine.specs.declared.search.patterns.Start.{Start}
-use Rattle.regex_lite_engine.specs.Search.Beginnings.{Told}
-use Rattle.regex_lite_engine.specs.Pikevm.Room.{HasRoom, ThreadsBelow}
-use Rattle.regex_lite_engine.specs.Search.Counting.{lone}
-use Rattle.regex_lite_engine.specs.Pikevm.Turns.{begun, with_starts, Begun, IsReady}
-use Rattle.regex_lite_engine.specs.Search.NumberedOutcomes.{Best}
+use Rattle.regex_lite_engine.specs.Graph.Places.{Place}
+use Rattle.regex_lite_engine.specs.Pikevm.Machine.{State}
+use Rattle.regex_lite_engine.specs.Pikevm.Room.{HasRoom}
+use Rattle.regex_lite_engine.specs.Pikevm.Turns.{IsReady}
 use Rattle.regex_lite_engine.proofs.OptionLemmas.{not_there}
 use Rattle.regex_lite_engine.proofs.pikevm.RoomLemmas.{left_most}
 use Rattle.regex_lite_engine.proofs.pikevm.StateLemmas.{BeginsRound}

@@ -1,27 +1,22 @@
 -- The first position at which a match is complete.
-use Rattle.std.proofs.Common.{◌≡◌, refl, ℕ, suc, ◌+◌, ◌<◌, ◌≤◌, ◌⊎◌, inl, inr, Bool, true}
-use Rattle.std.proofs.Common.{false, IsTrue, List, [], ◌∷◌, ◌++◌, length, slice_get, Option}
-use Rattle.std.proofs.Common.{Some, None, if◌then◌else◌, sym, ap, subst, ◌∙◌, arith}
-use Rattle.std.proofs.lemmas.Bool.{cases_lt}
-use Rattle.regex_lite_syntax.specs.Text.{Text, before, after}
-use Rattle.regex_lite_syntax.specs.Tree.Looks.{holds_between}
+use Rattle.regex_lite_engine.proofs.Common.{◌≡◌, ℕ, suc, ◌+◌, ◌<◌, ◌≤◌, Bool, true, false, ◌⊎◌}
+use Rattle.regex_lite_engine.proofs.Common.{List, [], ◌∷◌, ◌++◌, length, if◌then◌else◌, IsTrue}
+use Rattle.regex_lite_engine.proofs.Common.{slice_get, Some, None, Option, sym, refl, ap, ◌∙◌}
+use Rattle.regex_lite_engine.proofs.Common.{subst, inl, inr, arith, cases_lt, Text, after}
+use Rattle.regex_lite_engine.proofs.Common.{holds_between, Condition, free, holding, reading, Arrow}
+use Rattle.regex_lite_engine.proofs.Common.{complete, with_arrows, behind, taken, arrived}
+use Rattle.regex_lite_engine.proofs.Common.{arrow_taken, step_from, Leads, NoneTwice, Thread}
+use Rattle.regex_lite_engine.proofs.Common.{IsComing, InStep, Told, IsDead, IsAnswered, place_with}
+use Rattle.regex_lite_engine.proofs.Common.{numbered_step, is_end, IsNumberedMatch, IsEntry}
+use Rattle.regex_lite_engine.proofs.Common.{StartsOf, IsMatchOfAny, Best, IsNumberedEndOf, Node}
+use Rattle.regex_lite_engine.proofs.Common.{Offer, offset, Row}
+use Rattle.regex_lite_syntax.specs.Text.{before}
 use Rattle.regex_lite_syntax.proofs.ListLemmas.{same_head, same_tail}
-use Rattle.regex_lite_engine.specs.Graph.Places.{Condition, Arrow, Place, complete}
-use Rattle.regex_lite_engine.specs.Graph.Places.{with_arrows, free, holding, reading, taken}
-use Rattle.regex_lite_engine.specs.Graph.Places.{behind, arrived, arrow_taken, step_from}
-use Rattle.regex_lite_engine.specs.Graph.Ways.{Leads, NoneTwice}
-use Rattle.regex_lite_engine.specs.Search.Offsets.{offset}
-use Rattle.regex_lite_engine.specs.Search.Beginnings.{Told}
-use Rattle.regex_lite_engine.specs.Search.Explored.{IsAnswered, IsDead}
-use Rattle.regex_lite_engine.specs.Search.NumberedList.{IsEntry, StartsOf, IsMatchOfAny}
-use Rattle.regex_lite_engine.specs.Search.NumberedAnswer.{place_with, numbered_step}
-use Rattle.regex_lite_engine.specs.Search.NumberedAnswer.{is_end, IsNumberedMatch}
-use Rattle.regex_lite_engine.specs.Search.Offers.{Offer, In, Node}
-use Rattle.regex_lite_engine.specs.Pikevm.Machine.{Thread}
-use Rattle.regex_lite_engine.specs.Search.Rows.{Row}
-use Rattle.regex_lite_engine.specs.Search.NumberedOutcomes.{IsNumberedEnd, IsNumberedEndOf, Best}
-use Rattle.regex_lite_engine.specs.Pikevm.Turns.{IsComing, EndsAt}
-use Rattle.regex_lite_engine.specs.Pikevm.Walking.{BestHolds, InStep}
+use Rattle.regex_lite_engine.specs.Graph.Places.{Place}
+use Rattle.regex_lite_engine.specs.Search.Offers.{In}
+use Rattle.regex_lite_engine.specs.Search.NumberedOutcomes.{IsNumberedEnd}
+use Rattle.regex_lite_engine.specs.Pikevm.Turns.{EndsAt}
+use Rattle.regex_lite_engine.specs.Pikevm.Walking.{BestHolds}
 use Rattle.regex_lite_engine.proofs.laws.several.OverListLemmas.{differ}
 use Rattle.regex_lite_engine.proofs.laws.search.RecordedWayLemmas.{traced, recorded_once}
 use Rattle.regex_lite_engine.proofs.pikevm.EndLemmas.{step_in_text}

@@ -1,5 +1,6 @@
 -- What a step of a search keeps of the working memory.
-use Rattle.std.proofs.Common.{◌≡◌, ◌≤◌, ℕ, ◌+◌, [], length, slice_set, ap, ◌∙◌, arith, length-set}
+use Rattle.regex_lite_engine.proofs.Common.{◌≡◌, ℕ, ◌+◌, ◌≤◌, [], length, slice_set, ap, ◌∙◌, arith}
+use Rattle.regex_lite_engine.proofs.Common.{length-set}
 use Rattle.regex_lite_engine.specs.Pikevm.Machine.{State}
 
 -- a round begins

@@ -1,18 +1,15 @@
 -- From thread to thread of a position.
-use Rattle.std.proofs.Common.{◌≡◌, ℕ, ◌+◌, ◌^◌, ◌<◌, Bool, List, [], ◌∷◌, ◌++◌, length}
-use Rattle.std.proofs.Common.{if◌then◌else◌, Some, refl, sym, ap, subst, arith}
-use Rattle.regex_lite_engine.specs.Search.Beginnings.{Told, untold}
-use Rattle.regex_lite_engine.specs.declared.search.here.Here.{Here}
+use Rattle.regex_lite_engine.proofs.Common.{◌≡◌, ℕ, ◌+◌, ◌^◌, ◌<◌, Bool, List, [], ◌∷◌, ◌++◌}
+use Rattle.regex_lite_engine.proofs.Common.{length, if◌then◌else◌, Some, sym, refl, ap, subst}
+use Rattle.regex_lite_engine.proofs.Common.{arith, kept_back, kept_back_of, Thread, Between}
+use Rattle.regex_lite_engine.proofs.Common.{StepsTo, WayTold, ThreadsHold, InStep, SearchAt, Told}
+use Rattle.regex_lite_engine.proofs.Common.{untold, Best, Node, Offer, Here}
 use Rattle.regex_lite_engine.specs.declared.pikevm.walk.Walk.{Walk}
-use Rattle.regex_lite_engine.specs.Graph.Places.{Place, kept_back, kept_back_of}
-use Rattle.regex_lite_engine.specs.Search.Offers.{Offer, Node}
-use Rattle.regex_lite_engine.specs.Pikevm.Machine.{explore, State, Thread}
+use Rattle.regex_lite_engine.specs.Graph.Places.{Place}
+use Rattle.regex_lite_engine.specs.Pikevm.Machine.{explore, State}
 use Rattle.regex_lite_engine.specs.Pikevm.Room.{with_frames, HasRoom, Explores, IsFit, GoesOn}
 use Rattle.regex_lite_engine.specs.Pikevm.Room.{WalksTo, due_tries}
-use Rattle.regex_lite_engine.specs.Pikevm.Turns.{Between, StepsTo}
-use Rattle.regex_lite_engine.specs.Pikevm.Walking.{IsWalking, SearchAt}
-use Rattle.regex_lite_engine.specs.Search.NumberedOutcomes.{Best}
-use Rattle.regex_lite_engine.specs.Pikevm.Walking.{InStep, ThreadsHold, WayTold}
+use Rattle.regex_lite_engine.specs.Pikevm.Walking.{IsWalking}
 use Rattle.regex_lite_engine.proofs.pikevm.RoomLemmas.{left_most}
 use Rattle.regex_lite_engine.proofs.pikevm.WalkLemmas.{walk_framed}
 use Rattle.regex_lite_engine.proofs.pikevm.WentLemmas.{walk_is}

@@ -1,12 +1,8 @@
 -- The threads of a list, and those of the starts after them.
-use Rattle.std.proofs.Common.{◌≡◌, ℕ, zero, suc, ◌-◌, ◌<◌, ◌≤◌, slice_get, Some, List}
-use Rattle.std.proofs.Common.{None, [], ◌∷◌, ◌++◌, length, replicate, refl, sym, ap, ◌∙◌}
-use Rattle.std.proofs.Common.{arith}
-use Rattle.regex_lite_engine.specs.declared.search.patterns.Start.{Start}
-use Rattle.regex_lite_engine.specs.Search.Beginnings.{Told}
-use Rattle.regex_lite_engine.specs.Pikevm.Machine.{State, Thread, thread_at}
-use Rattle.regex_lite_engine.specs.Search.Rows.{Row}
-use Rattle.regex_lite_engine.specs.Pikevm.Turns.{begun}
+use Rattle.regex_lite_engine.proofs.Common.{◌≡◌, ℕ, zero, suc, ◌-◌, ◌<◌, ◌≤◌, List, [], ◌∷◌, ◌++◌}
+use Rattle.regex_lite_engine.proofs.Common.{length, replicate, slice_get, Some, None, sym, refl, ap}
+use Rattle.regex_lite_engine.proofs.Common.{◌∙◌, arith, Thread, thread_at, begun, Told, Row, Start}
+use Rattle.regex_lite_engine.specs.Pikevm.Machine.{State}
 use Rattle.regex_lite_engine.proofs.OptionLemmas.{not_there, same_some}
 
 pub at_end : (ts : List Thread) (thread : Thread)

@@ -1,31 +1,18 @@
 -- From one position to the next: its threads are followed, and after them its starts.
-use Rattle.std.proofs.Common.{◌≡◌, ℕ, suc, ◌+◌, ◌<◌, ◌≤◌, ◌⊎◌, inl, inr, List, [], ◌∷◌, ◌++◌}
-use Rattle.std.proofs.Common.{length, slice_index, Option, Some, None, refl, sym, ap, subst, ◌∙◌}
-use Rattle.std.proofs.Common.{arith}
-use Rattle.std.proofs.lemmas.Bool.{cases_lt}
-use Rattle.regex_lite_engine.specs.declared.search.here.Here.{Here}
+use Rattle.regex_lite_engine.proofs.Common.{◌≡◌, ℕ, suc, ◌+◌, ◌<◌, ◌≤◌, ◌⊎◌, List, [], ◌∷◌, ◌++◌}
+use Rattle.regex_lite_engine.proofs.Common.{length, slice_index, Some, None, Option, sym, refl, ap}
+use Rattle.regex_lite_engine.proofs.Common.{◌∙◌, subst, inl, inr, arith, cases_lt, IsWithin}
+use Rattle.regex_lite_engine.proofs.Common.{IsOwnPart, Thread, Between, StepsTo, IsComing, begun}
+use Rattle.regex_lite_engine.proofs.Common.{Begun, ThreadsHold, SearchAt, Told, IsDead}
+use Rattle.regex_lite_engine.proofs.Common.{numbered_step, is_end, StartsOf, Best, Node, Offer}
+use Rattle.regex_lite_engine.proofs.Common.{StartsBelow, IsPreferred, Row, IsBlank, IsHere}
+use Rattle.regex_lite_engine.proofs.Common.{IsDeadAt, IsAmong, AreStartsAt, Here, Start}
 use Rattle.regex_lite_engine.specs.Graph.Places.{Place}
-use Rattle.regex_lite_engine.specs.Graph.Parts.{IsOwnPart, IsWithin}
-use Rattle.regex_lite_engine.specs.Search.Preference.{IsPreferred}
-use Rattle.regex_lite_engine.specs.Search.Explored.{IsDead}
 use Rattle.regex_lite_engine.specs.Search.Offers as offer
-use Rattle.regex_lite_engine.specs.Search.Offers.{Offer, StartsBelow, Node}
-use Rattle.regex_lite_engine.specs.Search.NumberedList.{StartsOf}
-use Rattle.regex_lite_engine.specs.Pikevm.Machine.{Thread, State}
-use Rattle.regex_lite_engine.specs.Search.Rows.{Row, IsBlank}
-use Rattle.regex_lite_engine.specs.Search.NumberedAnswer.{numbered_step, is_end}
-use Rattle.regex_lite_engine.specs.declared.search.patterns.Start.{Start}
-use Rattle.regex_lite_engine.specs.Search.Beginnings.{Told, TellsStart}
-use Rattle.regex_lite_engine.specs.Search.Standing.{IsHere}
-use Rattle.regex_lite_engine.specs.Pikevm.Turns.{begun}
-use Rattle.regex_lite_engine.specs.Search.Starts.{IsAmong, AreFrom}
-use Rattle.regex_lite_engine.specs.Pikevm.Turns.{Between, StepsTo, IsComing}
-use Rattle.regex_lite_engine.specs.Search.Starts.{AreStartsAt}
-use Rattle.regex_lite_engine.specs.Pikevm.Turns.{Begun, FromIs}
-use Rattle.regex_lite_engine.specs.Search.Starts.{IsDeadAt}
-use Rattle.regex_lite_engine.specs.Pikevm.Walking.{SearchAt}
-use Rattle.regex_lite_engine.specs.Search.NumberedOutcomes.{Best}
-use Rattle.regex_lite_engine.specs.Pikevm.Walking.{ThreadsHold}
+use Rattle.regex_lite_engine.specs.Pikevm.Machine.{State}
+use Rattle.regex_lite_engine.specs.Search.Beginnings.{TellsStart}
+use Rattle.regex_lite_engine.specs.Search.Starts.{AreFrom}
+use Rattle.regex_lite_engine.specs.Pikevm.Turns.{FromIs}
 use Rattle.regex_lite_engine.proofs.OptionLemmas.{not_there}
 use Rattle.regex_lite_engine.proofs.pikevm.OwnPartLemmas.{recorded_within}
 use Rattle.regex_lite_engine.proofs.pikevm.InStepNextLemmas as deep

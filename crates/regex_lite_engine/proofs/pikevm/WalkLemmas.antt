@@ -1,23 +1,16 @@
 -- The steps of a walk over one position of a haystack.
-use Rattle.std.proofs.Common.{◌≡◌, ℕ, suc, ◌<◌, ◌⊎◌, inl, inr, IsTrue, List}
-use Rattle.std.proofs.Common.{[], ◌∷◌, ◌++◌, length, slice_set, slice_index, Option, Some}
-use Rattle.std.proofs.Common.{None, refl, sym, ap, subst, ◌∙◌, arith, append_assoc, length-set}
-use Rattle.std.proofs.lemmas.List.{get_or-set_same, get_or-set_other}
-use Rattle.std.proofs.lemmas.Bool.{cases_eq}
-use Rattle.regex_lite_syntax.specs.Text.{Text}
-use Rattle.regex_lite_engine.specs.Search.Beginnings.{Told}
+use Rattle.regex_lite_engine.proofs.Common.{◌≡◌, ℕ, suc, ◌<◌, ◌⊎◌, List, [], ◌∷◌, ◌++◌, length}
+use Rattle.regex_lite_engine.proofs.Common.{IsTrue, slice_index, slice_set, Some, None, Option, sym}
+use Rattle.regex_lite_engine.proofs.Common.{refl, ap, ◌∙◌, subst, inl, inr, append_assoc, arith}
+use Rattle.regex_lite_engine.proofs.Common.{length-set, cases_eq, get_or-set_other, get_or-set_same}
+use Rattle.regex_lite_engine.proofs.Common.{Text, Thread, WayTold, ThreadsHold, InStep, SearchAt}
+use Rattle.regex_lite_engine.proofs.Common.{Told, Marks, marked, over, mark_of, marks_along}
+use Rattle.regex_lite_engine.proofs.Common.{place_with, numbered_step, is_end, StartsOf, Best, Node}
+use Rattle.regex_lite_engine.proofs.Common.{Offer, offset, HasSlots, Row}
 use Rattle.regex_lite_engine.specs.Graph.Places.{Place}
-use Rattle.regex_lite_engine.specs.Search.Marks.{Marks, marked, over, mark_of, marks_along}
-use Rattle.regex_lite_engine.specs.Search.NumberedList.{StartsOf}
-use Rattle.regex_lite_engine.specs.Search.Offers.{Offer, Node}
-use Rattle.regex_lite_engine.specs.Pikevm.Machine.{Frame, explore, Thread, State}
-use Rattle.regex_lite_engine.specs.Search.Rows.{Row}
-use Rattle.regex_lite_engine.specs.Search.NumberedAnswer.{place_with}
-use Rattle.regex_lite_engine.specs.Search.NumberedAnswer.{numbered_step, is_end}
-use Rattle.regex_lite_engine.specs.Search.Offsets.{offset, HasSlots}
-use Rattle.regex_lite_engine.specs.Pikevm.Walking.{WayTold, FramesHold}
-use Rattle.regex_lite_engine.specs.Pikevm.Walking.{ThreadsHold, InStep, SearchAt, IsWalking}
-use Rattle.regex_lite_engine.specs.Search.NumberedOutcomes.{Best}
+use Rattle.regex_lite_engine.specs.Pikevm.Machine.{Frame, explore, State}
+use Rattle.regex_lite_engine.specs.Pikevm.Walking.{FramesHold}
+use Rattle.regex_lite_engine.specs.Pikevm.Walking.{IsWalking}
 use Rattle.regex_lite_engine.proofs.laws.LeadsLemmas.{leads_append}
 use Rattle.regex_lite_engine.proofs.pikevm.InStepLemmas as deep
 use Rattle.regex_lite_engine.proofs.pikevm.InStepPassedLemmas.{in_step_passed}

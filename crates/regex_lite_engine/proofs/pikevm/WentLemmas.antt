@@ -1,28 +1,23 @@
 -- A frame was taken off: the memory still suffices, and the counts stay within what is left.
-use Rattle.std.proofs.Common.{◌≡◌, ℕ, ◌+◌, ◌<◌, ◌≤◌, ◌⊎◌, inl, inr, Bool}
-use Rattle.std.proofs.Common.{true, false, List, [], ◌∷◌, length, set, slice_get}
-use Rattle.std.proofs.Common.{slice_set, slice_index, if◌then◌else◌, Option, Some}
-use Rattle.std.proofs.Common.{unwrap_or, refl, sym, ap, subst, ◌∙◌, arith, length-set}
-use Rattle.std.proofs.lemmas.List.{set-get_or, get_or-set_same, get_or-set_other}
-use Rattle.std.proofs.lemmas.Bool.{cases_eq}
-use Rattle.regex_lite_engine.specs.Search.Beginnings.{Told}
+use Rattle.regex_lite_engine.proofs.Common.{◌≡◌, ℕ, ◌+◌, ◌<◌, ◌≤◌, Bool, true, false, ◌⊎◌, List, []}
+use Rattle.regex_lite_engine.proofs.Common.{◌∷◌, length, set, if◌then◌else◌, slice_get, slice_index}
+use Rattle.regex_lite_engine.proofs.Common.{slice_set, Some, Option, unwrap_or, sym, refl, ap, ◌∙◌}
+use Rattle.regex_lite_engine.proofs.Common.{subst, inl, inr, arith, length-set, cases_eq}
+use Rattle.regex_lite_engine.proofs.Common.{get_or-set_other, get_or-set_same, set-get_or}
+use Rattle.regex_lite_engine.proofs.Common.{with_arrows, reading_count, kept_back, arrow_count}
+use Rattle.regex_lite_engine.proofs.Common.{place_of, LeadsBelow, state_retold, Told, StepCounts}
+use Rattle.regex_lite_engine.proofs.Common.{lone, Row, Here}
 use Rattle.regex_lite_engine.specs.declared.nfa.place.Place as code
 use Rattle.regex_lite_engine.specs.declared.pikevm.enter.Onward.{Onward}
 use Rattle.regex_lite_engine.specs.declared.pikevm.enter.Onward.TheVariants as onward
 use Rattle.regex_lite_engine.specs.declared.pikevm.walk.Walk.{Walk}
-use Rattle.regex_lite_engine.specs.declared.search.here.Here.{Here}
-use Rattle.regex_lite_engine.specs.Graph.Places.{Place, with_arrows, kept_back, reading_count}
-use Rattle.regex_lite_engine.specs.Graph.Renumbered.{arrow_count}
-use Rattle.regex_lite_engine.specs.Graph.Stored.{LeadsBelow, place_of}
-use Rattle.regex_lite_engine.specs.Pikevm.Again.{state_retold}
+use Rattle.regex_lite_engine.specs.Graph.Places.{Place}
 use Rattle.regex_lite_engine.specs.Pikevm.Entering.{completes, Enters}
 use Rattle.regex_lite_engine.specs.Pikevm.Machine.{Frame, explore, restore}
-use Rattle.regex_lite_engine.specs.Search.Rows.{Row}
 use Rattle.regex_lite_engine.specs.Pikevm.Machine.{State, unwound}
 use Rattle.regex_lite_engine.specs.Pikevm.Room.{explores, work, FramesBelow}
-use Rattle.regex_lite_engine.specs.Search.Counting.{lone, weight}
+use Rattle.regex_lite_engine.specs.Search.Counting.{weight}
 use Rattle.regex_lite_engine.specs.Pikevm.Room.{IsFit, GoesOn, Went, HasRoom, with_frames}
-use Rattle.regex_lite_engine.specs.Search.Bounds.{StepCounts}
 use Rattle.regex_lite_engine.proofs.pikevm.AgainLemmas.{entered_again}
 use Rattle.regex_lite_engine.proofs.pikevm.EnterLemmas.{walk_enters}
 use Rattle.regex_lite_engine.proofs.pikevm.WalkLemmas.{marked_in, walk_framed, walk_seen}

@@ -1,9 +1,7 @@
 -- Bytes that are written one after another.
-use Rattle.std.proofs.Common.{rules, inl, inr, sym, ◌≡◌, ◌∷◌, [], ℕ, suc, true}
-use Rattle.std.proofs.Common.{List, length, slice_index, refl, arith}
-use Rattle.std.proofs.lemmas.Bool.{cases_eq}
-use Rattle.std.proofs.lemmas.Bool.Decides.{nat_tests}
-use Rattle.regex_lite_engine.specs.Prefilter.Bytes.{is_among, StandsBelow}
+use Rattle.regex_lite_engine.proofs.Common.{◌≡◌, ℕ, suc, true, List, [], ◌∷◌, length, slice_index}
+use Rattle.regex_lite_engine.proofs.Common.{sym, refl, inl, inr, arith, rules, cases_eq, nat_tests}
+use Rattle.regex_lite_engine.proofs.Common.{is_among, StandsBelow}
 
 -- eight bytes are those at the eight places
 pub eight : (bytes : List ℕ) → length bytes ≡ 8

@@ -1,7 +1,6 @@
 -- What was counted stays counted, from one step to the next, and what counts if a test fails.
-use Rattle.std.proofs.Common.{◌≡◌, ◌≤◌, ◌+◌, ℕ, Bool, true, false, if◌then◌else◌}
-use Rattle.std.proofs.Common.{ap, ◌∙◌, arith}
-use Rattle.regex_lite_engine.specs.Search.Bounds.{StepCounts, StaysCounted}
+use Rattle.regex_lite_engine.proofs.Common.{◌≡◌, ℕ, ◌+◌, ◌≤◌, Bool, true, false, if◌then◌else◌, ap}
+use Rattle.regex_lite_engine.proofs.Common.{◌∙◌, arith, StepCounts, StaysCounted}
 
 pub counted_at_first : (steps : StepCounts) → StaysCounted steps steps
 counted_at_first steps =

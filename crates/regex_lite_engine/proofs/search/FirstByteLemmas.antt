@@ -1,22 +1,15 @@
 -- What the bytes at a character say of matches that begin there, or at the next one.
-use Rattle.std.proofs.Common.{◌≡◌, ℕ, zero, suc, ◌+◌, ◌<◌, ◌≤◌, ◌⊎◌, inl, inr, Bool, true, false}
-use Rattle.std.proofs.Common.{IsTrue, List, [], ◌∷◌, ◌++◌, length, take, drop, sum_by, slice_get}
-use Rattle.std.proofs.Common.{slice_index, slice_index_or, nat_lt, if◌then◌else◌, ◌&&◌, ◌||◌}
-use Rattle.std.proofs.Common.{Option, Some, None, refl, sym, ap, subst, ◌∙◌, arith, length-drop}
-use Rattle.std.specs.Prelude.{IsUtf8, IsCharBoundary, chars, is_none}
-use Rattle.std.specs.Char.{len_utf8}
+use Rattle.regex_lite_engine.proofs.Common.{◌≡◌, ℕ, zero, suc, ◌+◌, ◌<◌, ◌≤◌, Bool, true, false}
+use Rattle.regex_lite_engine.proofs.Common.{◌&&◌, ◌||◌, ◌⊎◌, List, [], ◌∷◌, ◌++◌, length, take}
+use Rattle.regex_lite_engine.proofs.Common.{drop, is_none, if◌then◌else◌, IsTrue, nat_lt, slice_get}
+use Rattle.regex_lite_engine.proofs.Common.{slice_index, slice_index_or, Some, None, IsUtf8, sum_by}
+use Rattle.regex_lite_engine.proofs.Common.{Option, chars, IsCharBoundary, sym, refl, ap, ◌∙◌}
+use Rattle.regex_lite_engine.proofs.Common.{subst, inl, inr, arith, length-drop, cases_lt}
+use Rattle.regex_lite_engine.proofs.Common.{nat_tests, take_all, slice_get_within, encodes-chars}
+use Rattle.regex_lite_engine.proofs.Common.{len_utf8, Text, after, begins_with, stops_at, may_begin}
+use Rattle.regex_lite_engine.proofs.Common.{MayBegin, offset, IsHere, Starts, Here}
 use lib.Utf8.{encode, encodes}
-use Rattle.std.proofs.lemmas.Bool.{cases_lt}
-use Rattle.std.proofs.lemmas.Bool.Decides.{nat_tests}
-use Rattle.std.proofs.lemmas.List.{take_all}
-use Rattle.std.proofs.lemmas.Option.{slice_get_within}
-use Rattle.std.proofs.lemmas.Str.{encodes-chars, char_from_byte, byte_from_char}
-use Rattle.regex_lite_syntax.specs.Text.{Text, after}
-use Rattle.regex_lite_engine.specs.declared.prefilter.starts.Starts.{Starts}
-use Rattle.regex_lite_engine.specs.declared.search.here.Here.{Here}
-use Rattle.regex_lite_engine.specs.Prefilter.Starts.{begins_with, stops_at, may_begin, MayBegin}
-use Rattle.regex_lite_engine.specs.Search.Offsets.{offset}
-use Rattle.regex_lite_engine.specs.Search.Standing.{IsHere}
+use Rattle.std.proofs.lemmas.Str.{char_from_byte, byte_from_char}
 use Rattle.regex_lite_engine.proofs.OptionLemmas.{not_there, same_some}
 use Rattle.regex_lite_engine.proofs.OffsetLemmas.{length_encodes, offset_next, offset_less}
 use Rattle.regex_lite_engine.proofs.OffsetLemmas.{offset_most, rest_at, boundary_at}

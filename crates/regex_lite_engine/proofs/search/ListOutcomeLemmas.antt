@@ -1,29 +1,21 @@
 -- What a search for several patterns returns: the answer of the list, by offsets.
-use Rattle.std.proofs.Common.{◌≡◌, refl, ℕ, ◌+◌, ◌<◌, ◌≤◌, ◌↔◌, List, [], ◌∷◌, All, IsTrue}
-use Rattle.std.proofs.Common.{length, slice_index, Option, Some, None, ap, sym, subst, ◌∙◌, arith}
-use Rattle.std.specs.Prelude.{chars, is_some, option_map}
-use Rattle.std.proofs.lemmas.List.{length-map}
-use Rattle.std.proofs.lemmas.List.Sums.{sum_by-cons}
-use Rattle.std.proofs.lemmas.Option.{slice_get-get_or}
-use Rattle.regex_lite_syntax.specs.Tree.{Tree}
+use Rattle.regex_lite_engine.proofs.Common.{◌≡◌, ℕ, ◌+◌, ◌<◌, ◌≤◌, ◌↔◌, List, [], ◌∷◌, length}
+use Rattle.regex_lite_engine.proofs.Common.{is_some, IsTrue, slice_index, Some, None, All, Option}
+use Rattle.regex_lite_engine.proofs.Common.{option_map, chars, sym, refl, ap, ◌∙◌, subst, arith}
+use Rattle.regex_lite_engine.proofs.Common.{length-map, sum_by-cons, slice_get-get_or, Tree}
+use Rattle.regex_lite_engine.proofs.Common.{whole_arrows, arrows_of, HasTree, places_of_all}
+use Rattle.regex_lite_engine.proofs.Common.{arrows_of_all, tries_of_all, place_of, StoredList}
+use Rattle.regex_lite_engine.proofs.Common.{table_of_list, IsGraphOfList, IsMatchFrom, HasMatchFrom}
+use Rattle.regex_lite_engine.proofs.Common.{Found, AnyMatchesFrom, IsAnswerOfList, StepCounts}
+use Rattle.regex_lite_engine.proofs.Common.{IsBoundedBy, IsEntry, IsMatchOfAny, IsNumberedAnswerOf}
+use Rattle.regex_lite_engine.proofs.Common.{Best, IsBestOutcomeOf, IsNumberedEndOf, position_at}
+use Rattle.regex_lite_engine.proofs.Common.{search_start}
 use Rattle.regex_lite_engine.specs.declared.search.outcome.Outcome.{Outcome}
-use Rattle.regex_lite_engine.specs.Graph.PlaceCounts.{whole_arrows}
-use Rattle.regex_lite_engine.specs.Graph.Renumbered.{arrows_of}
-use Rattle.regex_lite_engine.specs.Graph.SideBySide.{AreRegular, arrows_of_all}
-use Rattle.regex_lite_engine.specs.Graph.SideBySide.{places_of_all, tries_of_all}
-use Rattle.regex_lite_engine.specs.Graph.Stored.{place_of}
-use Rattle.regex_lite_engine.specs.Graph.StoredList.{IsGraphOfList, StoredList, table_of_list}
-use Rattle.regex_lite_engine.specs.Search.Answer.{Found, HasMatchFrom, IsMatchFrom}
-use Rattle.regex_lite_engine.specs.Search.AnswerOfList.{AnyMatchesFrom, IsAnswerOfList}
-use Rattle.regex_lite_engine.specs.Graph.SideBySide.{HasTree}
-use Rattle.regex_lite_engine.specs.Search.Bounds.{IsBoundedBy, StepCounts}
-use Rattle.regex_lite_engine.specs.Search.Offsets.{position_at, search_start}
+use Rattle.regex_lite_engine.specs.Graph.SideBySide.{AreRegular}
 use Rattle.regex_lite_engine.specs.Search.Outcomes.{HasCostOfList, IsOutcomeOfList}
 use Rattle.regex_lite_engine.specs.Search.Outcomes.{IsSpanOutcomeOfList}
-use Rattle.regex_lite_engine.specs.Search.NumberedList.{IsEntry, IsMatchOfAny, IsNumberedAnswerOf}
-use Rattle.regex_lite_engine.specs.Search.NumberedOutcomes.{IsBestOutcomeOf, IsNumberedEndOf}
 use Rattle.regex_lite_engine.specs.Search.NumberedOutcomes.{numbered_at, numbered_told}
-use Rattle.regex_lite_engine.specs.Search.NumberedOutcomes.{with_origin_kept, Best}
+use Rattle.regex_lite_engine.specs.Search.NumberedOutcomes.{with_origin_kept}
 use Rattle.regex_lite_engine.proofs.laws.several.NumberedListLemmas.{any_numbered, any_of_numbers}
 use Rattle.regex_lite_engine.proofs.laws.several.NumberedListLemmas.{list_answer_of_numbers}
 use Rattle.regex_lite_engine.proofs.OptionLemmas.{same_some}

@@ -1,20 +1,11 @@
 -- Positions at which no match of several patterns can begin, and the bytes of their characters.
-use Rattle.std.proofs.Common.{◌≡◌, ℕ, zero, suc, ◌+◌, ◌<◌, ◌≤◌, ◌⊎◌, inl, inr}
-use Rattle.std.proofs.Common.{◌&&◌, ◌||◌, false, List, length, slice_get}
-use Rattle.std.proofs.Common.{slice_index, Some, sym, ap, subst, ◌∙◌, arith}
-use Rattle.std.specs.Prelude.{IsUtf8, chars}
-use Rattle.std.proofs.lemmas.Bool.{cases_lt}
-use Rattle.std.proofs.lemmas.Option.{slice_get_within}
-use Rattle.regex_lite_engine.specs.declared.prefilter.list_heads.ListHeads.{ListHeads}
-use Rattle.regex_lite_engine.specs.declared.search.here.Here.{Here}
+use Rattle.regex_lite_engine.proofs.Common.{◌≡◌, ℕ, zero, suc, ◌+◌, ◌<◌, ◌≤◌, false, ◌&&◌, ◌||◌}
+use Rattle.regex_lite_engine.proofs.Common.{◌⊎◌, List, length, slice_get, slice_index, Some, IsUtf8}
+use Rattle.regex_lite_engine.proofs.Common.{chars, sym, ap, ◌∙◌, subst, inl, inr, arith, cases_lt}
+use Rattle.regex_lite_engine.proofs.Common.{slice_get_within, may_start, IsPassedByAll, start_row}
+use Rattle.regex_lite_engine.proofs.Common.{has, MayBegin, offset, IsHere, AreDeadAt, PassesTo}
+use Rattle.regex_lite_engine.proofs.Common.{AreListHeadsOf, ListHeads, Here}
 use Rattle.regex_lite_engine.specs.Graph.Places.{Place}
-use Rattle.regex_lite_engine.specs.Prefilter.ListHeads.{may_start, IsPassedByAll}
-use Rattle.regex_lite_engine.specs.Prefilter.Rows.{has, start_row}
-use Rattle.regex_lite_engine.specs.Prefilter.Starts.{MayBegin}
-use Rattle.regex_lite_engine.specs.Search.Offsets.{offset}
-use Rattle.regex_lite_engine.specs.Search.Standing.{IsHere}
-use Rattle.regex_lite_engine.specs.Search.Starts.{AreListHeadsOf, PassesTo}
-use Rattle.regex_lite_engine.specs.Search.Starts.{AreDeadAt}
 use Rattle.regex_lite_engine.proofs.search.FirstByteLemmas.{ascii_there, begins_later, first_byte}
 use Rattle.regex_lite_engine.proofs.search.FirstByteLemmas.{inside, next_at, there}
 use Rattle.regex_lite_engine.proofs.OffsetLemmas.{offset_less}

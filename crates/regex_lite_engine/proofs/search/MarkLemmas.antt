@@ -1,16 +1,12 @@
 -- Rows of slots, and the marks that they hold.
-use Rattle.std.proofs.Common.{rules, ◌≡◌, ℕ, zero, suc, ◌≤◌, ◌⊎◌, inl, inr, Bool, true, false}
-use Rattle.std.proofs.Common.{List, [], ◌∷◌, ◌++◌, length, set, slice_get, if◌then◌else◌, replicate}
-use Rattle.std.proofs.Common.{◌==◌, Option, Some, None, option_map, refl, sym, ap, ◌∙◌, arith}
-use Rattle.std.specs.Option.{option_or}
-use Rattle.std.proofs.lemmas.Option.{slice_get_within}
-use Rattle.std.proofs.lemmas.Bool.Decides.{nat_tests}
-use Rattle.regex_lite_syntax.specs.Text.{Text}
-use Rattle.regex_lite_engine.specs.Graph.Places.{Place, step}
-use Rattle.regex_lite_engine.specs.Graph.Ways.{Leads}
-use Rattle.regex_lite_engine.specs.Search.Marks.{Marks, marked, over, mark_of, marks_along}
-use Rattle.regex_lite_engine.specs.Search.Rows.{Row, IsBlank}
-use Rattle.regex_lite_engine.specs.Search.Offsets.{offset, HasSlots}
+use Rattle.regex_lite_engine.proofs.Common.{◌≡◌, ℕ, zero, suc, ◌≤◌, Bool, true, false, ◌⊎◌, List}
+use Rattle.regex_lite_engine.proofs.Common.{[], ◌∷◌, ◌++◌, length, set, replicate, if◌then◌else◌}
+use Rattle.regex_lite_engine.proofs.Common.{◌==◌, slice_get, Some, None, Option, option_map, sym}
+use Rattle.regex_lite_engine.proofs.Common.{refl, ap, ◌∙◌, inl, inr, arith, rules, nat_tests}
+use Rattle.regex_lite_engine.proofs.Common.{slice_get_within, option_or, Text, step, Leads, Marks}
+use Rattle.regex_lite_engine.proofs.Common.{marked, over, mark_of, marks_along, offset, HasSlots}
+use Rattle.regex_lite_engine.proofs.Common.{Row, IsBlank}
+use Rattle.regex_lite_engine.specs.Graph.Places.{Place}
 use Rattle.regex_lite_engine.proofs.OptionLemmas.{not_there, same_some}
 
 -- an element of a list in which one was set

@@ -1,12 +1,9 @@
 -- The order of ways, and the ways that are still to be followed.
-use Rattle.std.proofs.Common.{◌≡◌, ℕ, zero, suc, ◌+◌, ◌<◌, ◌≤◌, ◌⊎◌, inl, inr, ⊎_elim, List, []}
-use Rattle.std.proofs.Common.{◌∷◌, ◌++◌, Option, Some, None, refl, sym, ap, subst, ◌∙◌, arith}
-use Rattle.std.proofs.Common.{append-nil}
-use Rattle.std.proofs.lemmas.Bool.{cases_lt, cases_order}
-use Rattle.regex_lite_engine.specs.Search.Preference.{IsPreferred}
-use Rattle.regex_lite_engine.specs.Search.Explored.{Before}
+use Rattle.regex_lite_engine.proofs.Common.{◌≡◌, ℕ, zero, suc, ◌+◌, ◌<◌, ◌≤◌, ◌⊎◌, List, [], ◌∷◌}
+use Rattle.regex_lite_engine.proofs.Common.{◌++◌, Some, None, Option, sym, refl, ap, ◌∙◌, subst}
+use Rattle.regex_lite_engine.proofs.Common.{inl, inr, ⊎_elim, append-nil, arith, cases_lt}
+use Rattle.regex_lite_engine.proofs.Common.{cases_order, Before, StartsBelow, IsPreferred}
 use Rattle.regex_lite_engine.specs.Search.Offers as offer
-use Rattle.regex_lite_engine.specs.Search.Offers.{StartsBelow}
 use Rattle.regex_lite_engine.proofs.OptionLemmas.{not_there}
 
 pub preferred_before : (a b : List ℕ) → IsPreferred a b → Before a b

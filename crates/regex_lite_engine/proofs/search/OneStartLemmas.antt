@@ -1,13 +1,10 @@
 -- The only start of a search for one pattern.
-use Rattle.std.proofs.Common.{◌≡◌, ◌<◌, ◌≤◌, ◌∷◌, [], ℕ, zero, suc, Bool, inl, inr, refl, sym}
-use Rattle.std.proofs.Common.{true, false, length, if◌then◌else◌, arith, List, slice_get, Some}
-use Rattle.std.proofs.Common.{subst}
+use Rattle.regex_lite_engine.proofs.Common.{◌≡◌, ℕ, zero, suc, ◌<◌, ◌≤◌, Bool, true, false, List}
+use Rattle.regex_lite_engine.proofs.Common.{[], ◌∷◌, length, if◌then◌else◌, slice_get, Some, sym}
+use Rattle.regex_lite_engine.proofs.Common.{refl, subst, inl, inr, arith, Text, IsEntry, IsDeadAt}
+use Rattle.regex_lite_engine.proofs.Common.{AreDeadAt, AreStartsAt, Start}
 use Rattle.std.specs.List.{All}
-use Rattle.regex_lite_syntax.specs.Text.{Text}
-use Rattle.regex_lite_engine.specs.declared.search.patterns.Start.{Start}
 use Rattle.regex_lite_engine.specs.Graph.Places.{Place}
-use Rattle.regex_lite_engine.specs.Search.NumberedList.{IsEntry}
-use Rattle.regex_lite_engine.specs.Search.Starts.{AreDeadAt, AreStartsAt, IsDeadAt}
 use Rattle.regex_lite_engine.proofs.OptionLemmas.{same_some}
 
 pub one_inside : (n : ℕ) (start : Start) (may : Bool) → start.place < n

@@ -1,24 +1,21 @@
 -- What a search returns: where it starts, that its counts fit, and the tree's answer by offsets.
-use Rattle.std.proofs.Common.{◌≡◌, ℕ, ◌+◌, ◌*◌, ◌^◌, ◌<◌, ◌≤◌, List, [], length}
-use Rattle.std.proofs.Common.{Option, Some, None, sym, subst, ◌∙◌, arith}
-use Rattle.std.specs.Prelude.{IsUtf8, chars, option_map}
-use Rattle.std.proofs.lemmas.List.{length-map}
-use Rattle.std.proofs.lemmas.Str.{encodes-chars, length-le-encodes}
-use Rattle.std.proofs.Math.Nat.{mul-le-mul_left, mul-le-mul_right}
-use Rattle.regex_lite_syntax.specs.Tree.{Tree}
-use Rattle.regex_lite_syntax.specs.Tree.Regular.{IsRegular}
+use Rattle.regex_lite_engine.proofs.Common.{◌≡◌, ℕ, ◌+◌, ◌*◌, ◌^◌, ◌<◌, ◌≤◌, List, [], length, Some}
+use Rattle.regex_lite_engine.proofs.Common.{None, IsUtf8, Option, option_map, chars, sym, ◌∙◌}
+use Rattle.regex_lite_engine.proofs.Common.{subst, arith, mul-le-mul_left, mul-le-mul_right}
+use Rattle.regex_lite_engine.proofs.Common.{length-map, encodes-chars, Tree, IsRegular}
+use Rattle.regex_lite_engine.proofs.Common.{whole_places, whole_arrows, arrows_of, StoredGraph}
+use Rattle.regex_lite_engine.proofs.Common.{place_of, table_of, IsAnswer, characters_left}
+use Rattle.regex_lite_engine.proofs.Common.{IsCountable, CanCount, Best, best_at, IsNumberedOutcome}
+use Rattle.regex_lite_engine.proofs.Common.{position_at, search_start, IsEndOutcome}
+use Rattle.std.proofs.lemmas.Str.{length-le-encodes}
 use Rattle.regex_lite_engine.specs.declared.search.outcome.Outcome.{Outcome}
-use Rattle.regex_lite_engine.specs.Graph.PlaceCounts.{whole_places, whole_arrows}
 use Rattle.regex_lite_engine.specs.Graph.Places.{Place}
-use Rattle.regex_lite_engine.specs.Graph.Renumbered.{IsGraphOf, arrows_of}
-use Rattle.regex_lite_engine.specs.Graph.Stored.{StoredGraph, place_of, table_of}
-use Rattle.regex_lite_engine.specs.Search.Bounds.{IsBounded, characters_left}
-use Rattle.regex_lite_engine.specs.Search.Answer.{IsAnswer, IsShortest}
-use Rattle.regex_lite_engine.specs.Search.Offsets.{position_at, search_start}
-use Rattle.regex_lite_engine.specs.Search.Outcomes.{IsSpanOutcome, IsOutcome, IsEndOutcome}
-use Rattle.regex_lite_engine.specs.Search.NumberedOutcomes.{IsNumberedOutcome, IsNumberedEnd}
-use Rattle.regex_lite_engine.specs.Search.NumberedOutcomes.{match_told, best_at, Best}
-use Rattle.regex_lite_engine.specs.Search.Counting.{IsCountable, CanCount}
+use Rattle.regex_lite_engine.specs.Graph.Renumbered.{IsGraphOf}
+use Rattle.regex_lite_engine.specs.Search.Bounds.{IsBounded}
+use Rattle.regex_lite_engine.specs.Search.Answer.{IsShortest}
+use Rattle.regex_lite_engine.specs.Search.Outcomes.{IsSpanOutcome, IsOutcome}
+use Rattle.regex_lite_engine.specs.Search.NumberedOutcomes.{IsNumberedEnd}
+use Rattle.regex_lite_engine.specs.Search.NumberedOutcomes.{match_told}
 use Rattle.regex_lite_engine.proofs.laws.search.NumberedAnswerLemmas.{
   answer_of_numbers,
   shortest_of_numbers,

@@ -1,9 +1,6 @@
 -- The ways that a walk has recorded, and one more.
-use Rattle.std.proofs.Common.{◌≡◌, ℕ, ◌⊎◌, inl, inr, Bool, List, Option}
-use Rattle.std.proofs.Common.{Some, None, refl, sym, ap, subst, ◌∙◌}
-use Rattle.std.proofs.lemmas.Bool.{cases_eq}
-use Rattle.regex_lite_engine.specs.Search.Explored.{IsGrown}
-use Rattle.regex_lite_engine.specs.Search.Offers.{Node}
+use Rattle.regex_lite_engine.proofs.Common.{◌≡◌, ℕ, Bool, ◌⊎◌, List, Some, None, Option, sym, refl}
+use Rattle.regex_lite_engine.proofs.Common.{ap, ◌∙◌, subst, inl, inr, cases_eq, IsGrown, Node}
 use Rattle.regex_lite_engine.proofs.OptionLemmas.{not_there, same_some}
 
 -- what is answered otherwise, or dead

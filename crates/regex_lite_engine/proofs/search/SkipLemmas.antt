@@ -1,19 +1,11 @@
 -- Positions that are passed over, since no match can begin there.
-use Rattle.std.proofs.Common.{◌≡◌, ℕ, zero, suc, ◌+◌, ◌*◌, ◌-◌, ◌<◌, ◌≤◌, ◌⊎◌, inl, inr, false}
-use Rattle.std.proofs.Common.{List, length, slice_index, Option, Some, None, sym, ap, subst, ◌∙◌}
-use Rattle.std.proofs.Common.{arith}
-use Rattle.std.specs.Prelude.{IsUtf8, MatchOption, chars}
-use Rattle.std.proofs.Math.Nat.{mul-le-mul_left}
-use Rattle.std.proofs.lemmas.Bool.{cases_lt, cases_eq}
-use Rattle.regex_lite_syntax.specs.Text.{Text}
-use Rattle.regex_lite_engine.specs.declared.prefilter.starts.Starts.{Starts}
-use Rattle.regex_lite_engine.specs.declared.search.here.Here.{Here}
-use Rattle.regex_lite_engine.specs.declared.prefilter.heads.Heads.{Heads}
-use Rattle.regex_lite_engine.specs.Prefilter.Heads.{IsCutOff, IsPassed, NeverBegins}
-use Rattle.regex_lite_engine.specs.Prefilter.Starts.{stops_at, MayBegin}
-use Rattle.regex_lite_engine.specs.Search.Offsets.{offset}
-use Rattle.regex_lite_engine.specs.Search.Standing.{IsHere}
-use Rattle.regex_lite_engine.specs.Search.Starts.{PassesTo}
+use Rattle.regex_lite_engine.proofs.Common.{◌≡◌, ℕ, zero, suc, ◌+◌, ◌-◌, ◌*◌, ◌<◌, ◌≤◌, false, ◌⊎◌}
+use Rattle.regex_lite_engine.proofs.Common.{List, length, slice_index, Some, None, IsUtf8, Option}
+use Rattle.regex_lite_engine.proofs.Common.{MatchOption, chars, sym, ap, ◌∙◌, subst, inl, inr}
+use Rattle.regex_lite_engine.proofs.Common.{arith, mul-le-mul_left, cases_eq, cases_lt, Text}
+use Rattle.regex_lite_engine.proofs.Common.{NeverBegins, IsPassed, stops_at, MayBegin, offset}
+use Rattle.regex_lite_engine.proofs.Common.{IsHere, PassesTo, Heads, Starts, Here}
+use Rattle.regex_lite_engine.specs.Prefilter.Heads.{IsCutOff}
 use Rattle.regex_lite_engine.proofs.OffsetLemmas.{offset_less}
 use Rattle.regex_lite_engine.proofs.search.FirstByteLemmas.{begins_later, first_byte, second_off}
 use Rattle.regex_lite_engine.proofs.search.FirstByteLemmas.{there, whole}

@@ -1,19 +1,18 @@
 -- The bits of maps of ASCII characters.
-use Rattle.std.proofs.Common.{◌≡◌, ℕ, zero, suc, Bool, true, false, IsTrue, refl, List}
-use Rattle.std.proofs.Common.{length, take, get_or, ◌+◌, ◌-◌, ◌*◌, ◌/◌, ◌%◌, ◌^◌, ◌<◌, ◌||◌}
-use Rattle.std.proofs.Common.{◌==◌, [], ◌∷◌, bit_and, bit_or, ap, sym, ◌∙◌, arith, inl, inr}
+use Rattle.regex_lite_syntax.proofs.Common.{◌≡◌, ℕ, zero, suc, ◌+◌, ◌-◌, ◌*◌, ◌/◌, ◌%◌, ◌^◌, ◌<◌}
+use Rattle.regex_lite_syntax.proofs.Common.{Bool, true, false, ◌||◌, List, [], ◌∷◌, length, get_or}
+use Rattle.regex_lite_syntax.proofs.Common.{take, IsTrue, ◌==◌, sym, refl, ap, ◌∙◌, inl, inr, arith}
+use Rattle.regex_lite_syntax.proofs.Common.{nat_tests, in_ranges, next_character, AreRuns, span}
+use Rattle.regex_lite_syntax.proofs.Common.{ClassRange}
+use Rattle.std.proofs.Common.{bit_and, bit_or}
 use Rattle.std.specs.Int.{bit_at}
 use Rattle.std.specs.Char.{is_ascii}
 use Rattle.std.proofs.lemmas.Bool.{cases_lt}
-use Rattle.std.proofs.lemmas.Bool.Decides.{nat_tests}
 use Rattle.std.proofs.lemmas.Nat.{shr-shr}
 use Rattle.std.proofs.lemmas.Nat.Bits.{ones_shl, ones_shr, bit_at_and, bit_at_or}
 use Rattle.std.proofs.lemmas.Nat.Bits.{bit_at-lt, bit_at_cat_low, bit_at_mask_inside}
 use Rattle.std.proofs.lemmas.Nat.Bits.{bit_at_mask_below, bit_at_ones, bit_at_ones_above}
 use Rattle.regex_lite_syntax.specs.Characters.{is_between}
-use Rattle.regex_lite_syntax.specs.declared.class.ClassRange.{ClassRange}
-use Rattle.regex_lite_syntax.specs.Sets.{span}
-use Rattle.regex_lite_syntax.specs.Ranges.{in_ranges, next_character, AreRuns}
 use Rattle.regex_lite_syntax.proofs.RangeLemmas.{next_above, runs_from}
 use Rattle.regex_lite_syntax.specs.AsciiMaps.{bit_of_words}
 

@@ -1,13 +1,11 @@
 -- The characters between ranges.
-use Rattle.std.proofs.Common.{◌≡◌, sym, ap, ℕ, ◌<◌, ◌≤◌, Bool, not, ◌&&◌, ◌||◌, List, []}
-use Rattle.std.proofs.Common.{◌∷◌, IsTrue, nat_le, nat_lt, arith, Option, Some, None}
+use Rattle.regex_lite_syntax.proofs.Common.{◌≡◌, ℕ, ◌<◌, ◌≤◌, Bool, ◌&&◌, ◌||◌, List, [], ◌∷◌}
+use Rattle.regex_lite_syntax.proofs.Common.{IsTrue, nat_lt, nat_le, Some, None, Option, sym, ap}
+use Rattle.regex_lite_syntax.proofs.Common.{arith, nat_tests, is_character, start_of}
+use Rattle.regex_lite_syntax.proofs.Common.{next_character, AreRuns, Set, span, ClassRange}
+use Rattle.std.proofs.Common.{not}
 use Rattle.std.specs.Option.{MatchOption}
-use Rattle.std.proofs.lemmas.Bool.Decides.{nat_tests}
-use Rattle.regex_lite_syntax.specs.Characters.{is_character}
-use Rattle.regex_lite_syntax.specs.Sets.{Set, span}
-use Rattle.regex_lite_syntax.specs.declared.class.ClassRange.{ClassRange}
-use Rattle.regex_lite_syntax.specs.Ranges.{AreRuns, next_character}
-use Rattle.regex_lite_syntax.specs.Parser.RangeEnds.{span_of, start_of}
+use Rattle.regex_lite_syntax.specs.Parser.RangeEnds.{span_of}
 use Rattle.regex_lite_syntax.proofs.RangeLemmas.{next_above, next_least}
 
 -- the characters from the one up to before the other

@@ -1,15 +1,13 @@
 -- What a range after the last run adds, joined to it or apart.
-use Rattle.std.proofs.Common.{◌≡◌, sym, ◌∙◌, ap, subst, ℕ, ◌+◌, ◌-◌, ◌<◌, ◌≤◌}
-use Rattle.std.proofs.Common.{◌||◌, List, [], ◌∷◌, ◌++◌, IsTrue, arith, add-zero}
-use Rattle.std.proofs.Common.{All, nat_cmp, length, take, drop, get_or, slice_set}
+use Rattle.regex_lite_syntax.proofs.Common.{◌≡◌, ℕ, ◌+◌, ◌-◌, ◌<◌, ◌≤◌, ◌||◌, List, [], ◌∷◌, ◌++◌}
+use Rattle.regex_lite_syntax.proofs.Common.{length, get_or, take, drop, IsTrue, All, sym, ap, ◌∙◌}
+use Rattle.regex_lite_syntax.proofs.Common.{subst, arith, nat_tests, get_or-drop, is_character}
+use Rattle.regex_lite_syntax.proofs.Common.{in_ranges, next_character, AreRuns, span, ClassRange}
+use Rattle.std.proofs.Common.{add-zero}
+use Rattle.std.proofs.Common.{nat_cmp, slice_set}
 use Rattle.std.specs.Ordering.{ord_max}
-use Rattle.std.proofs.lemmas.Bool.Decides.{nat_tests}
 use Rattle.std.proofs.lemmas.Grind.{common_steps}
-use Rattle.std.proofs.lemmas.List.{take_more, take_more_set, get_or-drop, drop-drop}
-use Rattle.regex_lite_syntax.specs.Characters.{is_character}
-use Rattle.regex_lite_syntax.specs.Sets.{span}
-use Rattle.regex_lite_syntax.specs.declared.class.ClassRange.{ClassRange}
-use Rattle.regex_lite_syntax.specs.Ranges.{in_ranges, next_character, AreRuns}
+use Rattle.std.proofs.lemmas.List.{take_more, take_more_set, drop-drop}
 use Rattle.regex_lite_syntax.proofs.RangeLemmas.{next_least, in_ranges-push}
 
 pub max_above : (a b : ℕ) → a ≤ ord_max nat_cmp a b

@@ -1,11 +1,10 @@
 -- The one run that may hold a character, among runs in order.
-use Rattle.std.proofs.Common.{◌≡◌, refl, ℕ, zero, suc, ◌+◌, ◌<◌, ◌≤◌, true, false}
-use Rattle.std.proofs.Common.{List, [], ◌∷◌, IsTrue, arith, length, get_or, ltb, leb}
+use Rattle.regex_lite_syntax.proofs.Common.{◌≡◌, ℕ, zero, suc, ◌+◌, ◌<◌, ◌≤◌, true, false, List, []}
+use Rattle.regex_lite_syntax.proofs.Common.{◌∷◌, length, get_or, IsTrue, refl, arith, nat_tests}
+use Rattle.regex_lite_syntax.proofs.Common.{is_character, in_ranges, next_character, AreRuns}
+use Rattle.regex_lite_syntax.proofs.Common.{ClassRange}
+use Rattle.std.proofs.Common.{ltb, leb}
 use Rattle.std.specs.List.Sorted.{IsNonDecreasingBy, IsPartitionPoint}
-use Rattle.std.proofs.lemmas.Bool.Decides.{nat_tests}
-use Rattle.regex_lite_syntax.specs.Characters.{is_character}
-use Rattle.regex_lite_syntax.specs.declared.class.ClassRange.{ClassRange}
-use Rattle.regex_lite_syntax.specs.Ranges.{in_ranges, next_character, AreRuns}
 use Rattle.regex_lite_syntax.proofs.RangeLemmas.{next_above, runs_from}
 
 -- runs end no sooner than they may start

@@ -1,17 +1,13 @@
 -- An item that is no group is read in one way.
-use Rattle.std.proofs.Common.{◌≡◌, ◌≢◌, refl, sym, ◌∙◌, ap, subst, ℕ}
-use Rattle.std.proofs.Common.{Bool, true, false, ◌&&◌, ◌∷◌, MatchBool}
-use Rattle.std.proofs.Common.{if◌then◌else◌}
-use Rattle.std.proofs.lemmas.Bool.{both_ways, ne_eqb}
-use Rattle.regex_lite_syntax.specs.declared.flags.Flags.{Flags}
-use Rattle.regex_lite_syntax.specs.Text.{Text, the}
-use Rattle.regex_lite_syntax.specs.Characters.{is_letter}
-use Rattle.regex_lite_syntax.specs.Sets.{Set, just, case_closure}
-use Rattle.regex_lite_syntax.specs.Grammar.Escapes.{Primitive, one, some_of, look_at, Escape}
-use Rattle.regex_lite_syntax.specs.Tree.{Tree, character, class}
-use Rattle.regex_lite_syntax.specs.Grammar.Atoms.{is_literal, AtomKind, single, escape}
-use Rattle.regex_lite_syntax.specs.Grammar.Atoms.{bracketed, no_atom, atom_kind, IsClassOf}
-use Rattle.regex_lite_syntax.specs.Grammar.Atoms.{PrimitiveTree, AtomFrom, Atom}
+use Rattle.regex_lite_syntax.proofs.Common.{◌≡◌, ℕ, Bool, true, false, ◌&&◌, ◌≢◌, ◌∷◌}
+use Rattle.regex_lite_syntax.proofs.Common.{if◌then◌else◌, MatchBool, sym, refl, ap, ◌∙◌, subst}
+use Rattle.regex_lite_syntax.proofs.Common.{both_ways, ne_eqb, is_letter, is_literal, AtomKind}
+use Rattle.regex_lite_syntax.proofs.Common.{single, escape, bracketed, no_atom, atom_kind}
+use Rattle.regex_lite_syntax.proofs.Common.{IsClassOf, PrimitiveTree, AtomFrom, Atom, one, some_of}
+use Rattle.regex_lite_syntax.proofs.Common.{look_at, Escape, Set, just, case_closure, Text, the}
+use Rattle.regex_lite_syntax.proofs.Common.{Tree, class, Flags}
+use Rattle.regex_lite_syntax.specs.Grammar.Escapes.{Primitive}
+use Rattle.regex_lite_syntax.specs.Tree.{character}
 use Rattle.regex_lite_syntax.proofs.ListLemmas.{same_head, same_tail}
 use Rattle.regex_lite_syntax.proofs.grammar.EscapeLemmas.{escape_once}
 use Rattle.regex_lite_syntax.proofs.grammar.ClassLemmas.{class_once}

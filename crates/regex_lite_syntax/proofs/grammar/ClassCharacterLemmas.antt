@@ -1,19 +1,17 @@
 -- What an escape or a bracketed class stands for are characters, where its text has no others.
-use Rattle.std.proofs.Common.{refl, sym, subst, ℕ, Bool, true, false, IsTrue, arith}
-use Rattle.std.proofs.Common.{List, [], ◌∷◌, rules}
-use Rattle.std.proofs.lemmas.Bool.{and_parts}
-use Rattle.std.proofs.lemmas.Bool.Decides.{nat_tests}
-use Rattle.regex_lite_syntax.specs.Text.{Text, the}
-use Rattle.regex_lite_syntax.specs.Characters.{is_character, AreCharacters}
-use Rattle.regex_lite_syntax.specs.Sets.{Set, just, union, case_closure}
-use Rattle.regex_lite_syntax.specs.NamedSets.{members, digit, space, word}
-use Rattle.regex_lite_syntax.specs.Grammar.Escapes.{Primitive, one, some_of, look_at, EscapeKind}
-use Rattle.regex_lite_syntax.specs.Grammar.Escapes.{gives, word_boundary, hexadecimal, refused}
-use Rattle.regex_lite_syntax.specs.Grammar.Escapes.{is_escapable, escape_kind, Hexadecimal, fixed}
-use Rattle.regex_lite_syntax.specs.Grammar.Escapes.{braced, EscapeFrom, Escape}
-use Rattle.regex_lite_syntax.specs.Grammar.Classes.{ClassElement, literal, escaped, ClassItem}
-use Rattle.regex_lite_syntax.specs.Grammar.Classes.{named_class, character, escaped_set, range}
-use Rattle.regex_lite_syntax.specs.Grammar.Classes.{ClassItems, only_if, class_set, BracketedClass}
+use Rattle.regex_lite_syntax.proofs.Common.{ℕ, Bool, true, false, List, [], ◌∷◌, IsTrue, sym, refl}
+use Rattle.regex_lite_syntax.proofs.Common.{subst, arith, rules, and_parts, nat_tests, is_character}
+use Rattle.regex_lite_syntax.proofs.Common.{AreCharacters, ClassElement, ClassItem, named_class}
+use Rattle.regex_lite_syntax.proofs.Common.{escaped_set, range, ClassItems, only_if, class_set}
+use Rattle.regex_lite_syntax.proofs.Common.{BracketedClass, one, some_of, look_at, EscapeKind}
+use Rattle.regex_lite_syntax.proofs.Common.{gives, word_boundary, hexadecimal, refused, escape_kind}
+use Rattle.regex_lite_syntax.proofs.Common.{Hexadecimal, fixed, braced, EscapeFrom, Escape, members}
+use Rattle.regex_lite_syntax.proofs.Common.{word, Set, just, union, case_closure, Text, the}
+use Rattle.regex_lite_syntax.specs.NamedSets.{digit, space}
+use Rattle.regex_lite_syntax.specs.Grammar.Escapes.{Primitive}
+use Rattle.regex_lite_syntax.specs.Grammar.Escapes.{is_escapable}
+use Rattle.regex_lite_syntax.specs.Grammar.Classes.{literal, escaped}
+use Rattle.regex_lite_syntax.specs.Grammar.Classes.{character}
 use Rattle.regex_lite_syntax.proofs.CharacterSetLemmas.{HoldsCharacters, just_character}
 use Rattle.regex_lite_syntax.proofs.CharacterSetLemmas.{span_characters, complement_characters}
 use Rattle.regex_lite_syntax.proofs.CharacterSetLemmas.{named_characters, named_or_others}

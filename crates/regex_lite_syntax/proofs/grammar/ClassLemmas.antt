@@ -1,21 +1,17 @@
 -- A bracketed class is read in one way.
-use Rattle.std.proofs.Common.{◌≡◌, refl, sym, ◌∙◌, ap, subst, ℕ, zero, suc, Bool, true, false}
-use Rattle.std.proofs.Common.{List, [], ◌∷◌, ◌++◌, Some, codes, arith, if◌then◌else◌, nat_lt}
-use Rattle.std.proofs.lemmas.Bool.{and_parts, both_ways}
-use Rattle.std.specs.List.{AllPass}
-use Rattle.std.proofs.lemmas.List.Sums.{list_all-from_AllPass}
-use Rattle.regex_lite_syntax.specs.Text.{Text, Begins, the}
-use Rattle.regex_lite_syntax.specs.Characters.{is_lower}
-use Rattle.regex_lite_syntax.specs.Grammar.Gaps.{WholeGap}
-use Rattle.regex_lite_syntax.specs.Sets.{Set, just, span, complement}
-use Rattle.regex_lite_syntax.specs.NamedSets.{SetName, members, set_named}
-use Rattle.regex_lite_syntax.specs.Grammar.Escapes.{Primitive, one, some_of, Escape}
-use Rattle.regex_lite_syntax.specs.Grammar.Classes.{ClassElement, literal, escaped, RangeFollows}
-use Rattle.regex_lite_syntax.specs.Grammar.Classes.{BeginsItem, NamedClass, ClassItem, named_class}
-use Rattle.regex_lite_syntax.specs.Grammar.Classes.{character, escaped_set, range, Takes, takes}
-use Rattle.regex_lite_syntax.specs.Grammar.Classes.{leaves, Dashes, FirstBracket, ClassOpening}
-use Rattle.regex_lite_syntax.specs.Grammar.Classes.{ClassItems, only_if, class_set, BracketedClass}
-use Rattle.regex_lite_syntax.specs.Parser.ClassReadings.{Lacks}
+use Rattle.regex_lite_syntax.proofs.Common.{◌≡◌, ℕ, zero, suc, Bool, true, false, List, [], ◌∷◌}
+use Rattle.regex_lite_syntax.proofs.Common.{◌++◌, if◌then◌else◌, nat_lt, Some, codes, sym, refl, ap}
+use Rattle.regex_lite_syntax.proofs.Common.{◌∙◌, subst, arith, and_parts, both_ways}
+use Rattle.regex_lite_syntax.proofs.Common.{list_all-from_AllPass, AllPass, is_lower, ClassElement}
+use Rattle.regex_lite_syntax.proofs.Common.{RangeFollows, BeginsItem, NamedClass, ClassItem}
+use Rattle.regex_lite_syntax.proofs.Common.{named_class, escaped_set, range, Takes, takes, leaves}
+use Rattle.regex_lite_syntax.proofs.Common.{Dashes, FirstBracket, ClassOpening, ClassItems, only_if}
+use Rattle.regex_lite_syntax.proofs.Common.{class_set, BracketedClass, one, some_of, Escape}
+use Rattle.regex_lite_syntax.proofs.Common.{WholeGap, SetName, members, set_named, Lacks, Set, just}
+use Rattle.regex_lite_syntax.proofs.Common.{span, complement, Text, Begins, the}
+use Rattle.regex_lite_syntax.specs.Grammar.Escapes.{Primitive}
+use Rattle.regex_lite_syntax.specs.Grammar.Classes.{literal, escaped}
+use Rattle.regex_lite_syntax.specs.Grammar.Classes.{character}
 use Rattle.regex_lite_syntax.proofs.ListLemmas.{same_head, same_tail}
 use Rattle.regex_lite_syntax.proofs.grammar.GapLemmas.{whole_gap_once}
 use Rattle.regex_lite_syntax.proofs.grammar.EscapeLemmas.{escape_once}

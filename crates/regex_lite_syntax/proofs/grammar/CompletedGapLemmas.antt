@@ -1,11 +1,7 @@
 -- What completes a part of a pattern that ends inside a gap.
-use Rattle.std.proofs.Common.{refl, sym, subst, ℕ, Bool, [], ◌∷◌, ◌++◌, IsTrue}
-use Rattle.std.proofs.Common.{append_assoc}
-use Rattle.std.specs.List.{list_all}
-use Rattle.std.proofs.lemmas.Bool.{and_parts}
-use Rattle.regex_lite_syntax.specs.Text.{Text}
-use Rattle.regex_lite_syntax.specs.Characters.{is_character, AreCharacters}
-use Rattle.regex_lite_syntax.specs.Grammar.Gaps.{Gap, Spaced}
+use Rattle.regex_lite_syntax.proofs.Common.{ℕ, Bool, [], ◌∷◌, ◌++◌, IsTrue, sym, refl, subst}
+use Rattle.regex_lite_syntax.proofs.Common.{append_assoc, and_parts, list_all, is_character}
+use Rattle.regex_lite_syntax.proofs.Common.{AreCharacters, Gap, Spaced, Text}
 use Rattle.regex_lite_syntax.proofs.grammar.GapLemmas.{empty_gap}
 use Rattle.regex_lite_syntax.proofs.grammar.ResumedGapLemmas.{resumed, gap_resumed}
 

@@ -1,11 +1,8 @@
 -- Counted operators are read in one way, and their bounds are in order.
-use Rattle.std.proofs.Common.{inl, inr, ◌≡◌, refl, sym, ◌∙◌, ap, subst, ℕ}
-use Rattle.std.proofs.Common.{◌≤◌, Bool, ◌∷◌, Option, Some, None, arith}
-use Rattle.regex_lite_syntax.specs.Text.{Text, Begins, the}
-use Rattle.regex_lite_syntax.specs.Grammar.Gaps.{Gap, WholeGap}
-use Rattle.regex_lite_syntax.specs.Grammar.Counted.{Number, EndsNumber, Limit, Counted}
-use Rattle.regex_lite_syntax.specs.Grammar.Counted.{exactly, at_least, between}
-use Rattle.regex_lite_syntax.specs.Parser.Readings.{IsNotBelow}
+use Rattle.regex_lite_syntax.proofs.Common.{◌≡◌, ℕ, ◌≤◌, Bool, ◌∷◌, Some, None, Option, sym, refl}
+use Rattle.regex_lite_syntax.proofs.Common.{ap, ◌∙◌, subst, inl, inr, arith, Number, EndsNumber}
+use Rattle.regex_lite_syntax.proofs.Common.{Limit, Counted, exactly, at_least, between, Gap}
+use Rattle.regex_lite_syntax.proofs.Common.{WholeGap, IsNotBelow, Text, Begins, the}
 use Rattle.regex_lite_syntax.proofs.ListLemmas.{same_head, same_tail}
 use Rattle.regex_lite_syntax.proofs.grammar.GapLemmas.{empty_gap, gap_once}
 use Rattle.regex_lite_syntax.proofs.grammar.SpacedLemmas.{printed_ends, whole_gap_leads}

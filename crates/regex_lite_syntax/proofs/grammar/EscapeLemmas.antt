@@ -1,38 +1,13 @@
 -- An escape is read in one way.
-use Rattle.std.proofs.Common.{◌≡◌, refl, sym, ◌∙◌, ap, subst, ℕ, ◌<◌, length}
-use Rattle.std.proofs.Common.{Bool, false, [], ◌∷◌, IsTrue, Some, arith, rules}
-use Rattle.std.proofs.lemmas.Bool.{both_ways}
-use Rattle.regex_lite_syntax.specs.declared.hir.look.Look.{Look}
-use Rattle.regex_lite_syntax.specs.Text.{Text, Begins, the}
-use Rattle.regex_lite_syntax.specs.Characters.{is_hex_digit, number_of}
-use Rattle.regex_lite_syntax.specs.Grammar.Gaps.{Gap, WholeGap, Spaced}
-use Rattle.regex_lite_syntax.specs.Grammar.Escapes.{
-  Primitive,
-  one,
-  look_at,
-  EscapeKind,
-  gives,
-  word_boundary,
-  hexadecimal,
-  refused,
-  escape_kind,
-  FixedDigits,
-  BracedDigits,
-  Hexadecimal,
-  fixed,
-  braced,
-  is_boundary_character,
-  boundary_named,
-  BoundaryName,
-  BeginsCount,
-  WordBoundary,
-  alone,
-  before_count,
-  named,
-  EscapeFrom,
-  Escape,
-}
-use Rattle.regex_lite_syntax.specs.Parser.ClassReadings.{Lacks}
+use Rattle.regex_lite_syntax.proofs.Common.{◌≡◌, ℕ, ◌<◌, Bool, false, [], ◌∷◌, length, IsTrue, Some}
+use Rattle.regex_lite_syntax.proofs.Common.{sym, refl, ap, ◌∙◌, subst, arith, rules, both_ways}
+use Rattle.regex_lite_syntax.proofs.Common.{is_hex_digit, number_of, one, look_at, EscapeKind}
+use Rattle.regex_lite_syntax.proofs.Common.{gives, word_boundary, hexadecimal, refused, escape_kind}
+use Rattle.regex_lite_syntax.proofs.Common.{FixedDigits, BracedDigits, Hexadecimal, fixed, braced}
+use Rattle.regex_lite_syntax.proofs.Common.{is_boundary_character, boundary_named, BoundaryName}
+use Rattle.regex_lite_syntax.proofs.Common.{WordBoundary, alone, before_count, EscapeFrom, Escape}
+use Rattle.regex_lite_syntax.proofs.Common.{Gap, WholeGap, Spaced, Lacks, Text, Begins, the, Look}
+use Rattle.regex_lite_syntax.specs.Grammar.Escapes.{Primitive, BeginsCount, named}
 use Rattle.regex_lite_syntax.proofs.ListLemmas.{same_head, same_tail}
 use Rattle.regex_lite_syntax.proofs.grammar.GapLemmas.{gap_once}
 use Rattle.regex_lite_syntax.proofs.grammar.SpacedLemmas.{printed_ends, hex_digits_end}

@@ -1,21 +1,19 @@
 -- What the grammar makes of an escaped text.
-use Rattle.std.proofs.Common.{◌≡◌, refl, sym, ◌∙◌, ap, subst, cond, ℕ, Bool, true, false, not}
-use Rattle.std.proofs.Common.{◌&&◌, ◌==◌, List, [], ◌∷◌, ◌++◌, map, codes, inl, inr, MatchBool}
-use Rattle.std.specs.List.{list_any, list_all}
-use Rattle.std.proofs.lemmas.Bool.{and_parts, eqb-true, false≢true, or_cases}
-use Rattle.std.proofs.lemmas.List.{append_assoc, append-nil}
-use Rattle.regex_lite_syntax.specs.declared.flags.Flags.{Flags}
-use Rattle.regex_lite_syntax.specs.Text.{Text, the, ◌∈◌}
-use Rattle.regex_lite_syntax.specs.Characters.{is_letter, AreCharacters}
-use Rattle.regex_lite_syntax.specs.Sets.{just, case_closure}
-use Rattle.regex_lite_syntax.specs.Tree.{Tree, character}
+use Rattle.regex_lite_syntax.proofs.Common.{◌≡◌, ℕ, Bool, true, false, cond, ◌&&◌, List, [], ◌∷◌}
+use Rattle.regex_lite_syntax.proofs.Common.{◌++◌, map, ◌==◌, codes, MatchBool, sym, refl, ap, ◌∙◌}
+use Rattle.regex_lite_syntax.proofs.Common.{subst, inl, inr, and_parts, eqb-true, false≢true}
+use Rattle.regex_lite_syntax.proofs.Common.{or_cases, append-nil, list_all, list_any, AreCharacters}
+use Rattle.regex_lite_syntax.proofs.Common.{is_letter, Branch, nothing, item, only, Grammar}
+use Rattle.regex_lite_syntax.proofs.Common.{is_literal, IsClassOf, PrimitiveTree, Atom, one}
+use Rattle.regex_lite_syntax.proofs.Common.{some_of, look_at, EscapeKind, gives, word_boundary}
+use Rattle.regex_lite_syntax.proofs.Common.{hexadecimal, refused, escape_kind, Point, onward, start}
+use Rattle.regex_lite_syntax.proofs.Common.{just, case_closure, Text, the, Tree, Flags}
+use Rattle.std.proofs.Common.{not}
+use Rattle.std.proofs.lemmas.List.{append_assoc}
+use Rattle.regex_lite_syntax.specs.Text.{◌∈◌}
+use Rattle.regex_lite_syntax.specs.Tree.{character}
 use Rattle.regex_lite_syntax.specs.Escaped.{is_meta_character, escaped, literal}
-use Rattle.regex_lite_syntax.specs.Grammar.Escapes.{one, some_of, look_at, EscapeKind}
-use Rattle.regex_lite_syntax.specs.Grammar.Escapes.{gives, word_boundary, hexadecimal}
-use Rattle.regex_lite_syntax.specs.Grammar.Escapes.{refused, escape_kind}
-use Rattle.regex_lite_syntax.specs.Grammar.Atoms.{is_literal, IsClassOf, PrimitiveTree, Atom}
-use Rattle.regex_lite_syntax.specs.Grammar.Points.{Point, onward, start}
-use Rattle.regex_lite_syntax.specs.Grammar.{Grammar, Branch, atom, nothing, item, only}
+use Rattle.regex_lite_syntax.specs.Grammar.{atom}
 use Rattle.regex_lite_syntax.proofs.grammar.AtomLemmas.{literal_atom, escape_atom}
 use Rattle.regex_lite_syntax.proofs.grammar.EscapeLemmas.{escape_as}
 use Rattle.regex_lite_syntax.proofs.grammar.GapLemmas.{empty_gap}

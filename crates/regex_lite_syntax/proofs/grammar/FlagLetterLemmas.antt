@@ -1,12 +1,8 @@
 -- Flags are read in one way.
-use Rattle.std.proofs.Common.{◌≡◌, ◌≢◌, refl, sym, ◌∙◌, ap, subst, ℕ}
-use Rattle.std.proofs.Common.{Bool, true, false, [], ◌∷◌, ◌++◌, arith}
-use Rattle.regex_lite_syntax.specs.declared.flags.Flags.{Flags}
-use Rattle.std.specs.List.{AllPass}
-use Rattle.std.proofs.lemmas.List.Sums.{AllPass-from_list_all}
-use Rattle.regex_lite_syntax.specs.Text.{Text, the}
-use Rattle.regex_lite_syntax.specs.Grammar.FlagLetters.{is_flag_letter, with_flags}
-use Rattle.regex_lite_syntax.specs.Grammar.FlagLetters.{FlagLetters, setting, clearing}
+use Rattle.regex_lite_syntax.proofs.Common.{◌≡◌, ℕ, Bool, true, false, ◌≢◌, [], ◌∷◌, ◌++◌, sym}
+use Rattle.regex_lite_syntax.proofs.Common.{refl, ap, ◌∙◌, subst, arith, AllPass-from_list_all}
+use Rattle.regex_lite_syntax.proofs.Common.{AllPass, is_flag_letter, with_flags, FlagLetters}
+use Rattle.regex_lite_syntax.proofs.Common.{setting, clearing, Text, the, Flags}
 use Rattle.regex_lite_syntax.proofs.ListLemmas.{same_head, same_tail}
 use Rattle.regex_lite_syntax.proofs.grammar.WordLemmas.{word_once as longest_once}
 

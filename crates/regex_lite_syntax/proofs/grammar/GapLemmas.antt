@@ -1,10 +1,8 @@
 -- A gap that is as long as it can be ends at one place.
-use Rattle.std.proofs.Common.{inl, inr, ◌≡◌, refl, sym, ◌∙◌, ap, subst}
-use Rattle.std.proofs.Common.{ℕ, Bool, true, false, [], ◌∷◌, IsTrue}
-use Rattle.std.proofs.lemmas.Bool.{both_ways, not-true}
-use Rattle.regex_lite_syntax.specs.Text.{Text, the}
-use Rattle.regex_lite_syntax.specs.Characters.{is_white_space}
-use Rattle.regex_lite_syntax.specs.Grammar.Gaps.{Spacing, no_more, Gap, EndsGap, WholeGap}
+use Rattle.regex_lite_syntax.proofs.Common.{◌≡◌, ℕ, Bool, true, false, [], ◌∷◌, IsTrue, sym, refl}
+use Rattle.regex_lite_syntax.proofs.Common.{ap, ◌∙◌, subst, inl, inr, both_ways, not-true}
+use Rattle.regex_lite_syntax.proofs.Common.{is_white_space, Spacing, no_more, Gap, EndsGap}
+use Rattle.regex_lite_syntax.proofs.Common.{WholeGap, Text, the}
 use Rattle.regex_lite_syntax.proofs.grammar.ScanLemmas.{Scan, scan_of_spacing}
 
 -- what no gap can go on with in verbose mode, no gap can go on with at all

@@ -1,15 +1,10 @@
 -- The head of a group and a directive are read in one way, and do not stand at one place.
-use Rattle.std.proofs.Common.{◌≡◌, ◌≢◌, refl, sym, ◌∙◌, ap, subst, ℕ}
-use Rattle.std.proofs.Common.{◌+◌, Bool, true, ◌∷◌, Some, None, arith}
-use Rattle.regex_lite_syntax.specs.declared.flags.Flags.{Flags}
-use Rattle.regex_lite_syntax.specs.Text.{Text, Begins, the}
-use Rattle.regex_lite_syntax.specs.Grammar.Gaps.{Gap, EndsGap, WholeGap}
-use Rattle.regex_lite_syntax.specs.Grammar.FlagLetters.{FlagLetters}
-use Rattle.regex_lite_syntax.specs.Grammar.GroupNames.{Named}
-use Rattle.regex_lite_syntax.specs.Grammar.Points.{Point}
-use Rattle.regex_lite_syntax.specs.Grammar.Heads.{GroupKind, capturing, numbered_on}
-use Rattle.regex_lite_syntax.specs.Grammar.Heads.{named_on, inside, Head, numbered}
-use Rattle.regex_lite_syntax.specs.Grammar.Heads.{named, plain, Directive, sets}
+use Rattle.regex_lite_syntax.proofs.Common.{◌≡◌, ℕ, ◌+◌, Bool, true, ◌≢◌, ◌∷◌, Some, None, sym}
+use Rattle.regex_lite_syntax.proofs.Common.{refl, ap, ◌∙◌, subst, arith, FlagLetters, Gap, EndsGap}
+use Rattle.regex_lite_syntax.proofs.Common.{WholeGap, Named, GroupKind, capturing, numbered_on}
+use Rattle.regex_lite_syntax.proofs.Common.{named_on, inside, Head, numbered, plain, Directive}
+use Rattle.regex_lite_syntax.proofs.Common.{sets, Point, Text, Begins, the, Flags}
+use Rattle.regex_lite_syntax.specs.Grammar.Heads.{named}
 use Rattle.regex_lite_syntax.proofs.ListLemmas.{same_tail}
 use Rattle.regex_lite_syntax.proofs.grammar.GapLemmas.{ends_any, gap_once, whole_gap_once}
 use Rattle.regex_lite_syntax.proofs.grammar.FlagLetterLemmas.{colon_ends_flags, paren_ends_flags}

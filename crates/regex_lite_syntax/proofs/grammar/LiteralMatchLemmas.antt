@@ -1,8 +1,9 @@
 -- Where a literal matches.
-use Rattle.std.proofs.Common.{◌≡◌, ◌↔◌, refl, sym, ◌∙◌, ap, subst, ℕ, zero, suc}
-use Rattle.std.proofs.Common.{Some, [], ◌∷◌, map, length, take, drop, arith}
-use Rattle.regex_lite_syntax.specs.Text.{Text, after}
-use Rattle.regex_lite_syntax.specs.Tree.{character, trees}
+use Rattle.regex_lite_syntax.proofs.Common.{◌≡◌, ℕ, zero, suc, [], ◌∷◌, map, length, take, drop}
+use Rattle.regex_lite_syntax.proofs.Common.{Some, sym, refl, ap, ◌∙◌, subst, arith, Text, trees}
+use Rattle.std.proofs.Common.{◌↔◌}
+use Rattle.regex_lite_syntax.specs.Text.{after}
+use Rattle.regex_lite_syntax.specs.Tree.{character}
 use Rattle.regex_lite_syntax.specs.Tree.Matches.{Matches, Chain}
 use Rattle.regex_lite_syntax.specs.Escaped.{literal, StandsAt}
 use Rattle.regex_lite_syntax.proofs.ListLemmas.{same_head, same_tail}

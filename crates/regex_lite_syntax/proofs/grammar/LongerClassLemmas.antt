@@ -1,18 +1,14 @@
 -- Bracketed classes in a longer text that begins with the text.
-use Rattle.std.proofs.Common.{◌≡◌, ◌≢◌, refl, sym, ◌∙◌, ap, subst, ℕ, zero, suc}
-use Rattle.std.proofs.Common.{Bool, true, false, List, [], ◌∷◌, ◌++◌, append_assoc}
-use Rattle.std.proofs.Common.{if◌then◌else◌}
-use Rattle.regex_lite_syntax.specs.Text.{Text, the}
-use Rattle.regex_lite_syntax.specs.Sets.{Set}
-use Rattle.regex_lite_syntax.specs.NamedSets.{SetName}
-use Rattle.regex_lite_syntax.specs.Grammar.Gaps.{WholeGap}
+use Rattle.regex_lite_syntax.proofs.Common.{◌≡◌, ℕ, zero, suc, Bool, true, false, ◌≢◌, List, []}
+use Rattle.regex_lite_syntax.proofs.Common.{◌∷◌, ◌++◌, if◌then◌else◌, sym, refl, ap, ◌∙◌, subst}
+use Rattle.regex_lite_syntax.proofs.Common.{append_assoc, ClassElement, RangeFollows, BeginsItem}
+use Rattle.regex_lite_syntax.proofs.Common.{NamedClass, ClassItem, named_class, escaped_set, range}
+use Rattle.regex_lite_syntax.proofs.Common.{Takes, takes, leaves, Dashes, FirstBracket}
+use Rattle.regex_lite_syntax.proofs.Common.{ClassOpening, ClassItems, BracketedClass, WholeGap}
+use Rattle.regex_lite_syntax.proofs.Common.{SetName, EndsOpen, at_once, past_dash, Set, Text, the}
 use Rattle.regex_lite_syntax.specs.Grammar.Escapes.{Primitive}
-use Rattle.regex_lite_syntax.specs.Grammar.Classes.{ClassElement, literal, escaped}
-use Rattle.regex_lite_syntax.specs.Grammar.Classes.{RangeFollows, BeginsItem, NamedClass, ClassItem}
-use Rattle.regex_lite_syntax.specs.Grammar.Classes.{named_class, character, escaped_set, range}
-use Rattle.regex_lite_syntax.specs.Grammar.Classes.{Takes, takes, leaves, Dashes, FirstBracket}
-use Rattle.regex_lite_syntax.specs.Grammar.Classes.{ClassOpening, ClassItems, BracketedClass}
-use Rattle.regex_lite_syntax.specs.Parser.ClassReadings.{EndsOpen, at_once, past_dash}
+use Rattle.regex_lite_syntax.specs.Grammar.Classes.{literal, escaped}
+use Rattle.regex_lite_syntax.specs.Grammar.Classes.{character}
 use Rattle.regex_lite_syntax.proofs.ListLemmas.{same_head, same_tail}
 use Rattle.regex_lite_syntax.proofs.grammar.GapLemmas.{whole_gap_once, gap_to_end}
 use Rattle.regex_lite_syntax.proofs.grammar.LongerEscapeLemmas.{escape_longer}

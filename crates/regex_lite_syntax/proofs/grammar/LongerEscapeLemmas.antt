@@ -1,14 +1,12 @@
 -- Escapes in a longer text that begins with the text.
-use Rattle.std.proofs.Common.{sym, ap, subst, ℕ, Bool, ◌++◌}
-use Rattle.regex_lite_syntax.specs.declared.hir.look.Look.{Look}
-use Rattle.regex_lite_syntax.specs.Text.{Text, Begins, the}
-use Rattle.regex_lite_syntax.specs.Grammar.Escapes.{Primitive, EscapeKind, gives, word_boundary}
-use Rattle.regex_lite_syntax.specs.Grammar.Escapes.{hexadecimal, refused, escape_kind}
-use Rattle.regex_lite_syntax.specs.Grammar.Escapes.{FixedDigits, BracedDigits}
-use Rattle.regex_lite_syntax.specs.Grammar.Escapes.{Hexadecimal, fixed, braced, WordBoundary}
-use Rattle.regex_lite_syntax.specs.Grammar.Escapes.{BoundaryName, BeginsCount}
-use Rattle.regex_lite_syntax.specs.Grammar.Escapes.{alone, before_count, named}
-use Rattle.regex_lite_syntax.specs.Grammar.Escapes.{EscapeFrom, Escape}
+use Rattle.regex_lite_syntax.proofs.Common.{ℕ, Bool, ◌++◌, sym, ap, subst, EscapeKind, gives}
+use Rattle.regex_lite_syntax.proofs.Common.{word_boundary, hexadecimal, refused, escape_kind}
+use Rattle.regex_lite_syntax.proofs.Common.{FixedDigits, BracedDigits, Hexadecimal, fixed, braced}
+use Rattle.regex_lite_syntax.proofs.Common.{BoundaryName, WordBoundary, alone, before_count}
+use Rattle.regex_lite_syntax.proofs.Common.{EscapeFrom, Escape, Text, Begins, the, Look}
+use Rattle.regex_lite_syntax.specs.Grammar.Escapes.{Primitive}
+use Rattle.regex_lite_syntax.specs.Grammar.Escapes.{BeginsCount}
+use Rattle.regex_lite_syntax.specs.Grammar.Escapes.{named}
 use Rattle.regex_lite_syntax.proofs.grammar.LongerGapLemmas.{gap_before, spaced_longer}
 use Rattle.regex_lite_syntax.proofs.grammar.LongerGapLemmas.{no_gap_longer}
 use Rattle.regex_lite_syntax.proofs.grammar.LongerGapLemmas.{goes_on_longer}

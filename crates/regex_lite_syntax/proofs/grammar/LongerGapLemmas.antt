@@ -1,11 +1,8 @@
 -- Gaps, and characters with gaps between them, in a longer text that begins with the text.
-use Rattle.std.proofs.Common.{inl, inr, ◌≡◌, ◌≢◌, refl, sym, ◌∙◌, ap, subst, ℕ, Bool}
-use Rattle.std.proofs.Common.{true, false, ◌==◌, [], ◌∷◌, ◌++◌, arith}
-use Rattle.std.proofs.lemmas.Bool.{both_ways, eqb-true, not_from_false}
-use Rattle.std.proofs.lemmas.List.{append-nil}
-use Rattle.regex_lite_syntax.specs.Text.{Text, Begins, the}
-use Rattle.regex_lite_syntax.specs.Characters.{is_white_space}
-use Rattle.regex_lite_syntax.specs.Grammar.Gaps.{Gap, EndsGap, WholeGap, Spaced}
+use Rattle.regex_lite_syntax.proofs.Common.{◌≡◌, ℕ, Bool, true, false, ◌≢◌, [], ◌∷◌, ◌++◌, ◌==◌}
+use Rattle.regex_lite_syntax.proofs.Common.{sym, refl, ap, ◌∙◌, subst, inl, inr, arith, both_ways}
+use Rattle.regex_lite_syntax.proofs.Common.{eqb-true, not_from_false, append-nil, is_white_space}
+use Rattle.regex_lite_syntax.proofs.Common.{Gap, EndsGap, WholeGap, Spaced, Text, Begins, the}
 use Rattle.regex_lite_syntax.proofs.ListLemmas.{same_head}
 use Rattle.regex_lite_syntax.proofs.grammar.GapLemmas.{empty_gap, gap_to_end}
 use Rattle.regex_lite_syntax.proofs.grammar.ScanLemmas.{Scan, scan_of_spacing, spacing_of_scan}

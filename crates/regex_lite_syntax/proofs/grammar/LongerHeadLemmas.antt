@@ -1,19 +1,13 @@
 -- Operators, heads of groups and directives in a longer text that begins with the text.
-use Rattle.std.proofs.Common.{◌≢◌, ◌∙◌, ap, subst, ℕ}
-use Rattle.std.proofs.Common.{Bool, [], ◌∷◌, ◌++◌, Option, append_assoc}
+use Rattle.regex_lite_syntax.proofs.Common.{ℕ, Bool, ◌≢◌, [], ◌∷◌, ◌++◌, Option, ap, ◌∙◌, subst}
+use Rattle.regex_lite_syntax.proofs.Common.{append_assoc, Counted, exactly, at_least, between}
+use Rattle.regex_lite_syntax.proofs.Common.{FlagLetters, setting, clearing, NameWritten}
+use Rattle.regex_lite_syntax.proofs.Common.{NameOpening, with_p, without_p, Named, GroupKind, Head}
+use Rattle.regex_lite_syntax.proofs.Common.{numbered, plain, Directive, sets, Operator, uncounted}
+use Rattle.regex_lite_syntax.proofs.Common.{uncounted_lazy, counted, counted_lazy, Point, onward}
+use Rattle.regex_lite_syntax.proofs.Common.{Text, the, Flags}
 use Rattle.std.proofs.lemmas.List.{append_cancel_right}
-use Rattle.regex_lite_syntax.specs.declared.flags.Flags.{Flags}
-use Rattle.regex_lite_syntax.specs.Text.{Text, the}
-use Rattle.regex_lite_syntax.specs.Grammar.Counted.{Counted}
-use Rattle.regex_lite_syntax.specs.Grammar.Counted.{exactly, at_least, between}
-use Rattle.regex_lite_syntax.specs.Grammar.Operators.{Operator, uncounted, uncounted_lazy}
-use Rattle.regex_lite_syntax.specs.Grammar.Operators.{counted, counted_lazy}
-use Rattle.regex_lite_syntax.specs.Grammar.FlagLetters.{FlagLetters, setting, clearing}
-use Rattle.regex_lite_syntax.specs.Grammar.GroupNames.{NameWritten, NameOpening, with_p, without_p}
-use Rattle.regex_lite_syntax.specs.Grammar.GroupNames.{Named}
-use Rattle.regex_lite_syntax.specs.Grammar.Points.{Point, onward}
-use Rattle.regex_lite_syntax.specs.Grammar.Heads.{GroupKind, Head, numbered, named, plain}
-use Rattle.regex_lite_syntax.specs.Grammar.Heads.{Directive, sets}
+use Rattle.regex_lite_syntax.specs.Grammar.Heads.{named}
 use Rattle.regex_lite_syntax.proofs.grammar.LongerGapLemmas.{Settles}
 use Rattle.regex_lite_syntax.proofs.grammar.LongerGapLemmas.{gap_longer, gap_before}
 use Rattle.regex_lite_syntax.proofs.grammar.LongerNumberLemmas.{number_longer}

@@ -1,13 +1,10 @@
 -- Numbers in a longer text that begins with the text.
-use Rattle.std.proofs.Common.{inl, inr, ◌≡◌, ◌≢◌, refl, sym, ◌∙◌, ap, subst, ℕ, ◌^◌, ◌<◌, ◌≤◌}
-use Rattle.std.proofs.Common.{length, Bool, true, false, [], ◌∷◌, ◌++◌, IsTrue, Option, Some, None}
-use Rattle.std.proofs.Common.{arith}
-use Rattle.std.proofs.lemmas.List.{append-nil}
-use Rattle.regex_lite_syntax.specs.Text.{Text, the}
-use Rattle.regex_lite_syntax.specs.Characters.{is_digit}
-use Rattle.regex_lite_syntax.specs.Grammar.Gaps.{WholeGap, Spaced}
-use Rattle.regex_lite_syntax.specs.Grammar.Counted.{WhiteSpace, Side, EndsSide}
-use Rattle.regex_lite_syntax.specs.Grammar.Counted.{WholeSide, Number, EndsNumber, Limit}
+use Rattle.regex_lite_syntax.proofs.Common.{◌≡◌, ℕ, ◌^◌, ◌<◌, ◌≤◌, Bool, true, false, ◌≢◌, [], ◌∷◌}
+use Rattle.regex_lite_syntax.proofs.Common.{◌++◌, length, IsTrue, Some, None, Option, sym, refl, ap}
+use Rattle.regex_lite_syntax.proofs.Common.{◌∙◌, subst, inl, inr, arith, append-nil, is_digit}
+use Rattle.regex_lite_syntax.proofs.Common.{WhiteSpace, Side, WholeSide, Number, EndsNumber, Limit}
+use Rattle.regex_lite_syntax.proofs.Common.{WholeGap, Spaced, Text, the}
+use Rattle.regex_lite_syntax.specs.Grammar.Counted.{EndsSide}
 use Rattle.regex_lite_syntax.proofs.ListLemmas.{same_head}
 use Rattle.regex_lite_syntax.proofs.grammar.GapLemmas.{empty_gap}
 use Rattle.regex_lite_syntax.proofs.grammar.SpacedLemmas.{whole_gap_leads}

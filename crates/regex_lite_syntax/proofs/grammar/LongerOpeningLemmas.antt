@@ -1,10 +1,8 @@
 -- What opens a name in a longer text that begins with the text.
-use Rattle.std.proofs.Common.{inl, inr, ◌⊎◌, ◌≡◌, ◌≢◌, refl, sym, ◌∙◌, ap, subst, ℕ}
-use Rattle.std.proofs.Common.{[], ◌∷◌, ◌++◌, codes}
-use Rattle.std.proofs.lemmas.List.{append-nil}
-use Rattle.regex_lite_syntax.specs.Text.{Text, Begins, the}
-use Rattle.regex_lite_syntax.specs.Grammar.GroupNames.{NameOpening, with_p, without_p}
-use Rattle.regex_lite_syntax.specs.Parser.NameOpenings.{EndsInOpening, Unnamed}
+use Rattle.regex_lite_syntax.proofs.Common.{◌≡◌, ℕ, ◌≢◌, ◌⊎◌, [], ◌∷◌, ◌++◌, codes, sym, refl, ap}
+use Rattle.regex_lite_syntax.proofs.Common.{◌∙◌, subst, inl, inr, append-nil, NameOpening, with_p}
+use Rattle.regex_lite_syntax.proofs.Common.{without_p, EndsInOpening, Text, Begins, the}
+use Rattle.regex_lite_syntax.specs.Parser.NameOpenings.{Unnamed}
 use Rattle.regex_lite_syntax.proofs.ListLemmas.{same_head, same_tail}
 use Rattle.regex_lite_syntax.proofs.grammar.NameOpeningLemmas.{opening_question}
 use Rattle.regex_lite_syntax.proofs.grammar.ClassLemmas.{begins}

@@ -1,11 +1,10 @@
 -- Which numbers a number can become with more digits.
-use Rattle.std.proofs.Common.{inl, inr, ◌⊎◌, subst, ℕ, ◌+◌, ◌*◌, ◌/◌, ◌%◌}
-use Rattle.std.proofs.Common.{◌^◌, ◌<◌, ◌≤◌, max, arith, Bool, []}
+use Rattle.regex_lite_syntax.proofs.Common.{ℕ, ◌+◌, ◌*◌, ◌/◌, ◌%◌, ◌^◌, ◌<◌, ◌≤◌, max, Bool, ◌⊎◌}
+use Rattle.regex_lite_syntax.proofs.Common.{[], subst, inl, inr, arith, Gap, GrowsTo, as_it_is}
+use Rattle.regex_lite_syntax.proofs.Common.{Becomes, Text}
 use Rattle.std.proofs.lemmas.Nat.{div-add-mod'}
-use Rattle.regex_lite_syntax.specs.Text.{Text}
-use Rattle.regex_lite_syntax.specs.Grammar.Gaps.{Gap}
-use Rattle.regex_lite_syntax.specs.Parser.Numbers.{GrowsTo, as_it_is, with_digit}
-use Rattle.regex_lite_syntax.specs.Parser.Numbers.{Becomes, CanReach}
+use Rattle.regex_lite_syntax.specs.Parser.Numbers.{with_digit}
+use Rattle.regex_lite_syntax.specs.Parser.Numbers.{CanReach}
 
 -- more digits make no number smaller
 pub grows_from : {number n : ℕ} → GrowsTo number n → number ≤ n

@@ -1,13 +1,11 @@
 -- Names of groups are read in one way, and differ.
-use Rattle.std.proofs.Common.{◌≡◌, ◌≢◌, refl, sym, ◌∙◌, subst, length}
-use Rattle.std.proofs.Common.{List, [], ◌∷◌, ◌++◌, Contains, arith}
+use Rattle.regex_lite_syntax.proofs.Common.{◌≡◌, ◌≢◌, List, [], ◌∷◌, ◌++◌, length, Contains, sym}
+use Rattle.regex_lite_syntax.proofs.Common.{refl, ◌∙◌, subst, arith, is_no_end, NameWritten}
+use Rattle.regex_lite_syntax.proofs.Common.{NameOpening, with_p, without_p, Named, NamesDiffer}
+use Rattle.regex_lite_syntax.proofs.Common.{Text, the}
 use Rattle.std.proofs.lemmas.List.{get_or_append_left, get_or_default}
 use Rattle.std.proofs.lemmas.List.{get_or_push, length-append, length_push}
 use Rattle.std.proofs.lemmas.List.Quantifiers.{all_pairs_push}
-use Rattle.regex_lite_syntax.specs.Text.{Text, the}
-use Rattle.regex_lite_syntax.specs.Grammar.GroupNames.{is_no_end}
-use Rattle.regex_lite_syntax.specs.Grammar.GroupNames.{NameWritten, NameOpening, with_p}
-use Rattle.regex_lite_syntax.specs.Grammar.GroupNames.{without_p, Named, NamesDiffer}
 use Rattle.regex_lite_syntax.proofs.ListLemmas.{same_head, same_tail}
 use Rattle.regex_lite_syntax.proofs.grammar.WordLemmas.{word_once}
 

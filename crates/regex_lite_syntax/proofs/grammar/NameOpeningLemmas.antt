@@ -1,9 +1,6 @@
 -- Where the name of a group stands, no flags stand.
-use Rattle.std.proofs.Common.{◌≡◌, ◌≢◌, refl, ℕ, ◌∷◌, arith}
-use Rattle.regex_lite_syntax.specs.declared.flags.Flags.{Flags}
-use Rattle.regex_lite_syntax.specs.Text.{Text, the}
-use Rattle.regex_lite_syntax.specs.Grammar.FlagLetters.{FlagLetters}
-use Rattle.regex_lite_syntax.specs.Grammar.GroupNames.{NameOpening, with_p, without_p, Named}
+use Rattle.regex_lite_syntax.proofs.Common.{◌≡◌, ℕ, ◌≢◌, ◌∷◌, refl, arith, FlagLetters, NameOpening}
+use Rattle.regex_lite_syntax.proofs.Common.{with_p, without_p, Named, Text, the, Flags}
 use Rattle.regex_lite_syntax.proofs.ListLemmas.{same_head, same_tail}
 use Rattle.regex_lite_syntax.proofs.grammar.FlagLetterLemmas.{EndsFlags, colon_ends_flags}
 use Rattle.regex_lite_syntax.proofs.grammar.FlagLetterLemmas.{paren_ends_flags, flags_elsewhere}

@@ -1,15 +1,13 @@
 -- The characters of a name, one after another.
-use Rattle.std.proofs.Common.{◌≡◌, ◌≢◌, refl, sym, ◌∙◌, ap, subst, ℕ, ◌+◌, ◌-◌, ◌<◌, ◌≤◌}
-use Rattle.std.proofs.Common.{length, [], ◌∷◌, ◌++◌, drop, take, slice_range, IsTrue, arith}
-use Rattle.std.specs.List.{list_all, AllPass}
-use Rattle.std.proofs.lemmas.List.Sums.{AllPass-from_list_all, list_all-from_AllPass}
-use Rattle.std.proofs.lemmas.Bool.{and_from, and_parts, eqb-false, not-true, ne_eqb, not_from_false}
-use Rattle.std.proofs.lemmas.List.{drop_more}
+use Rattle.regex_lite_syntax.proofs.Common.{◌≡◌, ℕ, ◌+◌, ◌-◌, ◌<◌, ◌≤◌, ◌≢◌, [], ◌∷◌, ◌++◌, length}
+use Rattle.regex_lite_syntax.proofs.Common.{take, drop, IsTrue, slice_range, sym, refl, ap, ◌∙◌}
+use Rattle.regex_lite_syntax.proofs.Common.{subst, arith, and_from, and_parts, eqb-false, ne_eqb}
+use Rattle.regex_lite_syntax.proofs.Common.{not-true, not_from_false, drop_more, drop_split}
+use Rattle.regex_lite_syntax.proofs.Common.{AllPass-from_list_all, list_all-from_AllPass, AllPass}
+use Rattle.regex_lite_syntax.proofs.Common.{list_all, is_no_end, NameWritten, Text, the}
 use Rattle.std.proofs.lemmas.List.Edits.{between_more}
-use Rattle.std.proofs.lemmas.List.Folds.{drop_split}
-use Rattle.regex_lite_syntax.specs.Text.{Text, the}
 use Rattle.regex_lite_syntax.specs.Grammar.GroupNames.{begins_name, continues_name}
-use Rattle.regex_lite_syntax.specs.Grammar.GroupNames.{is_name, is_no_end, NameWritten}
+use Rattle.regex_lite_syntax.specs.Grammar.GroupNames.{is_name}
 use Rattle.regex_lite_syntax.proofs.ListLemmas.{same_head, same_tail}
 use Rattle.regex_lite_syntax.proofs.grammar.WordLemmas.{pass_push}
 

@@ -1,14 +1,11 @@
 -- A name that no group has, as more of a pattern that ends before it or in it.
-use Rattle.std.proofs.Common.{◌≡◌, refl, sym, ◌∙◌, ap, subst, ℕ, zero, suc, ◌+◌, ◌<◌, ◌≤◌}
-use Rattle.std.proofs.Common.{length, List, [], ◌∷◌, ◌++◌, get_or, Contains, arith, append_assoc}
-use Rattle.std.proofs.lemmas.List.{append-nil, length-append}
-use Rattle.std.proofs.lemmas.List.Sums.{AllPass-from_list_all}
-use Rattle.regex_lite_syntax.specs.Text.{Text, the}
-use Rattle.regex_lite_syntax.specs.Characters.{AreCharacters}
-use Rattle.regex_lite_syntax.specs.Refusals.{Completable}
-use Rattle.regex_lite_syntax.specs.Grammar.GroupNames.{NameWritten, NameOpening, with_p, without_p}
-use Rattle.regex_lite_syntax.specs.Grammar.GroupNames.{Named, NamesDiffer, is_no_end}
-use Rattle.regex_lite_syntax.specs.Parser.NameOpenings.{EndsInOpening}
+use Rattle.regex_lite_syntax.proofs.Common.{◌≡◌, ℕ, zero, suc, ◌+◌, ◌<◌, ◌≤◌, List, [], ◌∷◌, ◌++◌}
+use Rattle.regex_lite_syntax.proofs.Common.{length, get_or, Contains, sym, refl, ap, ◌∙◌, subst}
+use Rattle.regex_lite_syntax.proofs.Common.{append_assoc, arith, append-nil, AllPass-from_list_all}
+use Rattle.regex_lite_syntax.proofs.Common.{AreCharacters, is_no_end, NameWritten, NameOpening}
+use Rattle.regex_lite_syntax.proofs.Common.{with_p, without_p, Named, NamesDiffer, EndsInOpening}
+use Rattle.regex_lite_syntax.proofs.Common.{Completable, Text, the}
+use Rattle.std.proofs.lemmas.List.{length-append}
 use Rattle.regex_lite_syntax.proofs.CharacterLemmas.{joined_are, last_are}
 use Rattle.regex_lite_syntax.proofs.grammar.LongerHeadLemmas.{opening_longer}
 use Rattle.regex_lite_syntax.proofs.grammar.NameLemmas.{differ_more}

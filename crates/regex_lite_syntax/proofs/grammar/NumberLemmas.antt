@@ -1,15 +1,14 @@
 -- Numbers with what may stand on their sides are read in one way.
-use Rattle.std.proofs.Common.{inl, inr, ◌≡◌, refl, sym, ◌∙◌, ap, subst, ℕ, ◌+◌}
-use Rattle.std.proofs.Common.{◌*◌, ◌^◌, ◌<◌, ◌≤◌, length, Bool, true, false, []}
-use Rattle.std.proofs.Common.{◌∷◌, ◌++◌, fold, IsTrue, arith, length-append}
-use Rattle.std.proofs.lemmas.Bool.{and_parts, both_ways, leb-true, not-true}
-use Rattle.std.proofs.lemmas.List.Sums.{fold-append}
-use Rattle.regex_lite_syntax.specs.Text.{Text, the}
-use Rattle.regex_lite_syntax.specs.Characters.{is_white_space, is_digit, digit_value, number_of}
-use Rattle.regex_lite_syntax.specs.Grammar.Gaps.{Spacing, no_more, further, Gap}
-use Rattle.regex_lite_syntax.specs.Grammar.Gaps.{EndsGap, WholeGap, Spaced}
-use Rattle.regex_lite_syntax.specs.Grammar.Counted.{WhiteSpace, Side, EndsSide}
-use Rattle.regex_lite_syntax.specs.Grammar.Counted.{WholeSide, Number, EndsNumber}
+use Rattle.regex_lite_syntax.proofs.Common.{◌≡◌, ℕ, ◌+◌, ◌*◌, ◌^◌, ◌<◌, ◌≤◌, Bool, true, false, []}
+use Rattle.regex_lite_syntax.proofs.Common.{◌∷◌, ◌++◌, length, IsTrue, sym, refl, ap, ◌∙◌, subst}
+use Rattle.regex_lite_syntax.proofs.Common.{inl, inr, arith, length-append, and_parts, both_ways}
+use Rattle.regex_lite_syntax.proofs.Common.{leb-true, not-true, fold-append, is_white_space}
+use Rattle.regex_lite_syntax.proofs.Common.{is_digit, digit_value, number_of, WhiteSpace, Side}
+use Rattle.regex_lite_syntax.proofs.Common.{WholeSide, Number, EndsNumber, Spacing, no_more, Gap}
+use Rattle.regex_lite_syntax.proofs.Common.{EndsGap, WholeGap, Spaced, Text, the}
+use Rattle.std.proofs.Common.{fold}
+use Rattle.regex_lite_syntax.specs.Grammar.Gaps.{further}
+use Rattle.regex_lite_syntax.specs.Grammar.Counted.{EndsSide}
 use Rattle.regex_lite_syntax.proofs.ListLemmas.{same_head, same_tail}
 use Rattle.regex_lite_syntax.proofs.grammar.GapLemmas.{blank_once, empty_gap, ends_any, gap_once}
 use Rattle.regex_lite_syntax.proofs.grammar.SpacedLemmas.{EndsGaps, printed_ends, whole_gap_leads}

@@ -1,12 +1,13 @@
 -- Trees whose groups are numbered in order.
-use Rattle.std.proofs.Common.{◌≡◌, ◌<◌, ◌≤◌, refl, arith, ℕ, zero, suc, max, Bool}
-use Rattle.std.proofs.Common.{List, [], ◌∷◌, ◌++◌, length, Option, Some, None, add-one}
+use Rattle.regex_lite_syntax.proofs.Common.{◌≡◌, ℕ, zero, suc, ◌<◌, ◌≤◌, max, Bool, List, [], ◌∷◌}
+use Rattle.regex_lite_syntax.proofs.Common.{◌++◌, length, Some, None, Option, refl, add-one, arith}
+use Rattle.regex_lite_syntax.proofs.Common.{Tree, class, look, repetition, concat, alternation}
+use Rattle.regex_lite_syntax.proofs.Common.{Trees, more, trees, sequence_of, choice_of, repeated}
 use Rattle.std.specs.Prelude.{slice_index}
 use Rattle.std.specs.List.Sorted.{IsStrictlyIncreasing}
 use Rattle.std.proofs.lemmas.List.Kept.{AllPairs-from_increasing}
-use Rattle.regex_lite_syntax.specs.Tree.{Tree, Trees, empty, character, class, look}
-use Rattle.regex_lite_syntax.specs.Tree.{repetition, capture, concat, alternation, none}
-use Rattle.regex_lite_syntax.specs.Tree.{more, trees, sequence_of, choice_of, repeated}
+use Rattle.regex_lite_syntax.specs.Tree.{empty, character}
+use Rattle.regex_lite_syntax.specs.Tree.{capture, none}
 use Rattle.regex_lite_syntax.specs.Tree.Properties.{greatest_index, greatest_index_in}
 use Rattle.regex_lite_syntax.specs.Tree.Numbering.{indices, indices_in, IndicesDiffer}
 

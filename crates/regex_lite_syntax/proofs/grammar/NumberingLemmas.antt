@@ -1,21 +1,19 @@
 -- The groups of a pattern are numbered in order.
-use Rattle.std.proofs.Common.{◌≡◌, ◌≤◌, refl, sym, ap, subst, ◌∙◌, arith, ℕ, ◌+◌}
-use Rattle.std.proofs.Common.{Bool, true, false, ◌&&◌, List, [], ◌∷◌, ◌++◌, MatchBool}
-use Rattle.regex_lite_syntax.specs.declared.flags.Flags.{Flags}
-use Rattle.regex_lite_syntax.specs.Text.{Text}
-use Rattle.regex_lite_syntax.specs.Characters.{is_letter}
-use Rattle.regex_lite_syntax.specs.Sets.{Set, just, case_closure}
-use Rattle.regex_lite_syntax.specs.Grammar.Escapes.{Primitive, one, some_of, look_at}
-use Rattle.regex_lite_syntax.specs.Tree.{Tree, character, sequence_of, choice_of, repeated}
+use Rattle.regex_lite_syntax.proofs.Common.{◌≡◌, ℕ, ◌+◌, ◌≤◌, Bool, true, false, ◌&&◌, List, []}
+use Rattle.regex_lite_syntax.proofs.Common.{◌∷◌, ◌++◌, MatchBool, sym, refl, ap, ◌∙◌, subst, arith}
+use Rattle.regex_lite_syntax.proofs.Common.{is_letter, group, Branch, nothing, item, directive}
+use Rattle.regex_lite_syntax.proofs.Common.{Alternatives, only, Grammar, AtomKind, single, escape}
+use Rattle.regex_lite_syntax.proofs.Common.{bracketed, no_atom, atom_kind, IsClassOf, PrimitiveTree}
+use Rattle.regex_lite_syntax.proofs.Common.{AtomFrom, Atom, one, some_of, look_at, GroupKind}
+use Rattle.regex_lite_syntax.proofs.Common.{group_tree, Head, numbered, plain, Directive, sets}
+use Rattle.regex_lite_syntax.proofs.Common.{Point, PastGap, Set, just, case_closure, Text, Tree}
+use Rattle.regex_lite_syntax.proofs.Common.{sequence_of, choice_of, repeated, Flags}
+use Rattle.regex_lite_syntax.specs.Grammar.Escapes.{Primitive}
+use Rattle.regex_lite_syntax.specs.Tree.{character}
 use Rattle.regex_lite_syntax.specs.Tree.Properties.{greatest_index}
-use Rattle.regex_lite_syntax.specs.Grammar.Atoms.{AtomKind, single, escape, bracketed}
-use Rattle.regex_lite_syntax.specs.Grammar.Atoms.{no_atom, atom_kind, IsClassOf}
-use Rattle.regex_lite_syntax.specs.Grammar.Atoms.{PrimitiveTree, AtomFrom, Atom}
-use Rattle.regex_lite_syntax.specs.Grammar.Points.{Point, PastGap}
-use Rattle.regex_lite_syntax.specs.Grammar.Heads.{GroupKind, group_tree, Head, numbered}
-use Rattle.regex_lite_syntax.specs.Grammar.Heads.{named, plain, Directive, sets}
-use Rattle.regex_lite_syntax.specs.Grammar.{Item, atom, group, Branch, nothing, item}
-use Rattle.regex_lite_syntax.specs.Grammar.{directive, Alternatives, only, further, Grammar}
+use Rattle.regex_lite_syntax.specs.Grammar.Heads.{named}
+use Rattle.regex_lite_syntax.specs.Grammar.{Item, atom}
+use Rattle.regex_lite_syntax.specs.Grammar.{further}
 use Rattle.regex_lite_syntax.specs.Grammar.Branch.{operator}
 use Rattle.regex_lite_syntax.proofs.grammar.NumberedTreeLemmas.{IsNumbered, Within, AllWithin}
 use Rattle.regex_lite_syntax.proofs.grammar.NumberedTreeLemmas.{all_with, all_without, leaf}

@@ -1,12 +1,8 @@
 -- An operator is read in one way.
-use Rattle.std.proofs.Common.{◌≡◌, refl, sym, ◌∙◌, ap, subst, ℕ}
-use Rattle.std.proofs.Common.{Bool, false, ◌∷◌, Option, Some, arith}
-use Rattle.regex_lite_syntax.specs.declared.flags.Flags.{Flags}
-use Rattle.regex_lite_syntax.specs.Text.{Text, Begins, the}
-use Rattle.regex_lite_syntax.specs.Grammar.Gaps.{Gap, WholeGap}
-use Rattle.regex_lite_syntax.specs.Grammar.Counted.{Counted}
-use Rattle.regex_lite_syntax.specs.Grammar.Operators.{times, greed, Operator, uncounted}
-use Rattle.regex_lite_syntax.specs.Grammar.Operators.{uncounted_lazy, counted, counted_lazy}
+use Rattle.regex_lite_syntax.proofs.Common.{◌≡◌, ℕ, Bool, false, ◌∷◌, Some, Option, sym, refl, ap}
+use Rattle.regex_lite_syntax.proofs.Common.{◌∙◌, subst, arith, Counted, Gap, WholeGap, times, greed}
+use Rattle.regex_lite_syntax.proofs.Common.{Operator, uncounted, uncounted_lazy, counted}
+use Rattle.regex_lite_syntax.proofs.Common.{counted_lazy, Text, Begins, the, Flags}
 use Rattle.regex_lite_syntax.proofs.ListLemmas.{same_head, same_tail}
 use Rattle.regex_lite_syntax.proofs.grammar.SpacedLemmas.{printed_ends, whole_gap_leads}
 use Rattle.regex_lite_syntax.proofs.grammar.GapLemmas.{gap_once}

@@ -1,14 +1,10 @@
 -- Counted operators at the end of a pattern that goes on.
-use Rattle.std.proofs.Common.{inr, ◌≡◌, refl, sym, ap, subst, codes, ℕ, ◌^◌, ◌-◌, ◌<◌, ◌≤◌, Bool}
-use Rattle.std.proofs.Common.{[], ◌∷◌, ◌++◌, Option, Some, None, arith}
+use Rattle.regex_lite_syntax.proofs.Common.{◌≡◌, ℕ, ◌-◌, ◌^◌, ◌<◌, ◌≤◌, Bool, [], ◌∷◌, ◌++◌, Some}
+use Rattle.regex_lite_syntax.proofs.Common.{None, codes, Option, sym, refl, ap, subst, inr, arith}
+use Rattle.regex_lite_syntax.proofs.Common.{AreCharacters, Number, Limit, Counted, exactly, Gap}
+use Rattle.regex_lite_syntax.proofs.Common.{Becomes, IsNotBelow, Completable, Text, the}
 use Rattle.std.proofs.lemmas.List.{append_assoc}
-use Rattle.regex_lite_syntax.specs.Text.{Text, the}
-use Rattle.regex_lite_syntax.specs.Characters.{AreCharacters}
-use Rattle.regex_lite_syntax.specs.Grammar.Gaps.{Gap}
-use Rattle.regex_lite_syntax.specs.Grammar.Counted.{Number, Limit, Counted, exactly}
-use Rattle.regex_lite_syntax.specs.Refusals.{Completable}
-use Rattle.regex_lite_syntax.specs.Parser.Readings.{IsNotBelow}
-use Rattle.regex_lite_syntax.specs.Parser.Numbers.{Becomes, CanReach}
+use Rattle.regex_lite_syntax.specs.Parser.Numbers.{CanReach}
 use Rattle.regex_lite_syntax.proofs.CharacterLemmas.{joined_are}
 use Rattle.regex_lite_syntax.proofs.grammar.NumberLemmas.{side_of}
 use Rattle.regex_lite_syntax.proofs.grammar.CountLemmas.{counted_to}

@@ -1,9 +1,6 @@
 -- A gap at the end of a pattern that goes on.
-use Rattle.std.proofs.Common.{inl, inr, ◌≡◌, refl, subst, Bool, true, false}
-use Rattle.std.proofs.Common.{[], ◌∷◌, ◌++◌}
-use Rattle.regex_lite_syntax.specs.Text.{Text, the}
-use Rattle.regex_lite_syntax.specs.Characters.{AreCharacters}
-use Rattle.regex_lite_syntax.specs.Grammar.Gaps.{Gap}
+use Rattle.regex_lite_syntax.proofs.Common.{◌≡◌, Bool, true, false, [], ◌∷◌, ◌++◌, refl, subst, inl}
+use Rattle.regex_lite_syntax.proofs.Common.{inr, AreCharacters, Gap, Text, the}
 use Rattle.regex_lite_syntax.proofs.grammar.ScanLemmas.{Scan, scan_of_spacing, spacing_of_scan}
 use Rattle.regex_lite_syntax.proofs.grammar.ScanLemmas.{scan_nothing}
 

@@ -1,16 +1,15 @@
 -- Numbers at the end of a pattern that goes on.
-use Rattle.std.proofs.Common.{inl, inr, ◌≡◌, refl, sym, ◌∙◌, ap, subst, ℕ, ◌+◌, ◌-◌, ◌*◌}
-use Rattle.std.proofs.Common.{◌^◌, ◌<◌, nat_lt, length, Bool, true, false, [], ◌∷◌, ◌++◌}
-use Rattle.std.proofs.Common.{fold, IsTrue, arith, length-append}
-use Rattle.std.specs.List.{list_all}
-use Rattle.std.proofs.lemmas.Bool.{and_from, and_parts, both_ways, le-leb, lt-ltb, not-true}
-use Rattle.std.proofs.lemmas.List.Sums.{fold-append}
-use Rattle.regex_lite_syntax.specs.Text.{Text}
-use Rattle.regex_lite_syntax.specs.Characters.{is_white_space, is_digit, digit_value, number_of}
-use Rattle.regex_lite_syntax.specs.Characters.{is_character, AreCharacters}
-use Rattle.regex_lite_syntax.specs.Grammar.Gaps.{Gap, Spaced}
-use Rattle.regex_lite_syntax.specs.Grammar.Counted.{WhiteSpace, Side, WholeSide, Number, EndsNumber}
-use Rattle.regex_lite_syntax.specs.Parser.Numbers.{GrowsTo, as_it_is, with_digit, Becomes}
+use Rattle.regex_lite_syntax.proofs.Common.{◌≡◌, ℕ, ◌+◌, ◌-◌, ◌*◌, ◌^◌, ◌<◌, Bool, true, false, []}
+use Rattle.regex_lite_syntax.proofs.Common.{◌∷◌, ◌++◌, length, IsTrue, nat_lt, sym, refl, ap, ◌∙◌}
+use Rattle.regex_lite_syntax.proofs.Common.{subst, inl, inr, arith, length-append, and_from}
+use Rattle.regex_lite_syntax.proofs.Common.{and_parts, both_ways, le-leb, not-true, fold-append}
+use Rattle.regex_lite_syntax.proofs.Common.{list_all, is_character, AreCharacters, is_white_space}
+use Rattle.regex_lite_syntax.proofs.Common.{is_digit, digit_value, number_of, WhiteSpace, Side}
+use Rattle.regex_lite_syntax.proofs.Common.{WholeSide, Number, EndsNumber, Gap, Spaced, GrowsTo}
+use Rattle.regex_lite_syntax.proofs.Common.{as_it_is, Becomes, Text}
+use Rattle.std.proofs.Common.{fold}
+use Rattle.std.proofs.lemmas.Bool.{lt-ltb}
+use Rattle.regex_lite_syntax.specs.Parser.Numbers.{with_digit}
 use Rattle.regex_lite_syntax.proofs.ListLemmas.{same_head}
 use Rattle.regex_lite_syntax.proofs.grammar.GapLemmas.{empty_gap}
 use Rattle.regex_lite_syntax.proofs.grammar.NumberLemmas.{empty_white, side_of, side_on, ends_side}

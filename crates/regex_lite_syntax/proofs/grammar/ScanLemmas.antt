@@ -1,13 +1,11 @@
 -- White space and comments, as they are passed character by character.
-use Rattle.std.proofs.Common.{inl, inr, ◌⊎◌, ◌≡◌, ◌≢◌, refl, sym, ap, subst}
-use Rattle.std.proofs.Common.{ℕ, Bool, true, false, [], ◌∷◌, ◌++◌, IsTrue}
-use Rattle.std.proofs.lemmas.Bool.{and_from, and_parts, both_ways, not_from_false, ne_eqb}
-use Rattle.std.specs.List.{list_all}
-use Rattle.std.proofs.lemmas.List.Sums.{AllPass-from_list_all, list_all-from_AllPass}
-use Rattle.regex_lite_syntax.specs.Text.{Text, the}
-use Rattle.regex_lite_syntax.specs.Characters.{is_white_space}
+use Rattle.regex_lite_syntax.proofs.Common.{◌≡◌, ℕ, Bool, true, false, ◌≢◌, ◌⊎◌, [], ◌∷◌, ◌++◌}
+use Rattle.regex_lite_syntax.proofs.Common.{IsTrue, sym, refl, ap, subst, inl, inr, and_from}
+use Rattle.regex_lite_syntax.proofs.Common.{and_parts, both_ways, ne_eqb, not_from_false}
+use Rattle.regex_lite_syntax.proofs.Common.{AllPass-from_list_all, list_all-from_AllPass, list_all}
+use Rattle.regex_lite_syntax.proofs.Common.{is_white_space, Spacing, no_more, Text, the}
 use Rattle.regex_lite_syntax.specs.Grammar.Gaps.{is_in_comment, SpacingPiece, white_space}
-use Rattle.regex_lite_syntax.specs.Grammar.Gaps.{comment, last_comment, Spacing, no_more, further}
+use Rattle.regex_lite_syntax.specs.Grammar.Gaps.{comment, last_comment, further}
 
 -- white space and comments, character by character: whether a comment is open where they begin
 abbrev pub Scan : (in_comment : Bool) → (t rest : Text) → Type 0

@@ -1,13 +1,13 @@
 -- Characters of one kind, each with a gap before it, are read in one way.
-use Rattle.std.proofs.Common.{inl, inr, ◌≡◌, refl, sym, ◌∙◌, subst, ℕ, ◌≤◌, length, Bool}
-use Rattle.std.proofs.Common.{true, false, ◌&&◌, ◌||◌, nat_le, [], ◌∷◌, ◌++◌, IsTrue, arith}
-use Rattle.std.proofs.lemmas.Bool.{agree_below_at, and_from, and_parts, both_ways}
-use Rattle.std.proofs.lemmas.Bool.{eqb-true, le-leb, leb-true, not_from_false, or_cases}
-use Rattle.regex_lite_syntax.specs.Text.{Text, Begins, the}
-use Rattle.regex_lite_syntax.specs.Characters.{is_white_space, is_between, is_letter, is_hex_digit}
-use Rattle.regex_lite_syntax.specs.Grammar.Gaps.{Gap, EndsGap, WholeGap, Spaced}
-use Rattle.regex_lite_syntax.specs.Grammar.Escapes.{is_boundary_character}
-use Rattle.regex_lite_syntax.specs.Parser.ClassReadings.{Lacks}
+use Rattle.regex_lite_syntax.proofs.Common.{◌≡◌, ℕ, ◌≤◌, Bool, true, false, ◌&&◌, ◌||◌, [], ◌∷◌}
+use Rattle.regex_lite_syntax.proofs.Common.{◌++◌, length, IsTrue, nat_le, sym, refl, ◌∙◌, subst}
+use Rattle.regex_lite_syntax.proofs.Common.{inl, inr, arith, and_from, and_parts, both_ways}
+use Rattle.regex_lite_syntax.proofs.Common.{eqb-true, le-leb, leb-true, not_from_false, or_cases}
+use Rattle.regex_lite_syntax.proofs.Common.{is_white_space, is_letter, is_hex_digit}
+use Rattle.regex_lite_syntax.proofs.Common.{is_boundary_character, Gap, EndsGap, WholeGap, Spaced}
+use Rattle.regex_lite_syntax.proofs.Common.{Lacks, Text, Begins, the}
+use Rattle.std.proofs.lemmas.Bool.{agree_below_at}
+use Rattle.regex_lite_syntax.specs.Characters.{is_between}
 use Rattle.regex_lite_syntax.proofs.ListLemmas.{same_head, same_tail}
 use Rattle.regex_lite_syntax.proofs.grammar.GapLemmas.{ends_any, gap_once, whole_gap_once}
 

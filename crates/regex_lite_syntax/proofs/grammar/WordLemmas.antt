@@ -1,13 +1,10 @@
 -- Characters of one kind that stand one after another, up to one of another kind.
-use Rattle.std.proofs.Common.{◌≡◌, refl, sym, ◌∙◌, ap, subst, ℕ, ◌+◌, ◌-◌, ◌<◌, ◌≤◌, length, take}
-use Rattle.std.proofs.Common.{drop, get_or, Bool, [], ◌∷◌, ◌++◌, IsTrue, arith, append_assoc}
-use Rattle.std.proofs.lemmas.Bool.{both_ways, and_from, and_parts}
-use Rattle.std.proofs.lemmas.List.{take_more, get_or-drop, length-drop}
-use Rattle.std.specs.List.{AllPass, list_all}
-use Rattle.std.proofs.lemmas.List.Sums.{AllPass-from_list_all, list_all-from_AllPass}
-use Rattle.std.proofs.lemmas.List.Folds.{list_all-append}
-use Rattle.regex_lite_syntax.specs.Text.{Text}
-use Rattle.regex_lite_syntax.specs.Parser.ClassReadings.{Lacks}
+use Rattle.regex_lite_syntax.proofs.Common.{◌≡◌, ℕ, ◌+◌, ◌-◌, ◌<◌, ◌≤◌, Bool, [], ◌∷◌, ◌++◌, length}
+use Rattle.regex_lite_syntax.proofs.Common.{get_or, take, drop, IsTrue, sym, refl, ap, ◌∙◌, subst}
+use Rattle.regex_lite_syntax.proofs.Common.{append_assoc, arith, and_from, and_parts, both_ways}
+use Rattle.regex_lite_syntax.proofs.Common.{get_or-drop, list_all-append, AllPass-from_list_all}
+use Rattle.regex_lite_syntax.proofs.Common.{list_all-from_AllPass, AllPass, list_all, Lacks, Text}
+use Rattle.std.proofs.lemmas.List.{take_more, length-drop}
 use Rattle.regex_lite_syntax.proofs.ListLemmas.{same_head, same_tail}
 
 -- a word that is as long as it can be is the only one

@@ -1,11 +1,8 @@
 -- How deep the trees of a list are, from some index on.
-use Rattle.std.proofs.Common.{◌≡◌, sym, ◌∙◌, ap, ℕ, ◌+◌, ◌<◌, ◌≤◌, max}
-use Rattle.std.proofs.Common.{List, ◌∷◌, map, drop, length, get_or}
-use Rattle.std.proofs.lemmas.List.{drop_more, drop_all}
-use Rattle.regex_lite_syntax.specs.declared.hir.Hir.{Hir}
-use Rattle.regex_lite_syntax.specs.Tree.{trees}
-use Rattle.regex_lite_syntax.specs.Limits.{depth, depth_of_list}
-use Rattle.regex_lite_syntax.specs.Tree.Views.{tree_of}
+use Rattle.regex_lite_syntax.proofs.Common.{◌≡◌, ℕ, ◌+◌, ◌<◌, ◌≤◌, max, List, ◌∷◌, map, length}
+use Rattle.regex_lite_syntax.proofs.Common.{get_or, drop, sym, ap, ◌∙◌, drop_all, drop_more, depth}
+use Rattle.regex_lite_syntax.proofs.Common.{trees, tree_of, Hir}
+use Rattle.regex_lite_syntax.specs.Limits.{depth_of_list}
 
 unfoldable pub depth_from : List Hir → ℕ → ℕ
 depth_from parts i = depth_of_list (trees (map tree_of (drop i parts)))

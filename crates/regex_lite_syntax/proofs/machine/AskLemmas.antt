@@ -1,21 +1,15 @@
 -- What the first character of a part asks for, and that no gap goes on with it.
-use Rattle.std.proofs.Common.{inl, inr, ◌⊎◌, ◌≡◌, ◌≢◌, refl, sym, ◌∙◌, ap, subst, ℕ}
-use Rattle.std.proofs.Common.{Bool, true, false, ◌∷◌, Option, Some, None, ◌==◌, arith}
-use Rattle.std.proofs.lemmas.Bool.{cases_Bool, cases_eq, ne_eqb, eqb-false}
-use Rattle.std.proofs.lemmas.Bool.{and_parts, or_parts, not-true}
-use Rattle.regex_lite_syntax.specs.declared.flags.Flags.{Flags}
-use Rattle.regex_lite_syntax.specs.Text.{Text, the}
-use Rattle.regex_lite_syntax.specs.Characters.{is_white_space}
-use Rattle.regex_lite_syntax.specs.Grammar.Gaps.{EndsGap}
-use Rattle.regex_lite_syntax.specs.Tree.{Tree}
-use Rattle.regex_lite_syntax.specs.Grammar.Operators.{times, Operator, uncounted}
-use Rattle.regex_lite_syntax.specs.Grammar.Operators.{uncounted_lazy, counted, counted_lazy}
-use Rattle.regex_lite_syntax.specs.Grammar.Atoms.{is_literal, no_atom, atom_kind, Atom}
-use Rattle.regex_lite_syntax.specs.Grammar.Points.{Point}
-use Rattle.regex_lite_syntax.specs.Grammar.Heads.{GroupKind, Head, numbered}
-use Rattle.regex_lite_syntax.specs.Grammar.Heads.{named, plain, Directive, sets}
-use Rattle.regex_lite_syntax.specs.Parser.Machine.{Kind, paren, closing, bar}
-use Rattle.regex_lite_syntax.specs.Parser.Machine.{operator, atom, kind_at}
+use Rattle.regex_lite_syntax.proofs.Common.{◌≡◌, ℕ, Bool, true, false, ◌≢◌, ◌⊎◌, ◌∷◌, ◌==◌, Some}
+use Rattle.regex_lite_syntax.proofs.Common.{None, Option, sym, refl, ap, ◌∙◌, subst, inl, inr}
+use Rattle.regex_lite_syntax.proofs.Common.{arith, and_parts, eqb-false, ne_eqb, not-true, or_parts}
+use Rattle.regex_lite_syntax.proofs.Common.{is_white_space, is_literal, no_atom, atom_kind, Atom}
+use Rattle.regex_lite_syntax.proofs.Common.{EndsGap, GroupKind, Head, numbered, plain, Directive}
+use Rattle.regex_lite_syntax.proofs.Common.{sets, times, Operator, uncounted, uncounted_lazy}
+use Rattle.regex_lite_syntax.proofs.Common.{counted, counted_lazy, Point, Kind, kind_at, bar}
+use Rattle.regex_lite_syntax.proofs.Common.{closing, paren, Text, the, Tree, Flags}
+use Rattle.std.proofs.lemmas.Bool.{cases_Bool, cases_eq}
+use Rattle.regex_lite_syntax.specs.Grammar.Heads.{named}
+use Rattle.regex_lite_syntax.specs.Parser.Machine.{operator, atom}
 use Rattle.regex_lite_syntax.proofs.grammar.GapLemmas.{ends_any, ends_before}
 use Rattle.regex_lite_syntax.proofs.grammar.AtomLemmas.{NoSign, no_atom_at, no_literal}
 

@@ -1,20 +1,17 @@
 -- What the grammar derives, the machine runs.
-use Rattle.std.proofs.Common.{◌≡◌, refl, sym, ◌∙◌, ap, subst, ℕ, ◌+◌, Bool}
-use Rattle.std.proofs.Common.{length, List, [], ◌∷◌, ◌++◌, Option, add-one}
-use Rattle.regex_lite_syntax.specs.declared.flags.Flags.{Flags}
-use Rattle.regex_lite_syntax.specs.Text.{Text, the}
-use Rattle.regex_lite_syntax.specs.Grammar.Gaps.{Gap}
-use Rattle.regex_lite_syntax.specs.Tree.{Tree, sequence_of, choice_of, repeated}
-use Rattle.regex_lite_syntax.specs.Grammar.Operators.{Operator}
-use Rattle.regex_lite_syntax.specs.Grammar.Atoms.{Atom}
-use Rattle.regex_lite_syntax.specs.Grammar.GroupNames.{NamesDiffer}
-use Rattle.regex_lite_syntax.specs.Grammar.Points.{Point, onward, PastGap}
-use Rattle.regex_lite_syntax.specs.Grammar.Heads.{GroupKind, group_tree, outside, Head, Directive}
-use Rattle.regex_lite_syntax.specs.Grammar.{Item, atom, group, Branch, nothing, item}
-use Rattle.regex_lite_syntax.specs.Grammar.{directive, Alternatives, only, further, Grammar}
+use Rattle.regex_lite_syntax.proofs.Common.{◌≡◌, ℕ, ◌+◌, Bool, List, [], ◌∷◌, ◌++◌, length, Option}
+use Rattle.regex_lite_syntax.proofs.Common.{sym, refl, ap, ◌∙◌, subst, add-one, group, Branch}
+use Rattle.regex_lite_syntax.proofs.Common.{nothing, item, directive, Alternatives, only, Grammar}
+use Rattle.regex_lite_syntax.proofs.Common.{Atom, Gap, NamesDiffer, GroupKind, group_tree, Head}
+use Rattle.regex_lite_syntax.proofs.Common.{Directive, Operator, Point, onward, PastGap, Frame}
+use Rattle.regex_lite_syntax.proofs.Common.{State, first_state, ended, LeadsOn, stay, go, Text, the}
+use Rattle.regex_lite_syntax.proofs.Common.{Tree, sequence_of, choice_of, repeated, Flags}
+use Rattle.regex_lite_syntax.specs.Grammar.Heads.{outside}
+use Rattle.regex_lite_syntax.specs.Grammar.{Item, atom}
+use Rattle.regex_lite_syntax.specs.Grammar.{further}
 use Rattle.regex_lite_syntax.specs.Grammar.Branch.{operator}
-use Rattle.regex_lite_syntax.specs.Parser.Machine.{Frame, State, first_state, ended, opened}
-use Rattle.regex_lite_syntax.specs.Parser.Machine.{closed, parted, with_items, LeadsOn, stay, go}
+use Rattle.regex_lite_syntax.specs.Parser.Machine.{opened}
+use Rattle.regex_lite_syntax.specs.Parser.Machine.{closed, parted, with_items}
 use Rattle.regex_lite_syntax.proofs.machine.OneStepLemmas.{leads_to, leads_as}
 use Rattle.regex_lite_syntax.proofs.machine.StepLemmas.{step_open, step_direct, step_close}
 use Rattle.regex_lite_syntax.proofs.machine.StepLemmas.{step_part, step_operate, step_atom}

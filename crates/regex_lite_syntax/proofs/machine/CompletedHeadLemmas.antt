@@ -1,15 +1,10 @@
 -- What completes a group's head at which the pattern ends is a step of the machine.
-use Rattle.std.proofs.Common.{◌≡◌, refl, ap, [], ◌∷◌, ◌++◌, length}
-use Rattle.regex_lite_syntax.specs.declared.flags.Flags.{Flags}
-use Rattle.regex_lite_syntax.specs.declared.parse.Parser.{Parser}
-use Rattle.regex_lite_syntax.specs.Text.{Text, the}
-use Rattle.regex_lite_syntax.specs.Characters.{AreCharacters}
-use Rattle.regex_lite_syntax.specs.Refusals.{Completable}
-use Rattle.regex_lite_syntax.specs.Grammar.Gaps.{WholeGap}
-use Rattle.regex_lite_syntax.specs.Grammar.Heads.{non_capturing, inside, Head, plain}
-use Rattle.regex_lite_syntax.specs.Parser.FlagRuns.{EndedFlags}
+use Rattle.regex_lite_syntax.proofs.Common.{◌≡◌, [], ◌∷◌, ◌++◌, length, refl, ap, AreCharacters}
+use Rattle.regex_lite_syntax.proofs.Common.{WholeGap, non_capturing, inside, Head, plain}
+use Rattle.regex_lite_syntax.proofs.Common.{EndedFlags, CanReadOn, Completable, Text, the, Flags}
+use Rattle.regex_lite_syntax.proofs.Common.{Parser}
 use Rattle.regex_lite_syntax.specs.Parser.Machine.{opened}
-use Rattle.regex_lite_syntax.specs.Parser.States.{state, CanReadOn}
+use Rattle.regex_lite_syntax.specs.Parser.States.{state}
 use Rattle.regex_lite_syntax.proofs.CharacterLemmas.{joined_are}
 use Rattle.regex_lite_syntax.proofs.grammar.NewNameLemmas.{NewNamed}
 use Rattle.regex_lite_syntax.proofs.machine.StepLemmas.{at_once, step_open, step_named}

@@ -1,22 +1,14 @@
 -- What has been read of a pattern, and can be read on, is the beginning of an accepted pattern.
-use Rattle.std.proofs.Common.{◌≡◌, refl, sym, subst, ℕ, zero, suc, Bool, true, false}
-use Rattle.std.proofs.Common.{[], ◌∷◌, ◌++◌, length, append_assoc, arith, List}
-use Rattle.regex_lite_syntax.specs.declared.flags.Flags.{Flags}
-use Rattle.regex_lite_syntax.specs.declared.parse.Parser.{Parser}
-use Rattle.regex_lite_syntax.specs.Text.{Text, Begins, the}
-use Rattle.regex_lite_syntax.specs.Characters.{AreCharacters}
-use Rattle.regex_lite_syntax.specs.Tree.{character, choice_of}
-use Rattle.regex_lite_syntax.specs.Grammar.{HasTree}
-use Rattle.regex_lite_syntax.specs.Grammar.Atoms.{Atom, AtomFrom, atom_kind}
-use Rattle.regex_lite_syntax.specs.Grammar.Atoms.{PrimitiveTree}
-use Rattle.regex_lite_syntax.specs.Grammar.Escapes.{one}
-use Rattle.regex_lite_syntax.specs.Grammar.Gaps.{Gap, EndsGap, WholeGap}
-use Rattle.regex_lite_syntax.specs.Grammar.GroupNames.{NamesDiffer}
-use Rattle.regex_lite_syntax.specs.Grammar.Points.{onward}
-use Rattle.regex_lite_syntax.specs.Parser.Machine.{Frame, State, Step, LeadsOn, first_state}
-use Rattle.regex_lite_syntax.specs.Parser.Machine.{ended, closed, with_items, Does, kind_at}
-use Rattle.regex_lite_syntax.specs.FaultPlaces.{BeginsSome}
-use Rattle.regex_lite_syntax.specs.Parser.States.{state, CanReadOn}
+use Rattle.regex_lite_syntax.proofs.Common.{◌≡◌, ℕ, zero, suc, Bool, true, false, List, [], ◌∷◌}
+use Rattle.regex_lite_syntax.proofs.Common.{◌++◌, length, sym, refl, subst, append_assoc, arith}
+use Rattle.regex_lite_syntax.proofs.Common.{AreCharacters, BeginsSome, HasTree, atom_kind}
+use Rattle.regex_lite_syntax.proofs.Common.{PrimitiveTree, AtomFrom, Atom, one, Gap, EndsGap}
+use Rattle.regex_lite_syntax.proofs.Common.{WholeGap, NamesDiffer, onward, Frame, State}
+use Rattle.regex_lite_syntax.proofs.Common.{first_state, ended, kind_at, Does, Step, LeadsOn}
+use Rattle.regex_lite_syntax.proofs.Common.{CanReadOn, Text, Begins, the, choice_of, Flags, Parser}
+use Rattle.regex_lite_syntax.specs.Tree.{character}
+use Rattle.regex_lite_syntax.specs.Parser.Machine.{closed, with_items}
+use Rattle.regex_lite_syntax.specs.Parser.States.{state}
 use Rattle.regex_lite_syntax.proofs.CharacterLemmas.{joined_are}
 use Rattle.regex_lite_syntax.proofs.ListLemmas.{same_head}
 use Rattle.regex_lite_syntax.proofs.grammar.GapLemmas.{empty_gap, gap_to_end}

@@ -1,13 +1,8 @@
 -- What completes a part of a pattern completes a step of the machine.
-use Rattle.std.proofs.Common.{refl, [], ◌∷◌, ◌++◌}
-use Rattle.regex_lite_syntax.specs.declared.parse.Parser.{Parser}
-use Rattle.regex_lite_syntax.specs.Text.{Text, the}
-use Rattle.regex_lite_syntax.specs.Refusals.{Completable}
-use Rattle.regex_lite_syntax.specs.Tree.{Tree}
-use Rattle.regex_lite_syntax.specs.Grammar.Atoms.{Atom}
-use Rattle.regex_lite_syntax.specs.Grammar.Points.{onward}
+use Rattle.regex_lite_syntax.proofs.Common.{[], ◌∷◌, ◌++◌, refl, Atom, onward, CanReadOn}
+use Rattle.regex_lite_syntax.proofs.Common.{Completable, Text, the, Tree, Parser}
 use Rattle.regex_lite_syntax.specs.Parser.Machine.{with_items}
-use Rattle.regex_lite_syntax.specs.Parser.States.{state, CanReadOn}
+use Rattle.regex_lite_syntax.specs.Parser.States.{state}
 use Rattle.regex_lite_syntax.proofs.CharacterLemmas.{joined_are}
 use Rattle.regex_lite_syntax.proofs.machine.ReadStepLemmas.{fresh_step}
 use Rattle.regex_lite_syntax.proofs.machine.StepLemmas.{at_once, step_atom}

@@ -1,15 +1,13 @@
 -- How deep groups stand in one another along a run.
-use Rattle.std.proofs.Common.{inl, inr, ◌≡◌, sym, ap, subst, ℕ, ◌+◌}
-use Rattle.std.proofs.Common.{◌≤◌, max, length, ◌∷◌, add-one, arith}
-use Rattle.regex_lite_syntax.specs.declared.flags.Flags.{Flags}
-use Rattle.regex_lite_syntax.specs.Text.{Text, the}
-use Rattle.regex_lite_syntax.specs.Grammar.Points.{Point, PastGap}
-use Rattle.regex_lite_syntax.specs.Grammar.Heads.{GroupKind, Head, numbered}
-use Rattle.regex_lite_syntax.specs.Grammar.Heads.{named, plain, Directive, sets}
-use Rattle.regex_lite_syntax.specs.Parser.Machine.{State, first_state, opened, closed}
-use Rattle.regex_lite_syntax.specs.Parser.Machine.{parted, with_items, Kind, stop, paren}
-use Rattle.regex_lite_syntax.specs.Parser.Machine.{closing, bar, operator, atom, kind_at}
-use Rattle.regex_lite_syntax.specs.Parser.Machine.{Does, Step, LeadsOn, stay, go}
+use Rattle.regex_lite_syntax.proofs.Common.{◌≡◌, ℕ, ◌+◌, ◌≤◌, max, ◌∷◌, length, sym, ap, subst, inl}
+use Rattle.regex_lite_syntax.proofs.Common.{inr, add-one, arith, GroupKind, Head, numbered, plain}
+use Rattle.regex_lite_syntax.proofs.Common.{Directive, sets, Point, PastGap, State, first_state}
+use Rattle.regex_lite_syntax.proofs.Common.{Kind, stop, kind_at, Does, Step, LeadsOn, stay, go, bar}
+use Rattle.regex_lite_syntax.proofs.Common.{closing, paren, Text, the, Flags}
+use Rattle.regex_lite_syntax.specs.Grammar.Heads.{named}
+use Rattle.regex_lite_syntax.specs.Parser.Machine.{opened, closed}
+use Rattle.regex_lite_syntax.specs.Parser.Machine.{parted, with_items}
+use Rattle.regex_lite_syntax.specs.Parser.Machine.{operator, atom}
 
 -- a head begins with a `(`
 pub head_opens : {level : ℕ} {p q : Point} {kind : GroupKind} → Head level p q kind

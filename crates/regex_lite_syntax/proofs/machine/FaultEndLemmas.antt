@@ -1,26 +1,20 @@
 -- Up to where a pattern begins accepted ones.
-use Rattle.std.proofs.Common.{inl, inr, ◌≡◌, ◌≢◌, refl, sym, ◌∙◌, ap, subst}
-use Rattle.std.proofs.Common.{ℕ, zero, suc, ◌-◌, ◌≤◌, Bool, true, false, MatchBool}
-use Rattle.std.proofs.Common.{Option, Some, None, IfSome, option_map}
-use Rattle.std.proofs.Common.{List, [], ◌∷◌, ◌++◌, take, drop, length, append_assoc, arith}
-use Rattle.std.proofs.lemmas.List.{append-nil}
+use Rattle.regex_lite_syntax.proofs.Common.{◌≡◌, ℕ, zero, suc, ◌-◌, ◌≤◌, Bool, true, false, ◌≢◌}
+use Rattle.regex_lite_syntax.proofs.Common.{List, [], ◌∷◌, ◌++◌, length, take, drop, Some, None}
+use Rattle.regex_lite_syntax.proofs.Common.{MatchBool, Option, option_map, sym, refl, ap, ◌∙◌}
+use Rattle.regex_lite_syntax.proofs.Common.{subst, inl, inr, append_assoc, arith, append-nil}
+use Rattle.regex_lite_syntax.proofs.Common.{is_cut_short, Refusal, syntax_error, too_deep}
+use Rattle.regex_lite_syntax.proofs.Common.{too_many_groups, passed_limit, out_of_memory}
+use Rattle.regex_lite_syntax.proofs.Common.{refused_replacement, kind_of, BeginsNone, BeginsSome}
+use Rattle.regex_lite_syntax.proofs.Common.{HasTree, WholeGap, GoesOnFrom, CanRead, CanReadOn}
+use Rattle.regex_lite_syntax.proofs.Common.{BeginsTooMany, NoReading, Refuses, IfCutShort, Text}
+use Rattle.regex_lite_syntax.proofs.Common.{SyntaxFault, Flags, Parser, Stop}
+use Rattle.std.proofs.Common.{IfSome}
 use Rattle.regex_lite_syntax.specs.declared.error.ErrorKind.{ErrorKind}
 use Rattle.regex_lite_syntax.specs.declared.error.ErrorKind.TheVariants as kind
-use Rattle.regex_lite_syntax.specs.declared.flags.Flags.{Flags}
-use Rattle.regex_lite_syntax.specs.declared.parse.Parser.{Parser}
-use Rattle.regex_lite_syntax.specs.Errors.{Refusal, kind_of, syntax_error, too_deep}
-use Rattle.regex_lite_syntax.specs.Errors.{too_many_groups, passed_limit, out_of_memory}
-use Rattle.regex_lite_syntax.specs.Errors.{refused_replacement}
-use Rattle.regex_lite_syntax.specs.FaultPlaces.{BeginsNone, BeginsSome, IsEndOfFault, IsUntold}
-use Rattle.regex_lite_syntax.specs.Grammar.{HasTree}
-use Rattle.regex_lite_syntax.specs.Grammar.Gaps.{WholeGap}
-use Rattle.regex_lite_syntax.specs.Parser.FaultEnds.{IsRefusedUnread, GoesOnFrom, IsEndAbove}
-use Rattle.regex_lite_syntax.specs.Parser.States.{state, CanRead, CanReadOn, BeginsTooMany}
-use Rattle.regex_lite_syntax.specs.CutShort.{is_cut_short}
-use Rattle.regex_lite_syntax.specs.declared.error.syntax.SyntaxFault.{SyntaxFault}
-use Rattle.regex_lite_syntax.specs.declared.parse.fault.Stop.{Stop}
-use Rattle.regex_lite_syntax.specs.Refusals.{NoReading, Refuses, IfCutShort}
-use Rattle.regex_lite_syntax.specs.Text.{Text}
+use Rattle.regex_lite_syntax.specs.FaultPlaces.{IsEndOfFault, IsUntold}
+use Rattle.regex_lite_syntax.specs.Parser.FaultEnds.{IsRefusedUnread, IsEndAbove}
+use Rattle.regex_lite_syntax.specs.Parser.States.{state}
 use Rattle.regex_lite_syntax.proofs.machine.DepthLemmas.{head_opens}
 use Rattle.regex_lite_syntax.proofs.machine.CompletedRunLemmas.{reads_on}
 use Rattle.regex_lite_syntax.proofs.machine.FaultLemmas.{Comes, says_for_good}

@@ -1,34 +1,23 @@
 -- What the parser has come to says of where the pattern's first fault stands.
-use Rattle.std.proofs.Common.{Option, Some, None, MatchOption, option_to_list, option_map, true}
-use Rattle.std.proofs.Common.{inr, ◌≡◌, refl, sym, ◌∙◌, ap, subst, ℕ, ◌+◌, ◌<◌}
-use Rattle.std.proofs.Common.{List, [], ◌∷◌, ◌++◌, map, reverse, length, drop, arith}
-use Rattle.std.proofs.Common.{length-drop, false}
+use Rattle.regex_lite_syntax.proofs.Common.{◌≡◌, ℕ, ◌+◌, ◌<◌, true, false, ◌≢◌, List, [], ◌∷◌, ◌++◌}
+use Rattle.regex_lite_syntax.proofs.Common.{map, reverse, length, drop, Some, None, Option}
+use Rattle.regex_lite_syntax.proofs.Common.{option_map, sym, refl, ap, ◌∙◌, subst, inr, arith}
+use Rattle.regex_lite_syntax.proofs.Common.{AreCharacters, is_cut_short, Refusal, syntax_error}
+use Rattle.regex_lite_syntax.proofs.Common.{too_deep, too_many_groups, passed_limit, out_of_memory}
+use Rattle.regex_lite_syntax.proofs.Common.{refused_replacement, kind_of, IsReadTo, BeginsNone}
+use Rattle.regex_lite_syntax.proofs.Common.{HasTree, Gap, WholeGap, NamesDiffer, Point, start}
+use Rattle.regex_lite_syntax.proofs.Common.{State, first_state, ended, kind_at, LeadsOn, stay}
+use Rattle.regex_lite_syntax.proofs.Common.{StepsTo, CanRead, BeginsTooMany, NoReading, Refuses}
+use Rattle.regex_lite_syntax.proofs.Common.{Text, choice_of, SyntaxFault, Flags, Parser, Stop}
+use Rattle.std.proofs.Common.{MatchOption, option_to_list}
+use Rattle.std.proofs.Common.{length-drop}
 use Rattle.std.proofs.lemmas.List.{length_push}
 use Rattle.regex_lite_syntax.proofs.machine.DepthLemmas.{head_opens}
-use Rattle.regex_lite_syntax.specs.Characters.{AreCharacters}
-use Rattle.regex_lite_syntax.specs.declared.flags.Flags.{Flags}
 use Rattle.regex_lite_syntax.specs.declared.error.ErrorKind.TheVariants as kind
-use Rattle.regex_lite_syntax.specs.Refusals.{NoReading, Refuses}
-use Rattle.regex_lite_syntax.specs.declared.error.syntax.SyntaxFault.{SyntaxFault}
-use Rattle.regex_lite_syntax.specs.CutShort.{is_cut_short}
-use Rattle.regex_lite_syntax.specs.Errors.{Refusal, kind_of, syntax_error, too_deep}
-use Rattle.regex_lite_syntax.specs.Errors.{too_many_groups, passed_limit, out_of_memory}
-use Rattle.regex_lite_syntax.specs.Errors.{refused_replacement}
-use Rattle.regex_lite_syntax.specs.declared.parse.Parser.{Parser}
-use Rattle.regex_lite_syntax.specs.declared.parse.fault.Stop.{Stop}
-use Rattle.regex_lite_syntax.specs.Text.{Text}
-use Rattle.regex_lite_syntax.specs.FaultPlaces.{IsReadTo, IsStuckAt, IsUnclosedAt, IsFaultAt}
-use Rattle.regex_lite_syntax.specs.FaultPlaces.{IsUntold, BeginsNone}
-use Rattle.std.proofs.Common.{◌≢◌}
-use Rattle.regex_lite_syntax.specs.Grammar.{HasTree}
-use Rattle.regex_lite_syntax.specs.Grammar.Gaps.{Gap, WholeGap}
-use Rattle.regex_lite_syntax.specs.Grammar.GroupNames.{NamesDiffer}
-use Rattle.regex_lite_syntax.specs.Grammar.Points.{Point, start}
-use Rattle.regex_lite_syntax.specs.Tree.{choice_of}
-use Rattle.regex_lite_syntax.specs.Parser.Machine.{State, LeadsOn, first_state, ended, kind_at}
-use Rattle.regex_lite_syntax.specs.Parser.Machine.{stay}
+use Rattle.regex_lite_syntax.specs.FaultPlaces.{IsStuckAt, IsUnclosedAt, IsFaultAt}
+use Rattle.regex_lite_syntax.specs.FaultPlaces.{IsUntold}
 use Rattle.regex_lite_syntax.specs.Parser.Starts.{Tracks}
-use Rattle.regex_lite_syntax.specs.Parser.States.{state, StepsTo, CanRead, BeginsTooMany}
+use Rattle.regex_lite_syntax.specs.Parser.States.{state}
 use Rattle.regex_lite_syntax.proofs.ListLemmas.{same_tail}
 use Rattle.regex_lite_syntax.proofs.grammar.GapLemmas.{whole_gap_once, gap_to_end}
 use Rattle.regex_lite_syntax.proofs.grammar.LongerGapLemmas.{settled, whole_longer}

@@ -1,18 +1,15 @@
 -- What is counted along a run: groups, their depth and names only grow, and each group takes a `(`.
-use Rattle.std.proofs.Common.{inl, inr, ◌≡◌, refl, sym, ◌∙◌, ap, subst, ℕ, ◌+◌, ◌≤◌, length}
-use Rattle.std.proofs.Common.{List, [], ◌∷◌, ◌++◌, Option, append_assoc, add-one, arith}
-use Rattle.std.proofs.lemmas.List.{append-nil}
-use Rattle.regex_lite_syntax.specs.declared.flags.Flags.{Flags}
-use Rattle.regex_lite_syntax.specs.Text.{Text, the}
-use Rattle.regex_lite_syntax.specs.Tree.{Tree}
-use Rattle.regex_lite_syntax.specs.Grammar.GroupNames.{NamesDiffer}
-use Rattle.regex_lite_syntax.specs.Grammar.Points.{Point, PastGap}
-use Rattle.regex_lite_syntax.specs.Grammar.Heads.{GroupKind, capturing, non_capturing, Head}
-use Rattle.regex_lite_syntax.specs.Grammar.Heads.{numbered, named, plain, Directive, sets}
-use Rattle.regex_lite_syntax.specs.Grammar.{Grammar}
-use Rattle.regex_lite_syntax.specs.Parser.Machine.{State, first_state, opened, closed, parted}
-use Rattle.regex_lite_syntax.specs.Parser.Machine.{with_items, Kind, stop, paren, closing, bar}
-use Rattle.regex_lite_syntax.specs.Parser.Machine.{operator, atom, kind_at, Does, LeadsOn, stay, go}
+use Rattle.regex_lite_syntax.proofs.Common.{◌≡◌, ℕ, ◌+◌, ◌≤◌, List, [], ◌∷◌, ◌++◌, length, Option}
+use Rattle.regex_lite_syntax.proofs.Common.{sym, refl, ap, ◌∙◌, subst, inl, inr, append_assoc}
+use Rattle.regex_lite_syntax.proofs.Common.{add-one, arith, append-nil, Grammar, NamesDiffer}
+use Rattle.regex_lite_syntax.proofs.Common.{GroupKind, non_capturing, capturing, Head, numbered}
+use Rattle.regex_lite_syntax.proofs.Common.{plain, Directive, sets, Point, PastGap, State}
+use Rattle.regex_lite_syntax.proofs.Common.{first_state, Kind, stop, kind_at, Does, LeadsOn, stay}
+use Rattle.regex_lite_syntax.proofs.Common.{go, bar, closing, paren, Text, the, Tree, Flags}
+use Rattle.regex_lite_syntax.specs.Grammar.Heads.{named}
+use Rattle.regex_lite_syntax.specs.Parser.Machine.{opened, closed, parted}
+use Rattle.regex_lite_syntax.specs.Parser.Machine.{with_items}
+use Rattle.regex_lite_syntax.specs.Parser.Machine.{operator, atom}
 use Rattle.regex_lite_syntax.proofs.machine.OneStepLemmas.{meets, at_end, leads_step}
 use Rattle.regex_lite_syntax.proofs.machine.CompleteLemmas.{complete}
 use Rattle.regex_lite_syntax.proofs.machine.StepLemmas.{step_open}

@@ -1,17 +1,12 @@
 -- What is read of a pattern is read of each longer pattern that begins with it.
-use Rattle.std.proofs.Common.{inl, inr, ◌≡◌, ◌≢◌, refl, sym, ap, subst}
-use Rattle.std.proofs.Common.{[], ◌∷◌, ◌++◌}
-use Rattle.regex_lite_syntax.specs.declared.flags.Flags.{Flags}
-use Rattle.regex_lite_syntax.specs.Text.{Text}
-use Rattle.regex_lite_syntax.specs.Tree.{Tree}
-use Rattle.regex_lite_syntax.specs.FaultPlaces.{IsReadTo}
-use Rattle.regex_lite_syntax.specs.Grammar.Atoms.{AtomKind, single, escape, bracketed}
-use Rattle.regex_lite_syntax.specs.Grammar.Atoms.{no_atom, atom_kind, AtomFrom, Atom}
-use Rattle.regex_lite_syntax.specs.Grammar.Points.{Point, start}
-use Rattle.regex_lite_syntax.specs.Parser.Machine.{State, opened, closed, parted}
-use Rattle.regex_lite_syntax.specs.Parser.Machine.{with_items, Kind, stop, paren, closing, bar}
-use Rattle.regex_lite_syntax.specs.Parser.Machine.{operator, atom, kind_at, Does, Step}
-use Rattle.regex_lite_syntax.specs.Parser.Machine.{LeadsOn, stay, go}
+use Rattle.regex_lite_syntax.proofs.Common.{◌≡◌, ◌≢◌, [], ◌∷◌, ◌++◌, sym, refl, ap, subst, inl, inr}
+use Rattle.regex_lite_syntax.proofs.Common.{IsReadTo, AtomKind, single, escape, bracketed, no_atom}
+use Rattle.regex_lite_syntax.proofs.Common.{atom_kind, AtomFrom, Atom, Point, start, State, Kind}
+use Rattle.regex_lite_syntax.proofs.Common.{stop, kind_at, Does, Step, LeadsOn, stay, go, bar}
+use Rattle.regex_lite_syntax.proofs.Common.{closing, paren, Text, Tree, Flags}
+use Rattle.regex_lite_syntax.specs.Parser.Machine.{opened, closed, parted}
+use Rattle.regex_lite_syntax.specs.Parser.Machine.{with_items}
+use Rattle.regex_lite_syntax.specs.Parser.Machine.{operator, atom}
 use Rattle.regex_lite_syntax.proofs.grammar.LongerClassLemmas.{class_longer}
 use Rattle.regex_lite_syntax.proofs.grammar.LongerEscapeLemmas.{NoBraceComes, escape_longer}
 use Rattle.regex_lite_syntax.proofs.grammar.LongerGapLemmas.{GoesOn, Settles, settled}

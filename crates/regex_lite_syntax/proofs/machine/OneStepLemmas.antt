@@ -1,11 +1,11 @@
 -- No state of the machine has two steps, and a gap may be left before a step or with it.
-use Rattle.std.proofs.Common.{inl, inr, ◌≡◌, refl, sym, ◌∙◌, ap, subst, []}
-use Rattle.regex_lite_syntax.specs.Text.{Text}
-use Rattle.regex_lite_syntax.specs.Grammar.Gaps.{Gap, EndsGap, WholeGap}
-use Rattle.regex_lite_syntax.specs.Grammar.Points.{Point, onward, PastGap}
-use Rattle.regex_lite_syntax.specs.Parser.Machine.{State, opened, closed, parted, with_items}
-use Rattle.regex_lite_syntax.specs.Parser.Machine.{Kind, stop, paren, closing, bar, operator}
-use Rattle.regex_lite_syntax.specs.Parser.Machine.{atom, kind_at, Does, Step, LeadsOn, stay, go}
+use Rattle.regex_lite_syntax.proofs.Common.{◌≡◌, [], sym, refl, ap, ◌∙◌, subst, inl, inr, Gap}
+use Rattle.regex_lite_syntax.proofs.Common.{EndsGap, WholeGap, Point, onward, PastGap, State, Kind}
+use Rattle.regex_lite_syntax.proofs.Common.{stop, kind_at, Does, Step, LeadsOn, stay, go, bar}
+use Rattle.regex_lite_syntax.proofs.Common.{closing, paren, Text}
+use Rattle.regex_lite_syntax.specs.Parser.Machine.{opened, closed, parted, with_items}
+use Rattle.regex_lite_syntax.specs.Parser.Machine.{operator}
+use Rattle.regex_lite_syntax.specs.Parser.Machine.{atom}
 use Rattle.regex_lite_syntax.proofs.ListLemmas.{same_head, same_tail, snoc_same}
 use Rattle.regex_lite_syntax.proofs.grammar.GapLemmas.{empty_gap, gap_at_end}
 use Rattle.regex_lite_syntax.proofs.grammar.GapLemmas.{gap_to_end, whole_gap_once}

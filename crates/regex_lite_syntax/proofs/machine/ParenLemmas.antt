@@ -1,36 +1,27 @@
 -- After each part of a pattern are no more `(` than from its beginning on, and no other characters.
-use Rattle.std.proofs.Common.{inl, inr, ◌≡◌, refl, sym, ap, subst, ℕ, zero, suc, ◌+◌, ◌≤◌, Bool}
-use Rattle.std.proofs.Common.{true, false, ◌==◌, List, [], ◌∷◌, ◌++◌, length, Option}
-use Rattle.std.proofs.Common.{if◌then◌else◌, arith}
+use Rattle.regex_lite_syntax.proofs.Common.{◌≡◌, ℕ, zero, suc, ◌+◌, ◌≤◌, Bool, true, false, List}
+use Rattle.regex_lite_syntax.proofs.Common.{[], ◌∷◌, ◌++◌, length, if◌then◌else◌, ◌==◌, Option, sym}
+use Rattle.regex_lite_syntax.proofs.Common.{refl, ap, subst, inl, inr, arith, AreCharacters}
+use Rattle.regex_lite_syntax.proofs.Common.{AtomKind, single, escape, bracketed, no_atom, atom_kind}
+use Rattle.regex_lite_syntax.proofs.Common.{AtomFrom, Atom, ClassElement, RangeFollows, NamedClass}
+use Rattle.regex_lite_syntax.proofs.Common.{ClassItem, named_class, escaped_set, range, Takes}
+use Rattle.regex_lite_syntax.proofs.Common.{takes, leaves, Dashes, FirstBracket, ClassOpening}
+use Rattle.regex_lite_syntax.proofs.Common.{ClassItems, BracketedClass, WhiteSpace, Side, Number}
+use Rattle.regex_lite_syntax.proofs.Common.{Counted, exactly, at_least, between, EscapeKind, gives}
+use Rattle.regex_lite_syntax.proofs.Common.{word_boundary, hexadecimal, refused, escape_kind}
+use Rattle.regex_lite_syntax.proofs.Common.{Hexadecimal, fixed, braced, WordBoundary, alone}
+use Rattle.regex_lite_syntax.proofs.Common.{before_count, EscapeFrom, Escape, FlagLetters, setting}
+use Rattle.regex_lite_syntax.proofs.Common.{clearing, Spacing, Gap, Spaced, NameOpening, with_p}
+use Rattle.regex_lite_syntax.proofs.Common.{without_p, Named, Operator, uncounted, uncounted_lazy}
+use Rattle.regex_lite_syntax.proofs.Common.{counted, counted_lazy, SetName, Set, Text, the, Tree}
+use Rattle.regex_lite_syntax.proofs.Common.{Flags, Look}
 use Rattle.std.specs.List.{count_by}
 use Rattle.std.proofs.lemmas.List.Sums.{sum_by-cons}
-use Rattle.regex_lite_syntax.specs.declared.flags.Flags.{Flags}
-use Rattle.regex_lite_syntax.specs.declared.hir.look.Look.{Look}
-use Rattle.regex_lite_syntax.specs.NamedSets.{SetName}
-use Rattle.regex_lite_syntax.specs.Text.{Text, the}
-use Rattle.regex_lite_syntax.specs.Characters.{AreCharacters}
-use Rattle.regex_lite_syntax.specs.Grammar.Gaps.{Spacing, Gap, Spaced}
 use Rattle.regex_lite_syntax.proofs.grammar.ScanLemmas.{Scan, scan_of_spacing}
-use Rattle.regex_lite_syntax.specs.Sets.{Set}
-use Rattle.regex_lite_syntax.specs.Grammar.Escapes.{Primitive, EscapeKind, gives, word_boundary}
-use Rattle.regex_lite_syntax.specs.Grammar.Escapes.{hexadecimal, refused, escape_kind}
-use Rattle.regex_lite_syntax.specs.Grammar.Escapes.{Hexadecimal, fixed, braced, WordBoundary}
-use Rattle.regex_lite_syntax.specs.Grammar.Escapes.{alone, before_count}
-use Rattle.regex_lite_syntax.specs.Grammar.Escapes.{named as boundary_named, EscapeFrom, Escape}
-use Rattle.regex_lite_syntax.specs.Grammar.Classes.{ClassElement, literal, escaped}
-use Rattle.regex_lite_syntax.specs.Grammar.Classes.{RangeFollows, NamedClass, ClassItem}
-use Rattle.regex_lite_syntax.specs.Grammar.Classes.{named_class, character, escaped_set, range}
-use Rattle.regex_lite_syntax.specs.Grammar.Classes.{Takes, takes, leaves, Dashes, FirstBracket}
-use Rattle.regex_lite_syntax.specs.Grammar.Classes.{ClassOpening, ClassItems, BracketedClass}
-use Rattle.regex_lite_syntax.specs.Tree.{Tree}
-use Rattle.regex_lite_syntax.specs.Grammar.FlagLetters.{FlagLetters, setting, clearing}
-use Rattle.regex_lite_syntax.specs.Grammar.Counted.{WhiteSpace, Side, Number, Counted}
-use Rattle.regex_lite_syntax.specs.Grammar.Counted.{exactly, at_least, between}
-use Rattle.regex_lite_syntax.specs.Grammar.Operators.{Operator, uncounted, uncounted_lazy}
-use Rattle.regex_lite_syntax.specs.Grammar.Operators.{counted, counted_lazy}
-use Rattle.regex_lite_syntax.specs.Grammar.Atoms.{AtomKind, single, escape, bracketed}
-use Rattle.regex_lite_syntax.specs.Grammar.Atoms.{no_atom, atom_kind, AtomFrom, Atom}
-use Rattle.regex_lite_syntax.specs.Grammar.GroupNames.{NameOpening, with_p, without_p, Named}
+use Rattle.regex_lite_syntax.specs.Grammar.Escapes.{Primitive}
+use Rattle.regex_lite_syntax.specs.Grammar.Escapes.{named as boundary_named}
+use Rattle.regex_lite_syntax.specs.Grammar.Classes.{literal, escaped}
+use Rattle.regex_lite_syntax.specs.Grammar.Classes.{character}
 
 -- how many `(` the text has
 abbrev pub parens : Text → ℕ

@@ -1,23 +1,18 @@
 -- What the parser reads of a group's head is a step of the machine, and where it refuses there is
 -- none.
-use Rattle.std.proofs.Common.{List, inl, inr, ◌≡◌, ◌≢◌, refl, sym, ◌∙◌, ap, subst}
-use Rattle.std.proofs.Common.{◌+◌, [], ◌∷◌, ◌++◌, Some, None, Contains, length, Bool, IsTrue}
+use Rattle.regex_lite_syntax.proofs.Common.{◌≡◌, ◌+◌, Bool, ◌≢◌, List, [], ◌∷◌, ◌++◌, length}
+use Rattle.regex_lite_syntax.proofs.Common.{IsTrue, Some, None, Contains, sym, refl, ap, ◌∙◌, subst}
+use Rattle.regex_lite_syntax.proofs.Common.{inl, inr, is_cut_short, FlagLetters, Gap, WholeGap}
+use Rattle.regex_lite_syntax.proofs.Common.{NameWritten, NameOpening, Named, NamesDiffer}
+use Rattle.regex_lite_syntax.proofs.Common.{non_capturing, capturing, numbered_on, named_on, inside}
+use Rattle.regex_lite_syntax.proofs.Common.{Head, plain, Directive, sets, EndedFlags, State, Step}
+use Rattle.regex_lite_syntax.proofs.Common.{EndsInOpening, StepsTo, CanRead, BeginsCapture}
+use Rattle.regex_lite_syntax.proofs.Common.{NoReading, Text, Begins, the, SyntaxFault, Flags}
+use Rattle.regex_lite_syntax.proofs.Common.{Parser}
 use Rattle.std.specs.Prelude.{max as greatest}
-use Rattle.regex_lite_syntax.specs.declared.flags.Flags.{Flags}
-use Rattle.regex_lite_syntax.specs.declared.error.syntax.SyntaxFault.{SyntaxFault}
-use Rattle.regex_lite_syntax.specs.declared.parse.Parser.{Parser}
-use Rattle.regex_lite_syntax.specs.CutShort.{is_cut_short}
-use Rattle.regex_lite_syntax.specs.Refusals.{NoReading}
-use Rattle.regex_lite_syntax.specs.Parser.NameOpenings.{EndsInOpening, Unnamed}
-use Rattle.regex_lite_syntax.specs.Text.{Text, Begins, the}
-use Rattle.regex_lite_syntax.specs.Grammar.Gaps.{Gap, WholeGap}
-use Rattle.regex_lite_syntax.specs.Grammar.FlagLetters.{FlagLetters}
-use Rattle.regex_lite_syntax.specs.Parser.FlagRuns.{EndedFlags}
-use Rattle.regex_lite_syntax.specs.Grammar.GroupNames.{NameWritten, NameOpening, Named, NamesDiffer}
-use Rattle.regex_lite_syntax.specs.Grammar.Heads.{non_capturing, capturing, numbered_on}
-use Rattle.regex_lite_syntax.specs.Grammar.Heads.{named_on, inside, Head, plain, Directive, sets}
-use Rattle.regex_lite_syntax.specs.Parser.Machine.{State, Step, opened, with_items}
-use Rattle.regex_lite_syntax.specs.Parser.States.{state, StepsTo, CanRead, BeginsCapture}
+use Rattle.regex_lite_syntax.specs.Parser.NameOpenings.{Unnamed}
+use Rattle.regex_lite_syntax.specs.Parser.Machine.{opened, with_items}
+use Rattle.regex_lite_syntax.specs.Parser.States.{state}
 use Rattle.regex_lite_syntax.specs.Parser.States.{OpensGroup, OpensCapture, Directs}
 use Rattle.regex_lite_syntax.proofs.grammar.NameLemmas.{differ_more, no_second}
 use Rattle.regex_lite_syntax.proofs.grammar.HeadLemmas.{numbered_head, named_head}

@@ -1,19 +1,15 @@
 -- How far the grammar reads a pattern, as the machine runs it.
 use Rattle.regex_lite_syntax.proofs.ListLemmas.{same_head}
-use Rattle.std.proofs.Common.{inl, inr, ◌≡◌, ◌⊎◌, refl, sym, ◌∙◌, subst, ℕ, ◌+◌, ◌≤◌}
-use Rattle.std.proofs.Common.{length, List, [], ◌∷◌, ◌++◌, add-one, arith, ap, drop}
-use Rattle.regex_lite_syntax.specs.declared.flags.Flags.{Flags}
-use Rattle.regex_lite_syntax.specs.Text.{Text}
-use Rattle.regex_lite_syntax.specs.Tree.{Tree, sequence_of}
-use Rattle.regex_lite_syntax.specs.Grammar.{Alternatives}
-use Rattle.regex_lite_syntax.specs.Grammar.Gaps.{Gap}
-use Rattle.regex_lite_syntax.specs.Grammar.GroupNames.{NamesDiffer}
-use Rattle.regex_lite_syntax.specs.Grammar.Points.{Point, start}
-use Rattle.regex_lite_syntax.specs.FaultPlaces.{ReadsOn, outside, in_group, IsReadTo, IsUnclosedAt}
-use Rattle.regex_lite_syntax.specs.Parser.Machine.{Frame, State, first_state, opened, closed}
-use Rattle.regex_lite_syntax.specs.Parser.Machine.{parted, with_items, Kind, stop, paren}
-use Rattle.regex_lite_syntax.specs.Parser.Machine.{closing, bar, operator, atom, kind_at}
-use Rattle.regex_lite_syntax.specs.Parser.Machine.{Does, Step, LeadsOn, stay, go}
+use Rattle.regex_lite_syntax.proofs.Common.{◌≡◌, ℕ, ◌+◌, ◌≤◌, ◌⊎◌, List, [], ◌∷◌, ◌++◌, length}
+use Rattle.regex_lite_syntax.proofs.Common.{drop, sym, refl, ap, ◌∙◌, subst, inl, inr, add-one}
+use Rattle.regex_lite_syntax.proofs.Common.{arith, IsReadTo, Alternatives, Gap, NamesDiffer, Point}
+use Rattle.regex_lite_syntax.proofs.Common.{start, Frame, State, first_state, Kind, stop, kind_at}
+use Rattle.regex_lite_syntax.proofs.Common.{Does, Step, LeadsOn, stay, go, bar, closing, paren}
+use Rattle.regex_lite_syntax.proofs.Common.{Text, Tree, sequence_of, Flags}
+use Rattle.regex_lite_syntax.specs.FaultPlaces.{ReadsOn, outside, in_group, IsUnclosedAt}
+use Rattle.regex_lite_syntax.specs.Parser.Machine.{opened, closed}
+use Rattle.regex_lite_syntax.specs.Parser.Machine.{parted, with_items}
+use Rattle.regex_lite_syntax.specs.Parser.Machine.{operator, atom}
 use Rattle.regex_lite_syntax.proofs.grammar.NameLemmas.{differ_before}
 use Rattle.regex_lite_syntax.proofs.machine.CompleteLemmas.{standing, frame_at, into_group}
 use Rattle.regex_lite_syntax.proofs.machine.CompleteLemmas.{alternatives_lead}

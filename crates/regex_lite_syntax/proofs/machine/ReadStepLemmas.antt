@@ -1,19 +1,13 @@
 -- What the parser reads is a step of the machine, and where it refuses there is none.
-use Rattle.std.proofs.Common.{◌≡◌, refl, sym, ◌∙◌, ap, subst, ℕ, Bool, true, false, List}
-use Rattle.std.proofs.Common.{[], ◌∷◌, ◌++◌, Option, Some, map, reverse}
-use Rattle.regex_lite_syntax.specs.declared.parse.Parser.{Parser}
-use Rattle.regex_lite_syntax.specs.Text.{Text, the}
-use Rattle.regex_lite_syntax.specs.Grammar.Gaps.{EndsGap}
-use Rattle.regex_lite_syntax.specs.Tree.{Tree, repeated}
-use Rattle.regex_lite_syntax.specs.Grammar.Counted.{Counted}
-use Rattle.regex_lite_syntax.specs.Grammar.Operators.{times, Operator}
-use Rattle.regex_lite_syntax.specs.Grammar.Atoms.{Atom}
-use Rattle.regex_lite_syntax.specs.Grammar.GroupNames.{NamesDiffer}
-use Rattle.regex_lite_syntax.specs.Tree.Views.{tree_of}
-use Rattle.regex_lite_syntax.specs.Parser.Machine.{State, Step, closed, parted}
+use Rattle.regex_lite_syntax.proofs.Common.{◌≡◌, ℕ, Bool, true, false, List, [], ◌∷◌, ◌++◌, map}
+use Rattle.regex_lite_syntax.proofs.Common.{reverse, Some, Option, sym, refl, ap, ◌∙◌, subst, Atom}
+use Rattle.regex_lite_syntax.proofs.Common.{Counted, EndsGap, NamesDiffer, times, Operator, State}
+use Rattle.regex_lite_syntax.proofs.Common.{Step, frame_of, StepsTo, CanRead, Text, the, Tree}
+use Rattle.regex_lite_syntax.proofs.Common.{repeated, tree_of, Parser}
+use Rattle.regex_lite_syntax.specs.Parser.Machine.{closed, parted}
 use Rattle.regex_lite_syntax.specs.Parser.Machine.{with_items, BeginsAtom}
-use Rattle.regex_lite_syntax.specs.Parser.States.{frame_of, state, FreshStep, StepsTo}
-use Rattle.regex_lite_syntax.specs.Parser.States.{CanRead, Closes, EndsBranch, Adds}
+use Rattle.regex_lite_syntax.specs.Parser.States.{state, FreshStep}
+use Rattle.regex_lite_syntax.specs.Parser.States.{Closes, EndsBranch, Adds}
 use Rattle.regex_lite_syntax.proofs.machine.StepLemmas.{at_once, step_close, step_part}
 use Rattle.regex_lite_syntax.proofs.machine.StepLemmas.{step_operate, step_atom, no_close}
 use Rattle.regex_lite_syntax.proofs.machine.StepLemmas.{no_operand, no_counted_operand}

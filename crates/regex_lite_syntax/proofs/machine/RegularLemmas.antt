@@ -1,27 +1,24 @@
 -- The trees of patterns are regular: characters are Unicode scalar values, sets are given by their
 -- runs, repetitions are in order, groups are numbered from 1, and lists have two parts or more.
-use Rattle.std.proofs.Common.{◌≡◌, ◌≤◌, refl, sym, subst, arith, ℕ, zero, suc}
-use Rattle.std.proofs.Common.{Bool, true, false, ◌&&◌, List, [], ◌∷◌, ◌++◌}
-use Rattle.std.proofs.Common.{Option, Some, None, MatchBool, IsTrue, rules}
-use Rattle.regex_lite_syntax.specs.declared.flags.Flags.{Flags}
-use Rattle.regex_lite_syntax.specs.Text.{Text}
-use Rattle.regex_lite_syntax.specs.Characters.{is_character, is_letter, AreCharacters}
-use Rattle.regex_lite_syntax.specs.Sets.{Set, just, case_closure}
-use Rattle.regex_lite_syntax.specs.Grammar.Escapes.{Primitive, one, some_of, look_at}
-use Rattle.regex_lite_syntax.specs.Tree.{Tree, character, trees, sequence_of, choice_of, repeated}
-use Rattle.regex_lite_syntax.specs.Grammar.Counted.{Counted}
-use Rattle.regex_lite_syntax.specs.Grammar.Operators.{times, Operator, uncounted}
-use Rattle.regex_lite_syntax.specs.Grammar.Operators.{uncounted_lazy, counted, counted_lazy}
-use Rattle.regex_lite_syntax.specs.Grammar.Atoms.{AtomKind, single, escape, bracketed}
-use Rattle.regex_lite_syntax.specs.Grammar.Atoms.{no_atom, atom_kind, IsClassOf}
-use Rattle.regex_lite_syntax.specs.Grammar.Atoms.{PrimitiveTree, AtomFrom, Atom}
-use Rattle.regex_lite_syntax.specs.Grammar.Points.{Point}
-use Rattle.regex_lite_syntax.specs.Grammar.Heads.{GroupKind, non_capturing, capturing}
-use Rattle.regex_lite_syntax.specs.Grammar.Heads.{group_tree, Head, numbered, named, plain}
-use Rattle.regex_lite_syntax.specs.Grammar.{Item, atom, group, Branch, nothing, item}
-use Rattle.regex_lite_syntax.specs.Grammar.{directive, Alternatives, only, further, Grammar}
+use Rattle.regex_lite_syntax.proofs.Common.{◌≡◌, ℕ, zero, suc, ◌≤◌, Bool, true, false, ◌&&◌, List}
+use Rattle.regex_lite_syntax.proofs.Common.{[], ◌∷◌, ◌++◌, IsTrue, Some, None, MatchBool, Option}
+use Rattle.regex_lite_syntax.proofs.Common.{sym, refl, subst, arith, rules, is_character}
+use Rattle.regex_lite_syntax.proofs.Common.{AreCharacters, is_letter, group, Branch, nothing, item}
+use Rattle.regex_lite_syntax.proofs.Common.{directive, Alternatives, only, Grammar, AtomKind}
+use Rattle.regex_lite_syntax.proofs.Common.{single, escape, bracketed, no_atom, atom_kind}
+use Rattle.regex_lite_syntax.proofs.Common.{IsClassOf, PrimitiveTree, AtomFrom, Atom, Counted, one}
+use Rattle.regex_lite_syntax.proofs.Common.{some_of, look_at, GroupKind, non_capturing, capturing}
+use Rattle.regex_lite_syntax.proofs.Common.{group_tree, Head, numbered, plain, times, Operator}
+use Rattle.regex_lite_syntax.proofs.Common.{uncounted, uncounted_lazy, counted, counted_lazy, Point}
+use Rattle.regex_lite_syntax.proofs.Common.{Set, just, case_closure, Text, Tree, trees, sequence_of}
+use Rattle.regex_lite_syntax.proofs.Common.{choice_of, repeated, IsRegular, Flags}
+use Rattle.regex_lite_syntax.specs.Grammar.Escapes.{Primitive}
+use Rattle.regex_lite_syntax.specs.Tree.{character}
+use Rattle.regex_lite_syntax.specs.Grammar.Heads.{named}
+use Rattle.regex_lite_syntax.specs.Grammar.{Item, atom}
+use Rattle.regex_lite_syntax.specs.Grammar.{further}
 use Rattle.regex_lite_syntax.specs.Grammar.Branch.{operator}
-use Rattle.regex_lite_syntax.specs.Tree.Regular.{InOrder, IsRegular, AreRegular}
+use Rattle.regex_lite_syntax.specs.Tree.Regular.{InOrder, AreRegular}
 use Rattle.regex_lite_syntax.proofs.grammar.ClassCharacterLemmas.{OfCharacters, escape_gives}
 use Rattle.regex_lite_syntax.proofs.grammar.CountLemmas.{counted_in_order}
 use Rattle.regex_lite_syntax.proofs.machine.ParenLemmas.{operator_reads, atom_reads}

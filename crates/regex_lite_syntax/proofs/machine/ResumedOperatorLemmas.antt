@@ -1,14 +1,9 @@
 -- The step of a counted operator that the end of a pattern cuts short, where the pattern goes on.
-use Rattle.std.proofs.Common.{◌≡◌, refl, ap, Bool, List, map, [], ◌∷◌, ◌++◌, arith}
-use Rattle.regex_lite_syntax.specs.declared.parse.Parser.{Parser}
-use Rattle.regex_lite_syntax.specs.Text.{Text, the}
-use Rattle.regex_lite_syntax.specs.Refusals.{Completable}
-use Rattle.regex_lite_syntax.specs.Tree.{Tree}
-use Rattle.regex_lite_syntax.specs.Tree.Views.{tree_of}
-use Rattle.regex_lite_syntax.specs.Grammar.Gaps.{Gap}
-use Rattle.regex_lite_syntax.specs.Grammar.Operators.{Operator, counted}
+use Rattle.regex_lite_syntax.proofs.Common.{◌≡◌, Bool, List, [], ◌∷◌, ◌++◌, map, refl, ap, arith}
+use Rattle.regex_lite_syntax.proofs.Common.{Gap, Operator, counted, CanReadOn, Completable, Text}
+use Rattle.regex_lite_syntax.proofs.Common.{the, Tree, tree_of, Parser}
 use Rattle.regex_lite_syntax.specs.Parser.Machine.{with_items}
-use Rattle.regex_lite_syntax.specs.Parser.States.{state, CanReadOn}
+use Rattle.regex_lite_syntax.specs.Parser.States.{state}
 use Rattle.regex_lite_syntax.proofs.ListLemmas.{same_head}
 use Rattle.regex_lite_syntax.proofs.grammar.GapLemmas.{ends_any, gap_at_end}
 use Rattle.regex_lite_syntax.proofs.grammar.SpacedLemmas.{printed_ends}

@@ -1,25 +1,18 @@
 -- What the parser has come to says of the pattern.
-use Rattle.std.proofs.Common.{inl, inr, ◌≡◌, ◌≢◌, refl, sym, ◌∙◌, ap, subst, ℕ, ◌+◌}
-use Rattle.std.proofs.Common.{◌^◌, ◌<◌, ◌≤◌, List, [], map, reverse, length, arith}
+use Rattle.regex_lite_syntax.proofs.Common.{◌≡◌, ℕ, ◌+◌, ◌^◌, ◌<◌, ◌≤◌, ◌≢◌, List, [], map, reverse}
+use Rattle.regex_lite_syntax.proofs.Common.{length, sym, refl, ap, ◌∙◌, subst, inl, inr, arith}
+use Rattle.regex_lite_syntax.proofs.Common.{AreCharacters, Refusal, syntax_error, too_deep}
+use Rattle.regex_lite_syntax.proofs.Common.{too_many_groups, passed_limit, out_of_memory}
+use Rattle.regex_lite_syntax.proofs.Common.{refused_replacement, kind_of, Grammar, HasTree, Gap}
+use Rattle.regex_lite_syntax.proofs.Common.{WholeGap, NamesDiffer, depth, first_state, LeadsOn}
+use Rattle.regex_lite_syntax.proofs.Common.{frame_of, StepsTo, CanRead, BeginsCapture}
+use Rattle.regex_lite_syntax.proofs.Common.{BeginsTooMany, NoReading, Refuses, Text, Tree}
+use Rattle.regex_lite_syntax.proofs.Common.{IsRegular, Flags, Parser}
 use Rattle.std.proofs.lemmas.List.{length-reverse, length-map}
-use Rattle.regex_lite_syntax.specs.Characters.{AreCharacters}
-use Rattle.regex_lite_syntax.specs.declared.flags.Flags.{Flags}
-use Rattle.regex_lite_syntax.specs.declared.parse.Parser.{Parser}
-use Rattle.regex_lite_syntax.specs.Errors.{Refusal, syntax_error, too_deep, too_many_groups}
-use Rattle.regex_lite_syntax.specs.Errors.{passed_limit, out_of_memory, refused_replacement}
-use Rattle.regex_lite_syntax.specs.Errors.{kind_of}
-use Rattle.regex_lite_syntax.specs.Refusals.{NoReading, Refuses}
-use Rattle.regex_lite_syntax.specs.Text.{Text}
-use Rattle.regex_lite_syntax.specs.Grammar.Gaps.{Gap, WholeGap}
-use Rattle.regex_lite_syntax.specs.Tree.{Tree}
-use Rattle.regex_lite_syntax.specs.Grammar.GroupNames.{NamesDiffer}
-use Rattle.regex_lite_syntax.specs.Grammar.{Grammar, HasTree}
-use Rattle.regex_lite_syntax.specs.Limits.{depth, IsAdmitted, IsDueToPattern, PassesNesting}
+use Rattle.regex_lite_syntax.specs.Limits.{IsAdmitted, IsDueToPattern, PassesNesting}
 use Rattle.regex_lite_syntax.specs.Limits.{PassesGroups, NestingRefused, GroupsRefused}
-use Rattle.regex_lite_syntax.specs.Tree.Regular.{IsRegular}
-use Rattle.regex_lite_syntax.specs.Parser.Machine.{LeadsOn, first_state}
-use Rattle.regex_lite_syntax.specs.Parser.States.{frame_of, state, StepsTo, CanRead, BeginsCapture}
-use Rattle.regex_lite_syntax.specs.Parser.States.{BeginsTooMany, Finishes, FinishesTooDeep}
+use Rattle.regex_lite_syntax.specs.Parser.States.{state}
+use Rattle.regex_lite_syntax.specs.Parser.States.{Finishes, FinishesTooDeep}
 use Rattle.regex_lite_syntax.proofs.grammar.GapLemmas.{gap_to_end}
 use Rattle.regex_lite_syntax.proofs.parse.DenialLemmas.{none_now}
 use Rattle.regex_lite_syntax.proofs.machine.OneStepLemmas.{step_over_gap, step_past_gap}

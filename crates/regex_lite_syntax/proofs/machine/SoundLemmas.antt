@@ -1,23 +1,19 @@
 -- What the machine runs, the grammar derives.
-use Rattle.std.proofs.Common.{inl, inr, ◌≡◌, refl, sym, ◌∙◌, ap, subst, ℕ, ◌+◌, Bool}
-use Rattle.std.proofs.Common.{length, List, [], ◌∷◌, ◌++◌, Option, add-one}
-use Rattle.regex_lite_syntax.specs.declared.flags.Flags.{Flags}
-use Rattle.regex_lite_syntax.specs.Characters.{AreCharacters}
-use Rattle.regex_lite_syntax.specs.Text.{Text, the}
-use Rattle.regex_lite_syntax.specs.Grammar.Gaps.{Gap}
-use Rattle.regex_lite_syntax.specs.Tree.{Tree, sequence_of, choice_of, repeated}
-use Rattle.regex_lite_syntax.specs.Grammar.Operators.{Operator}
-use Rattle.regex_lite_syntax.specs.Grammar.GroupNames.{NamesDiffer}
-use Rattle.regex_lite_syntax.specs.Grammar.Points.{Point, onward, PastGap, start}
-use Rattle.regex_lite_syntax.specs.Grammar.Heads.{Head, Directive}
-use Rattle.regex_lite_syntax.specs.Grammar.{Item, group, Branch, nothing, item, directive}
-use Rattle.regex_lite_syntax.specs.Grammar.{Alternatives, only, further, Grammar}
+use Rattle.regex_lite_syntax.proofs.Common.{◌≡◌, ℕ, ◌+◌, Bool, List, [], ◌∷◌, ◌++◌, length, Option}
+use Rattle.regex_lite_syntax.proofs.Common.{sym, refl, ap, ◌∙◌, subst, inl, inr, add-one}
+use Rattle.regex_lite_syntax.proofs.Common.{AreCharacters, group, Branch, nothing, item, directive}
+use Rattle.regex_lite_syntax.proofs.Common.{Alternatives, only, Grammar, Gap, NamesDiffer, Head}
+use Rattle.regex_lite_syntax.proofs.Common.{Directive, Operator, Point, onward, PastGap, start}
+use Rattle.regex_lite_syntax.proofs.Common.{Frame, State, first_state, ended, Kind, stop, kind_at}
+use Rattle.regex_lite_syntax.proofs.Common.{Does, LeadsOn, stay, go, bar, closing, paren, Text, the}
+use Rattle.regex_lite_syntax.proofs.Common.{Tree, sequence_of, choice_of, repeated, Flags}
+use Rattle.regex_lite_syntax.specs.Grammar.{Item}
+use Rattle.regex_lite_syntax.specs.Grammar.{further}
 use Rattle.regex_lite_syntax.specs.Grammar.Branch.{operator as operated}
 use Rattle.regex_lite_syntax.specs.Grammar.Item.{atom as atom_item}
-use Rattle.regex_lite_syntax.specs.Parser.Machine.{Frame, State, first_state, ended, opened}
-use Rattle.regex_lite_syntax.specs.Parser.Machine.{closed, parted, with_items, Kind, stop}
-use Rattle.regex_lite_syntax.specs.Parser.Machine.{paren, closing, bar, operator, atom}
-use Rattle.regex_lite_syntax.specs.Parser.Machine.{kind_at, Does, LeadsOn, stay, go}
+use Rattle.regex_lite_syntax.specs.Parser.Machine.{opened}
+use Rattle.regex_lite_syntax.specs.Parser.Machine.{closed, parted, with_items}
+use Rattle.regex_lite_syntax.specs.Parser.Machine.{operator, atom}
 
 -- these branches have been read since that point, and these items of a further one
 pub data Partial (level : ℕ) (from p : Point) (branches items : List Tree) : Type 0 where

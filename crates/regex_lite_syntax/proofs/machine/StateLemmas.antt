@@ -1,5 +1,6 @@
 -- The parser's lists after a push, and the characters that an index stands before.
-use Rattle.std.proofs.Common.{◌≡◌, refl, ◌∙◌, ap, List, [], ◌∷◌, ◌++◌, map, reverse, length, arith}
+use Rattle.regex_lite_syntax.proofs.Common.{◌≡◌, List, [], ◌∷◌, ◌++◌, map, reverse, length, refl}
+use Rattle.regex_lite_syntax.proofs.Common.{ap, ◌∙◌, arith}
 use Rattle.std.proofs.lemmas.List.{map_push, reverse-append}
 
 pub map_pushed : {X Y : Type 0} (f : X → Y) (new old : List X) (x : X) → new ≡ old ++ x ∷ []

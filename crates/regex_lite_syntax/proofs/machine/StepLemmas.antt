@@ -1,21 +1,15 @@
 -- The steps of the machine by what stands past the gap, and the places that have no step.
-use Rattle.std.proofs.Common.{inl, inr, ◌≡◌, ◌≢◌, refl, sym, ◌∙◌, ap, subst, ℕ, ◌+◌}
-use Rattle.std.proofs.Common.{Bool, length, List, [], ◌∷◌, ◌++◌, Option, Some, arith}
-use Rattle.regex_lite_syntax.specs.declared.flags.Flags.{Flags}
-use Rattle.regex_lite_syntax.specs.Text.{Text, the}
-use Rattle.regex_lite_syntax.specs.Grammar.Gaps.{Gap, EndsGap, WholeGap}
-use Rattle.regex_lite_syntax.specs.Tree.{Tree, repeated}
-use Rattle.regex_lite_syntax.specs.Grammar.Counted.{Counted}
-use Rattle.regex_lite_syntax.specs.Grammar.Operators.{times, Operator}
-use Rattle.regex_lite_syntax.specs.Grammar.Atoms.{Atom}
-use Rattle.regex_lite_syntax.specs.Grammar.FlagLetters.{FlagLetters}
-use Rattle.regex_lite_syntax.specs.Grammar.GroupNames.{NameWritten, NameOpening, Named}
-use Rattle.regex_lite_syntax.specs.Grammar.Points.{Point, onward, PastGap}
-use Rattle.regex_lite_syntax.specs.Grammar.Heads.{GroupKind, capturing, numbered_on}
-use Rattle.regex_lite_syntax.specs.Grammar.Heads.{named_on, inside, Head, Directive}
-use Rattle.regex_lite_syntax.specs.Parser.Machine.{Frame, State, opened, closed, parted}
-use Rattle.regex_lite_syntax.specs.Parser.Machine.{with_items, Kind, paren, closing, bar}
-use Rattle.regex_lite_syntax.specs.Parser.Machine.{operator, atom, kind_at, Does, Step}
+use Rattle.regex_lite_syntax.proofs.Common.{◌≡◌, ℕ, ◌+◌, Bool, ◌≢◌, List, [], ◌∷◌, ◌++◌, length}
+use Rattle.regex_lite_syntax.proofs.Common.{Some, Option, sym, refl, ap, ◌∙◌, subst, inl, inr}
+use Rattle.regex_lite_syntax.proofs.Common.{arith, Atom, Counted, FlagLetters, Gap, EndsGap}
+use Rattle.regex_lite_syntax.proofs.Common.{WholeGap, NameWritten, NameOpening, Named, GroupKind}
+use Rattle.regex_lite_syntax.proofs.Common.{capturing, numbered_on, named_on, inside, Head}
+use Rattle.regex_lite_syntax.proofs.Common.{Directive, times, Operator, Point, onward, PastGap}
+use Rattle.regex_lite_syntax.proofs.Common.{Frame, State, Kind, kind_at, Does, Step, bar, closing}
+use Rattle.regex_lite_syntax.proofs.Common.{paren, Text, the, Tree, repeated, Flags}
+use Rattle.regex_lite_syntax.specs.Parser.Machine.{opened, closed, parted}
+use Rattle.regex_lite_syntax.specs.Parser.Machine.{with_items}
+use Rattle.regex_lite_syntax.specs.Parser.Machine.{operator, atom}
 use Rattle.regex_lite_syntax.proofs.ListLemmas.{no_last}
 use Rattle.regex_lite_syntax.proofs.grammar.GapLemmas.{empty_gap}
 use Rattle.regex_lite_syntax.proofs.grammar.OperatorLemmas.{counts_of}

@@ -1,11 +1,7 @@
 -- What runs from the beginning of a pattern say of the whole.
-use Rattle.std.proofs.Common.{◌≡◌, sym, ◌∙◌, ap, subst, ℕ, []}
-use Rattle.regex_lite_syntax.specs.declared.flags.Flags.{Flags}
-use Rattle.regex_lite_syntax.specs.Text.{Text}
-use Rattle.regex_lite_syntax.specs.Grammar.Gaps.{Gap}
-use Rattle.regex_lite_syntax.specs.Tree.{Tree, choice_of}
-use Rattle.regex_lite_syntax.specs.Grammar.{Grammar, HasTree}
-use Rattle.regex_lite_syntax.specs.Parser.Machine.{State, first_state, ended, Step, LeadsOn}
+use Rattle.regex_lite_syntax.proofs.Common.{◌≡◌, ℕ, [], sym, ap, ◌∙◌, subst, Grammar, HasTree, Gap}
+use Rattle.regex_lite_syntax.proofs.Common.{State, first_state, ended, Step, LeadsOn, Text, Tree}
+use Rattle.regex_lite_syntax.proofs.Common.{choice_of, Flags}
 use Rattle.regex_lite_syntax.proofs.machine.OneStepLemmas.{one_end, at_end}
 use Rattle.regex_lite_syntax.proofs.machine.CompleteLemmas.{complete}
 

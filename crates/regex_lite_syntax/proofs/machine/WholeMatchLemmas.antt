@@ -1,12 +1,12 @@
 -- The whole match, which is group 0, has no name: the groups of a pattern are numbered from 1.
-use Rattle.std.proofs.Common.{◌≡◌, ◌∙◌, ◌≤◌, ◌==◌, refl, ap, ℕ, false, Option, None, arith}
-use Rattle.std.specs.Option.{option_or}
-use Rattle.std.proofs.lemmas.Bool.{ne_eqb}
-use Rattle.regex_lite_syntax.specs.Text.{Text}
-use Rattle.regex_lite_syntax.specs.Tree.{Tree, Trees, empty, character, class, look}
-use Rattle.regex_lite_syntax.specs.Tree.{repetition, capture, concat, alternation, none, more}
-use Rattle.regex_lite_syntax.specs.Tree.Properties.{name_if, group_name, group_name_in}
-use Rattle.regex_lite_syntax.specs.Tree.Regular.{IsRegular, AreRegular}
+use Rattle.regex_lite_syntax.proofs.Common.{◌≡◌, ℕ, ◌≤◌, false, ◌==◌, None, Option, refl, ap, ◌∙◌}
+use Rattle.regex_lite_syntax.proofs.Common.{arith, ne_eqb, option_or, Text, Tree, class, look}
+use Rattle.regex_lite_syntax.proofs.Common.{repetition, concat, alternation, Trees, more}
+use Rattle.regex_lite_syntax.proofs.Common.{group_name, group_name_in, IsRegular}
+use Rattle.regex_lite_syntax.specs.Tree.{empty, character}
+use Rattle.regex_lite_syntax.specs.Tree.{capture, none}
+use Rattle.regex_lite_syntax.specs.Tree.Properties.{name_if}
+use Rattle.regex_lite_syntax.specs.Tree.Regular.{AreRegular}
 
 not_this : (index : ℕ) (name rest : Option Text) → 1 ≤ index → rest ≡ None
     → option_or (name_if (index == 0) name) rest ≡ None

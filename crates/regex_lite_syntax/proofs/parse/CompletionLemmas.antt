@@ -1,10 +1,9 @@
 -- What completes one reading says of another.
-use Rattle.std.proofs.Common.{◌++◌, Result, Ok, Err, IfErr}
-use Rattle.regex_lite_syntax.specs.declared.error.syntax.SyntaxFault.{SyntaxFault}
-use Rattle.regex_lite_syntax.specs.Errors.{Refusal, syntax_error, too_deep, too_many_groups}
-use Rattle.regex_lite_syntax.specs.Errors.{passed_limit, out_of_memory, refused_replacement}
-use Rattle.regex_lite_syntax.specs.Text.{Text}
-use Rattle.regex_lite_syntax.specs.Refusals.{Completable, CanComplete, IfCutShort}
+use Rattle.regex_lite_syntax.proofs.Common.{◌++◌, IfErr, Ok, Err, Result, Refusal, syntax_error}
+use Rattle.regex_lite_syntax.proofs.Common.{too_deep, too_many_groups, passed_limit, out_of_memory}
+use Rattle.regex_lite_syntax.proofs.Common.{refused_replacement, Completable, IfCutShort, Text}
+use Rattle.regex_lite_syntax.proofs.Common.{SyntaxFault}
+use Rattle.regex_lite_syntax.specs.Refusals.{CanComplete}
 
 -- what completes the one text completes each other whose reading follows
 pub completes_part : (R S : (t rest : Text) → Type 0) (t u : Text)

@@ -1,15 +1,11 @@
 -- What the refusal of one reading says of another.
-use Rattle.std.proofs.Common.{refl, sym, subst, ◌+◌, ◌++◌, [], IsTrue, Result, Ok, Err, IfErr}
-use Rattle.std.proofs.lemmas.List.{append-nil}
-use Rattle.regex_lite_syntax.specs.declared.error.syntax.SyntaxFault.{SyntaxFault}
-use Rattle.regex_lite_syntax.specs.declared.parse.Parser.{Parser}
-use Rattle.regex_lite_syntax.specs.Text.{Text}
-use Rattle.regex_lite_syntax.specs.CutShort.{is_cut_short}
-use Rattle.regex_lite_syntax.specs.Errors.{Refusal, syntax_error, too_deep, too_many_groups}
-use Rattle.regex_lite_syntax.specs.Errors.{passed_limit, out_of_memory, refused_replacement}
+use Rattle.regex_lite_syntax.proofs.Common.{◌+◌, [], ◌++◌, IfErr, IsTrue, Ok, Err, Result, sym}
+use Rattle.regex_lite_syntax.proofs.Common.{refl, subst, append-nil, is_cut_short, Refusal}
+use Rattle.regex_lite_syntax.proofs.Common.{syntax_error, too_deep, too_many_groups, passed_limit}
+use Rattle.regex_lite_syntax.proofs.Common.{out_of_memory, refused_replacement, CanRead}
+use Rattle.regex_lite_syntax.proofs.Common.{BeginsCapture, BeginsTooMany, NoReading, Refuses}
+use Rattle.regex_lite_syntax.proofs.Common.{Denies, Text, SyntaxFault, Parser}
 use Rattle.regex_lite_syntax.specs.Limits.{PassesGroups}
-use Rattle.regex_lite_syntax.specs.Refusals.{NoReading, Refuses, Denies}
-use Rattle.regex_lite_syntax.specs.Parser.States.{CanRead, BeginsCapture, BeginsTooMany}
 
 -- the text itself has no such reading
 pub none_now : (fault : SyntaxFault) (R : Text → Type 0) (t : Text) → NoReading fault R t → R t → ⊥

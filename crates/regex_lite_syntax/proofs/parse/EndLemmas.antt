@@ -1,8 +1,6 @@
 -- Parts that the pattern ends inside.
-use Rattle.std.proofs.Common.{◌⊎◌, inl, inr, ◌≡◌, refl, Bool, true, false, []}
-use Rattle.regex_lite_syntax.specs.declared.error.syntax.SyntaxFault.{SyntaxFault}
-use Rattle.regex_lite_syntax.specs.Text.{Text}
-use Rattle.regex_lite_syntax.specs.CutShort.{is_cut_short}
+use Rattle.regex_lite_syntax.proofs.Common.{◌≡◌, Bool, true, false, ◌⊎◌, [], refl, inl, inr}
+use Rattle.regex_lite_syntax.proofs.Common.{is_cut_short, Text, SyntaxFault}
 use Rattle.regex_lite_syntax.specs.Refusals.{MayFollow}
 
 -- where more could complete the part, nothing follows

@@ -1,10 +1,9 @@
 -- What is left of a text at an index.
-use Rattle.std.proofs.Common.{◌≡◌, ◌≢◌, sym, ◌∙◌, ap, subst, ℕ, ◌+◌, ◌<◌, Bool}
-use Rattle.std.proofs.Common.{drop, length, [], ◌∷◌, get_or, arith, add-one}
+use Rattle.regex_lite_syntax.proofs.Common.{◌≡◌, ℕ, ◌+◌, ◌<◌, Bool, ◌≢◌, [], ◌∷◌, length, get_or}
+use Rattle.regex_lite_syntax.proofs.Common.{drop, sym, ap, ◌∙◌, subst, add-one, arith, drop_all}
+use Rattle.regex_lite_syntax.proofs.Common.{Gap, WholeGap, Text, Begins}
 use Rattle.std.proofs.Math.Seq.{drop-cons}
-use Rattle.std.proofs.lemmas.List.{drop_all, get_or_read}
-use Rattle.regex_lite_syntax.specs.Text.{Text, Begins}
-use Rattle.regex_lite_syntax.specs.Grammar.Gaps.{Gap, WholeGap}
+use Rattle.std.proofs.lemmas.List.{get_or_read}
 
 -- the character at the index stands first in what is left
 pub drop_at : (xs : Text) (i : ℕ) → i < length xs → drop i xs ≡ get_or xs i 0 ∷ drop (i + 1) xs

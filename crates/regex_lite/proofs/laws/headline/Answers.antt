@@ -1,7 +1,6 @@
-use Rattle.std.proofs.Common.{◌≡◌, inl, IfOk, sym, subst}
-use Rattle.regex_lite_syntax.specs.Errors.{out_of_memory}
-use Rattle.regex_lite.specs.Expression.{Expression, IsAccepted, IsDue}
-use Rattle.regex_lite.specs.Searches.{IsWithinCost, TellsGroups}
+use Rattle.regex_lite.proofs.Common.{◌≡◌, IfOk, sym, subst, inl, out_of_memory, Expression}
+use Rattle.regex_lite.proofs.Common.{IsAccepted, IsDue, TellsGroups}
+use Rattle.regex_lite.specs.Searches.{IsWithinCost}
 use Rattle.regex_lite.proofs.laws.HeadlineLemmas.{of_error, on_ok}
 use Rattle.regex_lite.proofs.laws.headline.Goals as goal
 

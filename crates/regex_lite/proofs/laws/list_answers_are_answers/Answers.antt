@@ -1,4 +1,4 @@
-use Rattle.regex_lite.specs.Searches.{AreGroupsOf, IsMatchOf}
+use Rattle.regex_lite.proofs.Common.{IsMatchOf, AreGroupsOf}
 use Rattle.regex_lite.proofs.string.ListToldLemmas.{of_pattern}
 use Rattle.regex_lite.proofs.laws.list_answers_are_answers.Goals as goal
 

@@ -1,8 +1,7 @@
-use Rattle.std.proofs.Common.{◌≡◌, ◌⊎◌, inl, IfOk, List, subst}
-use Rattle.regex_lite_syntax.specs.Errors.{out_of_memory}
-use Rattle.regex_lite.specs.Expression.{Expression}
-use Rattle.regex_lite.specs.RegexList.{AreAccepted, IsDueToAll, IsDueToLowest}
-use Rattle.regex_lite.specs.RegexListSearches.{IsWithinListCost, TellsGroupsOfList}
+use Rattle.regex_lite.proofs.Common.{◌≡◌, ◌⊎◌, List, IfOk, subst, inl, out_of_memory, Expression}
+use Rattle.regex_lite.proofs.Common.{AreAccepted, TellsGroupsOfList}
+use Rattle.regex_lite.specs.RegexList.{IsDueToAll, IsDueToLowest}
+use Rattle.regex_lite.specs.RegexListSearches.{IsWithinListCost}
 use Rattle.regex_lite.proofs.laws.HeadlineLemmas.{of_error, on_ok}
 use Rattle.regex_lite.proofs.laws.list_headline.Goals as goal
 

@@ -1,13 +1,13 @@
 -- One character more of an escaped text.
-use Rattle.std.proofs.Common.{◌≡◌, refl, sym, ◌∙◌, ap, cond, ℕ, Bool, true}
-use Rattle.std.proofs.Common.{false, List, [], ◌∷◌, ◌++◌, length, chars, IsUtf8}
+use Rattle.regex_lite.proofs.Common.{◌≡◌, ℕ, Bool, true, false, List, [], ◌∷◌, ◌++◌, length, IsUtf8}
+use Rattle.regex_lite.proofs.Common.{chars, sym, refl, ap, ◌∙◌, append_assoc, Text, escaped_pattern}
+use Rattle.std.proofs.Common.{cond}
 use Rattle.std.specs.Prelude.{encode_utf8_all}
-use Rattle.std.proofs.lemmas.List.{append_assoc, append-nil}
+use Rattle.std.proofs.lemmas.List.{append-nil}
 use Rattle.std.proofs.lemmas.Str.{chars-nil, chars_past_char}
 use lib.Utf8.{encode}
-use Rattle.regex_lite_syntax.specs.Text.{Text, the}
+use Rattle.regex_lite_syntax.specs.Text.{the}
 use Rattle.regex_lite_syntax.specs.Escaped.{is_meta_character, escaped}
-use Rattle.regex_lite.specs.Escapes.{escaped_pattern}
 
 -- what stands before the character
 abbrev pub mark : Bool → List ℕ

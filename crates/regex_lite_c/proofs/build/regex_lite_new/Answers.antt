@@ -1,8 +1,8 @@
-use Rattle.std.proofs.Common.{◌∙◌, ap, arith, rules, subst, sym}
+use Rattle.regex_lite_c.proofs.Common.{sym, ap, ◌∙◌, subst, arith, IsAccepted, number_of}
+use Rattle.regex_lite_c.proofs.Common.{settings_of}
+use Rattle.std.proofs.Common.{rules}
 use Rattle.regex_lite_syntax.specs.Errors.{kind_of}
-use Rattle.regex_lite.specs.Expression.{IsAccepted, IsDue}
-use Rattle.regex_lite_c.specs.Answers.{number_of}
-use Rattle.regex_lite_c.specs.Options.{settings_of}
+use Rattle.regex_lite.specs.Expression.{IsDue}
 use Rattle.regex_lite_c.proofs.build.RefusalLemmas.{above_five}
 use Rattle.regex_lite_c.proofs.build.regex_lite_new.Goals as goal
 

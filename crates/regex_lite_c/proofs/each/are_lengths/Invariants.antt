@@ -1,4 +1,5 @@
-use Rattle.std.proofs.Common.{◌≤◌, ◌↔◌, drop, length}
+use Rattle.regex_lite_c.proofs.Common.{◌≤◌, length, drop}
+use Rattle.std.proofs.Common.{◌↔◌}
 use Rattle.regex_lite_c.specs.Each.{AreTextLengths}
 use Rattle.regex_lite_c.proofs.each.are_lengths.Given as goal
 

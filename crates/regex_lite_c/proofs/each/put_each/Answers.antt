@@ -1,5 +1,6 @@
-use Rattle.std.proofs.Common.{◌∙◌, ◌+◌, ◌<◌, arith, get_or, length, option_map}
-use Rattle.std.proofs.Common.{refl, slice_range, subst}
+use Rattle.regex_lite_c.proofs.Common.{◌+◌, ◌<◌, length, get_or, option_map, refl, ◌∙◌, subst}
+use Rattle.regex_lite_c.proofs.Common.{arith}
+use Rattle.std.proofs.Common.{slice_range}
 use Rattle.std.proofs.lemmas.Str.{IsCharBoundary-start}
 use Rattle.regex_lite.specs.MatchViews.{span_of_match}
 use Rattle.regex_lite_c.specs.Spans.{TellsSpan}

@@ -1,4 +1,4 @@
-use Rattle.std.proofs.Common.{◌≡◌, IsCharBoundary}
+use Rattle.regex_lite_c.proofs.Common.{◌≡◌, IsCharBoundary}
 use Rattle.regex_lite_c.proofs.each.EachLemmas.{AreSearched}
 use Rattle.regex_lite_c.proofs.each.put_each.Given as goal
 

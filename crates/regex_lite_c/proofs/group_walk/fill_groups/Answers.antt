@@ -1,8 +1,5 @@
-use Rattle.std.proofs.Common.{◌∙◌, ◌+◌, Some, ap, arith, inl, inr, refl, subst, sym}
-use Rattle.regex_lite.specs.Ahead.{ahead_of}
-use Rattle.regex_lite.specs.Expression.{Expression}
-use Rattle.regex_lite.specs.Groups.{group_span}
-use Rattle.regex_lite.specs.MatchList.{IsAnswerOf}
+use Rattle.regex_lite_c.proofs.Common.{◌+◌, Some, sym, refl, ap, ◌∙◌, subst, inl, inr, arith}
+use Rattle.regex_lite_c.proofs.Common.{ahead_of, Expression, group_span, IsAnswerOf}
 use Rattle.regex_lite_c.proofs.walk.WalkLemmas.{comes_none}
 use Rattle.regex_lite_c.proofs.group_walk.GroupWalkLemmas.{end_of_span, filled, of_regex}
 use Rattle.regex_lite_c.proofs.group_walk.GroupWalkLemmas.{some_groups}

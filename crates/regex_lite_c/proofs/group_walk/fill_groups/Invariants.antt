@@ -1,5 +1,4 @@
-use Rattle.regex_lite.specs.Ahead.{ahead_of}
-use Rattle.regex_lite.specs.Expression.{Expression}
+use Rattle.regex_lite_c.proofs.Common.{ahead_of, Expression}
 use Rattle.regex_lite_c.proofs.group_walk.GroupWalkLemmas.{of_regex}
 use Rattle.regex_lite_c.proofs.group_walk.StageLemmas.{AreSoFar, Stage}
 use Rattle.regex_lite_c.proofs.group_walk.fill_groups.Given as goal

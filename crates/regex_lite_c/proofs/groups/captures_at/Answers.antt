@@ -1,12 +1,8 @@
-use Rattle.std.proofs.Common.{◌≡◌, ◌≤◌, ◌<◌, ℕ, List, Some, IsUtf8}
-use Rattle.std.proofs.Common.{IsCharBoundary, arith, inl, inr, length, subst}
-use Rattle.std.proofs.lemmas.Bool.{cases_lt}
-use Rattle.regex_lite.specs.Expression.{Expression}
-use Rattle.regex_lite.specs.Groups.{Groups}
+use Rattle.regex_lite_c.proofs.Common.{◌≡◌, ℕ, ◌<◌, ◌≤◌, List, length, Some, IsUtf8, IsCharBoundary}
+use Rattle.regex_lite_c.proofs.Common.{subst, inl, inr, arith, cases_lt, Expression, Groups}
+use Rattle.regex_lite_c.proofs.Common.{AreWritten, NO_ROOM, YES, Span}
 use Rattle.regex_lite.specs.Searches.{TellsGroups}
-use Rattle.regex_lite_c.specs.Spans.{AreWritten, IsGroupsAnswer}
-use Rattle.regex_lite_c.specs.declared.answer.TheConstants.{YES, NO_ROOM}
-use Rattle.regex_lite_c.specs.declared.types.Span.{Span}
+use Rattle.regex_lite_c.specs.Spans.{IsGroupsAnswer}
 use Rattle.regex_lite_c.proofs.groups.captures_at.Goals as goal
 
 groups_told : (re : Expression) (bytes : List ℕ) (start : ℕ) (old new : List Span)

@@ -1,5 +1,4 @@
-use Rattle.std.proofs.Common.{◌≡◌, ◌+◌, ◌<◌, ◌≤◌, ◌⊎◌, ℕ, option_map, slice_get}
-use Rattle.regex_lite_c.specs.Spans.{span_of}
+use Rattle.regex_lite_c.proofs.Common.{◌≡◌, ℕ, ◌+◌, ◌<◌, ◌≤◌, ◌⊎◌, slice_get, option_map, span_of}
 use Rattle.regex_lite_c.proofs.groups.put_groups.Given as goal
 
 abbrev pub invariant-loop-k : goal.invariant-loop-k

@@ -1,7 +1,7 @@
-use Rattle.std.proofs.Common.{◌≡◌, ℕ, List, Option, arith, inr, option_map}
-use Rattle.std.proofs.Common.{refl, slice_get, subst, zero-add}
-use Rattle.regex_lite_c.specs.Spans.{AreWritten, AreWrittenAt, span_of}
-use Rattle.regex_lite_c.specs.declared.types.Span.{Span}
+use Rattle.regex_lite_c.proofs.Common.{◌≡◌, ℕ, List, slice_get, Option, option_map, refl, subst}
+use Rattle.regex_lite_c.proofs.Common.{inr, arith, span_of, AreWritten, Span}
+use Rattle.std.proofs.Common.{zero-add}
+use Rattle.regex_lite_c.specs.Spans.{AreWrittenAt}
 use Rattle.regex_lite_c.proofs.groups.write_groups.Goals as goal
 
 at_front : (told : List (Option (ℕ × ℕ))) (old new : List Span) → AreWrittenAt 0 told old new

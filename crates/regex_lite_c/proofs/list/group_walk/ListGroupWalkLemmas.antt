@@ -1,21 +1,17 @@
 -- Groups of matches of several patterns that are written one after another.
-use Rattle.std.proofs.Common.{◌≡◌, ◌∙◌, ◌+◌, ◌++◌, ◌<◌, ◌≤◌, ◌⊎◌, ℕ, suc, List, [], ◌∷◌, None}
-use Rattle.std.proofs.Common.{ap, arith, chars, inl, inr, length, IsSome, refl, slice_set, subst}
-use Rattle.std.proofs.Common.{sym}
-use Rattle.std.proofs.lemmas.Bool.{cases_lt}
+use Rattle.regex_lite_c.proofs.Common.{◌≡◌, ℕ, suc, ◌+◌, ◌<◌, ◌≤◌, ◌⊎◌, List, [], ◌∷◌, ◌++◌, length}
+use Rattle.regex_lite_c.proofs.Common.{slice_set, None, chars, sym, refl, ap, ◌∙◌, subst, inl, inr}
+use Rattle.regex_lite_c.proofs.Common.{arith, cases_lt, Found, Expression, Groups, group_span}
+use Rattle.regex_lite_c.proofs.Common.{ListComesNext, IsAnswerOfPatterns, spans_of_all}
+use Rattle.regex_lite_c.proofs.Common.{AreWrittenAs, AreWritten, NO, NO_ROOM, OUT_OF_MEMORY, YES}
+use Rattle.regex_lite_c.proofs.Common.{ListGroups}
+use Rattle.std.proofs.Common.{IsSome}
 use Rattle.std.proofs.lemmas.List.{length-set}
-use Rattle.regex_lite_engine.specs.Search.Answer.{Found}
-use Rattle.regex_lite.specs.Expression.{Expression}
-use Rattle.regex_lite.specs.Groups.{Groups, group_span}
-use Rattle.regex_lite.specs.ListAhead.{AreGroupsFoundInList, ListComesNext}
-use Rattle.regex_lite.specs.MatchList.{AreFirstAnswers, IsAnswerOfPatterns}
+use Rattle.regex_lite.specs.ListAhead.{AreGroupsFoundInList}
+use Rattle.regex_lite.specs.MatchList.{AreFirstAnswers}
 use Rattle.regex_lite_c.specs.ListGroupWalks.{AreListGroupsListed, AreListGroupsOfEach}
 use Rattle.regex_lite_c.specs.ListGroupWalks.{IsListFilled, IsWithoutListRoom, counts_of}
 use Rattle.regex_lite_c.specs.ListGroupWalks.{counts_of_each}
-use Rattle.regex_lite_c.specs.GroupWalks.{spans_of_all}
-use Rattle.regex_lite_c.specs.Spans.{AreWritten, AreWrittenAs}
-use Rattle.regex_lite_c.specs.declared.answer.TheConstants.{NO, YES, NO_ROOM, OUT_OF_MEMORY}
-use Rattle.regex_lite_c.specs.declared.list.types.ListGroups.{ListGroups}
 use Rattle.regex_lite_c.proofs.group_walk.GroupWalkLemmas.{some_groups}
 use Rattle.regex_lite_c.proofs.group_walk.StageLemmas.{AreSoFar, IsOneMore, Searched, Stage}
 use Rattle.regex_lite_c.proofs.group_walk.StageLemmas.{more_so_far, none_so_far}

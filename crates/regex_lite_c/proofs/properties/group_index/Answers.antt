@@ -1,5 +1,4 @@
-use Rattle.std.proofs.Common.{◌∙◌, refl, subst, sym}
-use Rattle.regex_lite.specs.CaptureNames.{names_left}
+use Rattle.regex_lite_c.proofs.Common.{sym, refl, ◌∙◌, subst, names_left}
 use Rattle.regex_lite_c.specs.Names.{IsIndexTold}
 use Rattle.regex_lite_c.proofs.properties.group_index.Goals as goal
 

@@ -1,5 +1,4 @@
-use Rattle.std.proofs.Common.{◌∙◌, Some, ap, option_map, refl, subst, sym}
-use Rattle.regex_lite.specs.CaptureNames.{names_left}
+use Rattle.regex_lite_c.proofs.Common.{Some, option_map, sym, refl, ap, ◌∙◌, subst, names_left}
 use Rattle.regex_lite_c.specs.Names.{IsNameTold}
 use Rattle.regex_lite_c.specs.Rooms.{IsWritten}
 use Rattle.regex_lite_c.proofs.properties.group_name.Goals as goal

@@ -1,8 +1,8 @@
-use Rattle.std.proofs.Common.{List, Option, ℕ, option_map, refl, rules}
+use Rattle.regex_lite_c.proofs.Common.{ℕ, List, Option, option_map, refl, names_left}
+use Rattle.std.proofs.Common.{rules}
 use Rattle.std.specs.Borrow.{Bor}
 use Rattle.std.proofs.lemmas.Iterator.Consumers.{YieldsList-from_first}
 use Rattle.std.proofs.lemmas.Iterator.Search.{position_from_yields_List}
-use Rattle.regex_lite.specs.CaptureNames.{names_left}
 use Rattle.regex_lite.specs.Groups.{is_named}
 use Rattle.regex_lite_c.proofs.properties.index_in.Goals as goal
 

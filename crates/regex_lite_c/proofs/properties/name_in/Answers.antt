@@ -1,7 +1,6 @@
-use Rattle.std.proofs.Common.{List, Option, ℕ, option_map, refl}
+use Rattle.regex_lite_c.proofs.Common.{ℕ, List, Option, option_map, refl, names_left}
 use Rattle.std.specs.Borrow.{Bor}
 use Rattle.std.proofs.lemmas.Iterator.Consumers.{YieldsList-from_first, nth_from_yields_List}
-use Rattle.regex_lite.specs.CaptureNames.{names_left}
 use Rattle.regex_lite_c.proofs.properties.name_in.Goals as goal
 
 abbrev shown : Option (Bor (List ℕ)) → Option (List ℕ)

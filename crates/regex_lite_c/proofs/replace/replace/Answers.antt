@@ -1,8 +1,8 @@
-use Rattle.std.proofs.Common.{◌≡◌, ◌∙◌, ◌⊎◌, ℕ, List, arith, inl, inr, length, subst, sym}
-use Rattle.std.proofs.lemmas.Bool.{cases_lt}
+use Rattle.regex_lite_c.proofs.Common.{◌≡◌, ℕ, ◌⊎◌, List, length, sym, ◌∙◌, subst, inl, inr, arith}
+use Rattle.regex_lite_c.proofs.Common.{cases_lt, OUT_OF_MEMORY}
 use Rattle.regex_lite_c.specs.Replacing.{IsReplaced, IsTextAnswer}
 use Rattle.regex_lite_c.specs.Rooms.{IsWritten}
-use Rattle.regex_lite_c.specs.declared.answer.TheConstants.{NOT_TEXT, OUT_OF_MEMORY}
+use Rattle.regex_lite_c.specs.declared.answer.TheConstants.{NOT_TEXT}
 use Rattle.regex_lite_c.proofs.replace.replace.Goals as goal
 
 not_refused : (text old new : List ℕ) (len answer : ℕ) → IsWritten text old new len answer

@@ -1,4 +1,4 @@
-use Rattle.std.proofs.Common.{subst}
+use Rattle.regex_lite_c.proofs.Common.{subst}
 use Rattle.regex_lite.specs.Searches.{IsWithinCost}
 use Rattle.regex_lite_c.proofs.search.find_counted.Goals as goal
 

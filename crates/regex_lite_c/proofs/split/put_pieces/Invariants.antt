@@ -1,5 +1,4 @@
-use Rattle.std.proofs.Common.{◌≡◌, false}
-use Rattle.regex_lite.specs.Ahead.{ahead_of}
+use Rattle.regex_lite_c.proofs.Common.{◌≡◌, false, ahead_of}
 use Rattle.regex_lite_c.proofs.split.CutLemmas.{AreSoFar, Stage}
 use Rattle.regex_lite_c.proofs.split.put_pieces.Given as goal
 

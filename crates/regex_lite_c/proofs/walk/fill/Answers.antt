@@ -1,10 +1,7 @@
-use Rattle.std.proofs.Common.{◌≡◌, ◌∙◌, ◌++◌, ◌-◌, ◌+◌, ◌∷◌, ◌<◌, [], suc, None, Some, ap}
-use Rattle.std.proofs.Common.{arith, chars, length, length-append, map, slice_set, subst, sym}
-use Rattle.std.proofs.lemmas.List.{length-map, map-append}
-use Rattle.regex_lite.specs.Ahead.{ComesNext, ahead_of}
-use Rattle.regex_lite.specs.MatchList.{IsAnswerOf}
-use Rattle.regex_lite.specs.Pieces.{found_span}
-use Rattle.regex_lite_c.specs.Spans.{AreWritten, span_of}
+use Rattle.regex_lite_c.proofs.Common.{◌≡◌, suc, ◌+◌, ◌-◌, ◌<◌, [], ◌∷◌, ◌++◌, map, length}
+use Rattle.regex_lite_c.proofs.Common.{slice_set, Some, None, chars, sym, ap, ◌∙◌, subst, arith}
+use Rattle.regex_lite_c.proofs.Common.{length-append, length-map, map-append, ComesNext, ahead_of}
+use Rattle.regex_lite_c.proofs.Common.{IsAnswerOf, found_span, span_of, AreWritten}
 use Rattle.regex_lite_c.specs.Walks.{told_of}
 use Rattle.regex_lite_c.proofs.walk.WalkLemmas.{Lists, comes_none, lists_all}
 use Rattle.regex_lite_c.proofs.walk.WalkLemmas.{lists_more, lists_to_end, written_more}

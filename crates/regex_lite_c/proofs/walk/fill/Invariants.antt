@@ -1,7 +1,4 @@
-use Rattle.std.proofs.Common.{◌≡◌, ◌-◌, List, length, map}
-use Rattle.regex_lite_engine.specs.Search.Answer.{Found}
-use Rattle.regex_lite.specs.Ahead.{ahead_of}
-use Rattle.regex_lite_c.specs.Spans.{AreWritten}
+use Rattle.regex_lite_c.proofs.Common.{◌≡◌, ◌-◌, List, map, length, Found, ahead_of, AreWritten}
 use Rattle.regex_lite_c.specs.Walks.{told_of}
 use Rattle.regex_lite_c.proofs.walk.WalkLemmas.{Lists}
 use Rattle.regex_lite_c.proofs.walk.fill.Given as goal

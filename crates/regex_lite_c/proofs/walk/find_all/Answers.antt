@@ -1,11 +1,8 @@
-use Rattle.std.proofs.Common.{◌≡◌, ◌<◌, ◌∙◌, ℕ, zero, suc, List, IsUtf8, IsCharBoundary}
-use Rattle.std.proofs.Common.{None, ap, arith, inl, refl, subst, unwrap_or}
-use Rattle.regex_lite.specs.Ahead.{ComesNext, after}
-use Rattle.regex_lite.specs.Expression.{Expression}
-use Rattle.regex_lite_c.specs.Walks.{AreListed, GoesOnAfter, IsWalkAnswer, ended_of}
-use Rattle.regex_lite_c.specs.declared.answer.TheConstants.{NO, YES}
-use Rattle.regex_lite_c.specs.declared.types.Span.{Span}
-use Rattle.regex_lite_c.specs.declared.types.Walk.{Walk}
+use Rattle.regex_lite_c.proofs.Common.{◌≡◌, ℕ, zero, suc, ◌<◌, List, None, IsUtf8, IsCharBoundary}
+use Rattle.regex_lite_c.proofs.Common.{unwrap_or, refl, ap, ◌∙◌, subst, inl, arith, ComesNext}
+use Rattle.regex_lite_c.proofs.Common.{Expression, ended_of, NO, YES, Span, Walk}
+use Rattle.regex_lite.specs.Ahead.{after}
+use Rattle.regex_lite_c.specs.Walks.{AreListed, GoesOnAfter, IsWalkAnswer}
 use Rattle.regex_lite_c.proofs.walk.find_all.Goals as goal
 
 -- with a text that can be searched from there on, what was listed is the answer

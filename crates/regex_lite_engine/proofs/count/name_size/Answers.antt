@@ -1,4 +1,4 @@
-use Rattle.std.proofs.Common.{arith}
+use Rattle.regex_lite_engine.proofs.Common.{arith}
 use Rattle.regex_lite_engine.proofs.count.NameSizeLemmas.{name_length}
 use Rattle.regex_lite_engine.proofs.count.name_size.Goals as goal
 

@@ -1,6 +1,5 @@
-use Rattle.std.proofs.Common.{None, refl, arith}
-use Rattle.std.proofs.lemmas.Str.Pattern.{strip_prefix_char}
-use Rattle.regex_lite_engine.specs.Interpolation.{reference, one_dollar}
+use Rattle.regex_lite_engine.proofs.Common.{None, refl, arith, strip_prefix_char, reference}
+use Rattle.regex_lite_engine.proofs.Common.{one_dollar}
 use Rattle.regex_lite_engine.proofs.interpolate.at_dollar.Goals as goal
 
 pub returns-in-Some-find_cap_ref-clause-cut : goal.returns-in-Some-find_cap_ref-clause-cut

@@ -1,4 +1,4 @@
-use Rattle.std.proofs.Common.{◌<◌, rules}
+use Rattle.regex_lite_engine.proofs.Common.{◌<◌, rules}
 use Rattle.regex_lite_engine.proofs.interpolate.TextLemmas.{name_ends_cleanly}
 use Rattle.regex_lite_engine.proofs.interpolate.find_bare.Goals as goal
 

@@ -1,5 +1,4 @@
-use Rattle.std.proofs.Common.{None, arith}
-use Rattle.std.proofs.lemmas.Str.Pattern.{strip_prefix_char}
+use Rattle.regex_lite_engine.proofs.Common.{None, arith, strip_prefix_char}
 use Rattle.regex_lite_engine.proofs.interpolate.find_cap_ref.Goals as goal
 
 pub find_bare-requires : goal.find_bare-requires

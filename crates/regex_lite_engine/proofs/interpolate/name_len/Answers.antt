@@ -1,6 +1,6 @@
-use Rattle.std.proofs.Common.{◌≡◌, ◌≤◌, false, get_or, length, sym, arith, rules}
+use Rattle.regex_lite_engine.proofs.Common.{◌≡◌, ◌≤◌, false, length, get_or, sym, arith, rules}
+use Rattle.regex_lite_engine.proofs.Common.{is_name_character}
 use Rattle.std.proofs.lemmas.List.Sums.{prefix_len_is}
-use Rattle.regex_lite_engine.specs.Interpolation.{is_name_character}
 use Rattle.regex_lite_engine.proofs.interpolate.name_len.Goals as goal
 
 pub returns-then-not-is_valid_cap_letter : goal.returns-then-not-is_valid_cap_letter

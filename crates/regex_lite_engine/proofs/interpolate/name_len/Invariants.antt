@@ -1,5 +1,4 @@
-use Rattle.std.proofs.Common.{◌≡◌, ◌<◌, ℕ, true, get_or}
-use Rattle.regex_lite_engine.specs.Interpolation.{is_name_character}
+use Rattle.regex_lite_engine.proofs.Common.{◌≡◌, ℕ, ◌<◌, true, get_or, is_name_character}
 use Rattle.regex_lite_engine.proofs.interpolate.name_len.Given as goal
 
 abbrev pub invariant-loop-i : goal.invariant-loop-i

@@ -1,5 +1,4 @@
-use Rattle.std.proofs.Common.{None, arith}
-use Rattle.std.proofs.lemmas.Str.Pattern.{strip_prefix_char}
+use Rattle.regex_lite_engine.proofs.Common.{None, arith, strip_prefix_char}
 use Rattle.regex_lite_engine.proofs.interpolate.next_piece.Goals as goal
 
 pub split_text-requires-clause-start : goal.split_text-requires-clause-start

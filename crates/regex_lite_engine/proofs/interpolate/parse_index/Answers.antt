@@ -1,6 +1,5 @@
-use Rattle.std.proofs.Common.{◌≡◌, ◌≤◌, ◌<◌, ◌^◌, ◌+◌, length, true, get_or, ap, ◌∙◌, arith, rules}
-use Rattle.std.proofs.lemmas.List.{take_all}
-use Rattle.regex_lite_syntax.specs.Characters.{is_digit, number_of}
+use Rattle.regex_lite_engine.proofs.Common.{◌≡◌, ◌+◌, ◌^◌, ◌<◌, ◌≤◌, true, length, get_or, ap, ◌∙◌}
+use Rattle.regex_lite_engine.proofs.Common.{arith, rules, take_all, is_digit, number_of}
 use Rattle.regex_lite_engine.proofs.interpolate.IndexLemmas.{number_of_first}
 use Rattle.regex_lite_engine.proofs.interpolate.IndexLemmas.{number_of_one_more, value_of_digit}
 use Rattle.regex_lite_engine.proofs.interpolate.IndexLemmas.{too_large, digits_are_index}

@@ -1,5 +1,5 @@
-use Rattle.std.proofs.Common.{◌≡◌, ◌<◌, ◌^◌, ℕ, true, take, get_or}
-use Rattle.regex_lite_syntax.specs.Characters.{is_digit, number_of}
+use Rattle.regex_lite_engine.proofs.Common.{◌≡◌, ℕ, ◌^◌, ◌<◌, true, get_or, take, is_digit}
+use Rattle.regex_lite_engine.proofs.Common.{number_of}
 use Rattle.regex_lite_engine.proofs.interpolate.parse_index.Given as goal
 
 abbrev pub invariant-loop-byte : goal.invariant-loop-byte

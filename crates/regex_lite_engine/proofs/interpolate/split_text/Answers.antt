@@ -1,5 +1,6 @@
-use Rattle.std.proofs.Common.{◌≡◌, Some, None, [], length, get_or, sym, subst, arith}
-use Rattle.std.proofs.lemmas.List.{take_all, drop_all, nil_from_length}
+use Rattle.regex_lite_engine.proofs.Common.{◌≡◌, [], length, get_or, Some, None, sym, subst, arith}
+use Rattle.regex_lite_engine.proofs.Common.{nil_from_length, take_all}
+use Rattle.std.proofs.lemmas.List.{drop_all}
 use Rattle.std.proofs.lemmas.Str.Pattern.{find_char}
 use Rattle.regex_lite_engine.proofs.interpolate.TextLemmas.{text_first}
 use Rattle.regex_lite_engine.proofs.interpolate.split_text.Goals as goal

@@ -1,16 +1,12 @@
 -- A search has one answer, and it is a match.
-use Rattle.std.proofs.Common.{◌≡◌, ◌<◌, ◌≤◌, refl, sym, ap, subst, ◌∙◌, inl, inr, ℕ, zero, suc}
-use Rattle.std.proofs.Common.{◌+◌, Option, Some, None, length, le_antisymm, IsSome, ◌↔◌, arith}
-use Rattle.std.proofs.lemmas.Bool.{cases_eq, cases_lt}
-use Rattle.regex_lite_syntax.specs.Text.{Text}
-use Rattle.regex_lite_syntax.specs.Tree.{Tree}
-use Rattle.regex_lite_syntax.specs.Tree.Regular.{IsRegular}
-use Rattle.regex_lite_syntax.specs.Tree.Matches.{Matches, IsPosition}
-use Rattle.regex_lite_engine.specs.Graph.Addresses.{Address}
-use Rattle.regex_lite_engine.specs.Graph.WrittenOut.{start_address, end_address, IsWayThrough}
-use Rattle.regex_lite_engine.specs.Search.Marks.{marks_of_way}
-use Rattle.regex_lite_engine.specs.Search.Answer.{IsMatchFrom, HasMatchFrom}
-use Rattle.regex_lite_engine.specs.Search.Answer.{Found, IsFound, IsAnswer}
+use Rattle.regex_lite_engine.proofs.Common.{◌≡◌, ℕ, zero, suc, ◌+◌, ◌<◌, ◌≤◌, ◌↔◌, length, IsSome}
+use Rattle.regex_lite_engine.proofs.Common.{Some, None, Option, sym, refl, ap, ◌∙◌, subst, inl, inr}
+use Rattle.regex_lite_engine.proofs.Common.{arith, cases_eq, cases_lt, Text, Tree, Matches}
+use Rattle.regex_lite_engine.proofs.Common.{IsRegular, Address, end_address, start_address}
+use Rattle.regex_lite_engine.proofs.Common.{IsWayThrough, IsMatchFrom, HasMatchFrom, Found, IsFound}
+use Rattle.regex_lite_engine.proofs.Common.{IsAnswer, marks_of_way}
+use Rattle.std.proofs.Common.{le_antisymm}
+use Rattle.regex_lite_syntax.specs.Tree.Matches.{IsPosition}
 use Rattle.regex_lite_engine.proofs.laws.LeadsLemmas.{leads_to_one}
 use Rattle.regex_lite_engine.proofs.laws.PatternWayLemmas.{match_way, walk_match}
 use Rattle.regex_lite_engine.proofs.laws.answer.OrderLemmas.{one_best}

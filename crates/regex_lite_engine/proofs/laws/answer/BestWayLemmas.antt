@@ -1,12 +1,8 @@
 -- From a position there is a most preferred way, if there is a way.
-use Rattle.std.proofs.Common.{◌≤◌, ◌<◌, ◌⊎◌, inl, inr, ap, subst}
-use Rattle.std.proofs.Common.{ℕ, List, ◌∷◌, ◌++◌, length, Option}
-use Rattle.regex_lite_syntax.specs.Text.{Text}
-use Rattle.regex_lite_syntax.specs.Tree.{Tree}
-use Rattle.regex_lite_engine.specs.Graph.Ways.{Leads}
-use Rattle.regex_lite_engine.specs.Graph.Addresses.{Address}
-use Rattle.regex_lite_engine.specs.Graph.WrittenOut.{start_address, end_address}
-use Rattle.regex_lite_engine.specs.Graph.WrittenOut.{place_of_pattern, IsWayThrough}
+use Rattle.regex_lite_engine.proofs.Common.{ℕ, ◌<◌, ◌≤◌, ◌⊎◌, List, ◌∷◌, ◌++◌, length, Option, ap}
+use Rattle.regex_lite_engine.proofs.Common.{subst, inl, inr, Text, Tree, Address, Leads}
+use Rattle.regex_lite_engine.proofs.Common.{end_address, start_address, place_of_pattern}
+use Rattle.regex_lite_engine.proofs.Common.{IsWayThrough}
 use Rattle.regex_lite_engine.proofs.laws.answer.LeastLemmas.{Least, NoList, least}
 use Rattle.regex_lite_engine.proofs.laws.answer.FreshLemmas.{Fresh, fresh_short, fresh_once}
 use Rattle.regex_lite_engine.proofs.laws.answer.FreshLemmas.{once_fresh, fresh_or_not, leads_or_not}

@@ -1,11 +1,11 @@
 -- Walks that come to no node twice, among finitely many nodes.
-use Rattle.std.proofs.Common.{◌≡◌, ◌≢◌, ◌<◌, ◌≤◌, refl, sym, ap, subst, ◌∙◌, ◌⊎◌, inl, inr}
-use Rattle.std.proofs.Common.{ℕ, suc, List, [], ◌∷◌, ◌++◌, Option, Some, None, length, arith}
+use Rattle.regex_lite_engine.proofs.Common.{◌≡◌, ℕ, suc, ◌<◌, ◌≤◌, ◌≢◌, ◌⊎◌, List, [], ◌∷◌, ◌++◌}
+use Rattle.regex_lite_engine.proofs.Common.{length, Some, None, Option, sym, refl, ap, ◌∙◌, subst}
+use Rattle.regex_lite_engine.proofs.Common.{inl, inr, arith, Leads, NoneTwice}
 use Rattle.regex_lite_syntax.proofs.ListLemmas.{same_head, same_tail}
 use Rattle.regex_lite_engine.proofs.InLemmas.{In}
 use Rattle.regex_lite_engine.proofs.laws.LeadsLemmas.{leads_behind}
 use Rattle.regex_lite_engine.proofs.OptionLemmas.{same_some}
-use Rattle.regex_lite_engine.specs.Graph.Ways.{Leads, NoneTwice}
 
 -- with the item in front unless the test says no
 abbrev unless : {N P : Type 0} → P ⊎ (P → ⊥) → N → List N → List N

@@ -1,8 +1,7 @@
 -- Of finitely many lists of numbers one is preferred to all others.
-use Rattle.std.proofs.Common.{◌≡◌, ◌<◌, ◌≤◌, refl, sym, subst, ◌⊎◌, inl, inr, ℕ}
-use Rattle.std.proofs.Common.{zero, suc, ◌+◌, List, [], ◌∷◌, ◌++◌, length, arith}
-use Rattle.std.proofs.lemmas.Bool.{cases_order}
-use Rattle.regex_lite_engine.specs.Search.Preference.{IsPreferred}
+use Rattle.regex_lite_engine.proofs.Common.{◌≡◌, ℕ, zero, suc, ◌+◌, ◌<◌, ◌≤◌, ◌⊎◌, List, [], ◌∷◌}
+use Rattle.regex_lite_engine.proofs.Common.{◌++◌, length, sym, refl, subst, inl, inr, arith}
+use Rattle.regex_lite_engine.proofs.Common.{cases_order, IsPreferred}
 
 -- the list is preferred to each other with the property
 abbrev pub Least : (List ℕ → Type 0) → Type 0

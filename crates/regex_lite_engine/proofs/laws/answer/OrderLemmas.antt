@@ -1,13 +1,10 @@
 -- Preference is total on ways.
-use Rattle.std.proofs.Common.{◌≡◌, ◌<◌, refl, sym, ap, subst, ◌∙◌, ◌⊎◌, inl, inr}
-use Rattle.std.proofs.Common.{ℕ, List, [], ◌∷◌, ◌++◌, Option, Some, None, arith}
-use Rattle.std.proofs.lemmas.Bool.{cases_order}
-use Rattle.regex_lite_syntax.specs.Text.{Text}
-use Rattle.regex_lite_syntax.specs.Tree.{Tree}
-use Rattle.regex_lite_engine.specs.Graph.Ways.{Leads}
-use Rattle.regex_lite_engine.specs.Graph.Places.{Place, complete, step, step_from}
-use Rattle.regex_lite_engine.specs.Graph.WrittenOut.{place_of_pattern, start_address, IsWayThrough}
-use Rattle.regex_lite_engine.specs.Search.Preference.{IsPreferred}
+use Rattle.regex_lite_engine.proofs.Common.{◌≡◌, ℕ, ◌<◌, ◌⊎◌, List, [], ◌∷◌, ◌++◌, Some, None}
+use Rattle.regex_lite_engine.proofs.Common.{Option, sym, refl, ap, ◌∙◌, subst, inl, inr, arith}
+use Rattle.regex_lite_engine.proofs.Common.{cases_order, Text, Tree, complete, step_from, step}
+use Rattle.regex_lite_engine.proofs.Common.{Leads, start_address, place_of_pattern, IsWayThrough}
+use Rattle.regex_lite_engine.proofs.Common.{IsPreferred}
+use Rattle.regex_lite_engine.specs.Graph.Places.{Place}
 use Rattle.regex_lite_engine.specs.SearchLaws.{IsEarlier}
 use Rattle.regex_lite_engine.proofs.OptionLemmas.{same_some}
 

@@ -1,20 +1,15 @@
 -- A walk through a pattern to its end goes by finitely many places and positions.
-use Rattle.std.proofs.Common.{◌≡◌, ◌<◌, ◌≤◌, refl, sym, ap, subst, inl, inr, ℕ, zero, suc}
-use Rattle.std.proofs.Common.{Bool, true, false, List, [], ◌∷◌, ◌++◌, Option, Some}
-use Rattle.std.proofs.Common.{None, slice_get, length, unwrap_or, if◌then◌else◌, arith}
-use Rattle.std.proofs.lemmas.Bool.{cases_eq}
-use Rattle.std.proofs.lemmas.Option.{slice_get_within}
-use Rattle.regex_lite_syntax.specs.Text.{Text, before, after}
-use Rattle.regex_lite_syntax.specs.Sets.{Set}
-use Rattle.regex_lite_syntax.specs.Tree.Looks.{holds_between}
-use Rattle.regex_lite_syntax.specs.Tree.{Tree}
-use Rattle.regex_lite_engine.specs.Graph.Ways.{Leads}
-use Rattle.regex_lite_engine.specs.Graph.Places.{Arrow, Place, Condition, complete}
-use Rattle.regex_lite_engine.specs.Graph.Places.{with_arrows, free, holding, reading, behind}
-use Rattle.regex_lite_engine.specs.Graph.Places.{taken, arrived, arrow_taken, step, step_from}
-use Rattle.regex_lite_engine.specs.Graph.Addresses.{Address}
-use Rattle.regex_lite_engine.specs.Graph.WrittenOut.{start_address, end_address}
-use Rattle.regex_lite_engine.specs.Graph.WrittenOut.{written_out, place_of_pattern, IsWayThrough}
+use Rattle.regex_lite_engine.proofs.Common.{◌≡◌, ℕ, zero, suc, ◌<◌, ◌≤◌, Bool, true, false, List}
+use Rattle.regex_lite_engine.proofs.Common.{[], ◌∷◌, ◌++◌, length, if◌then◌else◌, slice_get, Some}
+use Rattle.regex_lite_engine.proofs.Common.{None, Option, unwrap_or, sym, refl, ap, subst, inl, inr}
+use Rattle.regex_lite_engine.proofs.Common.{arith, cases_eq, slice_get_within, Set, Text, after}
+use Rattle.regex_lite_engine.proofs.Common.{Tree, holds_between, Address, Condition, free, holding}
+use Rattle.regex_lite_engine.proofs.Common.{reading, Arrow, complete, with_arrows, behind, taken}
+use Rattle.regex_lite_engine.proofs.Common.{arrived, arrow_taken, step_from, step, Leads}
+use Rattle.regex_lite_engine.proofs.Common.{end_address, start_address, written_out}
+use Rattle.regex_lite_engine.proofs.Common.{place_of_pattern, IsWayThrough}
+use Rattle.regex_lite_syntax.specs.Text.{before}
+use Rattle.regex_lite_engine.specs.Graph.Places.{Place}
 use Rattle.regex_lite_engine.proofs.InLemmas.{In, in_left, in_right}
 use Rattle.regex_lite_engine.proofs.laws.LeadsLemmas.{leads_split, leads_to_one}
 use Rattle.regex_lite_engine.proofs.laws.list.ReadingLemmas.{is_inside}

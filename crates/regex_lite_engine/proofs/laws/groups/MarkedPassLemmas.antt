@@ -1,13 +1,11 @@
 -- What walks mark where a repetition stands.
-use Rattle.std.proofs.Common.{◌≡◌, refl, sym, ap, subst, ◌∙◌, ℕ, zero, suc, ◌+◌, ◌-◌}
-use Rattle.std.proofs.Common.{◌≤◌, Bool, true, false, Option, Some, None, arith}
-use Rattle.regex_lite_syntax.specs.Text.{Text}
-use Rattle.regex_lite_syntax.specs.Tree.Matches.{AtMost}
+use Rattle.regex_lite_engine.proofs.Common.{◌≡◌, ℕ, zero, suc, ◌+◌, ◌-◌, ◌≤◌, Bool, true, false}
+use Rattle.regex_lite_engine.proofs.Common.{Some, None, Option, sym, refl, ap, ◌∙◌, subst, arith}
+use Rattle.regex_lite_engine.proofs.Common.{Text, AtMost, complete, choice, Marks, no_marks, over}
 use Rattle.regex_lite_syntax.specs.Tree.Regular.{InOrder}
-use Rattle.regex_lite_engine.specs.Graph.Places.{Place, complete, choice}
+use Rattle.regex_lite_engine.specs.Graph.Places.{Place}
 use Rattle.regex_lite_engine.proofs.laws.StandingLemmas.{InRow, InChoices, IsNullableStar}
 use Rattle.regex_lite_engine.proofs.laws.StandingLemmas.{IsBetween, IsBounded, IsRepetition}
-use Rattle.regex_lite_engine.specs.Search.Marks.{Marks, no_marks, over}
 use Rattle.regex_lite_engine.proofs.laws.list.EntryLemmas.{over_assoc, over_none}
 use Rattle.regex_lite_engine.proofs.laws.groups.MarkingLemmas.{MarkedPasses}
 use Rattle.regex_lite_engine.proofs.laws.groups.MarkedWalkLemmas.{Each, fewer, no_walk}

@@ -1,27 +1,20 @@
 -- What walks mark where a tree stands: what a match of the tree may mark.
-use Rattle.std.proofs.Common.{◌≡◌, inl, inr, refl, sym, ap, subst, ◌∙◌, ◌<◌, ℕ, zero, suc, ◌+◌}
-use Rattle.std.proofs.Common.{◌*◌, List, [], ◌∷◌, length, Option, Some, None, slice_get, arith}
+use Rattle.regex_lite_engine.proofs.Common.{◌≡◌, ℕ, zero, suc, ◌+◌, ◌*◌, ◌<◌, List, [], ◌∷◌, length}
+use Rattle.regex_lite_engine.proofs.Common.{slice_get, Some, None, Option, sym, refl, ap, ◌∙◌}
+use Rattle.regex_lite_engine.proofs.Common.{subst, inl, inr, arith, in_ranges, just, Text, after}
+use Rattle.regex_lite_engine.proofs.Common.{Tree, empty, character, class, look, repetition}
+use Rattle.regex_lite_engine.proofs.Common.{capture, concat, alternation, Trees, none, more}
+use Rattle.regex_lite_engine.proofs.Common.{holds_between, nullable, IsRegular, ClassRange, Address}
+use Rattle.regex_lite_engine.proofs.Common.{complete, go_holding, go_reading, one_of, step, Leads}
+use Rattle.regex_lite_engine.proofs.Common.{whole, end_address, start_address, place_of_pattern}
+use Rattle.regex_lite_engine.proofs.Common.{Found, IsFound, Marks, no_marks, marked, over}
+use Rattle.regex_lite_engine.proofs.Common.{marks_along, marks_of_way}
 use Rattle.std.proofs.lemmas.Bool.{eqb-true}
-use Rattle.regex_lite_syntax.specs.declared.class.ClassRange.{ClassRange}
-use Rattle.regex_lite_syntax.specs.Text.{Text, before, after}
-use Rattle.regex_lite_syntax.specs.Ranges.{in_ranges}
-use Rattle.regex_lite_syntax.specs.Sets.{just}
-use Rattle.regex_lite_syntax.specs.Tree.Looks.{holds_between}
-use Rattle.regex_lite_syntax.specs.Tree.{Tree, Trees, empty, character, class, look}
-use Rattle.regex_lite_syntax.specs.Tree.{repetition, capture, concat, alternation, none, more}
-use Rattle.regex_lite_syntax.specs.Tree.Properties.{nullable}
-use Rattle.regex_lite_syntax.specs.Tree.Regular.{IsRegular, AreRegular}
-use Rattle.regex_lite_engine.specs.Graph.Ways.{Leads}
-use Rattle.regex_lite_engine.specs.Graph.Places.{Place, complete, go_holding}
-use Rattle.regex_lite_engine.specs.Graph.Places.{go_reading, one_of, step}
-use Rattle.regex_lite_engine.specs.Graph.Addresses.{Address}
-use Rattle.regex_lite_engine.specs.Graph.WrittenOut.{whole, start_address, end_address}
-use Rattle.regex_lite_engine.specs.Graph.WrittenOut.{place_of_pattern}
+use Rattle.regex_lite_syntax.specs.Text.{before}
+use Rattle.regex_lite_syntax.specs.Tree.Regular.{AreRegular}
+use Rattle.regex_lite_engine.specs.Graph.Places.{Place}
 use Rattle.regex_lite_engine.proofs.laws.StandingLemmas.{Stands, StandInChain, StandAsBranches}
 use Rattle.regex_lite_engine.proofs.laws.WrittenTreeLemmas.{whole_stands}
-use Rattle.regex_lite_engine.specs.Search.Marks.{Marks, no_marks, marked, over}
-use Rattle.regex_lite_engine.specs.Search.Marks.{marks_along, marks_of_way}
-use Rattle.regex_lite_engine.specs.Search.Answer.{Found, IsFound}
 use Rattle.regex_lite_engine.proofs.laws.list.EntryLemmas.{over_assoc}
 use Rattle.regex_lite_engine.proofs.laws.groups.MarkingLemmas.{Marking, MarkingChain, MarkingBranch}
 use Rattle.regex_lite_engine.proofs.laws.groups.MarkedWalkLemmas.{Each, fewer, by_go, by_test}

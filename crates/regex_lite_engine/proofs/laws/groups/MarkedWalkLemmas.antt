@@ -1,15 +1,12 @@
 -- Walks with few arrows that lead to the end, and what they mark.
-use Rattle.std.proofs.Common.{◌≡◌, ◌<◌, refl, sym, ap, subst, ◌∙◌, ℕ, zero, suc}
-use Rattle.std.proofs.Common.{Bool, true, false, List, [], ◌∷◌, map, length}
-use Rattle.std.proofs.Common.{Option, Some, None, option_map, slice_get, arith}
-use Rattle.std.proofs.lemmas.Option.{slice_get-map}
-use Rattle.regex_lite_syntax.specs.Text.{Text}
-use Rattle.regex_lite_engine.specs.Graph.Ways.{Leads}
-use Rattle.regex_lite_engine.specs.Graph.Places.{Arrow, Place, complete, with_arrows}
-use Rattle.regex_lite_engine.specs.Graph.Places.{go, go_marking, choice, taken}
-use Rattle.regex_lite_engine.specs.Graph.Places.{arrived, arrow_taken, step, step_from}
-use Rattle.regex_lite_engine.specs.Search.Marks.{Marks, marked, over, mark_of}
-use Rattle.regex_lite_engine.specs.Search.Marks.{mark_of_arrow, marks_along}
+use Rattle.regex_lite_engine.proofs.Common.{◌≡◌, ℕ, zero, suc, ◌<◌, Bool, true, false, List, []}
+use Rattle.regex_lite_engine.proofs.Common.{◌∷◌, map, length, slice_get, Some, None, Option}
+use Rattle.regex_lite_engine.proofs.Common.{option_map, sym, refl, ap, ◌∙◌, subst, arith}
+use Rattle.regex_lite_engine.proofs.Common.{slice_get-map, Text, Arrow, complete, with_arrows}
+use Rattle.regex_lite_engine.proofs.Common.{taken, go, go_marking, choice, arrived, arrow_taken}
+use Rattle.regex_lite_engine.proofs.Common.{step_from, step, Leads, Marks, marked, over}
+use Rattle.regex_lite_engine.proofs.Common.{mark_of_arrow, mark_of, marks_along}
+use Rattle.regex_lite_engine.specs.Graph.Places.{Place}
 use Rattle.regex_lite_engine.proofs.laws.list.EntryLemmas.{over_unmarked}
 use Rattle.regex_lite_engine.proofs.OptionLemmas.{same_some}
 

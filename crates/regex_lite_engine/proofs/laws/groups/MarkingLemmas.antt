@@ -1,12 +1,11 @@
 -- What a match of a tree may mark, by cases on the tree.
-use Rattle.std.proofs.Common.{◌≡◌, ◌⊎◌, ◌≤◌, ℕ, zero, suc, ◌+◌, ◌*◌, IsTrue, Some, inl, inr}
-use Rattle.regex_lite_syntax.specs.Text.{Text, after}
-use Rattle.regex_lite_syntax.specs.Ranges.{in_ranges}
+use Rattle.regex_lite_engine.proofs.Common.{◌≡◌, ℕ, zero, suc, ◌+◌, ◌*◌, ◌≤◌, ◌⊎◌, IsTrue, Some}
+use Rattle.regex_lite_engine.proofs.Common.{inl, inr, in_ranges, Text, after, Tree, empty}
+use Rattle.regex_lite_engine.proofs.Common.{character, class, look, repetition, capture, concat}
+use Rattle.regex_lite_engine.proofs.Common.{alternation, Trees, none, more, AtMost, Matches, Chain}
+use Rattle.regex_lite_engine.proofs.Common.{SomeBranch, Marks, no_marks, marked, over}
 use Rattle.regex_lite_syntax.specs.Tree.Looks.{Holds}
-use Rattle.regex_lite_syntax.specs.Tree.{Tree, empty, character, class, look, capture}
-use Rattle.regex_lite_syntax.specs.Tree.{repetition, concat, alternation, Trees, none, more}
-use Rattle.regex_lite_syntax.specs.Tree.Matches.{AtMost, Passes, Matches, Chain, SomeBranch}
-use Rattle.regex_lite_engine.specs.Search.Marks.{Marks, no_marks, marked, over}
+use Rattle.regex_lite_syntax.specs.Tree.Matches.{Passes}
 
 -- this many passes, one after another, the marks of the later ones over those of the earlier
 abbrev pub MarkedPasses : (pass : ℕ → ℕ → Marks → Type 0) → ℕ → ℕ → ℕ → Marks → Type 0

@@ -1,16 +1,13 @@
 -- The spans of groups: each lies between where the match starts and where it ends.
-use Rattle.std.proofs.Common.{◌≡◌, ◌≢◌, ◌≤◌, ◌⊎◌, inl, inr, refl, sym, ap, subst, ◌∙◌, ℕ, zero}
-use Rattle.std.proofs.Common.{suc, ◌+◌, ◌*◌, ◌==◌, true, false, Option, Some, None, is_some, arith}
-use Rattle.std.proofs.lemmas.Bool.{cases_eq}
-use Rattle.std.proofs.lemmas.Bool.Decides.{nat_tests}
-use Rattle.regex_lite_syntax.specs.Text.{Text}
-use Rattle.regex_lite_syntax.specs.Tree.{Tree, Trees, empty, character, class, look}
-use Rattle.regex_lite_syntax.specs.Tree.{repetition, capture, concat, alternation, none, more}
-use Rattle.std.specs.Option.{option_or, option_zip}
-use Rattle.regex_lite_syntax.specs.Tree.Regular.{IsRegular, AreRegular}
-use Rattle.regex_lite_engine.specs.Graph.WrittenOut.{whole}
-use Rattle.regex_lite_engine.specs.Search.Marks.{Marks, no_marks, over, span}
-use Rattle.regex_lite_engine.specs.Search.Answer.{Found, IsFound}
+use Rattle.regex_lite_engine.proofs.Common.{◌≡◌, ℕ, zero, suc, ◌+◌, ◌*◌, ◌≤◌, true, false, ◌≢◌, ◌⊎◌}
+use Rattle.regex_lite_engine.proofs.Common.{is_some, ◌==◌, Some, None, Option, sym, refl, ap, ◌∙◌}
+use Rattle.regex_lite_engine.proofs.Common.{subst, inl, inr, arith, cases_eq, nat_tests, option_or}
+use Rattle.regex_lite_engine.proofs.Common.{Text, Tree, empty, character, class, look, repetition}
+use Rattle.regex_lite_engine.proofs.Common.{capture, concat, alternation, Trees, none, more}
+use Rattle.regex_lite_engine.proofs.Common.{IsRegular, whole, Found, IsFound, Marks, no_marks, over}
+use Rattle.std.specs.Option.{option_zip}
+use Rattle.regex_lite_syntax.specs.Tree.Regular.{AreRegular}
+use Rattle.regex_lite_engine.specs.Search.Marks.{span}
 use Rattle.regex_lite_engine.specs.SearchLaws.{HasGroupsInside}
 use Rattle.regex_lite_engine.proofs.laws.groups.MarkingLemmas.{Marking, MarkingChain}
 use Rattle.regex_lite_engine.proofs.laws.groups.MarkingLemmas.{MarkingBranch, MarkedPasses, around}

@@ -1,9 +1,9 @@
 -- How many groups take part, counted in rows of groups.
-use Rattle.std.proofs.Common.{◌≡◌, ◌≤◌, refl, ap, ◌∙◌, ℕ, zero, suc, ◌+◌, ◌-◌, ◌*◌, ◌==◌, Bool}
-use Rattle.std.proofs.Common.{true, false, Option, Some, None, is_some, if◌then◌else◌, arith}
-use Rattle.std.specs.Option.{option_or, option_zip}
-use Rattle.std.proofs.lemmas.Bool.Decides.{nat_tests}
-use Rattle.regex_lite_engine.specs.Search.Marks.{Marks, over, span, taking_part}
+use Rattle.regex_lite_engine.proofs.Common.{◌≡◌, ℕ, zero, suc, ◌+◌, ◌-◌, ◌*◌, ◌≤◌, Bool, true}
+use Rattle.regex_lite_engine.proofs.Common.{false, is_some, if◌then◌else◌, ◌==◌, Some, None, Option}
+use Rattle.regex_lite_engine.proofs.Common.{refl, ap, ◌∙◌, arith, nat_tests, option_or, Marks, over}
+use Rattle.std.specs.Option.{option_zip}
+use Rattle.regex_lite_engine.specs.Search.Marks.{span, taking_part}
 use Rattle.regex_lite_engine.proofs.laws.groups.MarkingLemmas.{around}
 
 abbrev pub one_if : Bool → ℕ

@@ -1,19 +1,17 @@
 -- At least the static number of groups take part in a match.
-use Rattle.std.proofs.Common.{◌≡◌, ◌≤◌, ◌<◌, inl, inr, refl, sym, ap, ◌∙◌, ℕ}
-use Rattle.std.proofs.Common.{zero, suc, ◌+◌, ◌-◌, ◌*◌, ◌==◌, max, true}
-use Rattle.std.proofs.Common.{Option, Some, None, is_some, arith}
-use Rattle.std.proofs.lemmas.Bool.Decides.{nat_tests}
-use Rattle.regex_lite_syntax.specs.Text.{Text}
-use Rattle.regex_lite_syntax.specs.Tree.{Tree, Trees, empty, character, class, look}
-use Rattle.regex_lite_syntax.specs.Tree.{repetition, capture, concat, alternation, none, more}
-use Rattle.regex_lite_syntax.specs.Tree.Properties.{greatest_index, greatest_index_in, captures_len}
-use Rattle.regex_lite_syntax.specs.Tree.Properties.{sum, common, in_passes, static_groups}
+use Rattle.regex_lite_engine.proofs.Common.{◌≡◌, ℕ, zero, suc, ◌+◌, ◌-◌, ◌*◌, ◌<◌, ◌≤◌, true}
+use Rattle.regex_lite_engine.proofs.Common.{is_some, ◌==◌, Some, None, Option, sym, refl, ap, ◌∙◌}
+use Rattle.regex_lite_engine.proofs.Common.{inl, inr, arith, nat_tests, Text, Tree, empty}
+use Rattle.regex_lite_engine.proofs.Common.{character, class, look, repetition, capture, concat}
+use Rattle.regex_lite_engine.proofs.Common.{alternation, Trees, none, more, greatest_index}
+use Rattle.regex_lite_engine.proofs.Common.{greatest_index_in, sum, IsRegular, whole, Found}
+use Rattle.regex_lite_engine.proofs.Common.{IsFound, Marks, marked, over}
+use Rattle.std.proofs.Common.{max}
+use Rattle.regex_lite_syntax.specs.Tree.Properties.{captures_len}
+use Rattle.regex_lite_syntax.specs.Tree.Properties.{common, in_passes, static_groups}
 use Rattle.regex_lite_syntax.specs.Tree.Properties.{static_sum, static_common, static_captures_len}
-use Rattle.regex_lite_syntax.specs.Tree.Regular.{IsRegular}
-use Rattle.regex_lite_engine.specs.Graph.WrittenOut.{whole}
-use Rattle.regex_lite_engine.specs.Search.Marks.{Marks, marked, over, span, taking_part}
+use Rattle.regex_lite_engine.specs.Search.Marks.{span, taking_part}
 use Rattle.regex_lite_syntax.proofs.grammar.NumberedTreeLemmas.{IsNumbered, AreNumbered}
-use Rattle.regex_lite_engine.specs.Search.Answer.{Found, IsFound}
 use Rattle.regex_lite_engine.proofs.laws.groups.MarkingLemmas.{Marking, MarkingChain}
 use Rattle.regex_lite_engine.proofs.laws.groups.MarkingLemmas.{MarkingBranch, MarkedPasses, around}
 use Rattle.regex_lite_engine.proofs.laws.groups.TakingCountLemmas.{one_if, earlier_stay, later_stay}

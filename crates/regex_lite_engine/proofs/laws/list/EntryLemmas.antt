@@ -1,10 +1,8 @@
 -- Lists of entries: going on from each is associative, and so is laying marks over others.
-use Rattle.std.proofs.Common.{◌≡◌, refl, sym, ap, ◌∙◌, ℕ, List, [], ◌∷◌, ◌++◌}
-use Rattle.std.proofs.Common.{map, Option, Some, None, append_assoc, append-nil}
-use Rattle.std.proofs.lemmas.List.{map-append}
-use Rattle.std.specs.Option.{option_or}
-use Rattle.regex_lite_engine.specs.Search.Marks.{Marks, no_marks, marked, over}
-use Rattle.regex_lite_engine.specs.Search.PreferenceList.{Entry, behind_marks, onward, stop}
+use Rattle.regex_lite_engine.proofs.Common.{◌≡◌, ℕ, List, [], ◌∷◌, ◌++◌, map, Some, None, Option}
+use Rattle.regex_lite_engine.proofs.Common.{sym, refl, ap, ◌∙◌, append_assoc, append-nil}
+use Rattle.regex_lite_engine.proofs.Common.{map-append, option_or, Marks, no_marks, marked, over}
+use Rattle.regex_lite_engine.proofs.Common.{Entry, behind_marks, onward, stop}
 
 either_assoc : (a b c : Option ℕ) → option_or (option_or a b) c ≡ option_or a (option_or b c)
 either_assoc None b c = refl

@@ -1,19 +1,12 @@
 -- Where loops read, the answer is the head of the list.
-use Rattle.std.proofs.Common.{◌≡◌, refl, sym, ap, subst, ◌∙◌, ◌⊎◌, inl, inr}
-use Rattle.std.proofs.Common.{ℕ, zero, suc, slice_get, List, [], ◌∷◌, Some}
-use Rattle.regex_lite_syntax.specs.Text.{Text}
-use Rattle.regex_lite_syntax.specs.Tree.{Tree}
-use Rattle.regex_lite_syntax.specs.Tree.Regular.{IsRegular}
-use Rattle.regex_lite_engine.specs.Graph.Places.{step}
-use Rattle.regex_lite_engine.specs.Graph.Addresses.{Address}
-use Rattle.regex_lite_engine.specs.Graph.WrittenOut.{whole, start_address, end_address}
-use Rattle.regex_lite_engine.specs.Graph.WrittenOut.{place_of_pattern, IsWayThrough}
+use Rattle.regex_lite_engine.proofs.Common.{◌≡◌, ℕ, zero, suc, ◌⊎◌, List, [], ◌∷◌, slice_get, Some}
+use Rattle.regex_lite_engine.proofs.Common.{sym, refl, ap, ◌∙◌, subst, inl, inr, Text, Tree}
+use Rattle.regex_lite_engine.proofs.Common.{IsRegular, Address, step, whole, end_address}
+use Rattle.regex_lite_engine.proofs.Common.{start_address, place_of_pattern, IsWayThrough, Found}
+use Rattle.regex_lite_engine.proofs.Common.{IsFound, Marks, marks_of_way, IsPreferred, Entry}
+use Rattle.regex_lite_engine.proofs.Common.{preference_list, HasReadingLoops, IsBefore}
 use Rattle.regex_lite_engine.proofs.laws.LeadsLemmas.{leads_to_one}
-use Rattle.regex_lite_engine.specs.Search.Marks.{Marks, marks_of_way}
-use Rattle.regex_lite_engine.specs.Search.Preference.{IsPreferred}
-use Rattle.regex_lite_engine.specs.Search.Answer.{Found, IsFound}
-use Rattle.regex_lite_engine.specs.Search.PreferenceList.{Entry, preference_list, HasReadingLoops}
-use Rattle.regex_lite_engine.specs.SearchLaws.{IsBefore, AreRanked}
+use Rattle.regex_lite_engine.specs.SearchLaws.{AreRanked}
 use Rattle.regex_lite_engine.proofs.laws.answer.OrderLemmas.{one_best}
 use Rattle.regex_lite_engine.proofs.laws.list.RankedWalkLemmas.{all_ranked}
 use Rattle.regex_lite_engine.proofs.OptionLemmas.{same_some}

@@ -1,15 +1,13 @@
 -- The walks from a place in the order of preference, each with its end and marks.
-use Rattle.std.proofs.Common.{◌≡◌, refl, sym, ap, subst, ◌∙◌, ℕ, suc, Bool, true, false, List}
-use Rattle.std.proofs.Common.{[], ◌∷◌, ◌++◌, map, Option, Some, None, if◌then◌else◌, append-nil}
-use Rattle.regex_lite_syntax.specs.Text.{Text, before, after}
-use Rattle.regex_lite_syntax.specs.Sets.{Set}
-use Rattle.regex_lite_syntax.specs.declared.hir.look.Look.{Look}
-use Rattle.regex_lite_syntax.specs.Tree.Looks.{holds_between}
-use Rattle.regex_lite_engine.specs.Graph.Places.{Arrow, Place, complete, with_arrows}
-use Rattle.regex_lite_engine.specs.Graph.Places.{go, go_marking, go_holding}
-use Rattle.regex_lite_engine.specs.Graph.Places.{go_reading, choice, behind, taken}
-use Rattle.regex_lite_engine.specs.Search.Marks.{marked}
-use Rattle.regex_lite_engine.specs.Search.PreferenceList.{Entry, behind_marks, stop, read, onward}
+use Rattle.regex_lite_engine.proofs.Common.{◌≡◌, ℕ, suc, Bool, true, false, List, [], ◌∷◌, ◌++◌}
+use Rattle.regex_lite_engine.proofs.Common.{map, if◌then◌else◌, Some, None, Option, sym, refl, ap}
+use Rattle.regex_lite_engine.proofs.Common.{◌∙◌, subst, append-nil, Set, Text, after, holds_between}
+use Rattle.regex_lite_engine.proofs.Common.{Look, Arrow, complete, with_arrows, behind, taken, go}
+use Rattle.regex_lite_engine.proofs.Common.{go_marking, go_holding, go_reading, choice, marked}
+use Rattle.regex_lite_engine.proofs.Common.{Entry, behind_marks, onward, stop}
+use Rattle.regex_lite_syntax.specs.Text.{before}
+use Rattle.regex_lite_engine.specs.Graph.Places.{Place}
+use Rattle.regex_lite_engine.specs.Search.PreferenceList.{read}
 use Rattle.regex_lite_engine.proofs.laws.list.EntryLemmas.{over_unmarked, behind_none, onward_stop}
 
 mutual

@@ -1,14 +1,13 @@
 -- What is listed where a repetition stands whose body reads, if it has no limit.
-use Rattle.std.proofs.Common.{◌≡◌, refl, sym, ap, subst, ◌∙◌, ℕ, zero, suc, ◌+◌}
-use Rattle.std.proofs.Common.{◌-◌, ◌≤◌, Bool, true, false, List, [], ◌++◌, Option}
-use Rattle.std.proofs.Common.{Some, None, if◌then◌else◌, length, append-nil, arith}
-use Rattle.regex_lite_syntax.specs.Text.{Text}
-use Rattle.regex_lite_syntax.specs.Tree.Matches.{Passes, AtMost}
+use Rattle.regex_lite_engine.proofs.Common.{◌≡◌, ℕ, zero, suc, ◌+◌, ◌-◌, ◌≤◌, Bool, true, false}
+use Rattle.regex_lite_engine.proofs.Common.{List, [], ◌++◌, length, if◌then◌else◌, Some, None}
+use Rattle.regex_lite_engine.proofs.Common.{Option, sym, refl, ap, ◌∙◌, subst, append-nil, arith}
+use Rattle.regex_lite_engine.proofs.Common.{Text, AtMost, choice, Entry, onward, stop}
+use Rattle.regex_lite_syntax.specs.Tree.Matches.{Passes}
 use Rattle.regex_lite_syntax.specs.Tree.Regular.{InOrder}
-use Rattle.regex_lite_engine.specs.Graph.Places.{Place, choice}
+use Rattle.regex_lite_engine.specs.Graph.Places.{Place}
 use Rattle.regex_lite_engine.proofs.laws.StandingLemmas.{InRow, InChoices, IsBetween}
 use Rattle.regex_lite_engine.proofs.laws.StandingLemmas.{IsBounded, IsRepetition}
-use Rattle.regex_lite_engine.specs.Search.PreferenceList.{Entry, stop, onward}
 use Rattle.regex_lite_engine.specs.Search.PreferenceList.{passes, up_to, further}
 use Rattle.regex_lite_engine.proofs.laws.list.EntryLemmas.{onward_append, onward_assoc}
 use Rattle.regex_lite_engine.proofs.laws.list.EntryLemmas.{onward_stop, onward_nothing}

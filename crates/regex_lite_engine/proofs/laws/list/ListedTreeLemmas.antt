@@ -1,24 +1,21 @@
 -- What is listed where a tree stands: its own list, and what follows each of its ends.
-use Rattle.std.proofs.Common.{◌≡◌, inl, inr, refl, sym, ap, subst, ◌∙◌, ℕ, ◌+◌, ◌*◌}
-use Rattle.std.proofs.Common.{List, [], ◌∷◌, ◌++◌, map, Option, Some, None, append-nil}
+use Rattle.regex_lite_engine.proofs.Common.{◌≡◌, ℕ, ◌+◌, ◌*◌, List, [], ◌∷◌, ◌++◌, map, Some, None}
+use Rattle.regex_lite_engine.proofs.Common.{Option, sym, refl, ap, ◌∙◌, subst, inl, inr, append-nil}
+use Rattle.regex_lite_engine.proofs.Common.{in_ranges, just, Text, after, Tree, empty, character}
+use Rattle.regex_lite_engine.proofs.Common.{class, look, repetition, capture, concat, alternation}
+use Rattle.regex_lite_engine.proofs.Common.{Trees, none, more, holds_between, Matches, Chain}
+use Rattle.regex_lite_engine.proofs.Common.{SomeBranch, nullable, IsRegular, ClassRange, go, one_of}
+use Rattle.regex_lite_engine.proofs.Common.{marked, Entry, behind_marks, onward, preference_list}
+use Rattle.regex_lite_engine.proofs.Common.{HasReadingLoops}
 use Rattle.std.proofs.lemmas.Bool.{eqb-true}
-use Rattle.regex_lite_syntax.specs.declared.class.ClassRange.{ClassRange}
-use Rattle.regex_lite_syntax.specs.Text.{Text, before, after}
-use Rattle.regex_lite_syntax.specs.Ranges.{in_ranges}
-use Rattle.regex_lite_syntax.specs.Sets.{just}
-use Rattle.regex_lite_syntax.specs.Tree.Looks.{holds_between}
-use Rattle.regex_lite_syntax.specs.Tree.{Tree, Trees, empty, character, class, look}
-use Rattle.regex_lite_syntax.specs.Tree.{repetition, capture, concat, alternation, none, more}
-use Rattle.regex_lite_syntax.specs.Tree.Properties.{nullable}
-use Rattle.regex_lite_syntax.specs.Tree.Regular.{IsRegular, AreRegular}
-use Rattle.regex_lite_syntax.specs.Tree.Matches.{Matches, Chain, SomeBranch}
-use Rattle.regex_lite_engine.specs.Graph.Places.{Place, go, one_of}
+use Rattle.regex_lite_syntax.specs.Text.{before}
+use Rattle.regex_lite_syntax.specs.Tree.Regular.{AreRegular}
+use Rattle.regex_lite_engine.specs.Graph.Places.{Place}
 use Rattle.regex_lite_engine.proofs.laws.StandingLemmas.{Stands, StandInChain, StandAsBranches}
-use Rattle.regex_lite_engine.specs.Search.Marks.{marked}
-use Rattle.regex_lite_engine.specs.Search.PreferenceList.{Entry, behind_marks, read, onward}
-use Rattle.regex_lite_engine.specs.Search.PreferenceList.{marking, preference_list, list_of_chain}
+use Rattle.regex_lite_engine.specs.Search.PreferenceList.{read}
+use Rattle.regex_lite_engine.specs.Search.PreferenceList.{marking, list_of_chain}
 use Rattle.regex_lite_engine.specs.Search.PreferenceList.{list_of_branches, ReadsInPasses}
-use Rattle.regex_lite_engine.specs.Search.PreferenceList.{HasReadingLoops, HaveReadingLoops}
+use Rattle.regex_lite_engine.specs.Search.PreferenceList.{HaveReadingLoops}
 use Rattle.regex_lite_engine.proofs.laws.list.EntryLemmas.{onward_append, onward_assoc, onward_stop}
 use Rattle.regex_lite_engine.proofs.laws.list.ReadingLemmas.{reads}
 use Rattle.regex_lite_engine.proofs.laws.list.ListedLemmas.{Listed, branching, ListedBy, over_all}

@@ -1,13 +1,11 @@
 -- Where walks are listed, no walk visits a place twice at one position.
-use Rattle.std.proofs.Common.{◌≡◌, refl, sym, ap, subst, ◌∙◌, ℕ, zero, suc}
-use Rattle.std.proofs.Common.{List, [], ◌∷◌, ◌++◌, Some, None, slice_get}
-use Rattle.regex_lite_syntax.specs.Text.{Text}
+use Rattle.regex_lite_engine.proofs.Common.{◌≡◌, ℕ, zero, suc, List, [], ◌∷◌, ◌++◌, slice_get, Some}
+use Rattle.regex_lite_engine.proofs.Common.{None, sym, refl, ap, ◌∙◌, subst, Text, Arrow, complete}
+use Rattle.regex_lite_engine.proofs.Common.{with_arrows, arrived, arrow_taken, step_from, step}
+use Rattle.regex_lite_engine.proofs.Common.{Leads, NoneTwice, Entry}
 use Rattle.regex_lite_syntax.proofs.ListLemmas.{no_last}
-use Rattle.regex_lite_engine.specs.Graph.Ways.{Leads, NoneTwice}
-use Rattle.regex_lite_engine.specs.Graph.Places.{Arrow, Place, complete, with_arrows}
-use Rattle.regex_lite_engine.specs.Graph.Places.{arrived, arrow_taken, step, step_from}
+use Rattle.regex_lite_engine.specs.Graph.Places.{Place}
 use Rattle.regex_lite_engine.proofs.laws.LeadsLemmas.{leads_append}
-use Rattle.regex_lite_engine.specs.Search.PreferenceList.{Entry}
 use Rattle.regex_lite_engine.proofs.laws.list.ListedLemmas.{Listed, ListedBy, completed}
 use Rattle.regex_lite_engine.proofs.laws.list.ListedLemmas.{branching, over_all, blocked, fitting}
 use Rattle.regex_lite_engine.proofs.OptionLemmas.{same_some}

@@ -1,12 +1,11 @@
 -- The preference lists of some trees, computed: where each match ends, and the spans of its groups.
-use Rattle.std.proofs.Common.{◌≡◌, refl, ℕ, List, [], ◌∷◌, map, true}
-use Rattle.std.proofs.Common.{false, Option, Some, None, codes}
-use Rattle.regex_lite_syntax.specs.Text.{Text, the}
-use Rattle.regex_lite_syntax.specs.Tree.{Tree, Trees, character, repetition}
-use Rattle.regex_lite_syntax.specs.Tree.{capture, concat, alternation, none, more}
-use Rattle.regex_lite_engine.specs.Graph.WrittenOut.{whole}
+use Rattle.regex_lite_engine.proofs.Common.{◌≡◌, ℕ, true, false, List, [], ◌∷◌, map, Some, None}
+use Rattle.regex_lite_engine.proofs.Common.{Option, refl, Text, Tree, character, repetition}
+use Rattle.regex_lite_engine.proofs.Common.{capture, concat, alternation, Trees, none, more, whole}
+use Rattle.regex_lite_engine.proofs.Common.{preference_list}
+use Rattle.std.proofs.Common.{codes}
+use Rattle.regex_lite_syntax.specs.Text.{the}
 use Rattle.regex_lite_engine.specs.Search.Marks.{span}
-use Rattle.regex_lite_engine.specs.Search.PreferenceList.{preference_list}
 
 abbrev a : Tree
 a = character (the "a")

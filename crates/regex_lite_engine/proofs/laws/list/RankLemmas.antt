@@ -1,10 +1,7 @@
 -- Ways in the order of preference, with their ends and marks: lists of them are appended, and the
 -- ways of a list continued in front.
-use Rattle.std.proofs.Common.{◌≡◌, refl, ap, inl, inr, ℕ, suc, List, [], ◌∷◌, ◌++◌, map, arith}
-use Rattle.regex_lite_engine.specs.Search.Preference.{IsPreferred}
-use Rattle.regex_lite_engine.specs.Search.Marks.{Marks}
-use Rattle.regex_lite_engine.specs.Search.PreferenceList.{Entry}
-use Rattle.regex_lite_engine.specs.SearchLaws.{IsBefore}
+use Rattle.regex_lite_engine.proofs.Common.{◌≡◌, ℕ, suc, List, [], ◌∷◌, ◌++◌, map, refl, ap, inl}
+use Rattle.regex_lite_engine.proofs.Common.{inr, arith, Marks, IsPreferred, Entry, IsBefore}
 use Rattle.regex_lite_engine.proofs.InLemmas.{In}
 
 -- the walks have these ends and marks, each preferred to those after it

@@ -1,19 +1,15 @@
 -- What is listed is of all walks, the preferred first.
-use Rattle.std.proofs.Common.{◌≡◌, refl, sym, ap, subst, ◌∙◌, inl, inr, ℕ, zero, suc}
-use Rattle.std.proofs.Common.{List, [], ◌∷◌, ◌++◌, map, Some, None, slice_get, arith}
-use Rattle.regex_lite_syntax.specs.Text.{Text}
-use Rattle.regex_lite_syntax.specs.Tree.{Tree}
-use Rattle.regex_lite_syntax.specs.Tree.Regular.{IsRegular}
-use Rattle.regex_lite_engine.specs.Graph.Ways.{Leads}
-use Rattle.regex_lite_engine.specs.Graph.Places.{Arrow, Place, complete, with_arrows, taken}
-use Rattle.regex_lite_engine.specs.Graph.Places.{arrived, arrow_taken, step, step_from}
-use Rattle.regex_lite_engine.specs.Graph.WrittenOut.{whole, start_address, end_address}
-use Rattle.regex_lite_engine.specs.Graph.WrittenOut.{place_of_pattern, IsWayThrough}
-use Rattle.regex_lite_engine.specs.Search.Marks.{Marks, no_marks, marked, over}
-use Rattle.regex_lite_engine.specs.Search.Marks.{mark_of, mark_of_arrow, marks_along}
-use Rattle.regex_lite_engine.specs.Search.PreferenceList.{Entry, behind_marks, stop}
-use Rattle.regex_lite_engine.specs.Search.PreferenceList.{preference_list, HasReadingLoops}
-use Rattle.regex_lite_engine.specs.SearchLaws.{IsBefore, AreRanked}
+use Rattle.regex_lite_engine.proofs.Common.{◌≡◌, ℕ, zero, suc, List, [], ◌∷◌, ◌++◌, map, slice_get}
+use Rattle.regex_lite_engine.proofs.Common.{Some, None, sym, refl, ap, ◌∙◌, subst, inl, inr, arith}
+use Rattle.regex_lite_engine.proofs.Common.{Text, Tree, IsRegular, Arrow, complete, with_arrows}
+use Rattle.regex_lite_engine.proofs.Common.{taken, arrived, arrow_taken, step_from, step, Leads}
+use Rattle.regex_lite_engine.proofs.Common.{whole, end_address, start_address, place_of_pattern}
+use Rattle.regex_lite_engine.proofs.Common.{IsWayThrough, Marks, no_marks, marked, over}
+use Rattle.regex_lite_engine.proofs.Common.{mark_of_arrow, mark_of, marks_along, Entry}
+use Rattle.regex_lite_engine.proofs.Common.{behind_marks, stop, preference_list, HasReadingLoops}
+use Rattle.regex_lite_engine.proofs.Common.{IsBefore}
+use Rattle.regex_lite_engine.specs.Graph.Places.{Place}
+use Rattle.regex_lite_engine.specs.SearchLaws.{AreRanked}
 use Rattle.regex_lite_engine.proofs.laws.list.ListedLemmas.{Listed, ListedBy, completed}
 use Rattle.regex_lite_engine.proofs.laws.list.ListedLemmas.{branching, over_all, blocked, fitting}
 use Rattle.regex_lite_engine.proofs.laws.list.NoLoopLemmas.{complete_stays}

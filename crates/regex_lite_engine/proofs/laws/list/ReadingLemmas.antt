@@ -1,12 +1,12 @@
 -- A match never goes back, and that of a tree that is not nullable reads a character.
-use Rattle.std.proofs.Common.{◌≡◌, ◌<◌, ◌≤◌, inl, inr, refl, ℕ, zero, suc, Bool}
-use Rattle.std.proofs.Common.{true, false, ◌&&◌, Some, length, [], ◌∷◌, arith}
+use Rattle.regex_lite_engine.proofs.Common.{◌≡◌, ℕ, zero, suc, ◌<◌, ◌≤◌, Bool, true, false, ◌&&◌}
+use Rattle.regex_lite_engine.proofs.Common.{[], ◌∷◌, length, Some, refl, inl, inr, arith, Text}
+use Rattle.regex_lite_engine.proofs.Common.{after, Tree, empty, character, class, look, repetition}
+use Rattle.regex_lite_engine.proofs.Common.{capture, concat, alternation, Trees, none, more}
+use Rattle.regex_lite_engine.proofs.Common.{Matches, Chain, SomeBranch, nullable}
 use Rattle.std.proofs.lemmas.Bool.{or_parts}
-use Rattle.regex_lite_syntax.specs.Text.{Text, after}
-use Rattle.regex_lite_syntax.specs.Tree.{Tree, Trees, empty, character, class, look}
-use Rattle.regex_lite_syntax.specs.Tree.{repetition, capture, concat, alternation, none, more}
-use Rattle.regex_lite_syntax.specs.Tree.Properties.{is_zero, nullable, all_nullable, any_nullable}
-use Rattle.regex_lite_syntax.specs.Tree.Matches.{Matches, Chain, SomeBranch, Passes}
+use Rattle.regex_lite_syntax.specs.Tree.Properties.{is_zero, all_nullable, any_nullable}
+use Rattle.regex_lite_syntax.specs.Tree.Matches.{Passes}
 
 some_needed : (least : ℕ) → least ≤ zero → is_zero least ≡ false → ⊥
 some_needed zero low e = cc

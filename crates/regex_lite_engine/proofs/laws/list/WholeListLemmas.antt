@@ -1,15 +1,9 @@
 -- The walks through a pattern whose loops read.
-use Rattle.std.proofs.Common.{refl, ℕ, List, None}
-use Rattle.regex_lite_syntax.specs.Text.{Text}
-use Rattle.regex_lite_syntax.specs.Tree.{Tree}
-use Rattle.regex_lite_syntax.specs.Tree.Regular.{IsRegular}
-use Rattle.regex_lite_engine.specs.Graph.Ways.{Leads}
-use Rattle.regex_lite_engine.specs.Graph.Places.{step}
-use Rattle.regex_lite_engine.specs.Graph.Addresses.{Address}
-use Rattle.regex_lite_engine.specs.Graph.WrittenOut.{whole, start_address, end_address}
-use Rattle.regex_lite_engine.specs.Graph.WrittenOut.{place_of_pattern, IsWayThrough}
+use Rattle.regex_lite_engine.proofs.Common.{ℕ, List, None, refl, Text, Tree, IsRegular, Address}
+use Rattle.regex_lite_engine.proofs.Common.{step, Leads, whole, end_address, start_address}
+use Rattle.regex_lite_engine.proofs.Common.{place_of_pattern, IsWayThrough, stop, preference_list}
+use Rattle.regex_lite_engine.proofs.Common.{HasReadingLoops}
 use Rattle.regex_lite_engine.proofs.laws.WrittenTreeLemmas.{whole_stands}
-use Rattle.regex_lite_engine.specs.Search.PreferenceList.{stop, preference_list, HasReadingLoops}
 use Rattle.regex_lite_engine.proofs.laws.list.EntryLemmas.{onward_stops}
 use Rattle.regex_lite_engine.proofs.laws.list.ListedLemmas.{Listed, as_listed, completed}
 use Rattle.regex_lite_engine.proofs.laws.list.ListedTreeLemmas.{listed_tree, listed_group}

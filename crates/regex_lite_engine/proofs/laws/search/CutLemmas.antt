@@ -1,6 +1,6 @@
 -- Lists that are cut in two in several ways.
-use Rattle.std.proofs.Common.{◌≡◌, refl, sym, ap, ◌∙◌, ◌⊎◌, inl, inr}
-use Rattle.std.proofs.Common.{ℕ, List, [], ◌∷◌, ◌++◌, append-nil}
+use Rattle.regex_lite_engine.proofs.Common.{◌≡◌, ℕ, ◌⊎◌, List, [], ◌∷◌, ◌++◌, sym, refl, ap, ◌∙◌}
+use Rattle.regex_lite_engine.proofs.Common.{inl, inr, append-nil}
 use Rattle.regex_lite_syntax.proofs.ListLemmas.{same_head, same_tail}
 
 -- what follows the same beginning is the same

@@ -1,22 +1,18 @@
 -- A property that places of each kind have is one of all the places of a tree.
-use Rattle.std.proofs.Common.{ℕ, zero, suc, ◌+◌, ◌-◌, ◌*◌, Bool, true, false}
-use Rattle.std.proofs.Common.{List, [], ◌∷◌, map, Option, Some, None}
-use Rattle.regex_lite_syntax.specs.declared.class.ClassRange.{ClassRange}
-use Rattle.regex_lite_syntax.specs.declared.hir.look.Look.{Look}
-use Rattle.regex_lite_syntax.specs.Ranges.{in_ranges}
-use Rattle.regex_lite_syntax.specs.Sets.{Set, just}
-use Rattle.regex_lite_syntax.specs.Tree.{Tree, Trees, empty, character, class, look}
-use Rattle.regex_lite_syntax.specs.Tree.{repetition, capture, concat, alternation, none, more}
-use Rattle.regex_lite_syntax.specs.Tree.Properties.{nullable}
-use Rattle.regex_lite_engine.specs.Graph.Places.{Place, with_arrows, go, go_marking, go_holding}
-use Rattle.regex_lite_engine.specs.Graph.Places.{go_reading, choice, one_of}
-use Rattle.regex_lite_engine.specs.Graph.Addresses.{Address, part, own, entry, branch_entries}
-use Rattle.regex_lite_engine.specs.Graph.Repetitions.{Content, in_copies, no_place, choice_at}
-use Rattle.regex_lite_engine.specs.Graph.Repetitions.{in_choices, optional_row, star_row}
-use Rattle.regex_lite_engine.specs.Graph.Repetitions.{nullable_star_row, at_least_row, exactly_row}
-use Rattle.regex_lite_engine.specs.Graph.Repetitions.{between_row, bounded_row, repetition_row}
-use Rattle.regex_lite_engine.specs.Graph.WrittenOut.{capture_row, place_at}
-use Rattle.regex_lite_engine.specs.Graph.WrittenOut.{place_in_chain, place_in_branch}
+use Rattle.regex_lite_engine.proofs.Common.{ℕ, zero, suc, ◌+◌, ◌-◌, ◌*◌, Bool, true, false, List}
+use Rattle.regex_lite_engine.proofs.Common.{[], ◌∷◌, map, Some, None, Option, in_ranges, Set, just}
+use Rattle.regex_lite_engine.proofs.Common.{Tree, empty, character, class, look, repetition}
+use Rattle.regex_lite_engine.proofs.Common.{capture, concat, alternation, Trees, none, more}
+use Rattle.regex_lite_engine.proofs.Common.{nullable, ClassRange, Look, Address, part, own, entry}
+use Rattle.regex_lite_engine.proofs.Common.{branch_entries, with_arrows, go, go_marking, go_holding}
+use Rattle.regex_lite_engine.proofs.Common.{go_reading, choice, one_of, Content, in_copies}
+use Rattle.regex_lite_engine.proofs.Common.{no_place, exactly_row, choice_at, in_choices}
+use Rattle.regex_lite_engine.proofs.Common.{between_row, bounded_row, repetition_row, place_at}
+use Rattle.regex_lite_engine.proofs.Common.{place_in_chain, place_in_branch}
+use Rattle.regex_lite_engine.specs.Graph.Places.{Place}
+use Rattle.regex_lite_engine.specs.Graph.Repetitions.{optional_row, star_row}
+use Rattle.regex_lite_engine.specs.Graph.Repetitions.{nullable_star_row, at_least_row}
+use Rattle.regex_lite_engine.specs.Graph.WrittenOut.{capture_row}
 use Rattle.regex_lite_engine.specs.SearchLaws.{HasNoLook, HaveNoLook}
 
 -- the property of the place, if there is one

@@ -1,7 +1,6 @@
 -- Two graphs whose nodes differ in their names alone have the same ways.
-use Rattle.std.proofs.Common.{◌≡◌, refl, sym, ap, subst, ◌∙◌, ℕ, List}
-use Rattle.std.proofs.Common.{[], ◌∷◌, Option, Some, None, option_map}
-use Rattle.regex_lite_engine.specs.Graph.Ways.{Leads, NoneTwice, IsWay}
+use Rattle.regex_lite_engine.proofs.Common.{◌≡◌, ℕ, List, [], ◌∷◌, Some, None, Option, option_map}
+use Rattle.regex_lite_engine.proofs.Common.{sym, refl, ap, ◌∙◌, subst, Leads, NoneTwice, IsWay}
 use Rattle.regex_lite_engine.proofs.OptionLemmas.{same_some}
 
 pub mapped_back : {A B : Type 0} (f : A → B) (o : Option A) (y : B) → option_map f o ≡ Some y

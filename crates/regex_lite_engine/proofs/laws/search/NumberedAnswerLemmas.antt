@@ -1,15 +1,12 @@
 -- The answer over a table of numbered places is that over the pattern which the table stands for.
-use Rattle.std.proofs.Common.{◌<◌, sym, ap, ◌∙◌, ℕ, List, length, Option, Some, None}
-use Rattle.regex_lite_syntax.specs.Text.{Text}
-use Rattle.regex_lite_syntax.specs.Tree.{Tree}
-use Rattle.regex_lite_syntax.specs.Tree.Regular.{IsRegular}
+use Rattle.regex_lite_engine.proofs.Common.{ℕ, ◌<◌, List, length, Some, None, Option, sym, ap, ◌∙◌}
+use Rattle.regex_lite_engine.proofs.Common.{Text, Tree, IsRegular, Address, IsRenumbered}
+use Rattle.regex_lite_engine.proofs.Common.{IsNumberOf, start_address, written_out}
+use Rattle.regex_lite_engine.proofs.Common.{place_of_pattern, IsMatchFrom, Found, IsAnswer}
+use Rattle.regex_lite_engine.proofs.Common.{marks_along, IsNumberedMatch}
 use Rattle.regex_lite_engine.specs.Graph.Places.{Place}
-use Rattle.regex_lite_engine.specs.Graph.Addresses.{Address}
-use Rattle.regex_lite_engine.specs.Graph.WrittenOut.{start_address, written_out, place_of_pattern}
-use Rattle.regex_lite_engine.specs.Graph.Renumbered.{IsRenumbered, IsNumberOf}
-use Rattle.regex_lite_engine.specs.Search.Marks.{marks_along}
-use Rattle.regex_lite_engine.specs.Search.Answer.{IsMatchFrom, Found, IsAnswer, IsShortest}
-use Rattle.regex_lite_engine.specs.Search.NumberedAnswer.{IsNumberedMatch, IsNumberedAnswer}
+use Rattle.regex_lite_engine.specs.Search.Answer.{IsShortest}
+use Rattle.regex_lite_engine.specs.Search.NumberedAnswer.{IsNumberedAnswer}
 use Rattle.regex_lite_engine.specs.Search.NumberedAnswer.{IsNumberedShortest}
 use Rattle.regex_lite_engine.proofs.laws.PatternWayLemmas.{match_way, walk_match}
 use Rattle.regex_lite_engine.proofs.laws.search.NumberedWayLemmas.{IsPart, IsPartNumber, whole_part}

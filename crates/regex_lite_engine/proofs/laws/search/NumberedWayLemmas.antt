@@ -1,24 +1,17 @@
 -- Ways through a table of numbered places are ways through the places at the addresses that the
 -- numbers stand for.
-use Rattle.std.proofs.Common.{◌≡◌, ◌<◌, refl, sym, ap, subst, ◌∙◌, ℕ, zero}
-use Rattle.std.proofs.Common.{suc, IsTrue, List, [], ◌∷◌, length, slice_get}
-use Rattle.std.proofs.Common.{Option, Some, None, option_map, unwrap_or, arith}
-use Rattle.std.proofs.lemmas.Option.{slice_get-map}
-use Rattle.regex_lite_syntax.specs.Text.{Text}
-use Rattle.regex_lite_syntax.specs.Tree.{Tree}
-use Rattle.regex_lite_engine.specs.Graph.Ways.{IsWay, Leads}
-use Rattle.regex_lite_engine.specs.Graph.Places.{Arrow, Place, complete, with_arrows}
-use Rattle.regex_lite_engine.specs.Graph.Places.{taken, arrived, arrow_taken, step}
-use Rattle.regex_lite_engine.specs.Graph.Places.{step_from, renamed, renamed_arrow}
-use Rattle.regex_lite_engine.specs.Graph.Addresses.{Address}
-use Rattle.regex_lite_engine.specs.Graph.Repetitions.{Content}
-use Rattle.regex_lite_engine.specs.Graph.WrittenOut.{start_address, end_address, written_out}
-use Rattle.regex_lite_engine.specs.Graph.WrittenOut.{place_of_pattern, IsWayThrough}
-use Rattle.regex_lite_engine.specs.Graph.Stored.{LeadBelow, LeadsBelow, LeadInto, LeadsInto}
-use Rattle.regex_lite_engine.specs.Graph.Renumbered.{IsRenumbered, IsNumberOf}
-use Rattle.regex_lite_engine.specs.Search.Marks.{over, marked, mark_of, mark_of_arrow, marks_along}
-use Rattle.regex_lite_engine.specs.Search.NumberedAnswer.{place_with, is_complete}
-use Rattle.regex_lite_engine.specs.Search.NumberedAnswer.{numbered_step, IsNumberedWay}
+use Rattle.regex_lite_engine.proofs.Common.{◌≡◌, ℕ, zero, suc, ◌<◌, List, [], ◌∷◌, length, IsTrue}
+use Rattle.regex_lite_engine.proofs.Common.{slice_get, Some, None, Option, option_map, unwrap_or}
+use Rattle.regex_lite_engine.proofs.Common.{sym, refl, ap, ◌∙◌, subst, arith, slice_get-map, Text}
+use Rattle.regex_lite_engine.proofs.Common.{Tree, Address, Arrow, complete, with_arrows}
+use Rattle.regex_lite_engine.proofs.Common.{renamed_arrow, renamed, taken, arrived, arrow_taken}
+use Rattle.regex_lite_engine.proofs.Common.{step_from, step, IsRenumbered, IsNumberOf, Content}
+use Rattle.regex_lite_engine.proofs.Common.{LeadBelow, LeadsBelow, LeadInto, LeadsInto, Leads}
+use Rattle.regex_lite_engine.proofs.Common.{IsWay, end_address, start_address, written_out}
+use Rattle.regex_lite_engine.proofs.Common.{place_of_pattern, IsWayThrough, marked, over}
+use Rattle.regex_lite_engine.proofs.Common.{mark_of_arrow, mark_of, marks_along, place_with}
+use Rattle.regex_lite_engine.proofs.Common.{is_complete, numbered_step, IsNumberedWay}
+use Rattle.regex_lite_engine.specs.Graph.Places.{Place}
 use Rattle.regex_lite_engine.proofs.laws.search.NamedWayLemmas.{known_on, unnamed_walk}
 use Rattle.regex_lite_engine.proofs.laws.search.NamedWayLemmas.{named_way, unnamed_way}
 use Rattle.regex_lite_engine.proofs.laws.search.OneEndLemmas.{one_end}

@@ -1,9 +1,8 @@
 -- A written-out pattern has one place where a match is complete.
-use Rattle.std.proofs.Common.{◌≡◌, refl, subst, zero, suc, [], ◌∷◌, Some}
-use Rattle.regex_lite_syntax.specs.Tree.{Tree}
-use Rattle.regex_lite_engine.specs.Graph.Places.{Place, complete, with_arrows}
-use Rattle.regex_lite_engine.specs.Graph.Addresses.{Address}
-use Rattle.regex_lite_engine.specs.Graph.WrittenOut.{whole, end_address, place_at, written_out}
+use Rattle.regex_lite_engine.proofs.Common.{◌≡◌, zero, suc, [], ◌∷◌, Some, refl, subst, Tree}
+use Rattle.regex_lite_engine.proofs.Common.{Address, complete, with_arrows, place_at, whole}
+use Rattle.regex_lite_engine.proofs.Common.{end_address, written_out}
+use Rattle.regex_lite_engine.specs.Graph.Places.{Place}
 use Rattle.regex_lite_engine.proofs.laws.search.EachPlaceLemmas.{OfPlace, places_fit}
 
 -- no match is complete there

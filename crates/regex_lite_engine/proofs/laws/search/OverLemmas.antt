@@ -1,17 +1,13 @@
 -- What a search over a table of numbered places has found when it is over is its answer.
-use Rattle.std.proofs.Common.{◌≡◌, ◌≤◌, ◌⊎◌, inl, inr, refl, sym, ap, subst, ◌∙◌, ℕ, Bool}
-use Rattle.std.proofs.Common.{IsTrue, List, [], ◌∷◌, ◌++◌, Option, Some, None, length, arith}
-use Rattle.regex_lite_syntax.specs.Text.{Text}
+use Rattle.regex_lite_engine.proofs.Common.{◌≡◌, ℕ, ◌≤◌, Bool, ◌⊎◌, List, [], ◌∷◌, ◌++◌, length}
+use Rattle.regex_lite_engine.proofs.Common.{IsTrue, Some, None, Option, sym, refl, ap, ◌∙◌, subst}
+use Rattle.regex_lite_engine.proofs.Common.{inl, inr, arith, Text, complete, with_arrows, step_from}
+use Rattle.regex_lite_engine.proofs.Common.{step, Leads, IsWay, Found, Before, NotAfter}
+use Rattle.regex_lite_engine.proofs.Common.{StartsDiffer, IsWhole, IsFirst, StartsAt, marks_along}
+use Rattle.regex_lite_engine.proofs.Common.{place_with, is_complete, numbered_step, is_end}
+use Rattle.regex_lite_engine.proofs.Common.{IsNumberedWay, IsNumberedMatch, IsPreferred}
 use Rattle.regex_lite_syntax.proofs.ListLemmas.{same_head, same_tail}
-use Rattle.regex_lite_engine.specs.Graph.Ways.{Leads, IsWay}
-use Rattle.regex_lite_engine.specs.Graph.Places.{Place, complete, with_arrows, step, step_from}
-use Rattle.regex_lite_engine.specs.Search.Marks.{marks_along}
-use Rattle.regex_lite_engine.specs.Search.Preference.{IsPreferred}
-use Rattle.regex_lite_engine.specs.Search.Answer.{Found}
-use Rattle.regex_lite_engine.specs.Search.Explored.{Before, NotAfter, StartsAt}
-use Rattle.regex_lite_engine.specs.Search.Explored.{StartsDiffer, IsWhole, IsFirst}
-use Rattle.regex_lite_engine.specs.Search.NumberedAnswer.{place_with, is_complete, numbered_step}
-use Rattle.regex_lite_engine.specs.Search.NumberedAnswer.{is_end, IsNumberedWay, IsNumberedMatch}
+use Rattle.regex_lite_engine.specs.Graph.Places.{Place}
 use Rattle.regex_lite_engine.specs.Search.NumberedAnswer.{IsNumberedAnswer, SearchIsOver, IsOfWay}
 use Rattle.regex_lite_engine.proofs.laws.LeadsLemmas.{leads_to_one}
 use Rattle.regex_lite_engine.proofs.laws.search.SearchLawLemmas.{search_law}

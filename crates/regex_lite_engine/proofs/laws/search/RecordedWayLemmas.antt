@@ -1,9 +1,8 @@
 -- What a search has recorded: each way begins at a start, and comes to no node twice.
-use Rattle.std.proofs.Common.{◌≡◌, refl, sym, ap, subst, ◌∙◌, ◌<◌, ◌⊎◌, inl, inr, ℕ}
-use Rattle.std.proofs.Common.{zero, suc, Bool, List, [], ◌∷◌, ◌++◌, length, Option}
-use Rattle.std.proofs.Common.{Some, arith, append_assoc, append-nil, length-append}
-use Rattle.regex_lite_engine.specs.Graph.Ways.{Leads, NoneTwice}
-use Rattle.regex_lite_engine.specs.Search.Explored.{StartsDiffer, IsGrown}
+use Rattle.regex_lite_engine.proofs.Common.{◌≡◌, ℕ, zero, suc, ◌<◌, Bool, ◌⊎◌, List, [], ◌∷◌, ◌++◌}
+use Rattle.regex_lite_engine.proofs.Common.{length, Some, Option, sym, refl, ap, ◌∙◌, subst, inl}
+use Rattle.regex_lite_engine.proofs.Common.{inr, append_assoc, append-nil, arith, length-append}
+use Rattle.regex_lite_engine.proofs.Common.{Leads, NoneTwice, StartsDiffer, IsGrown}
 use Rattle.regex_lite_engine.proofs.laws.LeadsLemmas.{leads_append, leads_to_one}
 use Rattle.regex_lite_engine.proofs.laws.search.CutLemmas.{rest_of, same_rest, no_rest}
 use Rattle.regex_lite_engine.proofs.laws.search.CutLemmas.{both_empty, cut_snoc}

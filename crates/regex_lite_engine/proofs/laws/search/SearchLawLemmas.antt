@@ -1,9 +1,9 @@
 -- The best way of a search that is over is the first of all ways.
-use Rattle.std.proofs.Common.{◌≡◌, refl, sym, ap, subst, ◌∙◌, ◌⊎◌, inl, inr, ℕ, Bool, IsTrue}
-use Rattle.std.proofs.Common.{List, [], ◌∷◌, ◌++◌, Option, Some, None, append_assoc, append-nil}
-use Rattle.regex_lite_engine.specs.Graph.Ways.{Leads, NoneTwice}
-use Rattle.regex_lite_engine.specs.Search.Explored.{NotAfter, StartsDiffer, IsWhole}
-use Rattle.regex_lite_engine.specs.Search.Explored.{IsFirst, IsDead, IsAnswered, IsExplored}
+use Rattle.regex_lite_engine.proofs.Common.{◌≡◌, ℕ, Bool, ◌⊎◌, List, [], ◌∷◌, ◌++◌, IsTrue, Some}
+use Rattle.regex_lite_engine.proofs.Common.{None, Option, sym, refl, ap, ◌∙◌, subst, inl, inr}
+use Rattle.regex_lite_engine.proofs.Common.{append_assoc, append-nil, Leads, NoneTwice, NotAfter}
+use Rattle.regex_lite_engine.proofs.Common.{IsDead, StartsDiffer, IsWhole, IsFirst, IsAnswered}
+use Rattle.regex_lite_engine.specs.Search.Explored.{IsExplored}
 use Rattle.regex_lite_engine.proofs.laws.LeadsLemmas.{leads_append}
 use Rattle.regex_lite_engine.proofs.laws.LeadsLemmas.{leads_split, leads_to_one}
 use Rattle.regex_lite_engine.proofs.laws.search.CutLemmas.{rest_of}

@@ -1,22 +1,17 @@
 -- A haystack that is cut off at a position. If no arrow requires a look, the ways in it are those
 -- in the whole haystack that end there or before.
-use Rattle.std.proofs.Common.{◌≡◌, ◌<◌, ◌≤◌, refl, sym, ap, subst, ◌∙◌, ℕ, zero, suc}
-use Rattle.std.proofs.Common.{List, [], ◌∷◌, ◌++◌, Option, None, Some, length, take}
-use Rattle.std.proofs.Common.{le_trans, arith}
-use Rattle.std.proofs.lemmas.List.{length-take-le}
-use Rattle.regex_lite_syntax.specs.Text.{Text, after}
-use Rattle.regex_lite_syntax.specs.Tree.{Tree}
-use Rattle.regex_lite_syntax.specs.Tree.Regular.{IsRegular}
-use Rattle.regex_lite_engine.specs.Graph.Ways.{Leads, NoneTwice, IsWay}
-use Rattle.regex_lite_engine.specs.Graph.Places.{Arrow, Place, Condition, complete, with_arrows}
-use Rattle.regex_lite_engine.specs.Graph.Places.{free, holding, reading, behind, taken, arrived}
-use Rattle.regex_lite_engine.specs.Graph.Places.{arrow_taken, step, step_from}
-use Rattle.regex_lite_engine.specs.Graph.NoLooks.{IsNoLook, RequireNoLook, RequiresNoLook}
-use Rattle.regex_lite_engine.specs.Graph.Addresses.{Address}
-use Rattle.regex_lite_engine.specs.Graph.WrittenOut.{start_address, end_address}
-use Rattle.regex_lite_engine.specs.Graph.WrittenOut.{place_of_pattern, IsWayThrough}
-use Rattle.regex_lite_engine.specs.Search.Marks.{over, marked, mark_of, marks_along}
-use Rattle.regex_lite_engine.specs.Search.Answer.{IsMatchFrom, Found, IsFound}
+use Rattle.regex_lite_engine.proofs.Common.{◌≡◌, ℕ, zero, suc, ◌<◌, ◌≤◌, List, [], ◌∷◌, ◌++◌}
+use Rattle.regex_lite_engine.proofs.Common.{length, take, Some, None, Option, sym, refl, ap, ◌∙◌}
+use Rattle.regex_lite_engine.proofs.Common.{subst, arith, length-take-le, Text, after, Tree}
+use Rattle.regex_lite_engine.proofs.Common.{IsRegular, Address, RequiresNoLook, Condition, free}
+use Rattle.regex_lite_engine.proofs.Common.{holding, reading, Arrow, complete, with_arrows, behind}
+use Rattle.regex_lite_engine.proofs.Common.{taken, arrived, arrow_taken, step_from, step, Leads}
+use Rattle.regex_lite_engine.proofs.Common.{NoneTwice, IsWay, end_address, start_address}
+use Rattle.regex_lite_engine.proofs.Common.{place_of_pattern, IsWayThrough, IsMatchFrom, Found}
+use Rattle.regex_lite_engine.proofs.Common.{IsFound, marked, over, mark_of, marks_along}
+use Rattle.std.proofs.Common.{le_trans}
+use Rattle.regex_lite_engine.specs.Graph.Places.{Place}
+use Rattle.regex_lite_engine.specs.Graph.NoLooks.{IsNoLook, RequireNoLook}
 use Rattle.regex_lite_engine.proofs.OptionLemmas.{same_some}
 use Rattle.regex_lite_engine.proofs.laws.LeadsLemmas.{leads_split, leads_to_one}
 use Rattle.regex_lite_engine.proofs.laws.PatternWayLemmas.{match_way, walk_match}

@@ -1,7 +1,7 @@
 -- The order of ways.
-use Rattle.std.proofs.Common.{◌≡◌, ℕ, ◌<◌, ◌⊎◌, inl, inr, ⊎_elim, List, []}
-use Rattle.std.proofs.Common.{◌∷◌, ◌++◌, refl, sym, ap, subst, ◌∙◌, lt_trans}
-use Rattle.regex_lite_engine.specs.Search.Explored.{Before, NotAfter}
+use Rattle.regex_lite_engine.proofs.Common.{◌≡◌, ℕ, ◌<◌, ◌⊎◌, List, [], ◌∷◌, ◌++◌, sym, refl, ap}
+use Rattle.regex_lite_engine.proofs.Common.{◌∙◌, subst, inl, inr, ⊎_elim, Before, NotAfter}
+use Rattle.std.proofs.Common.{lt_trans}
 
 pub Before-trans : (a b c : List ℕ) → Before a b → Before b c → Before a c
 Before-trans a b [] p q = q

@@ -1,17 +1,13 @@
 -- A pattern that is written out beside others is the pattern by itself, under other names.
-use Rattle.std.proofs.Common.{◌≡◌, refl, ap, subst, ◌∙◌, ℕ, List, [], ◌∷◌}
-use Rattle.std.proofs.Common.{Option, Some, None, option_map, unwrap_or}
-use Rattle.regex_lite_syntax.specs.Text.{Text}
-use Rattle.regex_lite_syntax.specs.Tree.{Tree}
+use Rattle.regex_lite_engine.proofs.Common.{◌≡◌, ℕ, List, [], ◌∷◌, Some, None, Option, option_map}
+use Rattle.regex_lite_engine.proofs.Common.{unwrap_or, refl, ap, ◌∙◌, subst, Text, Tree, Address}
+use Rattle.regex_lite_engine.proofs.Common.{with_arrows, renamed, step_from, step, in_pattern}
+use Rattle.regex_lite_engine.proofs.Common.{HasTree, IsWay, end_address, start_address, written_out}
+use Rattle.regex_lite_engine.proofs.Common.{place_of_pattern, IsWayThrough}
 use Rattle.regex_lite_syntax.proofs.ListLemmas.{same_tail}
-use Rattle.regex_lite_engine.specs.Graph.Ways.{IsWay}
-use Rattle.regex_lite_engine.specs.Graph.Places.{Place, with_arrows, step, step_from, renamed}
-use Rattle.regex_lite_engine.specs.Graph.Addresses.{Address}
-use Rattle.regex_lite_engine.specs.Graph.WrittenOut.{written_out, start_address, end_address}
-use Rattle.regex_lite_engine.specs.Graph.WrittenOut.{place_of_pattern, IsWayThrough}
-use Rattle.regex_lite_engine.specs.Graph.SideBySide.{in_pattern, place_of_patterns}
+use Rattle.regex_lite_engine.specs.Graph.Places.{Place}
+use Rattle.regex_lite_engine.specs.Graph.SideBySide.{place_of_patterns}
 use Rattle.regex_lite_engine.specs.Graph.SideBySide.{end_of, IsWayOfPattern}
-use Rattle.regex_lite_engine.specs.Graph.SideBySide.{HasTree}
 use Rattle.regex_lite_engine.proofs.laws.search.NamedWayLemmas.{unnamed_walk}
 use Rattle.regex_lite_engine.proofs.laws.search.NamedWayLemmas.{named_way, unnamed_way}
 use Rattle.regex_lite_engine.proofs.laws.search.NumberedWayLemmas.{name_pair, step_renamed}

@@ -1,17 +1,11 @@
 -- A search for several patterns has one answer.
-use Rattle.std.proofs.Common.{◌≡◌, ◌<◌, ◌≤◌, refl, sym, ap, subst, ◌∙◌, inl}
-use Rattle.std.proofs.Common.{inr, ℕ, zero, suc, List, [], ◌∷◌, Option, Some}
-use Rattle.std.proofs.Common.{None, slice_get, le_antisymm, IsSome, ◌↔◌, arith}
-use Rattle.std.proofs.lemmas.Bool.{cases_lt}
-use Rattle.regex_lite_syntax.specs.Text.{Text}
-use Rattle.regex_lite_syntax.specs.Tree.{Tree}
-use Rattle.regex_lite_syntax.specs.Tree.Regular.{IsRegular}
-use Rattle.regex_lite_syntax.specs.Tree.Matches.{Matches}
-use Rattle.regex_lite_engine.specs.Search.Answer.{IsMatchFrom, HasMatchFrom}
-use Rattle.regex_lite_engine.specs.Search.Answer.{Found, IsFound, IsAnswer}
-use Rattle.regex_lite_engine.specs.Search.AnswerOfList.{AnyMatchesFrom}
-use Rattle.regex_lite_engine.specs.Graph.SideBySide.{HasTree}
-use Rattle.regex_lite_engine.specs.Search.AnswerOfList.{IsFoundInList, IsAnswerOfList}
+use Rattle.regex_lite_engine.proofs.Common.{◌≡◌, ℕ, zero, suc, ◌<◌, ◌≤◌, ◌↔◌, List, [], ◌∷◌, IsSome}
+use Rattle.regex_lite_engine.proofs.Common.{slice_get, Some, None, Option, sym, refl, ap, ◌∙◌}
+use Rattle.regex_lite_engine.proofs.Common.{subst, inl, inr, arith, cases_lt, Text, Tree, Matches}
+use Rattle.regex_lite_engine.proofs.Common.{IsRegular, HasTree, IsMatchFrom, HasMatchFrom, Found}
+use Rattle.regex_lite_engine.proofs.Common.{IsFound, IsAnswer, AnyMatchesFrom, IsAnswerOfList}
+use Rattle.std.proofs.Common.{le_antisymm}
+use Rattle.regex_lite_engine.specs.Search.AnswerOfList.{IsFoundInList}
 use Rattle.regex_lite_engine.specs.ListSearchLaws.{by_itself}
 use Rattle.regex_lite_engine.proofs.laws.answer.AnswerLemmas.{has_answer, found_match, one_answer}
 use Rattle.regex_lite_engine.proofs.OptionLemmas.{not_there, same_some}

@@ -1,16 +1,11 @@
 -- The answer over a table of numbered places is that of the patterns which the table stands for.
-use Rattle.std.proofs.Common.{◌≡◌, ◌<◌, ◌≤◌, ◌⊎◌, inl, inr, ℕ, List, Option, Some, None, arith}
-use Rattle.regex_lite_syntax.specs.Text.{Text}
-use Rattle.regex_lite_syntax.specs.Tree.{Tree}
-use Rattle.regex_lite_syntax.specs.Tree.Matches.{Matches}
+use Rattle.regex_lite_engine.proofs.Common.{◌≡◌, ℕ, ◌<◌, ◌≤◌, ◌⊎◌, List, Some, None, Option, inl}
+use Rattle.regex_lite_engine.proofs.Common.{inr, arith, Text, Tree, Matches, Address, IsRenumbered}
+use Rattle.regex_lite_engine.proofs.Common.{IsNumberOf, side_by_side, HasTree, start_of, AreEntries}
+use Rattle.regex_lite_engine.proofs.Common.{IsMatchFrom, Found, IsAnswerOfList, IsMatchOfAny}
+use Rattle.regex_lite_engine.proofs.Common.{IsNumberedAnswerOf}
 use Rattle.regex_lite_engine.specs.Graph.Places.{Place}
-use Rattle.regex_lite_engine.specs.Graph.Addresses.{Address}
-use Rattle.regex_lite_engine.specs.Graph.Renumbered.{IsRenumbered, IsNumberOf}
-use Rattle.regex_lite_engine.specs.Graph.SideBySide.{AreEntries, AreRegular, side_by_side, start_of}
-use Rattle.regex_lite_engine.specs.Search.Answer.{IsMatchFrom, Found}
-use Rattle.regex_lite_engine.specs.Search.AnswerOfList.{IsAnswerOfList}
-use Rattle.regex_lite_engine.specs.Graph.SideBySide.{HasTree}
-use Rattle.regex_lite_engine.specs.Search.NumberedList.{IsMatchOfAny, IsNumberedAnswerOf}
+use Rattle.regex_lite_engine.specs.Graph.SideBySide.{AreRegular}
 use Rattle.regex_lite_engine.proofs.laws.search.NumberedAnswerLemmas.{
   numbered_match,
   match_of_numbers,

@@ -1,19 +1,14 @@
 -- What a search for several patterns has found when it is over is its answer.
-use Rattle.std.proofs.Common.{◌≡◌, ◌<◌, ◌≤◌, ◌⊎◌, inl, inr, refl, sym, ap, subst, ◌∙◌, ℕ, IsTrue}
-use Rattle.std.proofs.Common.{List, [], ◌∷◌, ◌++◌, Option, Some, None, length, slice_get, arith}
-use Rattle.regex_lite_syntax.specs.Text.{Text}
+use Rattle.regex_lite_engine.proofs.Common.{◌≡◌, ℕ, ◌<◌, ◌≤◌, ◌⊎◌, List, [], ◌∷◌, ◌++◌, length}
+use Rattle.regex_lite_engine.proofs.Common.{IsTrue, slice_get, Some, None, Option, sym, refl, ap}
+use Rattle.regex_lite_engine.proofs.Common.{◌∙◌, subst, inl, inr, arith, Text, Leads, IsWay, Found}
+use Rattle.regex_lite_engine.proofs.Common.{NotAfter, StartsDiffer, IsWhole, IsFirst, marks_along}
+use Rattle.regex_lite_engine.proofs.Common.{place_with, numbered_step, is_end, IsNumberedWay}
+use Rattle.regex_lite_engine.proofs.Common.{IsNumberedMatch, IsNumberedFound, IsEntry, StartsOf}
+use Rattle.regex_lite_engine.proofs.Common.{IsMatchOfAny, IsNumberedAnswerOf, IsPreferred}
 use Rattle.regex_lite_syntax.proofs.ListLemmas.{same_head, same_tail}
-use Rattle.regex_lite_engine.specs.Graph.Ways.{Leads, IsWay}
 use Rattle.regex_lite_engine.specs.Graph.Places.{Place}
-use Rattle.regex_lite_engine.specs.Search.Marks.{marks_along}
-use Rattle.regex_lite_engine.specs.Search.Preference.{IsPreferred}
-use Rattle.regex_lite_engine.specs.Search.Answer.{Found}
-use Rattle.regex_lite_engine.specs.Search.Explored.{NotAfter, StartsDiffer, IsWhole, IsFirst}
-use Rattle.regex_lite_engine.specs.Search.NumberedAnswer.{place_with, numbered_step}
-use Rattle.regex_lite_engine.specs.Search.NumberedAnswer.{is_end, IsNumberedWay}
-use Rattle.regex_lite_engine.specs.Search.NumberedAnswer.{IsNumberedMatch, IsNumberedFound}
-use Rattle.regex_lite_engine.specs.Search.NumberedList.{IsEntry, StartsOf, IsMatchOfAny}
-use Rattle.regex_lite_engine.specs.Search.NumberedList.{IsNumberedAnswerOf, IsOverOf, IsOfWayOf}
+use Rattle.regex_lite_engine.specs.Search.NumberedList.{IsOverOf, IsOfWayOf}
 use Rattle.regex_lite_engine.proofs.laws.LeadsLemmas.{leads_to_one}
 use Rattle.regex_lite_engine.proofs.laws.search.OverLemmas.{before_preferred}
 use Rattle.regex_lite_engine.proofs.laws.search.SearchLawLemmas.{search_law}

@@ -1,16 +1,12 @@
 -- Of a table that stands for several patterns, the places of one pattern stand for that pattern.
-use Rattle.std.proofs.Common.{◌≡◌, ◌<◌, refl, sym, ap, ◌∙◌, ℕ, List}
-use Rattle.std.proofs.Common.{[], ◌∷◌, length, map, slice_get, Some}
-use Rattle.regex_lite_syntax.specs.Tree.{Tree}
+use Rattle.regex_lite_engine.proofs.Common.{◌≡◌, ℕ, ◌<◌, List, [], ◌∷◌, map, length, slice_get}
+use Rattle.regex_lite_engine.proofs.Common.{Some, sym, refl, ap, ◌∙◌, Tree, Address, Arrow}
+use Rattle.regex_lite_engine.proofs.Common.{complete, with_arrows, renamed_arrow, renamed}
+use Rattle.regex_lite_engine.proofs.Common.{IsRenumbered, IsNumberOf, in_pattern, side_by_side}
+use Rattle.regex_lite_engine.proofs.Common.{HasTree, start_of, LeadBelow, LeadsBelow, LeadInto}
+use Rattle.regex_lite_engine.proofs.Common.{LeadsInto, start_address, written_out}
 use Rattle.regex_lite_syntax.proofs.ListLemmas.{same_head, same_tail}
-use Rattle.regex_lite_engine.specs.Graph.Places.{Arrow, Place, complete, with_arrows}
-use Rattle.regex_lite_engine.specs.Graph.Places.{renamed, renamed_arrow}
-use Rattle.regex_lite_engine.specs.Graph.Addresses.{Address}
-use Rattle.regex_lite_engine.specs.Graph.WrittenOut.{written_out, start_address}
-use Rattle.regex_lite_engine.specs.Graph.Stored.{LeadBelow, LeadsBelow, LeadInto, LeadsInto}
-use Rattle.regex_lite_engine.specs.Graph.Renumbered.{IsRenumbered, IsNumberOf}
-use Rattle.regex_lite_engine.specs.Graph.SideBySide.{in_pattern, side_by_side, start_of}
-use Rattle.regex_lite_engine.specs.Graph.SideBySide.{HasTree}
+use Rattle.regex_lite_engine.specs.Graph.Places.{Place}
 use Rattle.regex_lite_engine.proofs.laws.search.NamedWayLemmas.{mapped_back}
 use Rattle.regex_lite_engine.proofs.laws.search.NumberedWayLemmas.{IsPart, IsPartNumber}
 

@@ -1,11 +1,13 @@
 -- A template gives one text.
-use Rattle.std.proofs.Common.{◌≡◌, ◌≢◌, ◌<◌, ℕ, zero, suc, List, [], ◌∷◌, ◌++◌, Contains}
-use Rattle.std.proofs.Common.{length, refl, sym, ap, ◌∙◌, subst, arith, ⊎_elim}
-use Rattle.std.proofs.lemmas.Bool.{cases_eq}
+use Rattle.regex_lite_engine.proofs.Common.{◌≡◌, ℕ, zero, suc, ◌<◌, ◌≢◌, List, [], ◌∷◌, ◌++◌}
+use Rattle.regex_lite_engine.proofs.Common.{length, sym, refl, ap, ◌∙◌, subst, ⊎_elim, arith}
+use Rattle.regex_lite_engine.proofs.Common.{cases_eq, plain, BeginsWith, no_dollar, reference}
+use Rattle.regex_lite_engine.proofs.Common.{one_dollar}
+use Rattle.std.proofs.Common.{Contains}
 use Rattle.std.proofs.lemmas.List.{append-nil}
 use Rattle.regex_lite_syntax.proofs.ListLemmas.{same_head, same_tail}
-use Rattle.regex_lite_engine.specs.Interpolation.{Piece, plain, BeginsWith, no_dollar, two_dollars}
-use Rattle.regex_lite_engine.specs.Interpolation.{reference, one_dollar, GroupTexts, piece_text}
+use Rattle.regex_lite_engine.specs.Interpolation.{Piece, two_dollars}
+use Rattle.regex_lite_engine.specs.Interpolation.{GroupTexts, piece_text}
 use Rattle.regex_lite_engine.specs.Interpolation.{IsInterpolation, nothing, piece_and_rest}
 use Rattle.regex_lite_engine.proofs.laws.templates.PieceLemmas.{at_dollar, begins_at_dollar}
 use Rattle.regex_lite_engine.proofs.laws.templates.PieceLemmas.{one_piece, some_piece}

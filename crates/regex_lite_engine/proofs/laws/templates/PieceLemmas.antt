@@ -1,14 +1,15 @@
 -- A template that begins with a `$` begins with one piece.
-use Rattle.std.proofs.Common.{◌≡◌, ◌≢◌, ◌≤◌, ◌<◌, ℕ, ◌+◌, List, [], ◌∷◌, length, take, drop}
-use Rattle.std.proofs.Common.{refl, sym, ap, ◌∙◌, subst, arith, inl, inr, ◌⊎◌, ⊎_elim}
+use Rattle.regex_lite_engine.proofs.Common.{◌≡◌, ℕ, ◌+◌, ◌<◌, ◌≤◌, ◌≢◌, ◌⊎◌, List, [], ◌∷◌, length}
+use Rattle.regex_lite_engine.proofs.Common.{take, drop, sym, refl, ap, ◌∙◌, subst, inl, inr, ⊎_elim}
+use Rattle.regex_lite_engine.proofs.Common.{arith, cases_eq, cases_lt, plain, is_name_character}
+use Rattle.regex_lite_engine.proofs.Common.{BeginsWith, no_dollar, reference, one_dollar}
 use Rattle.std.specs.List.{prefix_len, position_or_len, before_first, after_first}
-use Rattle.std.proofs.lemmas.Bool.{cases_eq, cases_lt}
 use Rattle.std.proofs.lemmas.List.{length-drop}
 use Rattle.regex_lite_syntax.proofs.ListLemmas.{same_head, same_tail}
-use Rattle.regex_lite_engine.specs.Interpolation.{Piece, plain, is_name_character, is_closing}
+use Rattle.regex_lite_engine.specs.Interpolation.{Piece, is_closing}
 use Rattle.regex_lite_engine.specs.Interpolation.{IsBraced, IsReference, HasNoReference}
-use Rattle.regex_lite_engine.specs.Interpolation.{referred, BeginsWith, no_dollar}
-use Rattle.regex_lite_engine.specs.Interpolation.{two_dollars, reference, one_dollar}
+use Rattle.regex_lite_engine.specs.Interpolation.{referred}
+use Rattle.regex_lite_engine.specs.Interpolation.{two_dollars}
 
 -- what follows the `$` of such a piece
 pub data AtDollar (after : List ℕ) (piece : Piece) (rest : List ℕ) : Type 0 where

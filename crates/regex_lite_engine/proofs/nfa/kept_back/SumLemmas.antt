@@ -1,13 +1,12 @@
 -- What is kept back at places, summed up from the first on.
-use Rattle.std.proofs.Common.{◌≡◌, ◌≤◌, ◌<◌, refl, ap, ◌∙◌, arith, ℕ, suc, ◌+◌, ◌-◌, List}
-use Rattle.std.proofs.Common.{[], ◌∷◌, map, length, drop, get_or, sum_by, Option, Some, None}
-use Rattle.std.proofs.Math.Seq.{drop-cons}
-use Rattle.std.proofs.lemmas.List.{length-map}
-use Rattle.std.proofs.lemmas.List.Sums.{sum_by-cons}
+use Rattle.regex_lite_engine.proofs.Common.{◌≡◌, ℕ, suc, ◌+◌, ◌-◌, ◌<◌, ◌≤◌, List, [], ◌∷◌, map}
+use Rattle.regex_lite_engine.proofs.Common.{length, get_or, drop, Some, None, sum_by, Option, refl}
+use Rattle.regex_lite_engine.proofs.Common.{ap, ◌∙◌, arith, drop-cons, length-map, sum_by-cons}
+use Rattle.regex_lite_engine.proofs.Common.{complete, with_arrows, go, kept_back, kept_back_with}
+use Rattle.regex_lite_engine.proofs.Common.{kept_back_of, place_of}
 use Rattle.regex_lite_engine.specs.declared.nfa.place.Place as code
-use Rattle.regex_lite_engine.specs.Graph.Places.{Place, complete, with_arrows, go, kept_back}
-use Rattle.regex_lite_engine.specs.Graph.Places.{kept_back_of, kept_marks, kept_back_with}
-use Rattle.regex_lite_engine.specs.Graph.Stored.{place_of}
+use Rattle.regex_lite_engine.specs.Graph.Places.{Place}
+use Rattle.regex_lite_engine.specs.Graph.Places.{kept_marks}
 
 few_marks : (slot : Option ℕ) → kept_marks slot 0 ≡ 0
 few_marks None = refl

@@ -1,12 +1,11 @@
 -- What is stored of the groups of several patterns.
-use Rattle.std.proofs.Common.{◌≡◌, ◌<◌, sym, ap, subst, ◌∙◌, arith, inl, inr, List, []}
-use Rattle.std.proofs.Common.{◌∷◌, ◌++◌, length, length-append, get_or, slice_get, Some}
+use Rattle.regex_lite_engine.proofs.Common.{◌≡◌, ◌<◌, List, [], ◌∷◌, ◌++◌, length, get_or}
+use Rattle.regex_lite_engine.proofs.Common.{slice_get, Some, sym, ap, ◌∙◌, subst, inl, inr, arith}
+use Rattle.regex_lite_engine.proofs.Common.{length-append, get_or-append_seam, cases_lt}
+use Rattle.regex_lite_engine.proofs.Common.{get_or_from_slice_get, slice_get-get_or}
+use Rattle.regex_lite_engine.proofs.Common.{slice_get_within, Tree, TellGroupsOf}
 use Rattle.std.proofs.Math.ListN.{get_or-append}
-use Rattle.std.proofs.Math.Seq.{get_or-append_seam}
-use Rattle.std.proofs.lemmas.Bool.{cases_lt}
-use Rattle.std.proofs.lemmas.Option.{slice_get-get_or, slice_get_within, get_or_from_slice_get}
-use Rattle.regex_lite_syntax.specs.Tree.{Tree}
-use Rattle.regex_lite_engine.specs.Graph.StoredList.{StoredGroups, TellGroupsOf, TellsGroupsOf}
+use Rattle.regex_lite_engine.specs.Graph.StoredList.{StoredGroups, TellsGroupsOf}
 use Rattle.regex_lite_engine.proofs.OptionLemmas.{same_some}
 
 -- those of the next pattern too

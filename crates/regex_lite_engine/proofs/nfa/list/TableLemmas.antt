@@ -1,22 +1,19 @@
 -- The table of several patterns: its arrows lead to its own places, and each pattern is entered at
 -- one of them.
-use Rattle.std.proofs.Common.{◌≡◌, ◌≤◌, ◌<◌, refl, sym, ap, subst, ◌∙◌, arith, ℕ, suc, ◌+◌}
-use Rattle.std.proofs.Common.{◌^◌, List, [], ◌∷◌, All, length, get_or, map, option_map}
-use Rattle.std.proofs.lemmas.List.{length-map}
-use Rattle.std.proofs.lemmas.List.Sums.{sum_by-append, sum_by-cons}
-use Rattle.std.proofs.lemmas.Option.{slice_get-get_or, slice_get-map}
-use Rattle.regex_lite_syntax.specs.Tree.{Tree}
-use Rattle.regex_lite_engine.specs.Graph.Addresses.{Address}
-use Rattle.regex_lite_engine.specs.Graph.Places.{kept_back, kept_back_of, reading_count, reading_of}
+use Rattle.regex_lite_engine.proofs.Common.{◌≡◌, ℕ, suc, ◌+◌, ◌^◌, ◌<◌, ◌≤◌, List, [], ◌∷◌, map}
+use Rattle.regex_lite_engine.proofs.Common.{length, get_or, All, option_map, sym, refl, ap, ◌∙◌}
+use Rattle.regex_lite_engine.proofs.Common.{subst, arith, length-map, sum_by-cons, slice_get-get_or}
+use Rattle.regex_lite_engine.proofs.Common.{slice_get-map, Tree, Address, reading_places}
+use Rattle.regex_lite_engine.proofs.Common.{whole_places, reading_count, reading_of, kept_back}
+use Rattle.regex_lite_engine.proofs.Common.{kept_back_of, IsRenumbered, side_by_side, places_of_all}
+use Rattle.regex_lite_engine.proofs.Common.{arrows_of_all, AreEntries, place_of, LeadsBelow}
+use Rattle.regex_lite_engine.proofs.Common.{pattern_table, patterns_table, patterns_entries}
+use Rattle.regex_lite_engine.proofs.Common.{reading_of_all}
+use Rattle.std.proofs.lemmas.List.Sums.{sum_by-append}
 use Rattle.regex_lite_engine.specs.Graph.Parts.{HaveOwnParts}
-use Rattle.regex_lite_engine.specs.Graph.PlaceCounts.{whole_places, reading_places}
-use Rattle.regex_lite_engine.specs.Graph.Renumbered.{IsRenumbered}
-use Rattle.regex_lite_engine.specs.Graph.SideBySide.{AreEntries, AreRegular, arrows_of_all}
-use Rattle.regex_lite_engine.specs.Graph.SideBySide.{places_of_all, side_by_side}
-use Rattle.regex_lite_engine.specs.Graph.Stored.{IsClosed, LeadsBelow, place_of}
+use Rattle.regex_lite_engine.specs.Graph.SideBySide.{AreRegular}
+use Rattle.regex_lite_engine.specs.Graph.Stored.{IsClosed}
 use Rattle.regex_lite_engine.specs.declared.nfa.place.Place as code
-use Rattle.regex_lite_engine.specs.Nfa.Layout.{pattern_table, patterns_table, patterns_entries}
-use Rattle.regex_lite_engine.specs.Nfa.Totals.{reading_of_all}
 use Rattle.regex_lite_engine.proofs.count.KeptBackLemmas.{kept_back_pattern}
 use Rattle.regex_lite_engine.proofs.count.ReadingCountLemmas.{reading_pattern}
 use Rattle.regex_lite_engine.proofs.count.TotalLemmas.{arrows_all_few, reading_all_few}

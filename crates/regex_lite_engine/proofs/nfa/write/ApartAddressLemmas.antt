@@ -1,10 +1,9 @@
 -- No address comes twice among the addresses of a tree's places.
-use Rattle.std.proofs.Common.{◌≡◌, ◌<◌, ◌≤◌, refl, ap, arith, ℕ, zero, suc, ◌+◌, ◌-◌, ◌⊎◌, inl}
-use Rattle.std.proofs.Common.{inr, Bool, true, false, List, [], ◌∷◌, ◌++◌, Option, Some, None}
-use Rattle.regex_lite_syntax.specs.Tree.{Tree, Trees, empty, character, class, look}
-use Rattle.regex_lite_syntax.specs.Tree.{repetition, capture, concat, alternation, none, more}
-use Rattle.regex_lite_syntax.specs.Tree.Properties.{nullable}
-use Rattle.regex_lite_engine.specs.Graph.Addresses.{Address}
+use Rattle.regex_lite_engine.proofs.Common.{◌≡◌, ℕ, zero, suc, ◌+◌, ◌-◌, ◌<◌, ◌≤◌, Bool, true}
+use Rattle.regex_lite_engine.proofs.Common.{false, ◌⊎◌, List, [], ◌∷◌, ◌++◌, Some, None, Option}
+use Rattle.regex_lite_engine.proofs.Common.{refl, ap, inl, inr, arith, Tree, empty, character}
+use Rattle.regex_lite_engine.proofs.Common.{class, look, repetition, capture, concat, alternation}
+use Rattle.regex_lite_engine.proofs.Common.{Trees, none, more, nullable, Address}
 use Rattle.regex_lite_engine.proofs.graph.AddressLemmas.{own_place, in_part, framed}
 use Rattle.regex_lite_engine.proofs.graph.AddressLemmas.{copies_addresses, choices_addresses}
 use Rattle.regex_lite_engine.proofs.graph.AddressLemmas.{bounded_addresses}

@@ -1,7 +1,6 @@
 -- Lists of addresses in which none comes twice.
-use Rattle.std.proofs.Common.{◌≡◌, ◌<◌, refl, sym, ap, subst, arith, ℕ, zero}
-use Rattle.std.proofs.Common.{suc, List, [], ◌∷◌, ◌++◌, length, get_or}
-use Rattle.regex_lite_engine.specs.Graph.Addresses.{Address}
+use Rattle.regex_lite_engine.proofs.Common.{◌≡◌, ℕ, zero, suc, ◌<◌, List, [], ◌∷◌, ◌++◌, length}
+use Rattle.regex_lite_engine.proofs.Common.{get_or, sym, refl, ap, subst, arith, Address}
 use Rattle.regex_lite_engine.proofs.graph.AddressLemmas.{in_part}
 
 abbrev pub Each : (Address → Type 0) → List Address → Type 0

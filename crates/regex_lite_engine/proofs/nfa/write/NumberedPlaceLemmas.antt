@@ -1,12 +1,9 @@
 -- Single places with numbers in the place of addresses.
-use Rattle.std.proofs.Common.{◌≡◌, refl, sym, ap, ◌∙◌, ℕ, Bool, true, false}
-use Rattle.std.proofs.Common.{List, [], ◌∷◌, map, Option, Some, None}
-use Rattle.regex_lite_syntax.specs.declared.class.ClassRange.{ClassRange}
-use Rattle.regex_lite_engine.specs.Graph.Places.{Condition, Place, with_arrows, go, choice}
-use Rattle.regex_lite_engine.specs.Graph.Places.{one_of, free, renamed, renamed_arrow}
-use Rattle.regex_lite_engine.specs.Graph.Addresses.{Address}
-use Rattle.regex_lite_engine.specs.Graph.Repetitions.{Content}
-use Rattle.regex_lite_engine.specs.Graph.Stored.{LeadInto, LeadsInto}
+use Rattle.regex_lite_engine.proofs.Common.{◌≡◌, ℕ, Bool, true, false, List, [], ◌∷◌, map, Some}
+use Rattle.regex_lite_engine.proofs.Common.{None, Option, sym, refl, ap, ◌∙◌, ClassRange, Address}
+use Rattle.regex_lite_engine.proofs.Common.{Condition, free, with_arrows, renamed_arrow, renamed}
+use Rattle.regex_lite_engine.proofs.Common.{go, choice, one_of, Content, LeadInto, LeadsInto}
+use Rattle.regex_lite_engine.specs.Graph.Places.{Place}
 use Rattle.regex_lite_engine.proofs.nfa.write.NumberingLemmas.{Numbering, Inside, Stands, IsAt}
 
 -- the place with this one arrow

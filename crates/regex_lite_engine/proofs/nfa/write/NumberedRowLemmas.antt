@@ -1,12 +1,13 @@
 -- The layout of a repetition is its row of the written-out pattern, where that of its body is.
-use Rattle.std.proofs.Common.{◌≡◌, refl, sym, ap, subst, ◌∙◌, arith, ℕ, zero, suc, ◌+◌, ◌-◌, Bool}
-use Rattle.std.proofs.Common.{true, false, [], ◌∷◌, ◌++◌, length, append-nil, Option, Some, None}
-use Rattle.regex_lite_engine.specs.Graph.Places.{Place, choice}
-use Rattle.regex_lite_engine.specs.Graph.Addresses.{Address, part, own, repetition_entry}
-use Rattle.regex_lite_engine.specs.Graph.Repetitions.{Content, next_copy, in_copies, no_place}
-use Rattle.regex_lite_engine.specs.Graph.Repetitions.{choice_at, next_choice, in_choices}
-use Rattle.regex_lite_engine.specs.Graph.Repetitions.{exactly_row, bounded_row, repetition_row}
-use Rattle.regex_lite_engine.specs.Nfa.Layout.{copies_layout, choices_layout, star_layout}
+use Rattle.regex_lite_engine.proofs.Common.{◌≡◌, ℕ, zero, suc, ◌+◌, ◌-◌, Bool, true, false, [], ◌∷◌}
+use Rattle.regex_lite_engine.proofs.Common.{◌++◌, length, Some, None, Option, sym, refl, ap, ◌∙◌}
+use Rattle.regex_lite_engine.proofs.Common.{subst, append-nil, arith, Address, part, own, choice}
+use Rattle.regex_lite_engine.proofs.Common.{Content, next_copy, in_copies, no_place, exactly_row}
+use Rattle.regex_lite_engine.proofs.Common.{choice_at, in_choices, bounded_row, repetition_row}
+use Rattle.regex_lite_engine.proofs.Common.{copies_layout, choices_layout, star_layout}
+use Rattle.regex_lite_engine.specs.Graph.Places.{Place}
+use Rattle.regex_lite_engine.specs.Graph.Addresses.{repetition_entry}
+use Rattle.regex_lite_engine.specs.Graph.Repetitions.{next_choice}
 use Rattle.regex_lite_engine.specs.Nfa.Layout.{bounded_layout, repetition_layout}
 use Rattle.regex_lite_engine.proofs.graph.AddressLemmas.{own_place, in_part, copies_addresses}
 use Rattle.regex_lite_engine.proofs.graph.AddressLemmas.{choices_addresses, bounded_addresses}

@@ -1,17 +1,13 @@
 -- The layout of a tree is its row of the written-out pattern, wherever it is written.
-use Rattle.std.proofs.Common.{refl, ℕ, suc, ◌+◌, ◌*◌, [], ◌∷◌, length, Option, Some, None}
-use Rattle.regex_lite_syntax.specs.Tree.{Tree, Trees, empty, character, class, look}
-use Rattle.regex_lite_syntax.specs.Tree.{repetition, capture, concat, alternation, none, more}
-use Rattle.regex_lite_syntax.specs.Text.{Text}
-use Rattle.regex_lite_syntax.specs.Sets.{just}
-use Rattle.regex_lite_syntax.specs.Tree.Properties.{nullable}
-use Rattle.regex_lite_syntax.specs.Tree.Regular.{IsRegular, AreRegular}
-use Rattle.regex_lite_engine.specs.Graph.Places.{free, holding, reading}
-use Rattle.regex_lite_engine.specs.Graph.Addresses.{Address, part, own, entry}
-use Rattle.regex_lite_engine.specs.Graph.Addresses.{chain_entry, branch_entries}
-use Rattle.regex_lite_engine.specs.Graph.Repetitions.{Content}
-use Rattle.regex_lite_engine.specs.Graph.WrittenOut.{place_at, place_in_chain, place_in_branch}
-use Rattle.regex_lite_engine.specs.Nfa.Layout.{layout, chain_layout, branches_layout}
+use Rattle.regex_lite_engine.proofs.Common.{ℕ, suc, ◌+◌, ◌*◌, [], ◌∷◌, length, Some, None, Option}
+use Rattle.regex_lite_engine.proofs.Common.{refl, just, Text, Tree, empty, character, class, look}
+use Rattle.regex_lite_engine.proofs.Common.{repetition, capture, concat, alternation, Trees, none}
+use Rattle.regex_lite_engine.proofs.Common.{more, nullable, IsRegular, Address, part, own, entry}
+use Rattle.regex_lite_engine.proofs.Common.{branch_entries, free, holding, reading, Content}
+use Rattle.regex_lite_engine.proofs.Common.{place_at, place_in_chain, place_in_branch, layout}
+use Rattle.regex_lite_engine.proofs.Common.{chain_layout, branches_layout}
+use Rattle.regex_lite_syntax.specs.Tree.Regular.{AreRegular}
+use Rattle.regex_lite_engine.specs.Graph.Addresses.{chain_entry}
 use Rattle.regex_lite_engine.proofs.graph.AddressLemmas.{own_place, in_part, addresses}
 use Rattle.regex_lite_engine.proofs.graph.AddressLemmas.{chain_addresses, branches_addresses}
 use Rattle.regex_lite_engine.proofs.graph.CopyRowLemmas.{PartsAre, parts_from_0}

@@ -1,11 +1,9 @@
 -- Numbers in the place of addresses, and that places in a row are what stands at their addresses.
-use Rattle.std.proofs.Common.{◌≡◌, ◌<◌, ◌≤◌, refl, sym, ap, subst, ◌∙◌, arith, ℕ, suc}
-use Rattle.std.proofs.Common.{◌+◌, List, [], ◌∷◌, ◌++◌, length, append_assoc, Some}
-use Rattle.regex_lite_engine.specs.Graph.Places.{Place, renamed}
-use Rattle.regex_lite_engine.specs.Graph.Addresses.{Address, part}
-use Rattle.regex_lite_engine.specs.Graph.Repetitions.{Content}
-use Rattle.regex_lite_engine.specs.Graph.Stored.{LeadsInto}
-use Rattle.regex_lite_engine.specs.Nfa.Layout.{Fragment, before}
+use Rattle.regex_lite_engine.proofs.Common.{◌≡◌, ℕ, suc, ◌+◌, ◌<◌, ◌≤◌, List, [], ◌∷◌, ◌++◌, length}
+use Rattle.regex_lite_engine.proofs.Common.{Some, sym, refl, ap, ◌∙◌, subst, append_assoc, arith}
+use Rattle.regex_lite_engine.proofs.Common.{Address, part, renamed, Content, LeadsInto, Fragment}
+use Rattle.regex_lite_engine.specs.Graph.Places.{Place}
+use Rattle.regex_lite_engine.specs.Nfa.Layout.{before}
 use Rattle.regex_lite_engine.proofs.graph.AddressLemmas.{in_part}
 
 -- what the numbers from the first on to below the end stand for

@@ -1,16 +1,16 @@
 -- The trees that are written as one place, and what is written for them.
-use Rattle.std.proofs.Common.{◌≡◌, ◌++◌, ◌∷◌, [], ℕ, ◌+◌, List, Option, Result, Ok, Err, IfOk}
-use Rattle.std.proofs.Common.{length, map, option_map, ap, sym, ◌∙◌, Box, Global, length-append}
-use Rattle.std.proofs.lemmas.List.{map-append}
+use Rattle.regex_lite_engine.proofs.Common.{◌≡◌, ℕ, ◌+◌, List, [], ◌∷◌, ◌++◌, map, length, Option}
+use Rattle.regex_lite_engine.proofs.Common.{option_map, sym, ap, ◌∙◌, length-append, map-append}
+use Rattle.regex_lite_engine.proofs.Common.{Tree, empty, character, look, capture, text_of_name}
+use Rattle.regex_lite_engine.proofs.Common.{tree_of, Hir, Look, place_of, Fragment, IsAdded}
+use Rattle.std.proofs.Common.{Result, Ok, Err, IfOk}
+use Rattle.std.proofs.Common.{Box, Global}
 use Rattle.std.specs.declared.rc.RcStr.{RcStr}
-use Rattle.regex_lite_syntax.specs.Tree.{Tree, empty, character, look, capture}
-use Rattle.regex_lite_syntax.specs.Tree.Views.{tree_of, node_tree, text_of_name}
-use Rattle.regex_lite_syntax.specs.declared.hir.Hir.{Hir, Hir-F, fold-roll-Hir}
+use Rattle.regex_lite_syntax.specs.Tree.Views.{node_tree}
+use Rattle.regex_lite_syntax.specs.declared.hir.Hir.{Hir-F, fold-roll-Hir}
 use Rattle.regex_lite_syntax.specs.declared.hir.Hir.TheVariants as hir
-use Rattle.regex_lite_syntax.specs.declared.hir.look.Look.{Look}
 use Rattle.regex_lite_engine.specs.declared.nfa.place.Place.{Place}
-use Rattle.regex_lite_engine.specs.Graph.Stored.{place_of}
-use Rattle.regex_lite_engine.specs.Nfa.Layout.{Fragment, IsAdded, alone}
+use Rattle.regex_lite_engine.specs.Nfa.Layout.{alone}
 
 pub tree_of-Empty : tree_of hir.Empty ≡ empty
 tree_of-Empty = ap tree_of (sym hir.rolls-Empty) ∙ fold-roll-Hir Tree node_tree Hir-F.Empty

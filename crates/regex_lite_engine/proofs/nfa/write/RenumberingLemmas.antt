@@ -1,24 +1,17 @@
 -- The layout of the whole pattern is the written-out one, with numbers in the place of addresses.
-use Rattle.std.proofs.Common.{◌≡◌, ◌<◌, ◌≤◌, ◌-◌, refl, sym, ap, subst, ◌∙◌, arith, ℕ, zero, suc}
-use Rattle.std.proofs.Common.{◌+◌, List, [], ◌∷◌, ◌++◌, length, get_or, slice_get}
-use Rattle.std.proofs.Common.{append_assoc, length-append, Some, None, ◌^◌, map, option_map}
-use Rattle.std.proofs.lemmas.List.{length-map}
-use Rattle.std.proofs.lemmas.Option.{slice_get-map}
-use Rattle.std.proofs.Math.Seq.{get_or-append_seam}
-use Rattle.regex_lite_syntax.specs.Tree.{Tree}
-use Rattle.regex_lite_syntax.specs.Tree.Regular.{IsRegular}
-use Rattle.regex_lite_engine.specs.Graph.Places.{Arrow, Place, complete, with_arrows}
-use Rattle.regex_lite_engine.specs.Graph.Places.{kept_back_of, reading_of}
-use Rattle.regex_lite_engine.specs.Graph.Addresses.{Address, entry}
-use Rattle.regex_lite_engine.specs.Graph.Repetitions.{Content}
-use Rattle.regex_lite_engine.specs.Graph.WrittenOut.{start_address, end_address}
-use Rattle.regex_lite_engine.specs.Graph.WrittenOut.{place_at, whole, written_out}
-use Rattle.regex_lite_engine.specs.Graph.Renumbered.{IsRenumbered, IsNumberOf}
-use Rattle.regex_lite_engine.specs.Graph.Stored.{IsClosed, LeadBelow, LeadsBelow}
-use Rattle.regex_lite_engine.specs.Graph.Stored.{LeadInto, LeadsInto, place_of}
+use Rattle.regex_lite_engine.proofs.Common.{◌≡◌, ℕ, zero, suc, ◌+◌, ◌-◌, ◌^◌, ◌<◌, ◌≤◌, List, []}
+use Rattle.regex_lite_engine.proofs.Common.{◌∷◌, ◌++◌, map, length, get_or, slice_get, Some, None}
+use Rattle.regex_lite_engine.proofs.Common.{option_map, sym, refl, ap, ◌∙◌, subst, append_assoc}
+use Rattle.regex_lite_engine.proofs.Common.{arith, length-append, get_or-append_seam, length-map}
+use Rattle.regex_lite_engine.proofs.Common.{slice_get-map, Tree, IsRegular, Address, entry, Arrow}
+use Rattle.regex_lite_engine.proofs.Common.{complete, with_arrows, reading_of, kept_back_of}
+use Rattle.regex_lite_engine.proofs.Common.{IsRenumbered, IsNumberOf, Content, place_of, LeadBelow}
+use Rattle.regex_lite_engine.proofs.Common.{LeadsBelow, LeadInto, LeadsInto, place_at, whole}
+use Rattle.regex_lite_engine.proofs.Common.{end_address, start_address, written_out, pattern_layout}
+use Rattle.regex_lite_engine.proofs.Common.{pattern_table, whole_layout, whole_table}
+use Rattle.regex_lite_engine.specs.Graph.Places.{Place}
+use Rattle.regex_lite_engine.specs.Graph.Stored.{IsClosed}
 use Rattle.regex_lite_engine.specs.declared.nfa.place.Place as code
-use Rattle.regex_lite_engine.specs.Nfa.Layout.{pattern_layout, pattern_table}
-use Rattle.regex_lite_engine.specs.Nfa.Layout.{whole_layout, whole_table}
 use Rattle.regex_lite_engine.proofs.graph.AddressLemmas.{in_part, addresses}
 use Rattle.regex_lite_engine.proofs.nfa.write.NumberingLemmas.{Numbering, Stands, InRow, IsAt}
 use Rattle.regex_lite_engine.proofs.nfa.write.NumberingLemmas.{AreAt, Fits, as_many, part_at}

@@ -1,12 +1,8 @@
 -- What a part of a list of trees takes, beside what is after it.
-use Rattle.std.proofs.Common.{◌≡◌, ◌≤◌, ◌<◌, ℕ, zero, suc, ◌+◌, ◌-◌, ◌*◌, List, []}
-use Rattle.std.proofs.Common.{Bool, None, rules}
-use Rattle.std.proofs.Common.{◌∷◌, map, drop, length, get_or, ap, arith}
-use Rattle.regex_lite_syntax.specs.declared.hir.Hir.{Hir}
-use Rattle.regex_lite_syntax.specs.Tree.{trees}
-use Rattle.regex_lite_syntax.specs.Tree.Views.{tree_of}
-use Rattle.regex_lite_syntax.specs.Tree.Properties.{greatest_index, greatest_index_in}
-use Rattle.regex_lite_engine.specs.Graph.PlaceCounts.{copies, own_places, places, places_in}
+use Rattle.regex_lite_engine.proofs.Common.{◌≡◌, ℕ, zero, suc, ◌+◌, ◌-◌, ◌*◌, ◌<◌, ◌≤◌, Bool, List}
+use Rattle.regex_lite_engine.proofs.Common.{[], ◌∷◌, map, length, get_or, drop, None, ap, arith}
+use Rattle.regex_lite_engine.proofs.Common.{rules, trees, greatest_index, greatest_index_in}
+use Rattle.regex_lite_engine.proofs.Common.{tree_of, Hir, copies, own_places, places, places_in}
 
 pub part_places : (parts : List Hir) (i : ℕ) (part : Hir) → i < length parts
     → part ≡ get_or parts i part

@@ -1,23 +1,17 @@
 -- Patterns that are laid out one after another are the patterns written out side by side, with
 -- numbers in the place of addresses; each is entered in a part of its own.
-use Rattle.std.proofs.Common.{◌≡◌, ◌<◌, ◌≤◌, ◌-◌, refl, sym, ap, subst, ◌∙◌, arith, ℕ, zero, suc}
-use Rattle.std.proofs.Common.{◌+◌, List, [], ◌∷◌, length, get_or, slice_get, Some, None, Option}
-use Rattle.std.proofs.Common.{option_map}
-use Rattle.std.proofs.lemmas.Option.{slice_get_within}
-use Rattle.regex_lite_syntax.specs.Tree.{Tree}
-use Rattle.regex_lite_syntax.specs.Tree.Regular.{IsRegular}
+use Rattle.regex_lite_engine.proofs.Common.{◌≡◌, ℕ, zero, suc, ◌+◌, ◌-◌, ◌<◌, ◌≤◌, List, [], ◌∷◌}
+use Rattle.regex_lite_engine.proofs.Common.{length, get_or, slice_get, Some, None, Option}
+use Rattle.regex_lite_engine.proofs.Common.{option_map, sym, refl, ap, ◌∙◌, subst, arith}
+use Rattle.regex_lite_engine.proofs.Common.{slice_get_within, Tree, IsRegular, Address, IsWithin}
+use Rattle.regex_lite_engine.proofs.Common.{row_of, whole_places, renamed, arrows_of, IsRenumbered}
+use Rattle.regex_lite_engine.proofs.Common.{IsNumberOf, in_pattern, side_by_side, HasTree, start_of}
+use Rattle.regex_lite_engine.proofs.Common.{AreEntries, LeadsBelow, LeadsInto, start_address}
+use Rattle.regex_lite_engine.proofs.Common.{written_out, pattern_layout, pattern_table}
+use Rattle.regex_lite_engine.proofs.Common.{patterns_table, patterns_entries}
 use Rattle.regex_lite_syntax.proofs.ListLemmas.{same_head, same_tail}
-use Rattle.regex_lite_engine.specs.Graph.Places.{Place, renamed}
-use Rattle.regex_lite_engine.specs.Graph.Addresses.{Address}
-use Rattle.regex_lite_engine.specs.Graph.WrittenOut.{written_out, start_address}
-use Rattle.regex_lite_engine.specs.Graph.PlaceCounts.{whole_places}
-use Rattle.regex_lite_engine.specs.Graph.Parts.{HaveOwnParts, IsWithin, row_of}
-use Rattle.regex_lite_engine.specs.Graph.Stored.{LeadsInto, LeadsBelow}
-use Rattle.regex_lite_engine.specs.Graph.Renumbered.{arrows_of, IsRenumbered, IsNumberOf}
-use Rattle.regex_lite_engine.specs.Graph.SideBySide.{in_pattern, side_by_side, start_of, AreEntries}
-use Rattle.regex_lite_engine.specs.Graph.SideBySide.{HasTree}
-use Rattle.regex_lite_engine.specs.Nfa.Layout.{pattern_layout, pattern_table, patterns_table}
-use Rattle.regex_lite_engine.specs.Nfa.Layout.{patterns_entries}
+use Rattle.regex_lite_engine.specs.Graph.Places.{Place}
+use Rattle.regex_lite_engine.specs.Graph.Parts.{HaveOwnParts}
 use Rattle.regex_lite_engine.proofs.laws.search.NamedWayLemmas.{mapped_back}
 use Rattle.regex_lite_engine.proofs.count.ArrowCountLemmas.{arrows_pattern}
 use Rattle.regex_lite_engine.proofs.nfa.write.ApartLemmas.{apart_get}

@@ -1,19 +1,14 @@
 -- The addresses that the numbers of several patterns' places stand for, and what is stored at such
 -- a number.
-use Rattle.std.proofs.Common.{◌≡◌, ◌<◌, ◌≤◌, ◌-◌, refl, sym, ap, subst, ◌∙◌, arith, ℕ, zero, suc}
-use Rattle.std.proofs.Common.{◌+◌, List, [], ◌∷◌, length, get_or, slice_get, Some, map, option_map}
-use Rattle.std.proofs.Common.{nat_lt, true, false, if◌then◌else◌}
-use Rattle.std.proofs.lemmas.Bool.Decides.{nat_tests}
-use Rattle.regex_lite_syntax.specs.Tree.{Tree}
-use Rattle.regex_lite_syntax.specs.Tree.Regular.{IsRegular}
-use Rattle.regex_lite_engine.specs.Graph.Places.{Arrow, Place, complete, with_arrows, renamed}
-use Rattle.regex_lite_engine.specs.Graph.Places.{renamed_arrow}
-use Rattle.regex_lite_engine.specs.Graph.Addresses.{Address}
-use Rattle.regex_lite_engine.specs.Graph.WrittenOut.{written_out}
-use Rattle.regex_lite_engine.specs.Graph.PlaceCounts.{whole_places}
-use Rattle.regex_lite_engine.specs.Graph.Stored.{LeadInto, LeadsInto, LeadsBelow}
-use Rattle.regex_lite_engine.specs.Graph.SideBySide.{in_pattern, HasTree}
-use Rattle.regex_lite_engine.specs.Nfa.Layout.{pattern_table, patterns_table}
+use Rattle.regex_lite_engine.proofs.Common.{◌≡◌, ℕ, zero, suc, ◌+◌, ◌-◌, ◌<◌, ◌≤◌, true, false}
+use Rattle.regex_lite_engine.proofs.Common.{List, [], ◌∷◌, map, length, get_or, if◌then◌else◌}
+use Rattle.regex_lite_engine.proofs.Common.{nat_lt, slice_get, Some, option_map, sym, refl, ap, ◌∙◌}
+use Rattle.regex_lite_engine.proofs.Common.{subst, arith, nat_tests, Tree, IsRegular, Address}
+use Rattle.regex_lite_engine.proofs.Common.{whole_places, Arrow, complete, with_arrows}
+use Rattle.regex_lite_engine.proofs.Common.{renamed_arrow, renamed, in_pattern, HasTree, LeadsBelow}
+use Rattle.regex_lite_engine.proofs.Common.{LeadInto, LeadsInto, written_out, pattern_table}
+use Rattle.regex_lite_engine.proofs.Common.{patterns_table}
+use Rattle.regex_lite_engine.specs.Graph.Places.{Place}
 use Rattle.regex_lite_engine.proofs.laws.several.PartLemmas.{renamed_twice}
 use Rattle.regex_lite_engine.proofs.count.PlaceCountLemmas.{length_pattern}
 use Rattle.regex_lite_engine.proofs.nfa.write.NumberingLemmas.{IsAt, as_many}

@@ -1,18 +1,14 @@
 -- Where the places of several patterns stand in their table: those of each in a row, after those of
 -- the patterns before it. Their places and arrows add up.
-use Rattle.std.proofs.Common.{◌≡◌, ◌<◌, ◌≤◌, ◌-◌, refl, sym, ap, subst, ◌∙◌, arith, inl, inr, ℕ}
-use Rattle.std.proofs.Common.{zero, suc, ◌+◌, List, [], ◌∷◌, ◌++◌, length, slice_get, take, drop}
-use Rattle.std.proofs.Common.{length-append, Some}
-use Rattle.std.proofs.Math.Seq.{take-append_seam, drop-append-add}
-use Rattle.std.proofs.lemmas.Bool.{cases_lt}
-use Rattle.std.proofs.lemmas.List.Sums.{sum_by-cons, sum_by-append}
-use Rattle.regex_lite_syntax.specs.Tree.{Tree}
-use Rattle.regex_lite_engine.specs.Graph.PlaceCounts.{whole_places, whole_arrows}
-use Rattle.regex_lite_engine.specs.Graph.Parts.{row_of}
-use Rattle.regex_lite_engine.specs.Graph.Renumbered.{arrow_count, arrows_of}
-use Rattle.regex_lite_engine.specs.Graph.SideBySide.{places_of_all, arrows_of_all, HasTree}
-use Rattle.regex_lite_engine.specs.Nfa.Layout.{pattern_layout, pattern_table, patterns_table}
-use Rattle.regex_lite_engine.specs.Nfa.Layout.{patterns_entries}
+use Rattle.regex_lite_engine.proofs.Common.{◌≡◌, ℕ, zero, suc, ◌+◌, ◌-◌, ◌<◌, ◌≤◌, List, [], ◌∷◌}
+use Rattle.regex_lite_engine.proofs.Common.{◌++◌, length, take, drop, slice_get, Some, sym, refl}
+use Rattle.regex_lite_engine.proofs.Common.{ap, ◌∙◌, subst, inl, inr, arith, length-append}
+use Rattle.regex_lite_engine.proofs.Common.{take-append_seam, cases_lt, sum_by-cons, Tree, row_of}
+use Rattle.regex_lite_engine.proofs.Common.{whole_places, whole_arrows, arrow_count, arrows_of}
+use Rattle.regex_lite_engine.proofs.Common.{HasTree, places_of_all, arrows_of_all, pattern_layout}
+use Rattle.regex_lite_engine.proofs.Common.{pattern_table, patterns_table, patterns_entries}
+use Rattle.std.proofs.Math.Seq.{drop-append-add}
+use Rattle.std.proofs.lemmas.List.Sums.{sum_by-append}
 use Rattle.regex_lite_engine.proofs.count.ArrowCountLemmas.{arrows_pattern}
 use Rattle.regex_lite_engine.proofs.count.PlaceCountLemmas.{length_pattern}
 use Rattle.regex_lite_engine.proofs.LookupLemmas.{get_left, get_right}

@@ -1,9 +1,8 @@
 -- The choice of a loop, which is written over an empty place once its body is known.
-use Rattle.std.proofs.Common.{◌≡◌, ◌++◌, ◌∷◌, [], ℕ, ◌+◌, Bool, List}
-use Rattle.std.proofs.Common.{length, set, ap, ◌∙◌, append_assoc}
+use Rattle.regex_lite_engine.proofs.Common.{◌≡◌, ℕ, ◌+◌, Bool, List, [], ◌∷◌, ◌++◌, length, set, ap}
+use Rattle.regex_lite_engine.proofs.Common.{◌∙◌, append_assoc, choice, Fragment, star_layout}
 use Rattle.std.proofs.Math.Seq.{set-append_seam}
-use Rattle.regex_lite_engine.specs.Graph.Places.{Place, choice}
-use Rattle.regex_lite_engine.specs.Nfa.Layout.{Fragment, star_layout}
+use Rattle.regex_lite_engine.specs.Graph.Places.{Place}
 
 -- after the old places another one takes the place of the empty one
 seam : (old now behind : List (Place ℕ)) (n : ℕ) (empty other : Place ℕ) → n ≡ length old

@@ -1,19 +1,20 @@
 -- What a change of one cell changes.
-use Rattle.std.proofs.Common.{◌≡◌, ℕ, Bool, zero, suc, ◌+◌, ◌-◌, ◌*◌, ◌<◌, ◌≤◌, ◌⊎◌, List}
-use Rattle.std.proofs.Common.{[], ◌∷◌, ◌++◌, length, map, take, reverse, set, slice_index}
-use Rattle.std.proofs.Common.{slice_index_or, inl, inr, refl, sym, ap, ◌∙◌, arith}
+use Rattle.regex_lite_engine.proofs.Common.{◌≡◌, ℕ, zero, suc, ◌+◌, ◌-◌, ◌*◌, ◌<◌, ◌≤◌, Bool, ◌⊎◌}
+use Rattle.regex_lite_engine.proofs.Common.{List, [], ◌∷◌, ◌++◌, map, reverse, length, take, set}
+use Rattle.regex_lite_engine.proofs.Common.{slice_index, slice_index_or, sym, refl, ap, ◌∙◌, inl}
+use Rattle.regex_lite_engine.proofs.Common.{inr, arith, length-map, length-take-le, map-set}
+use Rattle.regex_lite_engine.proofs.Common.{frame_in, round_in, other, place_on, start_on, row_on}
+use Rattle.regex_lite_engine.proofs.Common.{Thread, Row, Cell}
 use Rattle.std.specs.List.{AllByRecursion}
 use Rattle.std.proofs.Math.Seq.{map-set_same}
-use Rattle.std.proofs.lemmas.List.{map-set, length-map, length-reverse, length-take-le}
+use Rattle.std.proofs.lemmas.List.{length-reverse}
 use Rattle.std.proofs.lemmas.List.{reverse-append, take_more, take_more_set}
-use Rattle.regex_lite_engine.specs.declared.pikevm.cell.Cell.{Cell}
 use Rattle.regex_lite_engine.specs.declared.pikevm.cell.Frame as code
 use Rattle.regex_lite_engine.specs.declared.pikevm.cell.Side.{Side}
 use Rattle.regex_lite_engine.specs.declared.pikevm.cell.Side.TheVariants.{First, Second}
-use Rattle.regex_lite_engine.specs.Pikevm.Cells.{round_in, frame_in, frames_in, other}
-use Rattle.regex_lite_engine.specs.Pikevm.Cells.{place_on, start_on, with_thread, row_on}
-use Rattle.regex_lite_engine.specs.Pikevm.Machine.{Frame, Thread, State}
-use Rattle.regex_lite_engine.specs.Search.Rows.{Row}
+use Rattle.regex_lite_engine.specs.Pikevm.Cells.{frames_in}
+use Rattle.regex_lite_engine.specs.Pikevm.Cells.{with_thread}
+use Rattle.regex_lite_engine.specs.Pikevm.Machine.{Frame, State}
 
 -- a cell with a thread more
 module _ {S : Type 0} (place : ℕ) (start : S) (x : Cell S) where

@@ -1,17 +1,15 @@
 -- What a change of cells and rows changes of the lists of threads.
-use Rattle.std.proofs.Common.{◌≡◌, ℕ, ◌+◌, ◌*◌, ◌<◌, ◌≤◌, List, [], ◌∷◌, ◌++◌, length}
-use Rattle.std.proofs.Common.{map, set, slice_index, slice_index_or, sym, ap, ◌∙◌, arith}
-use Rattle.std.proofs.lemmas.List.{map-set, get_or-set_same, get_or-set_other, length-map}
-use Rattle.std.proofs.lemmas.List.FromFn.{get_or-map-range_with_len}
-use Rattle.std.proofs.lemmas.List.FromFn.{length-map-range_with_len, map-range_with_len_more}
-use Rattle.regex_lite_engine.specs.Search.Beginnings.{Told, untold}
-use Rattle.regex_lite_engine.specs.declared.pikevm.cell.Cell.{Cell}
+use Rattle.regex_lite_engine.proofs.Common.{◌≡◌, ℕ, ◌+◌, ◌*◌, ◌<◌, ◌≤◌, List, [], ◌∷◌, ◌++◌, map}
+use Rattle.regex_lite_engine.proofs.Common.{length, set, slice_index, slice_index_or, sym, ap, ◌∙◌}
+use Rattle.regex_lite_engine.proofs.Common.{arith, get_or-set_other, get_or-set_same, length-map}
+use Rattle.regex_lite_engine.proofs.Common.{map-set, get_or-map-range_with_len}
+use Rattle.regex_lite_engine.proofs.Common.{length-map-range_with_len, nth_row, frame_in, round_in}
+use Rattle.regex_lite_engine.proofs.Common.{other, place_on, start_on, row_on, start_told}
+use Rattle.regex_lite_engine.proofs.Common.{threads_on, Thread, thread_at, Told, untold, Row, Cell}
+use Rattle.std.proofs.lemmas.List.FromFn.{map-range_with_len_more}
 use Rattle.regex_lite_engine.specs.declared.pikevm.cell.Side.{Side}
-use Rattle.regex_lite_engine.specs.Pikevm.Cells.{round_in, frame_in, other, place_on}
-use Rattle.regex_lite_engine.specs.Pikevm.Cells.{start_on, start_told, with_thread}
-use Rattle.regex_lite_engine.specs.Pikevm.Cells.{row_on, nth_row, thread_on, threads_on}
-use Rattle.regex_lite_engine.specs.Pikevm.Machine.{Thread, thread_at}
-use Rattle.regex_lite_engine.specs.Search.Rows.{Row}
+use Rattle.regex_lite_engine.specs.Pikevm.Cells.{with_thread}
+use Rattle.regex_lite_engine.specs.Pikevm.Cells.{thread_on}
 use Rattle.regex_lite_engine.proofs.pikevm.memory.CellLemmas.{own_place, own_start, other_place}
 use Rattle.regex_lite_engine.proofs.pikevm.memory.CellLemmas.{other_start, row_apart, row_other}
 use Rattle.regex_lite_engine.proofs.pikevm.memory.CellLemmas.{row_fits, row_behind_first}

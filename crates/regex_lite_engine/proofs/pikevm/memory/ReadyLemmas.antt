@@ -1,19 +1,21 @@
 -- What stays where more cells are made ready.
-use Rattle.std.proofs.Common.{◌≡◌, ℕ, Bool, zero, suc, ◌+◌, ◌-◌, ◌≤◌, ◌<◌, List, [], ◌∷◌, ◌++◌}
-use Rattle.std.proofs.Common.{length, map, take, reverse, replicate, set, slice_index}
-use Rattle.std.proofs.Common.{slice_index_or, refl, sym, ap, ◌∙◌, arith, length-append, length-set}
-use Rattle.std.proofs.lemmas.List.{get_or-append_right, get_or-take, length-map, length-replicate}
-use Rattle.std.proofs.lemmas.List.{length-take, map-set, set-append_right, take-take}
-use Rattle.regex_lite_engine.specs.declared.pikevm.cell.Cell.{Cell}
+use Rattle.regex_lite_engine.proofs.Common.{◌≡◌, ℕ, zero, suc, ◌+◌, ◌-◌, ◌<◌, ◌≤◌, Bool, List, []}
+use Rattle.regex_lite_engine.proofs.Common.{◌∷◌, ◌++◌, map, reverse, length, take, set, replicate}
+use Rattle.regex_lite_engine.proofs.Common.{slice_index, slice_index_or, sym, refl, ap, ◌∙◌, arith}
+use Rattle.regex_lite_engine.proofs.Common.{length-append, length-set, get_or-take, length-map}
+use Rattle.regex_lite_engine.proofs.Common.{length-replicate, length-take, map-set, take-take}
+use Rattle.regex_lite_engine.proofs.Common.{nth_row, frame_in, round_in, other, place_on, start_on}
+use Rattle.regex_lite_engine.proofs.Common.{start_told, threads_on, without_round, Told, untold}
+use Rattle.regex_lite_engine.proofs.Common.{Row, Cell}
+use Rattle.std.proofs.lemmas.List.{get_or-append_right}
+use Rattle.std.proofs.lemmas.List.{set-append_right}
 use Rattle.regex_lite_engine.specs.declared.pikevm.cell.Side.{Side}
 use Rattle.regex_lite_engine.specs.declared.pikevm.cell.Side.TheVariants.{First, Second}
-use Rattle.regex_lite_engine.specs.Search.Beginnings.{Told, untold}
-use Rattle.regex_lite_engine.specs.Pikevm.Cells.{round_in, frame_in, frames_in, place_on, start_on}
-use Rattle.regex_lite_engine.specs.Pikevm.Cells.{start_told, thread_on, threads_on, without_round}
-use Rattle.regex_lite_engine.specs.Pikevm.Cells.{nth_row, other, rounds_in, HoldTogether}
+use Rattle.regex_lite_engine.specs.Pikevm.Cells.{frames_in}
+use Rattle.regex_lite_engine.specs.Pikevm.Cells.{thread_on}
+use Rattle.regex_lite_engine.specs.Pikevm.Cells.{rounds_in, HoldTogether}
 use Rattle.regex_lite_engine.specs.Pikevm.Cells.{MakesReady}
 use Rattle.regex_lite_engine.specs.Pikevm.Machine.{State}
-use Rattle.regex_lite_engine.specs.Search.Rows.{Row}
 use Rattle.regex_lite_engine.proofs.pikevm.memory.CellLemmas.{state_is, told_at}
 use Rattle.regex_lite_engine.proofs.pikevm.rows.RowLemmas.{listed_alike}
 

@@ -1,12 +1,13 @@
 -- Rounds that are moved up, the last one first.
-use Rattle.std.proofs.Common.{◌≡◌, ℕ, zero, suc, ◌+◌, ◌-◌, ◌<◌, ◌≤◌, List, [], ◌∷◌}
-use Rattle.std.proofs.Common.{◌++◌, length, map, take, drop, replicate, set}
-use Rattle.std.proofs.Common.{slice_index_or, refl, sym, ap, ◌∙◌, arith, length-append}
-use Rattle.std.proofs.lemmas.List.{append_assoc, length-map, length-replicate}
-use Rattle.std.proofs.lemmas.List.{map-set, replicate-append-replicate}
-use Rattle.std.proofs.Math.Seq.{take-append_seam}
-use Rattle.regex_lite_engine.specs.declared.pikevm.cell.Cell.{Cell}
-use Rattle.regex_lite_engine.specs.Pikevm.Cells.{round_in, without_round, MakesReady}
+use Rattle.regex_lite_engine.proofs.Common.{◌≡◌, ℕ, zero, suc, ◌+◌, ◌-◌, ◌<◌, ◌≤◌, List, [], ◌∷◌}
+use Rattle.regex_lite_engine.proofs.Common.{◌++◌, map, length, take, drop, set, replicate}
+use Rattle.regex_lite_engine.proofs.Common.{slice_index_or, sym, refl, ap, ◌∙◌, arith}
+use Rattle.regex_lite_engine.proofs.Common.{length-append, take-append_seam, length-map}
+use Rattle.regex_lite_engine.proofs.Common.{length-replicate, map-set, round_in, without_round}
+use Rattle.regex_lite_engine.proofs.Common.{Cell}
+use Rattle.std.proofs.lemmas.List.{append_assoc}
+use Rattle.std.proofs.lemmas.List.{replicate-append-replicate}
+use Rattle.regex_lite_engine.specs.Pikevm.Cells.{MakesReady}
 use Rattle.regex_lite_engine.proofs.pikevm.memory.CellLemmas.{not_told, told_at}
 
 -- the rounds from k on stand higher up by this many

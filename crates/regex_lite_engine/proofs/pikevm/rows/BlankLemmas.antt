@@ -1,11 +1,12 @@
 -- Slots that are not there yet are as good as blank.
-use Rattle.std.proofs.Common.{◌≡◌, ℕ, ◌+◌, ◌-◌, ◌*◌, ◌<◌, ◌≤◌, List, ◌++◌, length, take}
-use Rattle.std.proofs.Common.{drop, replicate, set, Option, None, sym, ap, ◌∙◌, arith}
-use Rattle.std.proofs.Common.{slice_index_or, [], length-append, length-drop, length-set}
-use Rattle.std.proofs.lemmas.List.{append_assoc, drop-append-le, take-append-le, length-take-le}
-use Rattle.std.proofs.lemmas.List.{length-replicate, replicate-append-replicate, set-append_left}
-use Rattle.regex_lite_engine.specs.Search.Rows.{Row}
-use Rattle.regex_lite_engine.specs.Pikevm.Cells.{rows_in, padded, AreRows}
+use Rattle.regex_lite_engine.proofs.Common.{◌≡◌, ℕ, ◌+◌, ◌-◌, ◌*◌, ◌<◌, ◌≤◌, List, [], ◌++◌, length}
+use Rattle.regex_lite_engine.proofs.Common.{take, drop, set, replicate, slice_index_or, None}
+use Rattle.regex_lite_engine.proofs.Common.{Option, sym, ap, ◌∙◌, arith, length-append, length-drop}
+use Rattle.regex_lite_engine.proofs.Common.{length-set, drop-append-le, length-replicate}
+use Rattle.regex_lite_engine.proofs.Common.{length-take-le, take-append-le, padded, Row}
+use Rattle.std.proofs.lemmas.List.{append_assoc}
+use Rattle.std.proofs.lemmas.List.{replicate-append-replicate, set-append_left}
+use Rattle.regex_lite_engine.specs.Pikevm.Cells.{rows_in, AreRows}
 use Rattle.regex_lite_engine.proofs.pikevm.rows.RowLemmas.{inside_slots, row_of_view}
 use Rattle.regex_lite_engine.proofs.pikevm.rows.RowLemmas.{row_of_view_long, view_over}
 use Rattle.regex_lite_engine.proofs.pikevm.rows.RowLemmas.{view_put, row_first, row_is}

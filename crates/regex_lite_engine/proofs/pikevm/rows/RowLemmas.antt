@@ -1,15 +1,15 @@
 -- Rows that lie one after the other.
-use Rattle.std.proofs.Common.{◌≡◌, ℕ, zero, suc, ◌+◌, ◌-◌, ◌*◌, ◌<◌, ◌≤◌, ◌⊎◌, inl, inr, List}
-use Rattle.std.proofs.Common.{[], ◌∷◌, ◌++◌, length, map, take, drop, set, slice_index_or}
-use Rattle.std.proofs.Common.{Option, refl, sym, ap, subst, ◌∙◌, arith, length-drop}
-use Rattle.std.specs.List.{range_with_len}
-use Rattle.std.proofs.lemmas.List.{drop-append-le, take-append-le, drop-take}
-use Rattle.std.proofs.lemmas.List.{take-take, length-take-le, drop-set-lt}
-use Rattle.std.proofs.lemmas.List.FromFn.{get_or-map-range_with_len, length-map-range_with_len}
-use Rattle.std.proofs.lemmas.Bool.{cases_lt, cases_eq}
-use Rattle.std.proofs.Math.Nat.{mul-le-mul_right, suc-mul}
-use Rattle.std.proofs.Math.Seq.{take-set-lt, drop-append-add, take-append_seam}
-use Rattle.regex_lite_engine.specs.Search.Rows.{Row}
+use Rattle.regex_lite_engine.proofs.Common.{◌≡◌, ℕ, zero, suc, ◌+◌, ◌-◌, ◌*◌, ◌<◌, ◌≤◌, ◌⊎◌, List}
+use Rattle.regex_lite_engine.proofs.Common.{[], ◌∷◌, ◌++◌, map, length, take, drop, set}
+use Rattle.regex_lite_engine.proofs.Common.{slice_index_or, Option, sym, refl, ap, ◌∙◌, subst, inl}
+use Rattle.regex_lite_engine.proofs.Common.{inr, arith, length-drop, mul-le-mul_right, suc-mul}
+use Rattle.regex_lite_engine.proofs.Common.{take-append_seam, cases_eq, cases_lt, drop-append-le}
+use Rattle.regex_lite_engine.proofs.Common.{length-take-le, take-append-le, take-take}
+use Rattle.regex_lite_engine.proofs.Common.{get_or-map-range_with_len, length-map-range_with_len}
+use Rattle.regex_lite_engine.proofs.Common.{range_with_len, Row}
+use Rattle.std.proofs.lemmas.List.{drop-take}
+use Rattle.std.proofs.lemmas.List.{drop-set-lt}
+use Rattle.std.proofs.Math.Seq.{take-set-lt, drop-append-add}
 use Rattle.regex_lite_engine.specs.Pikevm.Cells.{row_at, rows_in}
 
 -- lists that are determined by the numbers of what they hold

@@ -1,4 +1,4 @@
-use Rattle.std.proofs.Common.{◌≤◌, subst, arith}
+use Rattle.regex_lite_engine.proofs.Common.{◌≤◌, subst, arith}
 use Rattle.regex_lite_engine.proofs.prefilter.FillLemmas.{stands_somewhere}
 use Rattle.regex_lite_engine.proofs.prefilter.bounds.Goals as goal
 

@@ -1,4 +1,4 @@
-use Rattle.std.proofs.Common.{◌≤◌, ◌<◌, ℕ, slice_index}
+use Rattle.regex_lite_engine.proofs.Common.{ℕ, ◌<◌, ◌≤◌, slice_index}
 use Rattle.regex_lite_engine.proofs.prefilter.bounds.Given as goal
 
 abbrev pub invariant-loop-k : goal.invariant-loop-k

@@ -1,6 +1,5 @@
-use Rattle.std.proofs.Common.{◌≡◌, ◌≤◌, ◌<◌, ◌*◌, ℕ, true, length}
-use Rattle.regex_lite_engine.specs.Prefilter.Bytes.{StandsBelow}
-use Rattle.regex_lite_engine.specs.Prefilter.Starts.{stops_at}
+use Rattle.regex_lite_engine.proofs.Common.{◌≡◌, ℕ, ◌*◌, ◌<◌, ◌≤◌, true, length, StandsBelow}
+use Rattle.regex_lite_engine.proofs.Common.{stops_at}
 use Rattle.regex_lite_engine.proofs.prefilter.fill.Given as goal
 
 abbrev pub invariant-loop-row : goal.invariant-loop-row

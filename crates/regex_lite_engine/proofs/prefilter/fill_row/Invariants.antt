@@ -1,6 +1,4 @@
-use Rattle.std.proofs.Common.{◌≡◌, ◌≤◌, ◌<◌, ℕ, true, length}
-use Rattle.regex_lite_engine.specs.Prefilter.Bytes.{StandsBelow}
-use Rattle.regex_lite_engine.specs.Prefilter.Starts.{stops_at}
+use Rattle.regex_lite_engine.proofs.Common.{◌≡◌, ℕ, ◌<◌, ◌≤◌, true, length, StandsBelow, stops_at}
 use Rattle.regex_lite_engine.proofs.prefilter.fill_row.Given as goal
 
 abbrev pub invariant-loop-code : goal.invariant-loop-code

@@ -1,5 +1,5 @@
-use Rattle.std.proofs.Common.{rules, ◌≡◌, false, length, slice_index, subst, arith}
-use Rattle.regex_lite_engine.specs.Prefilter.Bytes.{is_among}
+use Rattle.regex_lite_engine.proofs.Common.{◌≡◌, false, length, slice_index, subst, arith, rules}
+use Rattle.regex_lite_engine.proofs.Common.{is_among}
 use Rattle.regex_lite_engine.proofs.prefilter.FillLemmas.{eight}
 use Rattle.regex_lite_engine.proofs.prefilter.has_one_of_eight.Goals as goal
 

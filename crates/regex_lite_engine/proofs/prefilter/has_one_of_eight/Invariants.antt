@@ -1,5 +1,4 @@
-use Rattle.std.proofs.Common.{◌≡◌, ◌<◌, ◌∷◌, [], ℕ, false, slice_index}
-use Rattle.regex_lite_engine.specs.Prefilter.Bytes.{is_among}
+use Rattle.regex_lite_engine.proofs.Common.{◌≡◌, ℕ, ◌<◌, false, [], ◌∷◌, slice_index, is_among}
 use Rattle.regex_lite_engine.proofs.prefilter.has_one_of_eight.Given as goal
 
 abbrev pub invariant-loop-k : goal.invariant-loop-k

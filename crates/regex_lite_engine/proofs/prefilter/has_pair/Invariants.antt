@@ -1,6 +1,5 @@
-use Rattle.std.proofs.Common.{◌≡◌, ◌<◌, ◌∷◌, [], ℕ, false, slice_index}
+use Rattle.regex_lite_engine.proofs.Common.{◌≡◌, ℕ, ◌<◌, false, [], ◌∷◌, slice_index, suits}
 use Rattle.regex_lite_engine.specs.declared.prefilter.Prefilter.TheVariants.{Pair}
-use Rattle.regex_lite_engine.specs.Prefilter.Bytes.{suits}
 use Rattle.regex_lite_engine.proofs.prefilter.has_pair.Given as goal
 
 abbrev pub invariant-loop-k : goal.invariant-loop-k

@@ -1,14 +1,11 @@
 -- What is read at the beginning of a match, while second characters are added.
-use Rattle.std.proofs.Common.{◌≡◌, ℕ, zero, suc, ◌<◌, ◌⊎◌, inl, inr}
-use Rattle.std.proofs.Common.{Bool, Option, sym, subst, ◌∙◌, arith}
-use Rattle.regex_lite_syntax.specs.Text.{Text}
-use Rattle.regex_lite_syntax.specs.Tree.{Tree, Trees, repetition, more}
-use Rattle.regex_lite_syntax.specs.Tree.Matches.{Matches, Passes, Chain, SomeBranch}
+use Rattle.regex_lite_engine.proofs.Common.{◌≡◌, ℕ, zero, suc, ◌<◌, Bool, ◌⊎◌, Option, sym, ◌∙◌}
+use Rattle.regex_lite_engine.proofs.Common.{subst, inl, inr, arith, Text, Tree, repetition, Trees}
+use Rattle.regex_lite_engine.proofs.Common.{more, Matches, Chain, SomeBranch, Reads, ReadsEach}
+use Rattle.regex_lite_engine.proofs.Common.{MayBegin, IsWider, BeginsOrPasses, Starts}
+use Rattle.regex_lite_syntax.specs.Tree.Matches.{Passes}
 use Rattle.regex_lite_engine.specs.declared.prefilter.heads.Head.{Head}
 use Rattle.regex_lite_engine.specs.declared.prefilter.heads.Head.TheVariants.{Nothing, One, More}
-use Rattle.regex_lite_engine.specs.declared.prefilter.starts.Starts.{Starts}
-use Rattle.regex_lite_engine.specs.Prefilter.Heads.{Reads, ReadsEach}
-use Rattle.regex_lite_engine.specs.Prefilter.Starts.{MayBegin, IsWider, BeginsOrPasses}
 use Rattle.regex_lite_engine.proofs.prefilter.starts.StartLemmas.{may_grown, passes_begin}
 
 pub reads_grown : (s t : Starts) (h : Text) (i j : ℕ) (head : Head) → IsWider s t

@@ -1,10 +1,9 @@
 -- Where matches of several patterns can begin, with one pattern more.
-use Rattle.std.proofs.Common.{◌≡◌, Bool, ◌||◌, List, [], ◌∷◌, ◌++◌, sym, ap, ◌∙◌}
+use Rattle.regex_lite_engine.proofs.Common.{◌≡◌, Bool, ◌||◌, List, [], ◌∷◌, ◌++◌, sym, ap, ◌∙◌}
+use Rattle.regex_lite_engine.proofs.Common.{or-false, begins_with, IsUnionOf, Starts}
 use Rattle.std.specs.List.{list_any}
 use Rattle.std.proofs.lemmas.List.Folds.{list_any-append}
-use Rattle.std.proofs.Math.Bool.{or-false}
-use Rattle.regex_lite_engine.specs.declared.prefilter.starts.Starts.{Starts}
-use Rattle.regex_lite_engine.specs.Prefilter.Starts.{begins_with, IsUnion, IsUnionOf}
+use Rattle.regex_lite_engine.specs.Prefilter.Starts.{IsUnion}
 
 pub any_with : {X : Type 0} (p : X → Bool) (xs : List X) (x : X)
     → list_any p (xs ++ x ∷ []) ≡ (list_any p xs || p x)

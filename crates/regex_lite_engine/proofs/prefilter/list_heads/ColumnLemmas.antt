@@ -1,11 +1,8 @@
 -- What one more character adds to the rows of a column.
-use Rattle.std.proofs.Common.{◌≡◌, ◌==◌, ℕ, ◌+◌, ◌<◌, ◌≤◌, Bool, true, false, ◌&&◌, ◌||◌}
-use Rattle.std.proofs.Common.{arith}
-use Rattle.std.proofs.lemmas.Bool.Decides.{nat_tests}
-use Rattle.regex_lite_engine.specs.declared.prefilter.heads.Heads.{Heads}
-use Rattle.regex_lite_engine.specs.Prefilter.Rows.{belongs, goes_on_with, is_in_column}
-use Rattle.regex_lite_engine.specs.Prefilter.Rows.{row_count, start_row}
-use Rattle.regex_lite_engine.specs.Prefilter.Starts.{begins_with}
+use Rattle.regex_lite_engine.proofs.Common.{◌≡◌, ℕ, ◌+◌, ◌<◌, ◌≤◌, Bool, true, false, ◌&&◌, ◌||◌}
+use Rattle.regex_lite_engine.proofs.Common.{◌==◌, arith, nat_tests, start_row, is_in_column}
+use Rattle.regex_lite_engine.proofs.Common.{goes_on_with, belongs, begins_with, Heads}
+use Rattle.regex_lite_engine.specs.Prefilter.Rows.{row_count}
 
 -- a character that passes the test adds its row
 pub one_more_row : (test : ℕ → Bool) (base k r : ℕ) → test k ≡ true

@@ -1,24 +1,18 @@
 -- The index of several patterns with one pattern more, and what it says of each.
-use Rattle.std.proofs.Common.{◌≡◌, ◌==◌, ℕ, zero, suc, refl, ◌+◌, ◌*◌, ◌<◌, ◌≤◌, ◌⊎◌}
-use Rattle.std.proofs.Common.{inl, inr, ◌-◌, ◌&&◌, ◌||◌, Bool, true, false, nat_lt}
-use Rattle.std.proofs.Common.{if◌then◌else◌, List, [], ◌∷◌, ◌++◌, length, slice_get}
-use Rattle.std.proofs.Common.{Option, Some, None, ap, sym, subst, ◌∙◌, arith}
-use Rattle.std.specs.Prelude.{MatchOption}
+use Rattle.regex_lite_engine.proofs.Common.{◌≡◌, ℕ, zero, suc, ◌+◌, ◌-◌, ◌*◌, ◌<◌, ◌≤◌, Bool, true}
+use Rattle.regex_lite_engine.proofs.Common.{false, ◌&&◌, ◌||◌, ◌⊎◌, List, [], ◌∷◌, ◌++◌, length}
+use Rattle.regex_lite_engine.proofs.Common.{if◌then◌else◌, nat_lt, ◌==◌, slice_get, Some, None}
+use Rattle.regex_lite_engine.proofs.Common.{Option, MatchOption, sym, refl, ap, ◌∙◌, subst, inl}
+use Rattle.regex_lite_engine.proofs.Common.{inr, arith, or-false, cases_eq, cases_lt, nat_tests}
+use Rattle.regex_lite_engine.proofs.Common.{slice_get_past, slice_get_within, Tree, AreHeadsOfTree}
+use Rattle.regex_lite_engine.proofs.Common.{IsIndexOf, AreEachHeadsOf, begins_with_pair, column}
+use Rattle.regex_lite_engine.proofs.Common.{first_row, second_row, has, goes_on_with, belongs}
+use Rattle.regex_lite_engine.proofs.Common.{begins_with, Heads, ListHeads}
 use Rattle.std.specs.List.{list_any}
-use Rattle.std.proofs.lemmas.Bool.{cases_lt, cases_eq, or_parts}
-use Rattle.std.proofs.lemmas.Bool.Decides.{nat_tests}
+use Rattle.std.proofs.lemmas.Bool.{or_parts}
 use Rattle.std.proofs.lemmas.List.{length-append}
-use Rattle.std.proofs.lemmas.Option.{slice_get_past, slice_get_within}
-use Rattle.std.proofs.Math.Bool.{or-false}
-use Rattle.regex_lite_syntax.specs.Tree.{Tree}
-use Rattle.regex_lite_engine.specs.declared.prefilter.heads.Heads.{Heads}
-use Rattle.regex_lite_engine.specs.declared.prefilter.list_heads.ListHeads.{ListHeads}
-use Rattle.regex_lite_engine.specs.Prefilter.Heads.{AreHeadsOfTree}
-use Rattle.regex_lite_engine.specs.Prefilter.ListHeads.{AreEachHeadsOf, IsIndexOf, IsWalkable}
-use Rattle.regex_lite_engine.specs.Prefilter.Pairs.{begins_with_pair}
-use Rattle.regex_lite_engine.specs.Prefilter.Rows.{belongs, column, first_row, goes_on_with, has}
-use Rattle.regex_lite_engine.specs.Prefilter.Rows.{one_belongs, second_row}
-use Rattle.regex_lite_engine.specs.Prefilter.Starts.{begins_with}
+use Rattle.regex_lite_engine.specs.Prefilter.ListHeads.{IsWalkable}
+use Rattle.regex_lite_engine.specs.Prefilter.Rows.{one_belongs}
 use Rattle.regex_lite_engine.proofs.OptionLemmas.{same_some}
 use Rattle.regex_lite_engine.proofs.LookupLemmas.{get_left, get_last}
 

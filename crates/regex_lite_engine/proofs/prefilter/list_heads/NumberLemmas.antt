@@ -1,10 +1,11 @@
 -- Lists of the numbers that pass a test.
-use Rattle.std.proofs.Common.{◌≡◌, ◌==◌, ℕ, zero, suc, refl, ◌+◌, ◌*◌, ◌-◌, ◌%◌}
-use Rattle.std.proofs.Common.{◌^◌, ◌<◌, ◌≤◌, inl, inr, Bool, true, false, cond}
-use Rattle.std.proofs.Common.{[], ◌∷◌, ◌++◌, bit_and, ap, sym, ◌∙◌, arith, w64}
-use Rattle.std.specs.Int.{bit_at, bit_not, trailing_zeros}
-use Rattle.std.specs.List.{filter, range_with_len}
-use Rattle.std.proofs.lemmas.Bool.{cases_eq}
+use Rattle.regex_lite_engine.proofs.Common.{◌≡◌, ℕ, zero, suc, ◌+◌, ◌-◌, ◌*◌, ◌%◌, ◌^◌, ◌<◌, ◌≤◌}
+use Rattle.regex_lite_engine.proofs.Common.{Bool, true, false, cond, [], ◌∷◌, ◌++◌, ◌==◌, bit_and}
+use Rattle.regex_lite_engine.proofs.Common.{sym, refl, ap, ◌∙◌, inl, inr, arith, cases_eq, bit_at}
+use Rattle.regex_lite_engine.proofs.Common.{range_with_len}
+use Rattle.std.proofs.Common.{w64}
+use Rattle.std.specs.Int.{bit_not, trailing_zeros}
+use Rattle.std.specs.List.{filter}
 use Rattle.std.proofs.lemmas.Nat.{and_le_l}
 use Rattle.std.proofs.lemmas.Nat.Bits.{bit_at-trailing_zeros, bit_at-zero}
 use Rattle.std.proofs.lemmas.Nat.Bits.{bit_at_clear_same, bit_at_clear_other}

@@ -1,17 +1,12 @@
 -- Sets of ASCII characters as bits of two words, and a set for each first character.
-use Rattle.std.proofs.Common.{◌≡◌, ◌==◌, ℕ, zero, suc, refl, ◌+◌, ◌*◌, ◌/◌, ◌%◌, ◌^◌}
-use Rattle.std.proofs.Common.{◌<◌, ◌≤◌, ◌&&◌, ◌||◌, inl, inr, Bool, true, false}
-use Rattle.std.proofs.Common.{List, [], ◌∷◌, length, nat_lt, slice_get, slice_index}
-use Rattle.std.proofs.Common.{slice_set, bit_or, Some, ap, sym, ◌∙◌, arith}
-use Rattle.std.specs.Int.{bit_at}
-use Rattle.std.specs.Prelude.{replicate}
-use Rattle.std.proofs.lemmas.Bool.{cases_lt, cases_eq}
-use Rattle.std.proofs.lemmas.Bool.Decides.{nat_tests}
-use Rattle.std.proofs.Math.Bool.{or-false}
-use Rattle.regex_lite_syntax.specs.AsciiMaps.{bit_of_words}
-use Rattle.regex_lite_engine.specs.declared.prefilter.heads.Heads.{Heads}
+use Rattle.regex_lite_engine.proofs.Common.{◌≡◌, ℕ, zero, suc, ◌+◌, ◌*◌, ◌/◌, ◌%◌, ◌^◌, ◌<◌, ◌≤◌}
+use Rattle.regex_lite_engine.proofs.Common.{Bool, true, false, ◌&&◌, ◌||◌, List, [], ◌∷◌, length}
+use Rattle.regex_lite_engine.proofs.Common.{replicate, nat_lt, ◌==◌, slice_get, slice_index}
+use Rattle.regex_lite_engine.proofs.Common.{slice_set, bit_or, Some, sym, refl, ap, ◌∙◌, inl, inr}
+use Rattle.regex_lite_engine.proofs.Common.{arith, or-false, cases_eq, cases_lt, nat_tests, bit_at}
+use Rattle.regex_lite_engine.proofs.Common.{bit_of_words, in_set, begins_with_pair, Heads}
 use Rattle.regex_lite_engine.specs.declared.prefilter.list_heads.ascii_set.AsciiSet.{AsciiSet}
-use Rattle.regex_lite_engine.specs.Prefilter.Pairs.{begins_with_pair, in_set, in_some_set}
+use Rattle.regex_lite_engine.specs.Prefilter.Pairs.{in_some_set}
 use Rattle.regex_lite_engine.proofs.prefilter.list_heads.WalkLemmas.{bit_of_either}
 use Rattle.regex_lite_engine.proofs.WordBitLemmas.{bit_told, zero_bit}
 

@@ -1,11 +1,9 @@
 -- The bits of rows: of which word each is, and what setting one changes.
-use Rattle.std.proofs.Common.{◌≡◌, ◌==◌, ℕ, ◌+◌, ◌*◌, ◌-◌, ◌/◌, ◌%◌, ◌^◌, ◌<◌, ◌≤◌}
-use Rattle.std.proofs.Common.{◌&&◌, ◌||◌, inl, inr, List, length, slice_index}
-use Rattle.std.proofs.Common.{slice_set, bit_or, ap, arith, refl}
-use Rattle.std.proofs.lemmas.Bool.{cases_eq}
-use Rattle.std.proofs.lemmas.Bool.Decides.{nat_tests}
+use Rattle.regex_lite_engine.proofs.Common.{◌≡◌, ℕ, ◌+◌, ◌-◌, ◌*◌, ◌/◌, ◌%◌, ◌^◌, ◌<◌, ◌≤◌, ◌&&◌}
+use Rattle.regex_lite_engine.proofs.Common.{◌||◌, List, length, ◌==◌, slice_index, slice_set}
+use Rattle.regex_lite_engine.proofs.Common.{bit_or, refl, ap, inl, inr, arith, cases_eq, nat_tests}
+use Rattle.regex_lite_engine.proofs.Common.{bit_of_words}
 use Rattle.std.proofs.lemmas.Nat.{same_from_place}
-use Rattle.regex_lite_syntax.specs.AsciiMaps.{bit_of_words}
 use Rattle.regex_lite_engine.proofs.WordBitLemmas.{bit_told}
 
 -- bit n of row r stands in this word of the row

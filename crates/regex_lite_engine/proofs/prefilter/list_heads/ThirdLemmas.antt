@@ -1,24 +1,21 @@
 -- The masks of third characters.
-use Rattle.std.proofs.Common.{◌≡◌, ◌==◌, ◌-◌, ◌*◌, ◌%◌, ◌^◌, ◌<◌, ◌||◌, ◌&&◌, ◌++◌, []}
-use Rattle.std.proofs.Common.{◌∷◌, inl, inr, ℕ, suc, Bool, cond, true, false, IsTrue}
-use Rattle.std.proofs.Common.{List, Option, Some, refl, ap, sym, subst, ◌∙◌, bit_or}
-use Rattle.std.proofs.Common.{get_or, length, length-append, slice_get, arith, w32}
-use Rattle.std.specs.Int.{bit_at}
-use Rattle.std.specs.Prelude.{None, filter, is_none}
+use Rattle.regex_lite_engine.proofs.Common.{◌≡◌, ℕ, suc, ◌-◌, ◌*◌, ◌%◌, ◌^◌, ◌<◌, Bool, true, false}
+use Rattle.regex_lite_engine.proofs.Common.{cond, ◌&&◌, ◌||◌, List, [], ◌∷◌, ◌++◌, length, get_or}
+use Rattle.regex_lite_engine.proofs.Common.{is_none, IsTrue, ◌==◌, slice_get, bit_or, Some, None}
+use Rattle.regex_lite_engine.proofs.Common.{filter, Option, sym, refl, ap, ◌∙◌, subst, inl, inr}
+use Rattle.regex_lite_engine.proofs.Common.{arith, length-append, get_or-append_seam, cases_eq}
+use Rattle.regex_lite_engine.proofs.Common.{cases_lt, get_or_from_slice_get, slice_get-get_or}
+use Rattle.regex_lite_engine.proofs.Common.{slice_get_past, slice_get_within, bit_at, Text, after}
+use Rattle.regex_lite_engine.proofs.Common.{Tree, Matches, begins_with, may_begin, in_mask}
+use Rattle.regex_lite_engine.proofs.Common.{may_go_on, AreMasksOf, Starts}
+use Rattle.std.proofs.Common.{w32}
 use Rattle.std.proofs.Math.ListN.{get_or-append}
-use Rattle.std.proofs.Math.Seq.{get_or-append_seam}
-use Rattle.std.proofs.lemmas.Bool.{cases_eq, cases_lt}
 use Rattle.std.proofs.lemmas.Nat.Bits.{bit_at_ones, bit_at_set_same, bit_at_set_other}
-use Rattle.std.proofs.lemmas.Option.{slice_get-get_or, slice_get_cases, slice_get_past}
-use Rattle.std.proofs.lemmas.Option.{slice_get_within, get_or_from_slice_get, none-some}
-use Rattle.regex_lite_syntax.specs.Text.{Text, after}
-use Rattle.regex_lite_syntax.specs.Tree.{Tree}
-use Rattle.regex_lite_syntax.specs.Tree.Matches.{Matches}
+use Rattle.std.proofs.lemmas.Option.{slice_get_cases}
+use Rattle.std.proofs.lemmas.Option.{none-some}
 use Rattle.regex_lite_engine.specs.declared.prefilter.list_heads.thirds.Thirds.{Thirds}
-use Rattle.regex_lite_engine.specs.declared.prefilter.starts.Starts.{Starts}
-use Rattle.regex_lite_engine.specs.Prefilter.Starts.{begins_with, may_begin}
-use Rattle.regex_lite_engine.specs.Prefilter.Thirds.{in_mask, in_some_mask, may_go_on}
-use Rattle.regex_lite_engine.specs.Prefilter.Thirds.{AreMasksOf, IsThirdOfTree}
+use Rattle.regex_lite_engine.specs.Prefilter.Thirds.{in_some_mask}
+use Rattle.regex_lite_engine.specs.Prefilter.Thirds.{IsThirdOfTree}
 use Rattle.regex_lite_engine.proofs.OptionLemmas.{same_some}
 
 pub all_in_mask : (c : ℕ) → in_mask (2 ^ 32 - 1) c ≡ true

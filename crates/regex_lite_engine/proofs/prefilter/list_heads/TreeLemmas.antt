@@ -1,25 +1,17 @@
 -- Where the index leaves a pattern out, its tree does not match.
-use Rattle.std.proofs.Common.{◌≡◌, ℕ, suc, refl, ◌+◌, ◌-◌, ◌<◌, inl, inr, ◌&&◌, ◌||◌}
-use Rattle.std.proofs.Common.{Bool, true, false, IsTrue, List, map, nat_lt}
-use Rattle.std.proofs.Common.{if◌then◌else◌, slice_get, Option, Some, None, ap, sym, ◌∙◌, arith}
-use Rattle.std.proofs.Common.{true≢false}
-use Rattle.std.specs.Prelude.{IfSome, is_none, option_map}
-use Rattle.std.proofs.lemmas.Bool.{cases_lt}
-use Rattle.std.proofs.lemmas.Bool.Decides.{nat_tests}
-use Rattle.std.proofs.lemmas.Option.{slice_get-map}
+use Rattle.regex_lite_engine.proofs.Common.{◌≡◌, ℕ, suc, ◌+◌, ◌-◌, ◌<◌, Bool, true, false, ◌&&◌}
+use Rattle.regex_lite_engine.proofs.Common.{◌||◌, List, map, is_none, IfSome, if◌then◌else◌, IsTrue}
+use Rattle.regex_lite_engine.proofs.Common.{nat_lt, slice_get, Some, None, Option, option_map, sym}
+use Rattle.regex_lite_engine.proofs.Common.{refl, ap, ◌∙◌, inl, inr, true≢false, arith, cases_lt}
+use Rattle.regex_lite_engine.proofs.Common.{nat_tests, slice_get-map, Text, after, Tree, Matches}
+use Rattle.regex_lite_engine.proofs.Common.{AreHeadsOfTree, may_start, may_start_at, IsIndexOf}
+use Rattle.regex_lite_engine.proofs.Common.{column, first_row, second_row, start_row, has}
+use Rattle.regex_lite_engine.proofs.Common.{goes_on_with, belongs, begins_with, may_begin, MayBegin}
+use Rattle.regex_lite_engine.proofs.Common.{IsWider, IsUnionOf, Heads, ListHeads, Starts}
 use Rattle.std.proofs.lemmas.Map.Keys.{any_passes_from_place}
-use Rattle.regex_lite_syntax.specs.Text.{Text, before, after}
-use Rattle.regex_lite_syntax.specs.Tree.{Tree}
-use Rattle.regex_lite_syntax.specs.Tree.Matches.{Matches}
-use Rattle.regex_lite_engine.specs.declared.prefilter.heads.Heads.{Heads}
-use Rattle.regex_lite_engine.specs.declared.prefilter.list_heads.ListHeads.{ListHeads}
-use Rattle.regex_lite_engine.specs.declared.prefilter.starts.Starts.{Starts}
-use Rattle.regex_lite_engine.specs.Prefilter.Heads.{AreHeadsOfTree, AreSecondOfTree}
-use Rattle.regex_lite_engine.specs.Prefilter.ListHeads.{may_start, may_start_at, IsIndexOf}
-use Rattle.regex_lite_engine.specs.Prefilter.Rows.{belongs, column, first_row, goes_on_with, has}
-use Rattle.regex_lite_engine.specs.Prefilter.Rows.{one_belongs, second_row, start_row}
-use Rattle.regex_lite_engine.specs.Prefilter.Starts.{begins_with, may_begin, IsWider, IsUnionOf}
-use Rattle.regex_lite_engine.specs.Prefilter.Starts.{MayBegin}
+use Rattle.regex_lite_syntax.specs.Text.{before}
+use Rattle.regex_lite_engine.specs.Prefilter.Heads.{AreSecondOfTree}
+use Rattle.regex_lite_engine.specs.Prefilter.Rows.{one_belongs}
 use Rattle.regex_lite_engine.proofs.prefilter.starts.StartLemmas.{begins_as_one, may_grown}
 use Rattle.regex_lite_engine.proofs.prefilter.list_heads.WalkLemmas.{column_in}
 

@@ -1,21 +1,20 @@
 -- The words of the rows, and the numbers of the patterns that may start.
-use Rattle.std.proofs.Common.{◌≡◌, ◌==◌, ℕ, zero, suc, ◌+◌, ◌*◌, ◌-◌, ◌%◌, ◌<◌, ◌≤◌, ◌&&◌}
-use Rattle.std.proofs.Common.{◌||◌, Bool, true, false, cond, List, [], ◌∷◌, ◌++◌, length}
-use Rattle.std.proofs.Common.{bit_and, bit_or, slice_index, Option, Some, None, ap, sym, ◌∙◌, arith}
-use Rattle.std.specs.Int.{bit_at}
-use Rattle.std.specs.List.{filter, range_with_len}
-use Rattle.std.specs.Prelude.{is_none, option_map, unwrap_or}
-use Rattle.std.proofs.lemmas.Bool.Decides.{nat_tests}
+use Rattle.regex_lite_engine.proofs.Common.{◌≡◌, ℕ, zero, suc, ◌+◌, ◌-◌, ◌*◌, ◌%◌, ◌<◌, ◌≤◌, Bool}
+use Rattle.regex_lite_engine.proofs.Common.{true, false, cond, ◌&&◌, ◌||◌, List, [], ◌∷◌, ◌++◌}
+use Rattle.regex_lite_engine.proofs.Common.{length, is_none, ◌==◌, slice_index, bit_and, bit_or}
+use Rattle.regex_lite_engine.proofs.Common.{Some, None, Option, option_map, sym, ap, ◌∙◌, arith}
+use Rattle.regex_lite_engine.proofs.Common.{nat_tests, bit_at, range_with_len, may_start, column}
+use Rattle.regex_lite_engine.proofs.Common.{first_row, second_row, start_row, has, set_from}
+use Rattle.regex_lite_engine.proofs.Common.{ListHeads}
+use Rattle.std.specs.List.{filter}
+use Rattle.std.specs.Prelude.{unwrap_or}
 use Rattle.std.proofs.lemmas.Bool.{and_right}
 use Rattle.std.proofs.lemmas.List.{append-nil, length-append}
 use Rattle.std.proofs.lemmas.Nat.Bits.{bit_at-lt, bit_at_and, bit_at_or}
 use Rattle.std.proofs.Math.Bool.{and_self}
-use Rattle.regex_lite_engine.specs.declared.prefilter.list_heads.ListHeads.{ListHeads}
 use Rattle.regex_lite_engine.specs.declared.prefilter.list_heads.rows.Rows.{Rows}
-use Rattle.regex_lite_engine.specs.Prefilter.ListHeads.{may_start, IsWalkable}
+use Rattle.regex_lite_engine.specs.Prefilter.ListHeads.{IsWalkable}
 use Rattle.regex_lite_engine.specs.Prefilter.Pairs.{NeverBeginsWith}
-use Rattle.regex_lite_engine.specs.Prefilter.Rows.{column, first_row, has, second_row, set_from}
-use Rattle.regex_lite_engine.specs.Prefilter.Rows.{start_row}
 use Rattle.regex_lite_engine.proofs.prefilter.list_heads.NumberLemmas.{filter_none}
 use Rattle.regex_lite_engine.proofs.prefilter.list_heads.NumberLemmas.{filter_parts, set_passes}
 use Rattle.regex_lite_engine.proofs.prefilter.list_heads.RowBitLemmas.{word_of_bit}

@@ -1,23 +1,21 @@
 -- Where a match can begin, while characters are added, and what a tree can begin with.
-use Rattle.std.proofs.Common.{◌≡◌, ℕ, zero, suc, ◌+◌, ◌<◌, ◌≤◌, ◌⊎◌, inl, inr, Bool}
-use Rattle.std.proofs.Common.{true, false, IsTrue, List, [], ◌∷◌, length, take, get_or}
-use Rattle.std.proofs.Common.{Option, Some, None, refl, sym, ap, subst, ◌∙◌, arith}
-use Rattle.std.proofs.Common.{nat_lt, slice_index_or, if◌then◌else◌, ◌&&◌, ◌||◌}
-use Rattle.std.specs.Prelude.{replicate, is_none, slice_set, min}
+use Rattle.regex_lite_engine.proofs.Common.{◌≡◌, ℕ, zero, suc, ◌+◌, ◌<◌, ◌≤◌, min, Bool, true}
+use Rattle.regex_lite_engine.proofs.Common.{false, ◌&&◌, ◌||◌, ◌⊎◌, List, [], ◌∷◌, length, get_or}
+use Rattle.regex_lite_engine.proofs.Common.{take, replicate, is_none, if◌then◌else◌, IsTrue, nat_lt}
+use Rattle.regex_lite_engine.proofs.Common.{slice_index_or, slice_set, Some, None, Option, sym}
+use Rattle.regex_lite_engine.proofs.Common.{refl, ap, ◌∙◌, subst, inl, inr, arith, cases_lt}
+use Rattle.regex_lite_engine.proofs.Common.{nat_tests, in_ranges, Text, after, Tree, repetition}
+use Rattle.regex_lite_engine.proofs.Common.{Trees, more, Matches, Chain, SomeBranch, ClassRange}
+use Rattle.regex_lite_engine.proofs.Common.{begins_with, may_begin, MayBegin, IsWider}
+use Rattle.regex_lite_engine.proofs.Common.{BeginsOrPasses, Starts}
 use Rattle.std.specs.Char.{is_ascii}
-use Rattle.std.proofs.lemmas.Bool.{cases_lt, or_right}
-use Rattle.std.proofs.lemmas.Bool.Decides.{nat_tests}
+use Rattle.std.proofs.lemmas.Bool.{or_right}
 use Rattle.regex_lite_syntax.specs.Sets.{span}
-use Rattle.regex_lite_syntax.specs.Ranges.{in_ranges, AreRuns}
-use Rattle.regex_lite_syntax.specs.declared.class.ClassRange.{ClassRange}
+use Rattle.regex_lite_syntax.specs.Ranges.{AreRuns}
 use Rattle.regex_lite_syntax.specs.Ranges.{next_character}
 use Rattle.regex_lite_syntax.proofs.RangeLemmas.{next_above, runs_from}
-use Rattle.regex_lite_syntax.specs.Text.{Text, before, after}
-use Rattle.regex_lite_syntax.specs.Tree.{Tree, Trees, repetition, more}
-use Rattle.regex_lite_syntax.specs.Tree.Matches.{Matches, Passes, Chain, SomeBranch}
-use Rattle.regex_lite_engine.specs.declared.prefilter.starts.Starts.{Starts}
-use Rattle.regex_lite_engine.specs.Prefilter.Starts.{begins_with, may_begin, MayBegin}
-use Rattle.regex_lite_engine.specs.Prefilter.Starts.{IsWider, BeginsOrPasses}
+use Rattle.regex_lite_syntax.specs.Text.{before}
+use Rattle.regex_lite_syntax.specs.Tree.Matches.{Passes}
 
 pub one_is_true : (a b : Bool) → (a || b) ≡ true → (a ≡ true) ⊎ (b ≡ true)
 one_is_true true b e = inl refl

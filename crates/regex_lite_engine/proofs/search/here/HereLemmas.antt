@@ -1,19 +1,16 @@
 -- Where a search stands in the haystack, and the characters beside it.
-use Rattle.std.proofs.Common.{◌≡◌, ℕ, zero, suc, ◌+◌, ◌-◌, ◌<◌, ◌≤◌, ◌⊎◌, inl, inr, List, []}
-use Rattle.std.proofs.Common.{◌∷◌, ◌++◌, length, take, drop, slice_get, Some, None}
-use Rattle.std.proofs.Common.{refl, sym, ap, subst, ◌∙◌, arith, length-append, append-nil}
-use Rattle.std.specs.Prelude.{IsUtf8, IsCharBoundary, chars}
-use Rattle.std.specs.Char.{len_utf8, IsScalar}
+use Rattle.regex_lite_engine.proofs.Common.{◌≡◌, ℕ, zero, suc, ◌+◌, ◌-◌, ◌<◌, ◌≤◌, ◌⊎◌, List, []}
+use Rattle.regex_lite_engine.proofs.Common.{◌∷◌, ◌++◌, length, take, drop, slice_get, Some, None}
+use Rattle.regex_lite_engine.proofs.Common.{IsUtf8, chars, IsCharBoundary, sym, refl, ap, ◌∙◌}
+use Rattle.regex_lite_engine.proofs.Common.{subst, inl, inr, append-nil, arith, length-append}
+use Rattle.regex_lite_engine.proofs.Common.{cases_lt, length-take-le, slice_get_within, IsUtf8-take}
+use Rattle.regex_lite_engine.proofs.Common.{encodes-chars, len_utf8, Text, offset, IsOffset}
+use Rattle.regex_lite_engine.proofs.Common.{position_at, IsHere, Here}
+use Rattle.std.specs.Char.{IsScalar}
 use lib.Utf8.{encode}
-use Rattle.std.proofs.lemmas.Bool.{cases_lt}
-use Rattle.std.proofs.lemmas.List.{length-take-le}
-use Rattle.std.proofs.lemmas.Option.{slice_get_within}
-use Rattle.std.proofs.lemmas.Str.{encodes-chars, chars-append, IsUtf8-take, IsCharBoundary-at_seam}
+use Rattle.std.proofs.lemmas.Str.{chars-append, IsCharBoundary-at_seam}
 use Rattle.std.proofs.lemmas.Str.{IsUtf8-encode, chars-nil, chars_past_char}
-use Rattle.regex_lite_syntax.specs.Text.{Text, before}
-use Rattle.regex_lite_engine.specs.declared.search.here.Here.{Here}
-use Rattle.regex_lite_engine.specs.Search.Offsets.{offset, position_at, IsOffset}
-use Rattle.regex_lite_engine.specs.Search.Standing.{IsHere}
+use Rattle.regex_lite_syntax.specs.Text.{before}
 use Rattle.regex_lite_engine.proofs.OffsetLemmas.{offset_less, offset_most, offset_next}
 use Rattle.regex_lite_engine.proofs.OptionLemmas.{not_there}
 use Rattle.regex_lite_engine.proofs.PositionLemmas.{after_at, chars_cut, position_is, same_position}

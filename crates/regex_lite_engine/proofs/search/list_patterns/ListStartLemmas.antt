@@ -1,23 +1,19 @@
 -- The patterns that may start at a position, as starts in the order of their numbers.
-use Rattle.std.proofs.Common.{◌^◌, ◌≡◌, ℕ, zero, suc, refl, ◌+◌, ◌<◌, ◌≤◌, ◌⊎◌, inl, inr}
-use Rattle.std.proofs.Common.{◌&&◌, Bool, true, false, cond, List, [], ◌∷◌, length}
-use Rattle.std.proofs.Common.{map, get_or, slice_index, ap, sym, subst, ◌∙◌, arith}
-use Rattle.std.specs.List.{All, filter, range_with_len}
+use Rattle.regex_lite_engine.proofs.Common.{◌≡◌, ℕ, zero, suc, ◌+◌, ◌^◌, ◌<◌, ◌≤◌, Bool, true}
+use Rattle.regex_lite_engine.proofs.Common.{false, cond, ◌&&◌, ◌⊎◌, List, [], ◌∷◌, map, length}
+use Rattle.regex_lite_engine.proofs.Common.{get_or, slice_index, sym, refl, ap, ◌∙◌, subst, inl}
+use Rattle.regex_lite_engine.proofs.Common.{inr, arith, cases_eq, cases_lt, get_or_default}
+use Rattle.regex_lite_engine.proofs.Common.{length-map, length-map-range_with_len}
+use Rattle.regex_lite_engine.proofs.Common.{get_or_from_slice_get, slice_get-get_or}
+use Rattle.regex_lite_engine.proofs.Common.{slice_get_within, range_with_len, Text, after}
+use Rattle.regex_lite_engine.proofs.Common.{StoredList, table_of_list, may_start_at}
+use Rattle.regex_lite_engine.proofs.Common.{is_candidate_at, may_go_on, IsEntry, IsDeadAt, IsAmong}
+use Rattle.regex_lite_engine.proofs.Common.{AreStartsAt, AreListHeadsOf, start_numbered, ListHeads}
+use Rattle.regex_lite_engine.proofs.Common.{Start}
+use Rattle.std.specs.List.{All, filter}
 use Rattle.std.proofs.Math.ListN.{get_or-map}
-use Rattle.std.proofs.lemmas.Bool.{cases_lt, cases_eq}
-use Rattle.std.proofs.lemmas.List.{get_or_default, length-map}
-use Rattle.std.proofs.lemmas.List.FromFn.{length-map-range_with_len}
-use Rattle.std.proofs.lemmas.Option.{get_or_from_slice_get, slice_get-get_or, slice_get_within}
-use Rattle.regex_lite_syntax.specs.Text.{Text, after}
-use Rattle.regex_lite_engine.specs.declared.prefilter.list_heads.ListHeads.{ListHeads}
-use Rattle.regex_lite_engine.specs.declared.search.patterns.Start.{Start}
 use Rattle.regex_lite_engine.specs.Graph.Places.{Place}
-use Rattle.regex_lite_engine.specs.Graph.StoredList.{StoredList, table_of_list}
-use Rattle.regex_lite_engine.specs.Prefilter.ListHeads.{is_candidate_at, may_start_at}
-use Rattle.regex_lite_engine.specs.Prefilter.Thirds.{may_go_on}
-use Rattle.regex_lite_engine.specs.Search.NumberedList.{IsEntry}
-use Rattle.regex_lite_engine.specs.Search.Starts.{start_numbered, AreListHeadsOf}
-use Rattle.regex_lite_engine.specs.Search.Starts.{AreAllStarts, AreFrom, AreStartsAt, IsAmong, IsDeadAt}
+use Rattle.regex_lite_engine.specs.Search.Starts.{AreAllStarts, AreFrom}
 
 from_lower : (entries : List ℕ) (a : ℕ) (starts : List Start) → AreFrom entries (a + 1) starts
     → AreFrom entries a starts

@@ -1,7 +1,5 @@
-use Rattle.std.proofs.Common.{◌≡◌, refl, ℕ, max, ◌<◌, false, arith}
-use Rattle.std.proofs.lemmas.Bool.{both_ways}
-use Rattle.regex_lite_syntax.specs.Limits.{depth}
-use Rattle.regex_lite_syntax.specs.Tree.Views.{tree_of}
+use Rattle.regex_lite_syntax.proofs.Common.{◌≡◌, ℕ, ◌<◌, max, false, refl, arith, both_ways, depth}
+use Rattle.regex_lite_syntax.proofs.Common.{tree_of}
 use Rattle.regex_lite_syntax.proofs.hir.DepthLemmas.{depth_from, depth_more, depth_last}
 use Rattle.regex_lite_syntax.proofs.hir.+deeper.Goals as goal
 

@@ -1,4 +1,5 @@
-use Rattle.std.proofs.Common.{◌<◌, ◌↔◌}
+use Rattle.regex_lite_syntax.proofs.Common.{◌<◌}
+use Rattle.std.proofs.Common.{◌↔◌}
 use Rattle.regex_lite_syntax.proofs.hir.DepthLemmas.{depth_from}
 use Rattle.regex_lite_syntax.proofs.hir.+deeper.Given as goal
 

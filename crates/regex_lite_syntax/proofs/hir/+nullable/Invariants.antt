@@ -1,7 +1,6 @@
-use Rattle.std.proofs.Common.{◌≡◌, map, drop}
+use Rattle.regex_lite_syntax.proofs.Common.{◌≡◌, map, drop, tree_of}
 use Rattle.regex_lite_syntax.specs.Tree.{trees as trees_of}
 use Rattle.regex_lite_syntax.specs.Tree.Properties.{all_nullable, any_nullable}
-use Rattle.regex_lite_syntax.specs.Tree.Views.{tree_of}
 use Rattle.regex_lite_syntax.proofs.hir.+nullable.Given as goal
 
 abbrev pub invariant-properties::are_all_nullable-loop-tree :

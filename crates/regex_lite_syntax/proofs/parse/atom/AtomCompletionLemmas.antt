@@ -1,16 +1,12 @@
 -- What completes an escape or a bracketed class completes the item that it is.
-use Rattle.std.proofs.Common.{◌≡◌, refl, sym, ◌∙◌, ap, subst, ℕ, Bool, true, false, ◌&&◌}
-use Rattle.std.proofs.Common.{[], ◌∷◌, ◌++◌, append_assoc, MatchBool}
-use Rattle.std.proofs.lemmas.List.{append-nil}
-use Rattle.regex_lite_syntax.specs.declared.flags.Flags.{Flags}
-use Rattle.regex_lite_syntax.specs.Text.{Text, the}
-use Rattle.regex_lite_syntax.specs.Characters.{is_letter, AreCharacters}
-use Rattle.regex_lite_syntax.specs.Sets.{Set, just, case_closure}
-use Rattle.regex_lite_syntax.specs.Refusals.{Completable}
-use Rattle.regex_lite_syntax.specs.Tree.{Tree, character, class, look}
-use Rattle.regex_lite_syntax.specs.Grammar.Escapes.{Primitive, one, some_of, look_at, Escape}
-use Rattle.regex_lite_syntax.specs.Grammar.Classes.{BracketedClass}
-use Rattle.regex_lite_syntax.specs.Grammar.Atoms.{bracketed, IsClassOf, PrimitiveTree, Atom}
+use Rattle.regex_lite_syntax.proofs.Common.{◌≡◌, ℕ, Bool, true, false, ◌&&◌, [], ◌∷◌, ◌++◌}
+use Rattle.regex_lite_syntax.proofs.Common.{MatchBool, sym, refl, ap, ◌∙◌, subst, append_assoc}
+use Rattle.regex_lite_syntax.proofs.Common.{append-nil, AreCharacters, is_letter, bracketed}
+use Rattle.regex_lite_syntax.proofs.Common.{IsClassOf, PrimitiveTree, Atom, BracketedClass, one}
+use Rattle.regex_lite_syntax.proofs.Common.{some_of, look_at, Escape, Completable, Set, just}
+use Rattle.regex_lite_syntax.proofs.Common.{case_closure, Text, the, Tree, class, look, Flags}
+use Rattle.regex_lite_syntax.specs.Tree.{character}
+use Rattle.regex_lite_syntax.specs.Grammar.Escapes.{Primitive}
 use Rattle.regex_lite_syntax.proofs.CharacterLemmas.{joined_are}
 use Rattle.regex_lite_syntax.proofs.CharacterSetLemmas.{HoldsCharacters, just_character}
 use Rattle.regex_lite_syntax.proofs.CharacterSetLemmas.{closure_characters}

@@ -1,14 +1,9 @@
 -- The trees of items that are no groups.
-use Rattle.std.proofs.Common.{◌≡◌, sym, subst, ℕ, true, IsTrue, MatchBool}
-use Rattle.std.proofs.lemmas.Bool.{and_from}
-use Rattle.regex_lite_syntax.specs.declared.flags.Flags.{Flags}
+use Rattle.regex_lite_syntax.proofs.Common.{◌≡◌, ℕ, true, IsTrue, MatchBool, sym, subst, and_from}
+use Rattle.regex_lite_syntax.proofs.Common.{is_letter, IsClassOf, PrimitiveTree, one, AreRunsOf}
+use Rattle.regex_lite_syntax.proofs.Common.{Set, just, case_closure, Tree, class, Flags}
 use Rattle.regex_lite_syntax.specs.declared.class.Class.{Class}
-use Rattle.regex_lite_syntax.specs.Characters.{is_letter}
-use Rattle.regex_lite_syntax.specs.Sets.{Set, just, case_closure}
-use Rattle.regex_lite_syntax.specs.Ranges.{AreRunsOf}
-use Rattle.regex_lite_syntax.specs.Grammar.Escapes.{one}
-use Rattle.regex_lite_syntax.specs.Tree.{Tree, character, class}
-use Rattle.regex_lite_syntax.specs.Grammar.Atoms.{IsClassOf, PrimitiveTree}
+use Rattle.regex_lite_syntax.specs.Tree.{character}
 
 -- a class with the runs of a set is that set
 pub class_of : (s : Set) (set : Class) (a : Tree) → AreRunsOf set s → a ≡ class set → IsClassOf s a

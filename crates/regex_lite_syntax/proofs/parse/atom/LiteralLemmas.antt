@@ -1,14 +1,9 @@
 -- The characters that stand for themselves are all that are left.
-use Rattle.std.proofs.Common.{◌≡◌, ◌≢◌, refl, sym, ◌∙◌, ap, subst, ℕ, Bool, true, false, ◌∷◌, codes}
-use Rattle.std.proofs.lemmas.Bool.{ne_eqb, not-true}
-use Rattle.regex_lite_syntax.specs.declared.flags.Flags.{Flags}
-use Rattle.regex_lite_syntax.specs.Text.{Text, the}
-use Rattle.regex_lite_syntax.specs.Characters.{is_one_of}
-use Rattle.regex_lite_syntax.specs.Grammar.Escapes.{one}
-use Rattle.regex_lite_syntax.specs.Tree.{Tree}
-use Rattle.regex_lite_syntax.specs.Grammar.Gaps.{EndsGap}
-use Rattle.regex_lite_syntax.specs.Grammar.Atoms.{is_literal, PrimitiveTree, Atom}
-use Rattle.regex_lite_syntax.specs.Parser.Machine.{atom, kind_at, BeginsAtom}
+use Rattle.regex_lite_syntax.proofs.Common.{◌≡◌, ℕ, Bool, true, false, ◌≢◌, ◌∷◌, codes, sym, refl}
+use Rattle.regex_lite_syntax.proofs.Common.{ap, ◌∙◌, subst, ne_eqb, not-true, is_one_of, is_literal}
+use Rattle.regex_lite_syntax.proofs.Common.{PrimitiveTree, Atom, one, EndsGap, kind_at, Text, the}
+use Rattle.regex_lite_syntax.proofs.Common.{Tree, Flags}
+use Rattle.regex_lite_syntax.specs.Parser.Machine.{atom, BeginsAtom}
 use Rattle.regex_lite_syntax.proofs.grammar.AtomLemmas.{NoSign, literal_atom}
 
 -- what begins an item and is no sign has no other meaning

@@ -1,20 +1,18 @@
 -- Items of a class: what their parts say of them.
-use Rattle.std.proofs.Common.{inl, inr, ◌⊎◌, ◌≡◌, ◌≢◌, refl, sym, ◌∙◌, subst, ℕ, Bool}
-use Rattle.std.proofs.Common.{true, false, List, [], ◌∷◌, ◌++◌, arith, append_assoc}
-use Rattle.std.proofs.lemmas.Bool.{false≢true}
-use Rattle.regex_lite_syntax.specs.declared.parse.bracket.item.Element.{Element}
+use Rattle.regex_lite_syntax.proofs.Common.{◌≡◌, ℕ, Bool, true, false, ◌≢◌, ◌⊎◌, List, [], ◌∷◌}
+use Rattle.regex_lite_syntax.proofs.Common.{◌++◌, sym, refl, ◌∙◌, subst, inl, inr, append_assoc}
+use Rattle.regex_lite_syntax.proofs.Common.{arith, false≢true, ClassElement, RangeFollows}
+use Rattle.regex_lite_syntax.proofs.Common.{BeginsItem, ClassItem, named_class, escaped_set, range}
+use Rattle.regex_lite_syntax.proofs.Common.{ClassItems, one, some_of, Escape, EndsGap, WholeGap}
+use Rattle.regex_lite_syntax.proofs.Common.{IsElement, element_set, RangeTo, EndsOpen, at_once}
+use Rattle.regex_lite_syntax.proofs.Common.{past_dash, name_of, Set, Text, Begins, the, Element}
 use Rattle.regex_lite_syntax.specs.declared.parse.bracket.item.Element.TheVariants as elements
-use Rattle.regex_lite_syntax.specs.Text.{Text, Begins, the}
-use Rattle.regex_lite_syntax.specs.Grammar.Gaps.{EndsGap, WholeGap}
-use Rattle.regex_lite_syntax.specs.Sets.{Set}
-use Rattle.regex_lite_syntax.specs.Grammar.Escapes.{Primitive, one, some_of, Escape}
-use Rattle.regex_lite_syntax.specs.Grammar.Classes.{ClassElement, literal, escaped, RangeFollows}
-use Rattle.regex_lite_syntax.specs.Grammar.Classes.{BeginsItem, ClassItem, named_class}
-use Rattle.regex_lite_syntax.specs.Grammar.Classes.{character, escaped_set, range, ClassItems}
-use Rattle.regex_lite_syntax.specs.Parser.SetNames.{name_of}
-use Rattle.regex_lite_syntax.specs.Parser.ClassReadings.{element_primitive, IsElement, element_set}
-use Rattle.regex_lite_syntax.specs.Parser.ClassReadings.{BeginsOperator, RangeTo, EndsOpen}
-use Rattle.regex_lite_syntax.specs.Parser.ClassReadings.{at_once, past_dash, HasItems, IsNamedSet}
+use Rattle.regex_lite_syntax.specs.Grammar.Escapes.{Primitive}
+use Rattle.regex_lite_syntax.specs.Grammar.Classes.{literal, escaped}
+use Rattle.regex_lite_syntax.specs.Grammar.Classes.{character}
+use Rattle.regex_lite_syntax.specs.Parser.ClassReadings.{element_primitive}
+use Rattle.regex_lite_syntax.specs.Parser.ClassReadings.{BeginsOperator}
+use Rattle.regex_lite_syntax.specs.Parser.ClassReadings.{HasItems, IsNamedSet}
 use Rattle.regex_lite_syntax.specs.Parser.ClassReadings.{HasNamedSet}
 use Rattle.regex_lite_syntax.proofs.ListLemmas.{same_head, same_tail}
 use Rattle.regex_lite_syntax.proofs.grammar.GapLemmas.{empty_gap, ends_nothing, whole_gap_once}

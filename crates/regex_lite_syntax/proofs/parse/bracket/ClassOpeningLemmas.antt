@@ -1,12 +1,10 @@
 -- What a class begins with, and the class as a whole.
-use Rattle.std.proofs.Common.{◌≡◌, refl, sym, ◌∙◌, subst, ℕ, zero, suc, ◌+◌}
-use Rattle.std.proofs.Common.{Bool, true, false, List, ◌∷◌, arith, nat_lt}
+use Rattle.regex_lite_syntax.proofs.Common.{◌≡◌, ℕ, zero, suc, ◌+◌, Bool, true, false, List, ◌∷◌}
+use Rattle.regex_lite_syntax.proofs.Common.{nat_lt, sym, refl, ◌∙◌, subst, arith, Takes, Dashes}
+use Rattle.regex_lite_syntax.proofs.Common.{FirstBracket, ClassOpening, ClassItems, only_if}
+use Rattle.regex_lite_syntax.proofs.Common.{class_set, BracketedClass, WholeGap, Set, just, Text}
+use Rattle.regex_lite_syntax.proofs.Common.{Begins, the}
 use Rattle.std.proofs.lemmas.Bool.{lt-ltb}
-use Rattle.regex_lite_syntax.specs.Text.{Text, Begins, the}
-use Rattle.regex_lite_syntax.specs.Grammar.Gaps.{WholeGap}
-use Rattle.regex_lite_syntax.specs.Sets.{Set, just}
-use Rattle.regex_lite_syntax.specs.Grammar.Classes.{Takes, Dashes, FirstBracket, ClassOpening}
-use Rattle.regex_lite_syntax.specs.Grammar.Classes.{ClassItems, only_if, class_set, BracketedClass}
 use Rattle.regex_lite_syntax.proofs.grammar.ClassLemmas.{opening_once}
 
 -- one more dash

@@ -1,14 +1,9 @@
 -- The characters of a class, as its ranges are put together.
-use Rattle.std.proofs.Common.{◌≡◌, refl, sym, ◌∙◌, ap, subst, ℕ, Bool, true}
-use Rattle.std.proofs.Common.{false, ◌||◌, List, [], ◌∷◌, ◌++◌, IsTrue, arith}
+use Rattle.regex_lite_syntax.proofs.Common.{◌≡◌, ℕ, Bool, true, false, ◌||◌, List, [], ◌∷◌, ◌++◌}
+use Rattle.regex_lite_syntax.proofs.Common.{IsTrue, sym, refl, ap, ◌∙◌, subst, arith, nat_tests}
+use Rattle.regex_lite_syntax.proofs.Common.{is_character, BracketedClass, in_ranges, Set, just}
+use Rattle.regex_lite_syntax.proofs.Common.{span, union, Text, ClassRange}
 use Rattle.std.proofs.Math.Path.{fun_ext}
-use Rattle.std.proofs.lemmas.Bool.Decides.{nat_tests}
-use Rattle.regex_lite_syntax.specs.declared.class.ClassRange.{ClassRange}
-use Rattle.regex_lite_syntax.specs.Text.{Text}
-use Rattle.regex_lite_syntax.specs.Characters.{is_character}
-use Rattle.regex_lite_syntax.specs.Sets.{Set, just, span, union}
-use Rattle.regex_lite_syntax.specs.Ranges.{in_ranges}
-use Rattle.regex_lite_syntax.specs.Grammar.Classes.{BracketedClass}
 
 or_false : (b : Bool) → (b || false) ≡ b
 or_false true = refl

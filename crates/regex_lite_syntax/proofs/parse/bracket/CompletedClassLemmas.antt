@@ -1,14 +1,10 @@
 -- A class that more of the pattern completes.
-use Rattle.std.proofs.Common.{◌≡◌, refl, sym, ap, subst, ℕ, zero, suc, Bool, true, List, []}
-use Rattle.std.proofs.Common.{◌∷◌, ◌++◌, append_assoc, arith}
-use Rattle.std.proofs.lemmas.Bool.{false≢true}
-use Rattle.regex_lite_syntax.specs.Text.{Text, Begins, the}
-use Rattle.regex_lite_syntax.specs.Sets.{Set, just}
-use Rattle.regex_lite_syntax.specs.Grammar.Gaps.{EndsGap, WholeGap}
-use Rattle.regex_lite_syntax.specs.Grammar.Classes.{ClassItem, character, Takes, takes, leaves}
-use Rattle.regex_lite_syntax.specs.Grammar.Classes.{Dashes, FirstBracket, ClassOpening, ClassItems}
-use Rattle.regex_lite_syntax.specs.Grammar.Classes.{BracketedClass}
-use Rattle.regex_lite_syntax.specs.Refusals.{Completable}
+use Rattle.regex_lite_syntax.proofs.Common.{◌≡◌, ℕ, zero, suc, Bool, true, List, [], ◌∷◌, ◌++◌, sym}
+use Rattle.regex_lite_syntax.proofs.Common.{refl, ap, subst, append_assoc, arith, false≢true}
+use Rattle.regex_lite_syntax.proofs.Common.{ClassItem, Takes, takes, leaves, Dashes, FirstBracket}
+use Rattle.regex_lite_syntax.proofs.Common.{ClassOpening, ClassItems, BracketedClass, EndsGap}
+use Rattle.regex_lite_syntax.proofs.Common.{WholeGap, Completable, Set, just, Text, Begins, the}
+use Rattle.regex_lite_syntax.specs.Grammar.Classes.{character}
 use Rattle.regex_lite_syntax.proofs.grammar.GapLemmas.{ends_any}
 use Rattle.regex_lite_syntax.proofs.grammar.LongerGapLemmas.{whole_longer}
 use Rattle.regex_lite_syntax.proofs.grammar.ResumedGapLemmas.{resumed, resumed_characters}

@@ -1,21 +1,16 @@
 -- Items of a class that more of the pattern completes.
-use Rattle.std.proofs.Common.{inl, ◌≢◌, refl, sym, subst, ℕ, ◌≤◌, Bool, true, false}
-use Rattle.std.proofs.Common.{List, [], ◌∷◌, ◌++◌, IsTrue, append_assoc, arith}
-use Rattle.std.proofs.lemmas.Bool.{false≢true}
-use Rattle.regex_lite_syntax.specs.declared.parse.bracket.item.Element.{Element}
+use Rattle.regex_lite_syntax.proofs.Common.{ℕ, ◌≤◌, Bool, true, false, ◌≢◌, List, [], ◌∷◌, ◌++◌}
+use Rattle.regex_lite_syntax.proofs.Common.{IsTrue, sym, refl, subst, inl, append_assoc, arith}
+use Rattle.regex_lite_syntax.proofs.Common.{false≢true, AreCharacters, ClassElement, RangeFollows}
+use Rattle.regex_lite_syntax.proofs.Common.{BeginsItem, NamedClass, ClassItem, named_class}
+use Rattle.regex_lite_syntax.proofs.Common.{ClassItems, one, EndsGap, WholeGap, SetName, IsElement}
+use Rattle.regex_lite_syntax.proofs.Common.{element_set, RangeTo, EndsOpen, at_once, past_dash}
+use Rattle.regex_lite_syntax.proofs.Common.{Completable, Set, just, Text, Begins, the, Element}
 use Rattle.regex_lite_syntax.specs.declared.parse.bracket.item.Element.TheVariants as elements
-use Rattle.regex_lite_syntax.specs.Text.{Text, Begins, the, ◌∈◌}
-use Rattle.regex_lite_syntax.specs.Characters.{AreCharacters}
-use Rattle.regex_lite_syntax.specs.Sets.{Set, just}
-use Rattle.regex_lite_syntax.specs.NamedSets.{SetName}
-use Rattle.regex_lite_syntax.specs.Grammar.Gaps.{EndsGap, WholeGap}
-use Rattle.regex_lite_syntax.specs.Grammar.Escapes.{Primitive, one}
-use Rattle.regex_lite_syntax.specs.Grammar.Classes.{ClassElement, RangeFollows, BeginsItem}
-use Rattle.regex_lite_syntax.specs.Grammar.Classes.{NamedClass, ClassItem, named_class, character}
-use Rattle.regex_lite_syntax.specs.Grammar.Classes.{ClassItems}
-use Rattle.regex_lite_syntax.specs.Parser.ClassReadings.{element_primitive, IsElement, element_set}
-use Rattle.regex_lite_syntax.specs.Parser.ClassReadings.{RangeTo, EndsOpen, at_once, past_dash}
-use Rattle.regex_lite_syntax.specs.Refusals.{Completable}
+use Rattle.regex_lite_syntax.specs.Text.{◌∈◌}
+use Rattle.regex_lite_syntax.specs.Grammar.Escapes.{Primitive}
+use Rattle.regex_lite_syntax.specs.Grammar.Classes.{character}
+use Rattle.regex_lite_syntax.specs.Parser.ClassReadings.{element_primitive}
 use Rattle.regex_lite_syntax.proofs.CharacterLemmas.{joined_are}
 use Rattle.regex_lite_syntax.proofs.ListLemmas.{same_head}
 use Rattle.regex_lite_syntax.proofs.grammar.GapLemmas.{empty_gap, ends_any, gap_at_end}

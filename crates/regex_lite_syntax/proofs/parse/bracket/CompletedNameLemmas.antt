@@ -1,16 +1,11 @@
 -- Sets with names in a class that more of the pattern completes.
-use Rattle.std.proofs.Common.{◌≡◌, refl, sym, ◌∙◌, ap, subst, ℕ, ◌≤◌, ◌<◌, Bool, true, false}
-use Rattle.std.proofs.Common.{◌==◌, ◌&&◌, drop, length, [], ◌∷◌, ◌++◌, Some, IsTrue, codes}
-use Rattle.std.proofs.Common.{arith, if◌then◌else◌}
-use Rattle.std.specs.List.{AllPass, list_all}
-use Rattle.std.proofs.lemmas.Bool.{and_parts, both_ways, eqb-true}
-use Rattle.std.proofs.lemmas.Bool.Decides.{nat_tests}
-use Rattle.std.proofs.lemmas.List.Sums.{AllPass-from_list_all, list_all-from_AllPass}
-use Rattle.regex_lite_syntax.specs.Text.{Text, Begins, the}
-use Rattle.regex_lite_syntax.specs.Characters.{is_lower, AreCharacters}
-use Rattle.regex_lite_syntax.specs.NamedSets.{SetName, word, set_named}
-use Rattle.regex_lite_syntax.specs.Grammar.Classes.{NamedClass}
-use Rattle.regex_lite_syntax.specs.Refusals.{Completable}
+use Rattle.regex_lite_syntax.proofs.Common.{◌≡◌, ℕ, ◌<◌, ◌≤◌, Bool, true, false, ◌&&◌, [], ◌∷◌}
+use Rattle.regex_lite_syntax.proofs.Common.{◌++◌, length, drop, if◌then◌else◌, IsTrue, ◌==◌, Some}
+use Rattle.regex_lite_syntax.proofs.Common.{codes, sym, refl, ap, ◌∙◌, subst, arith, and_parts}
+use Rattle.regex_lite_syntax.proofs.Common.{both_ways, eqb-true, nat_tests, AllPass-from_list_all}
+use Rattle.regex_lite_syntax.proofs.Common.{list_all-from_AllPass, AllPass, list_all, AreCharacters}
+use Rattle.regex_lite_syntax.proofs.Common.{is_lower, NamedClass, SetName, set_named, word}
+use Rattle.regex_lite_syntax.proofs.Common.{Completable, Text, Begins, the}
 use Rattle.regex_lite_syntax.proofs.ListLemmas.{same_head, same_tail}
 use Rattle.regex_lite_syntax.proofs.grammar.ClassLemmas.{negation_once, no_negation}
 use Rattle.regex_lite_syntax.proofs.grammar.LongerClassLemmas.{negation_longer}

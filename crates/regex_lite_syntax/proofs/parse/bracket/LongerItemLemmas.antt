@@ -1,23 +1,16 @@
 -- Items of a class in a longer text that begins with the text, and what is refused in each.
-use Rattle.std.proofs.Common.{◌≡◌, ◌≢◌, refl, sym, ◌∙◌, ap, subst, ℕ, Bool, true, false}
-use Rattle.std.proofs.Common.{[], ◌∷◌, ◌++◌, codes, if◌then◌else◌}
-use Rattle.std.proofs.Common.{append_assoc}
-use Rattle.std.proofs.lemmas.List.{append-nil}
-use Rattle.std.specs.List.{AllPass}
-use Rattle.regex_lite_syntax.specs.declared.parse.bracket.item.Element.{Element}
+use Rattle.regex_lite_syntax.proofs.Common.{◌≡◌, ℕ, Bool, true, false, ◌≢◌, [], ◌∷◌, ◌++◌}
+use Rattle.regex_lite_syntax.proofs.Common.{if◌then◌else◌, codes, sym, refl, ap, ◌∙◌, subst}
+use Rattle.regex_lite_syntax.proofs.Common.{append_assoc, append-nil, AllPass, is_lower}
+use Rattle.regex_lite_syntax.proofs.Common.{ClassElement, RangeFollows, BeginsItem, NamedClass}
+use Rattle.regex_lite_syntax.proofs.Common.{ClassItem, one, EscapeKind, gives, word_boundary}
+use Rattle.regex_lite_syntax.proofs.Common.{hexadecimal, refused, escape_kind, EscapeFrom, WholeGap}
+use Rattle.regex_lite_syntax.proofs.Common.{SetName, IsElement, RangeTo, Lacks, Set, Text, Begins}
+use Rattle.regex_lite_syntax.proofs.Common.{the, Element}
 use Rattle.regex_lite_syntax.specs.declared.parse.bracket.item.Element.TheVariants as elements
-use Rattle.regex_lite_syntax.specs.Text.{Text, Begins, the}
-use Rattle.regex_lite_syntax.specs.Characters.{is_lower}
-use Rattle.regex_lite_syntax.specs.NamedSets.{SetName}
-use Rattle.regex_lite_syntax.specs.Sets.{Set}
-use Rattle.regex_lite_syntax.specs.Grammar.Gaps.{WholeGap}
-use Rattle.regex_lite_syntax.specs.Grammar.Escapes.{Primitive, one, EscapeKind, gives}
-use Rattle.regex_lite_syntax.specs.Grammar.Escapes.{word_boundary, hexadecimal, refused}
-use Rattle.regex_lite_syntax.specs.Grammar.Escapes.{escape_kind, EscapeFrom}
-use Rattle.regex_lite_syntax.specs.Grammar.Classes.{ClassElement, literal, escaped}
-use Rattle.regex_lite_syntax.specs.Grammar.Classes.{BeginsItem, NamedClass, RangeFollows, ClassItem}
-use Rattle.regex_lite_syntax.specs.Parser.ClassReadings.{IsNamedSet, BeginsOperator, RangeTo}
-use Rattle.regex_lite_syntax.specs.Parser.ClassReadings.{IsElement, Lacks}
+use Rattle.regex_lite_syntax.specs.Grammar.Escapes.{Primitive}
+use Rattle.regex_lite_syntax.specs.Grammar.Classes.{literal, escaped}
+use Rattle.regex_lite_syntax.specs.Parser.ClassReadings.{IsNamedSet, BeginsOperator}
 use Rattle.regex_lite_syntax.proofs.ListLemmas.{same_head, same_tail}
 use Rattle.regex_lite_syntax.proofs.grammar.ClassLemmas.{name_once}
 use Rattle.regex_lite_syntax.proofs.grammar.LongerGapLemmas.{whole_longer}

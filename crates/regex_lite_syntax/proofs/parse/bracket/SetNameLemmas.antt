@@ -1,19 +1,17 @@
 -- The names of sets, and what begins one of them.
-use Rattle.std.proofs.Common.{◌≡◌, refl, sym, ◌∙◌, ap, subst, ℕ, Bool, true, false, ◌==◌}
-use Rattle.std.proofs.Common.{List, [], ◌∷◌, ◌++◌, Some, None, IsTrue, if◌then◌else◌, arith}
-use Rattle.std.specs.Prelude.{find, option_map, Option}
-use Rattle.std.specs.List.{list_any, list_all}
-use Rattle.std.proofs.lemmas.Bool.{and_parts, and_from, both_ways, eqb-true, or_left, or_right}
-use Rattle.std.proofs.lemmas.Bool.Decides.{nat_tests}
+use Rattle.regex_lite_syntax.proofs.Common.{◌≡◌, ℕ, Bool, true, false, List, [], ◌∷◌, ◌++◌}
+use Rattle.regex_lite_syntax.proofs.Common.{if◌then◌else◌, IsTrue, ◌==◌, Some, None, Option}
+use Rattle.regex_lite_syntax.proofs.Common.{option_map, sym, refl, ap, ◌∙◌, subst, arith, and_from}
+use Rattle.regex_lite_syntax.proofs.Common.{and_parts, both_ways, eqb-true, or_left, or_right}
+use Rattle.regex_lite_syntax.proofs.Common.{nat_tests, list_all, list_any, is_character}
+use Rattle.regex_lite_syntax.proofs.Common.{AreCharacters, is_lower, SetName, set_named}
+use Rattle.regex_lite_syntax.proofs.Common.{is_beginning, name_of, Text, is_text}
+use Rattle.std.specs.Prelude.{find}
 use Rattle.std.proofs.lemmas.List.Folds.{Any-from_list_any}
 use Rattle.regex_lite_syntax.specs.declared.class.named.NamedSet.{NamedSet}
 use Rattle.regex_lite_syntax.specs.declared.class.named.NamedSet.TheVariants as sets
 use Rattle.regex_lite_syntax.specs.declared.parse.bracket.named.TheConstants.{ALL}
-use Rattle.regex_lite_syntax.specs.Text.{Text, is_text}
-use Rattle.regex_lite_syntax.specs.Characters.{is_lower, is_character, AreCharacters}
-use Rattle.regex_lite_syntax.specs.NamedSets.{SetName, set_named}
-use Rattle.regex_lite_syntax.specs.Parser.SetNames.{name_of}
-use Rattle.regex_lite_syntax.specs.Parser.ClassReadings.{set_name, is_beginning}
+use Rattle.regex_lite_syntax.specs.Parser.ClassReadings.{set_name}
 
 -- the name of a choice is a choice of names
 map_if : (b : Bool) (set : NamedSet) (others : Option NamedSet) (names : Option SetName)

@@ -1,5 +1,4 @@
-use Rattle.std.proofs.Common.{rules}
-use Rattle.std.proofs.lemmas.Str.{chars_from_encodes}
+use Rattle.regex_lite_syntax.proofs.Common.{rules, chars_from_encodes}
 use Rattle.regex_lite_syntax.proofs.parse.characters.Goals as goal
 
 pub returns : goal.returns

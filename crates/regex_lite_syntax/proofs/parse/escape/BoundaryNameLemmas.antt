@@ -1,10 +1,7 @@
 -- The names of looks.
-use Rattle.std.proofs.Common.{◌⊎◌, inl, inr, ◌≡◌, refl, Bool, true}
-use Rattle.std.proofs.Common.{false, cond, [], ◌∷◌, IsTrue, Option, Some, codes}
-use Rattle.std.proofs.lemmas.Bool.{and_parts, eqb-true}
-use Rattle.regex_lite_syntax.specs.declared.hir.look.Look.{Look}
-use Rattle.regex_lite_syntax.specs.Text.{Text, is_text}
-use Rattle.regex_lite_syntax.specs.Grammar.Escapes.{boundary_named}
+use Rattle.regex_lite_syntax.proofs.Common.{◌≡◌, Bool, true, false, cond, ◌⊎◌, [], ◌∷◌, IsTrue}
+use Rattle.regex_lite_syntax.proofs.Common.{Some, codes, Option, refl, inl, inr, and_parts}
+use Rattle.regex_lite_syntax.proofs.Common.{eqb-true, boundary_named, Text, is_text, Look}
 
 same_text : (t u : Text) → IsTrue (is_text t u) → t ≡ u
 same_text [] [] e = refl

@@ -1,17 +1,10 @@
 -- Hexadecimal digits that complete a number at the end of a pattern.
-use Rattle.std.proofs.Common.{◌≡◌, refl, subst, ℕ, Bool, [], ◌∷◌, ◌++◌, IsTrue}
-use Rattle.std.proofs.Common.{codes, rules, ◌+◌, ◌<◌, ◌≤◌, length, arith, append_assoc}
-use Rattle.std.specs.List.{list_all}
-use Rattle.std.proofs.lemmas.Bool.{and_parts, and_from}
-use Rattle.std.proofs.lemmas.List.{append-nil}
-use Rattle.std.proofs.lemmas.Bool.Decides.{nat_tests}
-use Rattle.regex_lite_syntax.specs.Text.{Text, the}
-use Rattle.regex_lite_syntax.specs.Characters.{is_character, is_hex_digit, AreCharacters}
-use Rattle.regex_lite_syntax.specs.Grammar.Gaps.{Gap, Spaced}
-use Rattle.regex_lite_syntax.specs.Grammar.Escapes.{FixedDigits, BracedDigits}
-use Rattle.regex_lite_syntax.specs.Grammar.Escapes.{Hexadecimal, braced}
-use Rattle.regex_lite_syntax.specs.Parser.FurtherDigits.{Reaches, number_on}
-use Rattle.regex_lite_syntax.specs.Refusals.{Completable}
+use Rattle.regex_lite_syntax.proofs.Common.{◌≡◌, ℕ, ◌+◌, ◌<◌, ◌≤◌, Bool, [], ◌∷◌, ◌++◌, length}
+use Rattle.regex_lite_syntax.proofs.Common.{IsTrue, codes, refl, subst, append_assoc, arith, rules}
+use Rattle.regex_lite_syntax.proofs.Common.{and_from, and_parts, nat_tests, append-nil, list_all}
+use Rattle.regex_lite_syntax.proofs.Common.{is_character, AreCharacters, is_hex_digit, FixedDigits}
+use Rattle.regex_lite_syntax.proofs.Common.{BracedDigits, Hexadecimal, braced, Gap, Spaced}
+use Rattle.regex_lite_syntax.proofs.Common.{number_on, Reaches, Completable, Text, the}
 use Rattle.regex_lite_syntax.proofs.grammar.CompletedGapLemmas.{spaced_on, gap_completed}
 use Rattle.regex_lite_syntax.proofs.grammar.CompletedGapLemmas.{spaced_together, all_characters}
 use Rattle.regex_lite_syntax.proofs.grammar.GapLemmas.{empty_gap}

@@ -1,14 +1,11 @@
 -- Hexadecimal digits that go on from a number that has been read.
-use Rattle.std.proofs.Common.{inl, inr, ◌≡◌, refl, sym, ◌∙◌, ap, subst, ℕ, ◌+◌, ◌*◌}
-use Rattle.std.proofs.Common.{◌<◌, ◌≤◌, length, Bool, [], ◌∷◌, ◌++◌, IsTrue, arith}
-use Rattle.std.proofs.lemmas.Bool.{and_parts, ltb-true, or_cases}
+use Rattle.regex_lite_syntax.proofs.Common.{◌≡◌, ℕ, ◌+◌, ◌*◌, ◌<◌, ◌≤◌, Bool, [], ◌∷◌, ◌++◌, length}
+use Rattle.regex_lite_syntax.proofs.Common.{IsTrue, sym, refl, ap, ◌∙◌, subst, inl, inr, arith}
+use Rattle.regex_lite_syntax.proofs.Common.{and_parts, or_cases, is_character, is_hex_digit}
+use Rattle.regex_lite_syntax.proofs.Common.{digit_value, FixedDigits, Gap, WholeGap, Spaced, Lacks}
+use Rattle.regex_lite_syntax.proofs.Common.{number_on, Text, Begins, the}
+use Rattle.std.proofs.lemmas.Bool.{ltb-true}
 use Rattle.std.specs.Char.{OutOfScalarRange}
-use Rattle.regex_lite_syntax.specs.Text.{Text, Begins, the}
-use Rattle.regex_lite_syntax.specs.Characters.{is_character, is_hex_digit, digit_value}
-use Rattle.regex_lite_syntax.specs.Grammar.Gaps.{Gap, WholeGap, Spaced}
-use Rattle.regex_lite_syntax.specs.Grammar.Escapes.{FixedDigits}
-use Rattle.regex_lite_syntax.specs.Parser.ClassReadings.{Lacks}
-use Rattle.regex_lite_syntax.specs.Parser.FurtherDigits.{number_on}
 use Rattle.regex_lite_syntax.proofs.ListLemmas.{same_head}
 use Rattle.regex_lite_syntax.proofs.grammar.LongerGapLemmas.{whole_longer}
 use Rattle.regex_lite_syntax.proofs.grammar.SpacedLemmas.{hex_digits_end, brace_past}

@@ -1,18 +1,10 @@
 -- Names of looks that the pattern ends inside.
-use Rattle.std.proofs.Common.{◌≡◌, refl, sym, ◌∙◌, ap, subst, ℕ, Bool, [], ◌∷◌, ◌++◌, IsTrue}
-use Rattle.std.proofs.Common.{Some, append_assoc, arith}
-use Rattle.std.specs.List.{list_all}
-use Rattle.std.proofs.lemmas.Bool.{and_parts}
-use Rattle.std.proofs.lemmas.Bool.Decides.{nat_tests}
-use Rattle.std.proofs.lemmas.List.Folds.{list_all-append}
-use Rattle.regex_lite_syntax.specs.declared.hir.look.Look.{Look}
-use Rattle.regex_lite_syntax.specs.Text.{Text, Begins, the}
-use Rattle.regex_lite_syntax.specs.Characters.{is_character}
-use Rattle.regex_lite_syntax.specs.Grammar.Gaps.{Gap, WholeGap, Spaced}
-use Rattle.regex_lite_syntax.specs.Grammar.Escapes.{is_boundary_character}
-use Rattle.regex_lite_syntax.specs.Grammar.Escapes.{boundary_named, BoundaryName}
-use Rattle.regex_lite_syntax.specs.Parser.BoundaryNames.{EndsInName}
-use Rattle.regex_lite_syntax.specs.Refusals.{Completable}
+use Rattle.regex_lite_syntax.proofs.Common.{◌≡◌, ℕ, Bool, [], ◌∷◌, ◌++◌, IsTrue, Some, sym, refl}
+use Rattle.regex_lite_syntax.proofs.Common.{ap, ◌∙◌, subst, append_assoc, arith, and_parts}
+use Rattle.regex_lite_syntax.proofs.Common.{nat_tests, list_all-append, list_all, is_character}
+use Rattle.regex_lite_syntax.proofs.Common.{is_boundary_character, boundary_named, BoundaryName}
+use Rattle.regex_lite_syntax.proofs.Common.{Gap, WholeGap, Spaced, EndsInName, Completable, Text}
+use Rattle.regex_lite_syntax.proofs.Common.{Begins, the, Look}
 use Rattle.regex_lite_syntax.proofs.ListLemmas.{same_head, same_tail}
 use Rattle.regex_lite_syntax.proofs.grammar.GapLemmas.{gap_once, gap_to_end}
 use Rattle.regex_lite_syntax.proofs.grammar.LongerGapLemmas.{gap_before, spaced_longer}

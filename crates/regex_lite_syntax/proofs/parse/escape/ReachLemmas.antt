@@ -1,16 +1,12 @@
 -- Which numbers hexadecimal digits make of one that has been read.
-use Rattle.std.proofs.Common.{◌≡◌, refl, sym, ◌∙◌, ap, subst, ℕ, zero, suc, ◌+◌, ◌*◌, ◌/◌, ◌%◌}
-use Rattle.std.proofs.Common.{◌<◌, ◌≤◌, length, true, [], ◌∷◌, ◌++◌, IsTrue}
-use Rattle.std.proofs.Common.{codes, arith, length-append, min, ◌&&◌, ◌==◌, nat_lt}
-use Rattle.std.proofs.Common.{if◌then◌else◌}
-use Rattle.std.specs.List.{list_all}
-use Rattle.std.proofs.lemmas.Bool.{and_parts, and_from, agree_below_at, eqb-true}
-use Rattle.std.proofs.lemmas.Bool.Decides.{nat_tests}
-use Rattle.std.proofs.lemmas.List.Sums.{fold-append}
-use Rattle.std.proofs.lemmas.List.Folds.{list_all-append}
-use Rattle.regex_lite_syntax.specs.Text.{Text}
-use Rattle.regex_lite_syntax.specs.Characters.{is_character, is_hex_digit, digit_value}
-use Rattle.regex_lite_syntax.specs.Parser.FurtherDigits.{number_on, Reaches}
+use Rattle.regex_lite_syntax.proofs.Common.{◌≡◌, ℕ, zero, suc, ◌+◌, ◌*◌, ◌/◌, ◌%◌, ◌<◌, ◌≤◌, min}
+use Rattle.regex_lite_syntax.proofs.Common.{true, ◌&&◌, [], ◌∷◌, ◌++◌, length, if◌then◌else◌}
+use Rattle.regex_lite_syntax.proofs.Common.{IsTrue, nat_lt, ◌==◌, codes, sym, refl, ap, ◌∙◌, subst}
+use Rattle.regex_lite_syntax.proofs.Common.{arith, length-append, and_from, and_parts, eqb-true}
+use Rattle.regex_lite_syntax.proofs.Common.{nat_tests, list_all-append, fold-append, list_all}
+use Rattle.regex_lite_syntax.proofs.Common.{is_character, is_hex_digit, digit_value, number_on}
+use Rattle.regex_lite_syntax.proofs.Common.{Reaches, Text}
+use Rattle.std.proofs.lemmas.Bool.{agree_below_at}
 use Rattle.regex_lite_syntax.proofs.parse.escape.DigitLemmas.{on_grows, character_below}
 
 -- the least and the greatest number that this many further digits can make of a number

@@ -1,18 +1,12 @@
 -- What completes flags at which the pattern ends, and where nothing does.
-use Rattle.std.proofs.Common.{inl, inr, ◌≡◌, refl, sym, ◌∙◌, ap, subst, ℕ, ◌<◌, Bool, true}
-use Rattle.std.proofs.Common.{false, ◌==◌, length, [], ◌∷◌, ◌++◌, IsTrue, codes, arith}
-use Rattle.std.proofs.Common.{append_assoc}
-use Rattle.std.proofs.lemmas.Bool.{both_ways, and_parts, and_from, or_cases, eqb-true}
-use Rattle.std.proofs.lemmas.List.{append-nil}
-use Rattle.std.proofs.lemmas.List.Sums.{AllPass-from_list_all}
-use Rattle.std.specs.List.{AllPass, list_all}
-use Rattle.regex_lite_syntax.specs.declared.flags.Flags.{Flags}
-use Rattle.regex_lite_syntax.specs.Text.{Text, the}
-use Rattle.regex_lite_syntax.specs.Characters.{is_one_of, is_character, AreCharacters}
-use Rattle.regex_lite_syntax.specs.Refusals.{Completable}
-use Rattle.regex_lite_syntax.specs.Grammar.FlagLetters.{is_flag_letter, with_flags, all_differ}
-use Rattle.regex_lite_syntax.specs.Grammar.FlagLetters.{setting, clearing}
-use Rattle.regex_lite_syntax.specs.Parser.FlagRuns.{EndedFlags, LetterRun}
+use Rattle.regex_lite_syntax.proofs.Common.{◌≡◌, ℕ, ◌<◌, Bool, true, false, [], ◌∷◌, ◌++◌, length}
+use Rattle.regex_lite_syntax.proofs.Common.{IsTrue, ◌==◌, codes, sym, refl, ap, ◌∙◌, subst, inl}
+use Rattle.regex_lite_syntax.proofs.Common.{inr, append_assoc, arith, and_from, and_parts}
+use Rattle.regex_lite_syntax.proofs.Common.{both_ways, eqb-true, or_cases, append-nil}
+use Rattle.regex_lite_syntax.proofs.Common.{AllPass-from_list_all, AllPass, list_all, is_character}
+use Rattle.regex_lite_syntax.proofs.Common.{AreCharacters, is_one_of, is_flag_letter, with_flags}
+use Rattle.regex_lite_syntax.proofs.Common.{all_differ, setting, clearing, EndedFlags, LetterRun}
+use Rattle.regex_lite_syntax.proofs.Common.{Completable, Text, the, Flags}
 use Rattle.regex_lite_syntax.proofs.parse.letters.FlagRunLemmas.{all_pass_middle}
 use Rattle.regex_lite_syntax.proofs.parse.letters.FlagRunLemmas.{differ_one_more, differ_middle}
 use Rattle.regex_lite_syntax.proofs.parse.letters.WholeFlagLemmas.{Cleared}

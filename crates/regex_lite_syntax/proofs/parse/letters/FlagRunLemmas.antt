@@ -1,17 +1,15 @@
 -- Runs of flag letters, and what they say of a run that begins there.
-use Rattle.std.proofs.Common.{inl, inr, ◌≡◌, refl, sym, ◌∙◌, ap, subst, ℕ, Bool, true}
-use Rattle.std.proofs.Common.{false, ◌||◌, ◌==◌, [], ◌∷◌, ◌++◌, IsTrue, codes, append_assoc}
-use Rattle.std.proofs.lemmas.Bool.{both_ways, and_parts, and_from, or_parts, or_from, or_cases}
-use Rattle.std.proofs.lemmas.Bool.{not-true, not_from_false, eqb-true, eqb-false, ne_eqb}
-use Rattle.std.proofs.lemmas.List.Folds.{list_all-append, list_any-append}
-use Rattle.regex_lite_syntax.specs.declared.flags.Flags.{Flags}
-use Rattle.std.specs.List.{AllPass, list_all}
-use Rattle.std.proofs.lemmas.List.Sums.{list_all-from_AllPass}
-use Rattle.regex_lite_syntax.specs.Text.{Text, the}
-use Rattle.regex_lite_syntax.specs.Characters.{is_one_of}
-use Rattle.regex_lite_syntax.specs.Grammar.FlagLetters.{is_flag_letter, with_flag}
-use Rattle.regex_lite_syntax.specs.Grammar.FlagLetters.{with_flags, all_differ}
-use Rattle.regex_lite_syntax.specs.Parser.FlagRuns.{EndsRun, LetterRun}
+use Rattle.regex_lite_syntax.proofs.Common.{◌≡◌, ℕ, Bool, true, false, ◌||◌, [], ◌∷◌, ◌++◌, IsTrue}
+use Rattle.regex_lite_syntax.proofs.Common.{◌==◌, codes, sym, refl, ap, ◌∙◌, subst, inl, inr}
+use Rattle.regex_lite_syntax.proofs.Common.{append_assoc, and_from, and_parts, both_ways, eqb-false}
+use Rattle.regex_lite_syntax.proofs.Common.{eqb-true, ne_eqb, not-true, not_from_false, or_cases}
+use Rattle.regex_lite_syntax.proofs.Common.{or_parts, list_all-append, list_all-from_AllPass}
+use Rattle.regex_lite_syntax.proofs.Common.{AllPass, list_all, is_one_of, is_flag_letter}
+use Rattle.regex_lite_syntax.proofs.Common.{with_flags, all_differ, EndsRun, LetterRun, Text, the}
+use Rattle.regex_lite_syntax.proofs.Common.{Flags}
+use Rattle.std.proofs.lemmas.Bool.{or_from}
+use Rattle.std.proofs.lemmas.List.Folds.{list_any-append}
+use Rattle.regex_lite_syntax.specs.Grammar.FlagLetters.{with_flag}
 use Rattle.regex_lite_syntax.proofs.ListLemmas.{same_head, same_tail}
 use Rattle.regex_lite_syntax.proofs.grammar.FlagLetterLemmas.{word_once}
 

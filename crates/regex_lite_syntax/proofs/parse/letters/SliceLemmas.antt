@@ -1,10 +1,9 @@
 -- Parts of the pattern as slices of its characters.
-use Rattle.std.proofs.Common.{◌≡◌, sym, ◌∙◌, ap, ℕ, suc, ◌+◌, ◌-◌, ◌<◌, ◌≤◌, [], ◌∷◌, ◌++◌, length}
-use Rattle.std.proofs.Common.{drop, take, get_or, slice_range, arith, length-take, length-drop}
-use Rattle.std.proofs.Common.{append_assoc}
+use Rattle.regex_lite_syntax.proofs.Common.{◌≡◌, ℕ, suc, ◌+◌, ◌-◌, ◌<◌, ◌≤◌, [], ◌∷◌, ◌++◌, length}
+use Rattle.regex_lite_syntax.proofs.Common.{get_or, take, drop, slice_range, sym, ap, ◌∙◌}
+use Rattle.regex_lite_syntax.proofs.Common.{append_assoc, arith, get_or-drop, Text}
+use Rattle.std.proofs.Common.{length-take, length-drop}
 use Rattle.std.proofs.Math.Seq.{take-suc}
-use Rattle.std.proofs.lemmas.List.{get_or-drop}
-use Rattle.regex_lite_syntax.specs.Text.{Text}
 
 pub slice_length : (xs : Text) (at end : ℕ) → end ≤ length xs
     → length (slice_range xs at end) ≡ end - at

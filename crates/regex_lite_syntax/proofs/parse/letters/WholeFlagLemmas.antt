@@ -1,16 +1,12 @@
 -- What runs of flag letters say of whole flags.
-use Rattle.std.proofs.Common.{inl, inr, ◌⊎◌, ◌≡◌, refl, sym, ◌∙◌, ap, subst, ℕ, ◌<◌, true}
-use Rattle.std.proofs.Common.{false, ◌==◌, [], ◌∷◌, ◌++◌, length, IsTrue, codes, arith}
-use Rattle.std.proofs.lemmas.Bool.{both_ways, and_parts, and_from, or_parts}
-use Rattle.std.proofs.lemmas.Bool.{or_cases, not-true, not_from_false, eqb-true}
-use Rattle.regex_lite_syntax.specs.declared.flags.Flags.{Flags}
-use Rattle.std.specs.List.{AllPass}
-use Rattle.std.proofs.lemmas.List.Sums.{AllPass-from_list_all}
-use Rattle.regex_lite_syntax.specs.Text.{Text, Begins, the}
-use Rattle.regex_lite_syntax.specs.Characters.{is_one_of}
-use Rattle.regex_lite_syntax.specs.Grammar.FlagLetters.{is_flag_letter, with_flags, all_differ}
-use Rattle.regex_lite_syntax.specs.Grammar.FlagLetters.{FlagLetters, setting, clearing}
-use Rattle.regex_lite_syntax.specs.Parser.FlagRuns.{EndedFlags, EndsRun, LetterRun}
+use Rattle.regex_lite_syntax.proofs.Common.{◌≡◌, ℕ, ◌<◌, true, false, ◌⊎◌, [], ◌∷◌, ◌++◌, length}
+use Rattle.regex_lite_syntax.proofs.Common.{IsTrue, ◌==◌, codes, sym, refl, ap, ◌∙◌, subst, inl}
+use Rattle.regex_lite_syntax.proofs.Common.{inr, arith, and_from, and_parts, both_ways, eqb-true}
+use Rattle.regex_lite_syntax.proofs.Common.{not-true, not_from_false, or_cases, or_parts}
+use Rattle.regex_lite_syntax.proofs.Common.{AllPass-from_list_all, AllPass, is_one_of}
+use Rattle.regex_lite_syntax.proofs.Common.{is_flag_letter, with_flags, all_differ, FlagLetters}
+use Rattle.regex_lite_syntax.proofs.Common.{setting, clearing, EndedFlags, EndsRun, LetterRun, Text}
+use Rattle.regex_lite_syntax.proofs.Common.{Begins, the, Flags}
 use Rattle.regex_lite_syntax.proofs.ListLemmas.{same_head, same_tail}
 use Rattle.regex_lite_syntax.proofs.parse.letters.FlagRunLemmas.{one_of_both, run_once}
 use Rattle.regex_lite_syntax.proofs.parse.letters.FlagRunLemmas.{no_run_other}

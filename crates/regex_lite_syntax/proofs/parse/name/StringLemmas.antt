@@ -1,8 +1,8 @@
 -- Strings and their characters.
-use Rattle.std.proofs.Common.{◌≡◌, sym, String, Global, string_bytes, chars}
+use Rattle.regex_lite_syntax.proofs.Common.{◌≡◌, chars, Global, sym, chars_from_encodes, Text}
+use Rattle.std.proofs.Common.{String, string_bytes}
 use Rattle.std.proofs.Math.Utf8.{encodes}
-use Rattle.std.proofs.lemmas.Str.{IsUtf8-string_bytes, chars_from_encodes}
-use Rattle.regex_lite_syntax.specs.Text.{Text}
+use Rattle.std.proofs.lemmas.Str.{IsUtf8-string_bytes}
 
 -- a string that was made of these characters has them
 pub chars_of_made : (made : String Global) (text : Text)

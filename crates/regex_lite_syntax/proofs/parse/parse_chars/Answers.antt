@@ -1,9 +1,5 @@
-use Rattle.std.proofs.Common.{◌<◌, sym, subst, arith, drop, length}
-use Rattle.std.proofs.lemmas.Bool.{both_ways}
-use Rattle.std.proofs.lemmas.Result.{IfOk-weaker, IfErr-weaker}
-use Rattle.regex_lite_syntax.specs.Tree.Views.{tree_of}
-use Rattle.regex_lite_syntax.specs.Grammar.GroupNames.{NamesDiffer}
-use Rattle.regex_lite_syntax.specs.Parser.Machine.{stay}
+use Rattle.regex_lite_syntax.proofs.Common.{◌<◌, length, drop, sym, subst, arith, both_ways}
+use Rattle.regex_lite_syntax.proofs.Common.{IfErr-weaker, IfOk-weaker, NamesDiffer, stay, tree_of}
 use Rattle.regex_lite_syntax.proofs.ExitLemmas.{at_exit}
 use Rattle.regex_lite_syntax.proofs.parse.IndexLemmas.{some_at, gap_at_end}
 use Rattle.regex_lite_syntax.proofs.grammar.NameLemmas.{no_names_differ}

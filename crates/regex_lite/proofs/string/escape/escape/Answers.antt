@@ -1,4 +1,5 @@
-use Rattle.std.proofs.Common.{sym, ◌∙◌, ap, true, false, append-nil, string_bytes}
+use Rattle.regex_lite.proofs.Common.{true, false, string_bytes, sym, ap, ◌∙◌}
+use Rattle.std.proofs.Common.{append-nil}
 use Rattle.std.proofs.lemmas.Str.{IsUtf8-past_char}
 use Rattle.regex_lite.proofs.string.escape.EscapeLemmas.{all_written, one_more}
 use Rattle.regex_lite.proofs.string.escape.escape.Goals as goal

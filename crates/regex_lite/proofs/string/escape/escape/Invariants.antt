@@ -1,6 +1,5 @@
-use Rattle.std.proofs.Common.{◌≡◌, ◌++◌, IsUtf8, string_bytes}
+use Rattle.regex_lite.proofs.Common.{◌≡◌, ◌++◌, string_bytes, IsUtf8, escaped_pattern}
 use Rattle.std.specs.Str.Iter.{chars_rest}
-use Rattle.regex_lite.specs.Escapes.{escaped_pattern}
 use Rattle.regex_lite.proofs.string.escape.escape.Given as goal
 
 abbrev pub invariant-loop-c : goal.invariant-loop-c

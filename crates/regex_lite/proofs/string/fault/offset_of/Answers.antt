@@ -1,11 +1,11 @@
-use Rattle.std.proofs.Common.{inl, inr, ◌≡◌, refl, sym, ◌∙◌, ap, subst, ℕ, suc, ◌+◌, ◌<◌}
-use Rattle.std.proofs.Common.{List, length, chars, IsUtf8, arith, add-one}
+use Rattle.regex_lite.proofs.Common.{◌≡◌, ℕ, suc, ◌+◌, ◌<◌, List, length, IsUtf8, chars, sym, refl}
+use Rattle.regex_lite.proofs.Common.{ap, ◌∙◌, subst, inl, inr, add-one, arith, search_start}
+use Rattle.regex_lite.proofs.Common.{IsNextOffset}
 use Rattle.std.specs.Prelude.{IsCharBoundary}
 use Rattle.std.proofs.lemmas.List.{take_all}
-use Rattle.regex_lite_engine.specs.Search.Offsets.{IsOffset, search_start}
+use Rattle.regex_lite_engine.specs.Search.Offsets.{IsOffset}
 use Rattle.regex_lite_engine.proofs.OffsetLemmas.{boundary_at}
 use Rattle.regex_lite_engine.proofs.PositionLemmas.{position_is, position_of, start_position}
-use Rattle.regex_lite.specs.NextMatch.{IsNextOffset}
 use Rattle.regex_lite.proofs.string.fault.offset_of.Goals as goal
 
 pub loop-init : goal.loop-init

@@ -1,4 +1,4 @@
-use Rattle.std.proofs.Common.{chars}
+use Rattle.regex_lite.proofs.Common.{chars}
 use Rattle.regex_lite_engine.specs.Search.Offsets.{IsOffset}
 use Rattle.regex_lite.proofs.string.fault.offset_of.Given as goal
 

@@ -1,4 +1,4 @@
-use Rattle.std.proofs.Common.{◌∙◌}
+use Rattle.regex_lite.proofs.Common.{◌∙◌}
 use Rattle.regex_lite.proofs.string.SlotLemmas.{no_span, span_of_slots}
 use Rattle.regex_lite.proofs.string.locations.span_in.Goals as goal
 

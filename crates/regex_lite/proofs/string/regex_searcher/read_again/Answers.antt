@@ -1,5 +1,4 @@
-use Rattle.std.proofs.Common.{◌∙◌, arith, ap, length, take}
-use Rattle.regex_lite.specs.Groups.{spans_of}
+use Rattle.regex_lite.proofs.Common.{length, take, ap, ◌∙◌, arith, spans_of}
 use Rattle.regex_lite.proofs.string.SlotLemmas.{half, resized_few}
 use Rattle.regex_lite.proofs.string.regex_searcher.read_again.Goals as goal
 

@@ -1,20 +1,11 @@
 -- `nothing` is a null pointer.
-use Rattle.std.proofs.Common.{◌≡◌, [], ◌∷◌, refl, lit<}
-use mir.Syntax.{Sym}
-use mir.Val.{Val}
-use base.Logic.{SProp}
-use types.Kit.{raw, ◌$◌, ◌∵◌, !, qed, by, drop, fjoin}
-use types.Run.{lit, of_opd, no_more, and_then, returns, enter}
-use types.ByLocal.{alloc_all, pass_all, free_all, look_at, get, sets}
-use types.Part.{agg}
-use contract.Running.{tables}
-use denote.RawPtr.{null_ptr}
-use denote.Steps.{nothing}
+use Rattle.regex_lite_c.proofs.Common.{◌≡◌, [], ◌∷◌, None, Option, refl, lit<, word, word-Good}
+use Rattle.regex_lite_c.proofs.Common.{leaves, proved_at, SProp, tables, null_ptr, nothing, walk_of}
+use Rattle.regex_lite_c.proofs.Common.{Sym, Val, alloc_all, free_all, get, look_at, pass_all, sets}
+use Rattle.regex_lite_c.proofs.Common.{by, !, fjoin, qed, raw, ◌$◌, ◌∵◌, agg, and_then, enter, lit}
+use Rattle.regex_lite_c.proofs.Common.{no_more, of_opd, returns}
+use types.Kit.{drop}
 use denote.Triple.Entry.{on_entry}
-use denote.Triple.Walked.{walk_of}
-use Rattle.std.proofs.raw_atomic.Walks.{proved_at, leaves}
-use Rattle.std.proofs.RcSteps.{word, word-Good}
-use Rattle.std.specs.Prelude.{Option, None}
 use Rattle.regex_lite.proofs.PointerLemmas.{word_made}
 use Rattle.regex_lite_c.proofs.handle.HandleLemmas.{stated}
 use Rattle.regex_lite.specs.contracts.string.regex.Regex as stored

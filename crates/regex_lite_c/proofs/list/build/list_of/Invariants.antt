@@ -1,5 +1,5 @@
-use Rattle.std.proofs.Common.{◌≡◌, map, take}
-use Rattle.regex_lite_c.specs.ListBuilding.{settings_of_source}
+use Rattle.regex_lite_c.proofs.Common.{◌≡◌, map, settings_of_source}
+use Rattle.std.proofs.Common.{take}
 use Rattle.regex_lite_c.proofs.list.build.list_of.Given as goal
 
 abbrev pub invariant-loop-source : goal.invariant-loop-source

@@ -1,7 +1,6 @@
-use Rattle.std.proofs.Common.{◌≡◌, ◌<◌, ◌∙◌, arith, get_or, length, map, sym}
-use Rattle.std.proofs.lemmas.List.{length-map}
+use Rattle.regex_lite_c.proofs.Common.{◌≡◌, ◌<◌, map, length, get_or, sym, ◌∙◌, arith, length-map}
+use Rattle.regex_lite_c.proofs.Common.{settings_of_source}
 use Rattle.std.proofs.lemmas.Option.{slice_get_within}
-use Rattle.regex_lite_c.specs.ListBuilding.{settings_of_source}
 use Rattle.regex_lite_c.proofs.list.ListBuildLemmas.{accepted_more, no_source, refused_first}
 use Rattle.regex_lite_c.proofs.list.ListBuildLemmas.{source_at}
 use Rattle.regex_lite_c.proofs.list.build.lowest_refused.Goals as goal

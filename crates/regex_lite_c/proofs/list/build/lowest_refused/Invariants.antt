@@ -1,7 +1,6 @@
-use Rattle.std.proofs.Common.{◌≡◌, ◌<◌, ℕ, Some, map, slice_get}
-use Rattle.regex_lite.specs.Expression.{IsAccepted}
+use Rattle.regex_lite_c.proofs.Common.{◌≡◌, ℕ, ◌<◌, map, slice_get, Some, IsAccepted}
+use Rattle.regex_lite_c.proofs.Common.{settings_of_source}
 use Rattle.regex_lite.specs.Settings.{Settings}
-use Rattle.regex_lite_c.specs.ListBuilding.{settings_of_source}
 use Rattle.regex_lite_c.proofs.list.build.lowest_refused.Given as goal
 
 -- those so far are accepted

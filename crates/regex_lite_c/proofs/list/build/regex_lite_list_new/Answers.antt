@@ -1,10 +1,9 @@
-use Rattle.std.proofs.Common.{◌≡◌, ◌∙◌, ℕ, List, Option, None, ap, arith, inl, inr, subst, sym}
+use Rattle.regex_lite_c.proofs.Common.{◌≡◌, ℕ, List, None, Option, sym, ap, ◌∙◌, subst, inl, inr}
+use Rattle.regex_lite_c.proofs.Common.{arith, Expression, number_of, settings_of_all}
+use Rattle.regex_lite_c.proofs.Common.{IsFirstOtherBytes}
 use Rattle.regex_lite_syntax.specs.Errors.{kind_of}
-use Rattle.regex_lite.specs.Expression.{Expression}
-use Rattle.regex_lite_c.specs.Answers.{number_of}
-use Rattle.regex_lite_c.specs.ListBuilding.{AreAllBytes, IsDueAt, IsFirstOtherBytes}
+use Rattle.regex_lite_c.specs.ListBuilding.{AreAllBytes, IsDueAt}
 use Rattle.regex_lite_c.specs.ListBuilding.{IsListBuildAnswer, IsRefusedAs, IsTold}
-use Rattle.regex_lite_c.specs.ListBuilding.{settings_of_all}
 use Rattle.regex_lite_c.specs.declared.list.build.Refused.{Refused}
 use Rattle.regex_lite_c.specs.declared.list.build.Refused.TheVariants as refused
 use Rattle.regex_lite_c.specs.declared.list.types.ListPattern.{ListPattern}

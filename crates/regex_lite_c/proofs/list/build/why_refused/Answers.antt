@@ -1,6 +1,4 @@
-use Rattle.std.proofs.Common.{map, sym}
-use Rattle.std.proofs.lemmas.List.{length-map}
-use Rattle.regex_lite_c.specs.ListBuilding.{settings_of_source}
+use Rattle.regex_lite_c.proofs.Common.{map, sym, length-map, settings_of_source}
 use Rattle.regex_lite_c.proofs.list.ListBuildLemmas.{refused_together}
 use Rattle.regex_lite_c.proofs.list.build.why_refused.Goals as goal
 

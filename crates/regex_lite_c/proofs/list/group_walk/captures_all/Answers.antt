@@ -1,11 +1,7 @@
-use Rattle.std.proofs.Common.{◌∙◌, List, ℕ, IsUtf8, IsCharBoundary, ap, subst, unwrap_or}
-use Rattle.regex_lite.specs.Expression.{Expression}
+use Rattle.regex_lite_c.proofs.Common.{ℕ, List, IsUtf8, IsCharBoundary, unwrap_or, ap, ◌∙◌, subst}
+use Rattle.regex_lite_c.proofs.Common.{Expression, ended_of, ListGroups, Span, Walk}
 use Rattle.regex_lite.specs.ListAhead.{list_after}
 use Rattle.regex_lite_c.specs.ListGroupWalks.{IsListFilled, IsListGroupWalkAnswer}
-use Rattle.regex_lite_c.specs.Walks.{ended_of}
-use Rattle.regex_lite_c.specs.declared.list.types.ListGroups.{ListGroups}
-use Rattle.regex_lite_c.specs.declared.types.Span.{Span}
-use Rattle.regex_lite_c.specs.declared.types.Walk.{Walk}
 use Rattle.regex_lite_c.proofs.group_walk.AnswerLemmas.{nothing_refused, one_of_more}
 use Rattle.regex_lite_c.proofs.list.group_walk.captures_all.Goals as goal
 

@@ -1,10 +1,6 @@
-use Rattle.std.proofs.Common.{◌∙◌, ◌+◌, List, Some, ap, arith, inl, inr, refl, slice_set, subst}
-use Rattle.std.proofs.Common.{sym}
-use Rattle.regex_lite.specs.Expression.{Expression}
-use Rattle.regex_lite.specs.ListAhead.{list_ahead_of}
-use Rattle.regex_lite.specs.Groups.{group_span}
-use Rattle.regex_lite.specs.MatchList.{IsAnswerOfPatterns}
-use Rattle.regex_lite_c.specs.declared.list.types.ListGroups.{ListGroups}
+use Rattle.regex_lite_c.proofs.Common.{◌+◌, List, slice_set, Some, sym, refl, ap, ◌∙◌, subst, inl}
+use Rattle.regex_lite_c.proofs.Common.{inr, arith, Expression, group_span, list_ahead_of}
+use Rattle.regex_lite_c.proofs.Common.{IsAnswerOfPatterns, ListGroups}
 use Rattle.regex_lite_c.proofs.walk.WalkLemmas.{comes_none}
 use Rattle.regex_lite_c.proofs.group_walk.GroupWalkLemmas.{end_of_span}
 use Rattle.regex_lite_c.proofs.group_walk.StageLemmas.{Stage}

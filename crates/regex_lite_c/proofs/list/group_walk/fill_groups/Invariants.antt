@@ -1,6 +1,4 @@
-use Rattle.std.proofs.Common.{List}
-use Rattle.regex_lite.specs.Expression.{Expression}
-use Rattle.regex_lite.specs.ListAhead.{list_ahead_of}
+use Rattle.regex_lite_c.proofs.Common.{List, Expression, list_ahead_of}
 use Rattle.regex_lite_c.proofs.group_walk.StageLemmas.{Stage}
 use Rattle.regex_lite_c.proofs.list.group_walk.ListGroupWalkLemmas.{IsListSoFar}
 use Rattle.regex_lite_c.proofs.list.group_walk.fill_groups.Given as goal

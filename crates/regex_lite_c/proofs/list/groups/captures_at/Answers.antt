@@ -1,14 +1,8 @@
-use Rattle.std.proofs.Common.{◌≡◌, ◌≤◌, ◌<◌, ℕ, List, Some, IsUtf8}
-use Rattle.std.proofs.Common.{IsCharBoundary, arith, inl, inr, length, subst}
-use Rattle.std.proofs.lemmas.Bool.{cases_lt}
-use Rattle.regex_lite.specs.Expression.{Expression}
-use Rattle.regex_lite.specs.Groups.{Groups}
+use Rattle.regex_lite_c.proofs.Common.{◌≡◌, ℕ, ◌<◌, ◌≤◌, List, length, Some, IsUtf8, IsCharBoundary}
+use Rattle.regex_lite_c.proofs.Common.{subst, inl, inr, arith, cases_lt, Expression, Groups}
+use Rattle.regex_lite_c.proofs.Common.{AreWritten, NO_ROOM, YES, ListGroups, Span}
 use Rattle.regex_lite.specs.RegexListSearches.{TellsGroupsOfList}
 use Rattle.regex_lite_c.specs.ListSpans.{IsListGroupsAnswer}
-use Rattle.regex_lite_c.specs.Spans.{AreWritten}
-use Rattle.regex_lite_c.specs.declared.answer.TheConstants.{YES, NO_ROOM}
-use Rattle.regex_lite_c.specs.declared.list.types.ListGroups.{ListGroups}
-use Rattle.regex_lite_c.specs.declared.types.Span.{Span}
 use Rattle.regex_lite_c.proofs.list.groups.captures_at.Goals as goal
 
 groups_told : (list : List Expression) (bytes : List ℕ) (start : ℕ) (old new : List Span)

@@ -1,4 +1,4 @@
-use Rattle.std.proofs.Common.{◌≡◌, ◌+◌, drop, length}
+use Rattle.regex_lite_c.proofs.Common.{◌≡◌, ◌+◌, length, drop}
 use Rattle.regex_lite_c.specs.ListBuilding.{all_len}
 use Rattle.regex_lite_c.proofs.list.patterns.are_all_bytes.Given as goal
 

@@ -1,6 +1,6 @@
-use Rattle.std.proofs.Common.{◌≡◌, ◌∙◌, IsUtf8, ap, arith, get_or, length, not, refl, subst}
-use Rattle.regex_lite_c.specs.ListBuilding.{IsFirstOtherBytes, settings_of_all}
-use Rattle.regex_lite_c.specs.Options.{settings_of}
+use Rattle.regex_lite_c.proofs.Common.{◌≡◌, length, get_or, IsUtf8, refl, ap, ◌∙◌, subst, arith}
+use Rattle.regex_lite_c.proofs.Common.{settings_of_all, IsFirstOtherBytes, settings_of}
+use Rattle.std.proofs.Common.{not}
 use Rattle.regex_lite_c.proofs.list.ListBuildLemmas.{cut_more, first_other, length_all}
 use Rattle.regex_lite_c.proofs.list.ListBuildLemmas.{no_pattern, refused_for_memory}
 use Rattle.regex_lite_c.proofs.list.patterns.sources.Goals as goal

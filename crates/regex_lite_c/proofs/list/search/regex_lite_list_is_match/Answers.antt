@@ -1,4 +1,4 @@
-use Rattle.std.proofs.Common.{sym}
+use Rattle.regex_lite_c.proofs.Common.{sym}
 use Rattle.regex_lite_c.proofs.list.search.regex_lite_list_is_match.Goals as goal
 
 pub returns-clause-answer : goal.returns-clause-answer

@@ -1,12 +1,8 @@
-use Rattle.std.proofs.Common.{◌≡◌, ◌∙◌, ◌++◌, ◌-◌, ◌+◌, ◌∷◌, ◌<◌, ℕ, [], suc, None, ap}
-use Rattle.std.proofs.Common.{arith, chars, length, length-append, map, slice_set, subst, sym}
-use Rattle.std.proofs.lemmas.List.{length-map, map-append}
-use Rattle.regex_lite_engine.specs.Search.Answer.{Found}
-use Rattle.regex_lite.specs.ListAhead.{ListComesNext, list_ahead_of}
-use Rattle.regex_lite.specs.MatchList.{IsAnswerOfPatterns}
-use Rattle.regex_lite.specs.Pieces.{found_span}
+use Rattle.regex_lite_c.proofs.Common.{◌≡◌, ℕ, suc, ◌+◌, ◌-◌, ◌<◌, [], ◌∷◌, ◌++◌, map, length}
+use Rattle.regex_lite_c.proofs.Common.{slice_set, None, chars, sym, ap, ◌∙◌, subst, arith}
+use Rattle.regex_lite_c.proofs.Common.{length-append, length-map, map-append, Found, ListComesNext}
+use Rattle.regex_lite_c.proofs.Common.{list_ahead_of, IsAnswerOfPatterns, found_span, AreWrittenAs}
 use Rattle.regex_lite_c.specs.ListSpans.{list_span_of}
-use Rattle.regex_lite_c.specs.Spans.{AreWrittenAs}
 use Rattle.regex_lite_c.specs.ListWalks.{told_of_answer}
 use Rattle.regex_lite_c.proofs.walk.WalkLemmas.{ListsAnswers, comes_none, lists_all}
 use Rattle.regex_lite_c.proofs.walk.WalkLemmas.{lists_more, lists_to_end, written_more}

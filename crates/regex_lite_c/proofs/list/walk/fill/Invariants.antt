@@ -1,10 +1,7 @@
-use Rattle.std.proofs.Common.{◌≡◌, ◌-◌, ℕ, List, length, map}
-use Rattle.regex_lite_engine.specs.Search.Answer.{Found}
-use Rattle.regex_lite.specs.ListAhead.{list_ahead_of}
-use Rattle.regex_lite.specs.MatchList.{IsAnswerOfPatterns}
+use Rattle.regex_lite_c.proofs.Common.{◌≡◌, ℕ, ◌-◌, List, map, length, Found, list_ahead_of}
+use Rattle.regex_lite_c.proofs.Common.{IsAnswerOfPatterns, AreWrittenAs}
 use Rattle.regex_lite_c.specs.ListSpans.{list_span_of}
 use Rattle.regex_lite_c.specs.ListWalks.{told_of_answer}
-use Rattle.regex_lite_c.specs.Spans.{AreWrittenAs}
 use Rattle.regex_lite_c.proofs.walk.WalkLemmas.{ListsAnswers}
 use Rattle.regex_lite_c.proofs.list.walk.fill.Given as goal
 

@@ -1,12 +1,10 @@
-use Rattle.std.proofs.Common.{◌≡◌, ◌<◌, ◌∙◌, ℕ, zero, suc, List, IsUtf8, IsCharBoundary}
-use Rattle.std.proofs.Common.{None, ap, arith, inl, refl, subst, unwrap_or}
-use Rattle.regex_lite.specs.ListAhead.{ListComesNext, list_after}
-use Rattle.regex_lite.specs.Expression.{Expression}
+use Rattle.regex_lite_c.proofs.Common.{◌≡◌, ℕ, zero, suc, ◌<◌, List, None, IsUtf8, IsCharBoundary}
+use Rattle.regex_lite_c.proofs.Common.{unwrap_or, refl, ap, ◌∙◌, subst, inl, arith, Expression}
+use Rattle.regex_lite_c.proofs.Common.{ListComesNext, ended_of, NO, YES, Walk}
+use Rattle.regex_lite.specs.ListAhead.{list_after}
 use Rattle.regex_lite_c.specs.ListWalks.{AreListSpansListed, IsListWalkAnswer}
-use Rattle.regex_lite_c.specs.Walks.{GoesOnAfterLast, ended_of}
-use Rattle.regex_lite_c.specs.declared.answer.TheConstants.{NO, YES}
+use Rattle.regex_lite_c.specs.Walks.{GoesOnAfterLast}
 use Rattle.regex_lite_c.specs.declared.list.types.ListSpan.{ListSpan}
-use Rattle.regex_lite_c.specs.declared.types.Walk.{Walk}
 use Rattle.regex_lite_c.proofs.list.walk.find_all.Goals as goal
 
 -- with a text that can be searched from there on, what was listed is the answer

@@ -1,4 +1,4 @@
-use Rattle.std.proofs.Common.{◌≡◌, ◌<◌, ◌≤◌, ℕ, map, option_map, slice_get}
+use Rattle.regex_lite_c.proofs.Common.{◌≡◌, ℕ, ◌<◌, ◌≤◌, map, slice_get, option_map}
 use Rattle.regex_lite_c.specs.ListSpans.{flag_of}
 use Rattle.regex_lite_c.proofs.list.which.put_flags.Given as goal
 

@@ -1,5 +1,4 @@
-use Rattle.std.proofs.Common.{◌+◌, ap, sym, ◌∙◌}
-use Rattle.regex_lite_engine.specs.Search.Offsets.{position_at}
+use Rattle.regex_lite_engine.proofs.Common.{◌+◌, sym, ap, ◌∙◌, position_at}
 use Rattle.regex_lite_engine.proofs.PositionLemmas.{after_at, position_is}
 use Rattle.regex_lite_engine.proofs.backtrack.enter.next_char.Goals as goal
 

@@ -1,9 +1,6 @@
-use Rattle.std.proofs.Common.{◌+◌, ℕ, chars, Option, refl, subst, ◌∙◌, arith}
-use Rattle.std.proofs.lemmas.List.{length-map}
-use Rattle.regex_lite_engine.specs.Backtrack.Room.{searching}
+use Rattle.regex_lite_engine.proofs.Common.{ℕ, ◌+◌, Option, chars, refl, ◌∙◌, subst, arith}
+use Rattle.regex_lite_engine.proofs.Common.{length-map, searching, place_of, table_of, position_at}
 use Rattle.regex_lite_engine.specs.Backtrack.Searching.{Explores}
-use Rattle.regex_lite_engine.specs.Graph.Stored.{place_of, table_of}
-use Rattle.regex_lite_engine.specs.Search.Offsets.{position_at}
 use Rattle.regex_lite_engine.proofs.backtrack.LeadsLemmas.{start_matches}
 use Rattle.regex_lite_engine.proofs.backtrack.RunLemmas.{begun, over_here, start_fits, went_on}
 use Rattle.regex_lite_engine.proofs.backtrack.WalkLemmas.{walk_over}

@@ -1,9 +1,6 @@
-use Rattle.std.proofs.Common.{◌≡◌, ℕ, ◌-◌, length}
-use Rattle.std.specs.Prelude.{chars}
+use Rattle.regex_lite_engine.proofs.Common.{◌≡◌, ℕ, ◌-◌, length, chars, table_of, StaysCounted}
+use Rattle.regex_lite_engine.proofs.Common.{IsHere}
 use Rattle.regex_lite_engine.specs.Backtrack.Searching.{IsUnderWay}
-use Rattle.regex_lite_engine.specs.Graph.Stored.{table_of}
-use Rattle.regex_lite_engine.specs.Search.Bounds.{StaysCounted}
-use Rattle.regex_lite_engine.specs.Search.Standing.{IsHere}
 use Rattle.regex_lite_engine.proofs.backtrack.run.run.Given as goal
 
 abbrev pub invariant-starts : goal.invariant-starts

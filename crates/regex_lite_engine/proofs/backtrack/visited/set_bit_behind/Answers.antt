@@ -1,7 +1,7 @@
-use Rattle.std.proofs.Common.{◌≡◌, ◌-◌, ◌↔◌, ℕ, IsTrue, false, true, length}
-use Rattle.std.proofs.Common.{slice_index_or, slice_set, subst, ap, ◌∙◌, arith}
+use Rattle.regex_lite_engine.proofs.Common.{◌≡◌, ℕ, ◌-◌, true, false, ◌↔◌, length, IsTrue}
+use Rattle.regex_lite_engine.proofs.Common.{slice_index_or, slice_set, ap, ◌∙◌, subst, arith}
+use Rattle.regex_lite_engine.proofs.Common.{bits_of}
 use Rattle.std.proofs.lemmas.List.{with_items_is}
-use Rattle.regex_lite_engine.specs.Backtrack.Bits.{bits_of}
 use Rattle.regex_lite_engine.proofs.backtrack.BitLemmas.{bits_before_zeros}
 use Rattle.regex_lite_engine.proofs.backtrack.visited.set_bit_behind.Goals.{then-len-k, else-len-k}
 use Rattle.regex_lite_engine.proofs.backtrack.visited.set_bit_behind.Goals as goal

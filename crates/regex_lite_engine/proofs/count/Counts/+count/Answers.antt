@@ -1,7 +1,6 @@
-use Rattle.std.proofs.Common.{◌≡◌, sym, ap, ◌∙◌, subst, ◌+◌, ◌-◌, drop, arith}
+use Rattle.regex_lite_engine.proofs.Common.{◌≡◌, ◌+◌, ◌-◌, drop, sym, ap, ◌∙◌, subst, arith, Tree}
+use Rattle.regex_lite_engine.proofs.Common.{repetition, alternation, Trees, none, more, tree_of}
 use Rattle.std.proofs.lemmas.List.{drop_all}
-use Rattle.regex_lite_syntax.specs.Tree.{Tree, Trees, repetition, alternation, none, more}
-use Rattle.regex_lite_syntax.specs.Tree.Views.{tree_of}
 use Rattle.regex_lite_engine.specs.Nfa.Saturation.{AreCountsOf}
 use Rattle.regex_lite_syntax.proofs.TreeLemmas.{tree_of-Repetition, trees_of, trees_more}
 use Rattle.regex_lite_engine.proofs.count.Counts.+count.Goals as goal

@@ -1,6 +1,5 @@
-use Rattle.std.proofs.Common.{◌≡◌, map, drop}
-use Rattle.regex_lite_syntax.specs.Tree.{Tree, Trees, concat, alternation, more, trees}
-use Rattle.regex_lite_syntax.specs.Tree.Views.{tree_of}
+use Rattle.regex_lite_engine.proofs.Common.{◌≡◌, map, drop, Tree, concat, alternation, Trees, more}
+use Rattle.regex_lite_engine.proofs.Common.{trees, tree_of}
 use Rattle.regex_lite_engine.specs.Nfa.Saturation.{AreCountsOf}
 use Rattle.regex_lite_engine.proofs.count.Counts.+count.Given as goal
 

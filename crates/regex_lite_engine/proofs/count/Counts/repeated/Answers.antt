@@ -1,6 +1,6 @@
-use Rattle.std.proofs.Common.{◌*◌, ap, arith}
-use Rattle.regex_lite_engine.specs.Graph.PlaceCounts.{places, arrows, choice_arrows}
-use Rattle.regex_lite_engine.specs.Graph.PlaceCounts.{reading_places, ranges}
+use Rattle.regex_lite_engine.proofs.Common.{◌*◌, ap, arith, places, arrows, reading_places}
+use Rattle.regex_lite_engine.specs.Graph.PlaceCounts.{choice_arrows}
+use Rattle.regex_lite_engine.specs.Graph.PlaceCounts.{ranges}
 use Rattle.regex_lite_engine.proofs.count.Counts.repeated.Goals as goal
 
 pub returns : goal.returns

@@ -1,5 +1,4 @@
-use Rattle.std.proofs.Common.{◌∙◌, ap, sym, Some, arith}
-use Rattle.regex_lite_syntax.specs.Tree.Properties.{sum}
+use Rattle.regex_lite_engine.proofs.Common.{Some, sym, ap, ◌∙◌, arith, sum}
 use Rattle.regex_lite_engine.proofs.count.StaticGroupLemmas.{static_held}
 use Rattle.regex_lite_engine.proofs.count.Counts.static_captures_len.Goals as goal
 

@@ -1,4 +1,4 @@
-use Rattle.std.proofs.Common.{ℕ, ◌≤◌, ◌<◌, ◌↔◌, arith}
+use Rattle.regex_lite_engine.proofs.Common.{ℕ, ◌<◌, ◌≤◌, ◌↔◌, arith}
 use Rattle.regex_lite_engine.proofs.count.Counts.within.Goals as goal
 
 above : {size counted limit : ℕ} → (counted ≤ limit) ↔ (size ≤ limit) → limit < counted

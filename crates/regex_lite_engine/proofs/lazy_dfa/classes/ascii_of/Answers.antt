@@ -1,7 +1,5 @@
-use Rattle.std.proofs.Common.{ap, sym, ◌∙◌}
+use Rattle.regex_lite_engine.proofs.Common.{sym, ap, ◌∙◌, get_or-replicate, interval_of}
 use Rattle.std.proofs.Math.Seq.{drop-length}
-use Rattle.std.proofs.lemmas.List.{get_or-replicate}
-use Rattle.regex_lite_engine.specs.LazyDfa.Intervals.{interval_of}
 use Rattle.regex_lite_engine.proofs.lazy_dfa.classes.ascii_of.Goals as goal
 
 pub bounds-init : goal.bounds-init

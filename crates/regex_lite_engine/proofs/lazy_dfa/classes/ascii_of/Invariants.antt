@@ -1,5 +1,4 @@
-use Rattle.std.proofs.Common.{◌≡◌, ◌<◌, ℕ, drop, slice_index}
-use Rattle.regex_lite_engine.specs.LazyDfa.Intervals.{interval_of}
+use Rattle.regex_lite_engine.proofs.Common.{◌≡◌, ℕ, ◌<◌, drop, slice_index, interval_of}
 use Rattle.regex_lite_engine.proofs.lazy_dfa.classes.ascii_of.Given as goal
 
 -- those from this one on are counted

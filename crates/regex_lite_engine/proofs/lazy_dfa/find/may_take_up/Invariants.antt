@@ -1,5 +1,4 @@
-use Rattle.std.proofs.Common.{◌≡◌, ◌<◌, ℕ, true, slice_index_or}
-use Rattle.regex_lite_engine.specs.declared.lazy_dfa.state.StoredWay.{StoredWay}
+use Rattle.regex_lite_engine.proofs.Common.{◌≡◌, ℕ, ◌<◌, true, slice_index_or, StoredWay}
 use Rattle.regex_lite_engine.proofs.lazy_dfa.find.may_take_up.Given as goal
 
 -- those before this one began there

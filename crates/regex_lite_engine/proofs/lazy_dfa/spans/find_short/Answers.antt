@@ -1,8 +1,5 @@
-use Rattle.std.proofs.Common.{Some, sym, ap, subst, ◌∙◌}
-use Rattle.std.specs.Prelude.{chars}
-use Rattle.regex_lite_engine.specs.Graph.Stored.{table_of}
-use Rattle.regex_lite_engine.specs.Pikevm.Machine.{BestState}
-use Rattle.regex_lite_engine.specs.Search.NumberedOutcomes.{IsNumberedOutcome, best_at}
+use Rattle.regex_lite_engine.proofs.Common.{Some, chars, sym, ap, ◌∙◌, subst, table_of, BestState}
+use Rattle.regex_lite_engine.proofs.Common.{best_at, IsNumberedOutcome}
 use Rattle.regex_lite_engine.proofs.lazy_dfa.KnownEndLemmas.{end_boundary}
 use Rattle.regex_lite_engine.proofs.lazy_dfa.KnownEndLemmas.{from_boundary, known_end}
 use Rattle.regex_lite_engine.proofs.lazy_dfa.spans.find_short.Goals as goal

@@ -1,8 +1,5 @@
-use Rattle.std.proofs.Common.{◌∷◌, [], ℕ, Option, Some, subst}
-use Rattle.std.specs.Prelude.{IfSome, chars}
-use Rattle.regex_lite_engine.specs.Graph.Stored.{table_of}
-use Rattle.regex_lite_engine.specs.LazyDfa.Scanning.{span_told}
-use Rattle.regex_lite_engine.specs.Search.NumberedOutcomes.{IsBestOutcomeOf}
+use Rattle.regex_lite_engine.proofs.Common.{ℕ, [], ◌∷◌, IfSome, Some, Option, chars, subst}
+use Rattle.regex_lite_engine.proofs.Common.{table_of, span_told, IsBestOutcomeOf}
 use Rattle.regex_lite_engine.proofs.lazy_dfa.spans.find_slots.Goals as goal
 
 pub returns-in-Some-spans-clause-found : goal.returns-in-Some-spans-clause-found

@@ -1,12 +1,8 @@
-use Rattle.std.proofs.Common.{ℕ, List, [], ◌∷◌, Some, None, sym, subst}
-use Rattle.std.specs.Prelude.{IsCharBoundary, IsUtf8, chars}
-use Rattle.regex_lite_engine.specs.Graph.Stored.{StoredGraph, table_of}
+use Rattle.regex_lite_engine.proofs.Common.{ℕ, List, [], ◌∷◌, Some, None, IsUtf8, chars}
+use Rattle.regex_lite_engine.proofs.Common.{IsCharBoundary, sym, subst, StoredGraph, table_of}
+use Rattle.regex_lite_engine.proofs.Common.{span_told, Found, IsNumberedFound, IsBestOutcomeOf}
+use Rattle.regex_lite_engine.proofs.Common.{IsOffset, position_at}
 use Rattle.regex_lite_engine.specs.LazyDfa.Remembering.{NoneStartsBefore}
-use Rattle.regex_lite_engine.specs.LazyDfa.Scanning.{span_told}
-use Rattle.regex_lite_engine.specs.Search.Answer.{Found}
-use Rattle.regex_lite_engine.specs.Search.Offsets.{position_at, IsOffset}
-use Rattle.regex_lite_engine.specs.Search.NumberedAnswer.{IsNumberedFound}
-use Rattle.regex_lite_engine.specs.Search.NumberedOutcomes.{IsBestOutcomeOf}
 use Rattle.regex_lite_engine.proofs.PositionLemmas.{position_of}
 use Rattle.regex_lite_engine.proofs.OffsetLemmas.{boundary_at}
 use Rattle.regex_lite_engine.proofs.pikevm.EndLemmas.{one_best}

@@ -1,7 +1,5 @@
-use Rattle.std.proofs.Common.{rules, ◌≡◌, false, Option, None, Some}
-use Rattle.std.specs.Prelude.{IfSome}
-use Rattle.regex_lite_engine.specs.Graph.NoLooks.{HasNoLooks}
-use Rattle.regex_lite_engine.specs.Graph.Stored.{table_of}
+use Rattle.regex_lite_engine.proofs.Common.{◌≡◌, false, IfSome, Some, None, Option, rules}
+use Rattle.regex_lite_engine.proofs.Common.{HasNoLooks, table_of}
 use Rattle.regex_lite_engine.proofs.lazy_dfa.spans.short_for.Goals as goal
 
 whatever : {A P : Type 0} (found : Option A) → P → IfSome found (λ _. P)

@@ -1,4 +1,4 @@
-use Rattle.std.proofs.Common.{◌≡◌, take, length}
+use Rattle.regex_lite_engine.proofs.Common.{◌≡◌, length, take}
 use Rattle.regex_lite_engine.proofs.lazy_dfa.state.are_same.Given as goal
 
 -- those before are the same

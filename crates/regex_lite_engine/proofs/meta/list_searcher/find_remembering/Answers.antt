@@ -1,7 +1,6 @@
-use Rattle.std.proofs.Common.{length, sym, subst, ◌∙◌, option_map}
-use Rattle.regex_lite_engine.specs.Graph.StoredList.{table_of_list}
+use Rattle.regex_lite_engine.proofs.Common.{length, option_map, sym, ◌∙◌, subst, table_of_list}
+use Rattle.regex_lite_engine.proofs.Common.{position_at}
 use Rattle.regex_lite_engine.specs.LazyDfa.Remembering.{IsRememberingList}
-use Rattle.regex_lite_engine.specs.Search.Offsets.{position_at}
 use Rattle.regex_lite_engine.proofs.search.list_patterns.ListStartLemmas.{all_of_entries}
 use Rattle.regex_lite_engine.proofs.meta.list_searcher.find_remembering.Goals as goal
 

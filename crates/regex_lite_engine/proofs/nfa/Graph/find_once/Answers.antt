@@ -1,8 +1,5 @@
-use Rattle.std.proofs.Common.{◌∷◌, [], refl, arith}
-use Rattle.std.specs.Prelude.{chars}
-use Rattle.regex_lite_engine.specs.Graph.Stored.{table_of}
-use Rattle.regex_lite_engine.specs.Search.Offsets.{position_at}
-use Rattle.regex_lite_engine.specs.Pikevm.Turns.{best_of}
+use Rattle.regex_lite_engine.proofs.Common.{[], ◌∷◌, chars, refl, arith, table_of, best_of}
+use Rattle.regex_lite_engine.proofs.Common.{position_at}
 use Rattle.regex_lite_engine.proofs.lazy_dfa.OnceLemmas.{empty, found_told, known_stands}
 use Rattle.regex_lite_engine.proofs.lazy_dfa.RunLemmas.{all_of_one, bounded_on, match_counted}
 use Rattle.regex_lite_engine.proofs.nfa.Graph.find_once.Goals as goal

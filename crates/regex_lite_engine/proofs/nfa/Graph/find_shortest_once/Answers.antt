@@ -1,10 +1,5 @@
-use Rattle.std.proofs.Common.{◌∷◌, [], refl, sym, subst, arith}
-use Rattle.std.specs.Prelude.{chars}
-use Rattle.regex_lite_engine.specs.Graph.Stored.{table_of}
-use Rattle.regex_lite_engine.specs.Search.Offsets.{position_at}
-use Rattle.regex_lite_engine.specs.LazyDfa.Scanning.{end_told}
-use Rattle.regex_lite_engine.specs.Search.NumberedOutcomes.{IsNumberedEndOf}
-use Rattle.regex_lite_engine.specs.Pikevm.Turns.{best_of}
+use Rattle.regex_lite_engine.proofs.Common.{[], ◌∷◌, chars, sym, refl, subst, arith, table_of}
+use Rattle.regex_lite_engine.proofs.Common.{end_told, best_of, IsNumberedEndOf, position_at}
 use Rattle.regex_lite_engine.proofs.lazy_dfa.OnceLemmas.{empty, known_stands}
 use Rattle.regex_lite_engine.proofs.lazy_dfa.RunLemmas.{all_of_one, bounded_on, end_counted}
 use Rattle.regex_lite_engine.proofs.lazy_dfa.ScanLemmas.{end_alone}

@@ -1,11 +1,8 @@
-use Rattle.std.proofs.Common.{arith, ◌≡◌, ◌∙◌, ap, sym, subst, ℕ, List, length}
-use Rattle.regex_lite_syntax.specs.Tree.Views.{tree_of}
+use Rattle.regex_lite_engine.proofs.Common.{◌≡◌, ℕ, List, length, sym, ap, ◌∙◌, subst, arith}
+use Rattle.regex_lite_engine.proofs.Common.{tree_of, Address, arrows_of, IsRenumbered, IsNumberOf}
+use Rattle.regex_lite_engine.proofs.Common.{StoredTable, places_of, start_address, written_out}
+use Rattle.regex_lite_engine.proofs.Common.{whole_layout, whole_table}
 use Rattle.regex_lite_engine.specs.Graph.Places.{Place}
-use Rattle.regex_lite_engine.specs.Graph.Addresses.{Address}
-use Rattle.regex_lite_engine.specs.Graph.Stored.{StoredTable, places_of}
-use Rattle.regex_lite_engine.specs.Graph.Renumbered.{IsRenumbered, IsNumberOf, arrows_of}
-use Rattle.regex_lite_engine.specs.Graph.WrittenOut.{written_out, start_address}
-use Rattle.regex_lite_engine.specs.Nfa.Layout.{whole_layout, whole_table}
 use Rattle.regex_lite_engine.proofs.nfa.write.RenumberingLemmas.{whole_names, renumbered}
 use Rattle.regex_lite_engine.proofs.nfa.write.RenumberingLemmas.{starts, closed, start_inside}
 use Rattle.regex_lite_engine.proofs.count.ArrowCountLemmas.{arrows_whole}

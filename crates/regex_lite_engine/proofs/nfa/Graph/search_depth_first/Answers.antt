@@ -1,8 +1,5 @@
-use Rattle.std.proofs.Common.{rules, length, ◌<◌, ◌^◌, sym, subst, arith}
-use Rattle.std.specs.Prelude.{chars}
-use Rattle.regex_lite_engine.specs.Graph.Stored.{table_of}
-use Rattle.regex_lite_engine.specs.Search.Offsets.{position_at}
-use Rattle.regex_lite_engine.specs.Search.NumberedOutcomes.{IsNumberedOutcome}
+use Rattle.regex_lite_engine.proofs.Common.{◌^◌, ◌<◌, length, chars, sym, subst, arith, rules}
+use Rattle.regex_lite_engine.proofs.Common.{table_of, IsNumberedOutcome, position_at}
 use Rattle.regex_lite_engine.proofs.search.OutcomeLemmas.{answer_told, can_count}
 use Rattle.regex_lite_engine.proofs.nfa.Graph.search_depth_first.Goals as goal
 

@@ -1,11 +1,7 @@
-use Rattle.std.proofs.Common.{rules, length, ◌<◌, ◌^◌, ap, subst, arith}
-use Rattle.std.specs.Prelude.{chars}
-use Rattle.regex_lite_engine.specs.Graph.Stored.{places_of, table_of}
-use Rattle.regex_lite_engine.specs.Search.Offsets.{position_at}
-use Rattle.regex_lite_engine.specs.Search.NumberedOutcomes.{IsBestOutcome}
-use Rattle.regex_lite_engine.specs.Search.Counting.{IsCountable}
+use Rattle.regex_lite_engine.proofs.Common.{◌^◌, ◌<◌, length, chars, ap, subst, arith, rules}
+use Rattle.regex_lite_engine.proofs.Common.{places_of, table_of, best_of, IsCountable}
+use Rattle.regex_lite_engine.proofs.Common.{IsBestOutcome, position_at}
 use Rattle.regex_lite_engine.specs.Pikevm.Searching.{IsFresh}
-use Rattle.regex_lite_engine.specs.Pikevm.Turns.{best_of}
 use Rattle.regex_lite_engine.proofs.pikevm.EndLemmas.{one_best}
 use Rattle.regex_lite_engine.proofs.search.OutcomeLemmas.{can_count, answer_told}
 use Rattle.regex_lite_engine.proofs.nfa.Graph.search_in_step.Goals as goal

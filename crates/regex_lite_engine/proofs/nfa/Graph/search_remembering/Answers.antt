@@ -1,11 +1,7 @@
-use Rattle.std.proofs.Common.{rules, ◌∷◌, [], length, ◌<◌, ◌^◌, ap, sym, subst, arith}
-use Rattle.std.specs.Prelude.{chars}
-use Rattle.regex_lite_engine.specs.Graph.Stored.{places_of, table_of}
-use Rattle.regex_lite_engine.specs.LazyDfa.Scanning.{span_told}
-use Rattle.regex_lite_engine.specs.Search.Offsets.{position_at}
-use Rattle.regex_lite_engine.specs.Search.Counting.{IsCountable}
+use Rattle.regex_lite_engine.proofs.Common.{◌^◌, ◌<◌, [], ◌∷◌, length, chars, sym, ap, subst, arith}
+use Rattle.regex_lite_engine.proofs.Common.{rules, places_of, table_of, span_told, IsCountable}
+use Rattle.regex_lite_engine.proofs.Common.{span_of, IsNumberedOutcome, position_at}
 use Rattle.regex_lite_engine.specs.Pikevm.Searching.{IsFresh}
-use Rattle.regex_lite_engine.specs.Search.NumberedOutcomes.{IsNumberedOutcome, span_of}
 use Rattle.regex_lite_engine.proofs.lazy_dfa.OnceLemmas.{spanned}
 use Rattle.regex_lite_engine.proofs.pikevm.EndLemmas.{one_best}
 use Rattle.regex_lite_engine.proofs.search.OutcomeLemmas.{answer_told, can_count, cost_told}

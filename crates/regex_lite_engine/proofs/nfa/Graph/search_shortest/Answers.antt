@@ -1,10 +1,6 @@
-use Rattle.std.proofs.Common.{rules, length, ◌<◌, ◌^◌, ap, subst, sym, arith}
-use Rattle.std.specs.Prelude.{chars}
-use Rattle.regex_lite_engine.specs.Graph.Stored.{places_of, table_of}
-use Rattle.regex_lite_engine.specs.Search.Offsets.{position_at}
-use Rattle.regex_lite_engine.specs.Search.Outcomes.{IsEndOutcome}
-use Rattle.regex_lite_engine.specs.Pikevm.Turns.{best_of}
-use Rattle.regex_lite_engine.specs.Search.Counting.{IsCountable}
+use Rattle.regex_lite_engine.proofs.Common.{◌^◌, ◌<◌, length, chars, sym, ap, subst, arith, rules}
+use Rattle.regex_lite_engine.proofs.Common.{places_of, table_of, best_of, IsCountable, position_at}
+use Rattle.regex_lite_engine.proofs.Common.{IsEndOutcome}
 use Rattle.regex_lite_engine.specs.Pikevm.Searching.{IsFresh}
 use Rattle.regex_lite_engine.proofs.pikevm.ShortestLemmas.{one_end}
 use Rattle.regex_lite_engine.proofs.search.OutcomeLemmas.{can_count, cost_told, end_told}

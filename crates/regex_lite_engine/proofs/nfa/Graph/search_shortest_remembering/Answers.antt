@@ -1,10 +1,6 @@
-use Rattle.std.proofs.Common.{rules, length, ◌<◌, ◌^◌, ap, subst, arith}
-use Rattle.std.specs.Prelude.{chars}
-use Rattle.regex_lite_engine.specs.Graph.Stored.{places_of, table_of}
-use Rattle.regex_lite_engine.specs.LazyDfa.Scanning.{end_told}
-use Rattle.regex_lite_engine.specs.Search.Offsets.{position_at}
-use Rattle.regex_lite_engine.specs.Search.Outcomes.{IsEndOutcome}
-use Rattle.regex_lite_engine.specs.Search.Counting.{IsCountable}
+use Rattle.regex_lite_engine.proofs.Common.{◌^◌, ◌<◌, length, chars, ap, subst, arith, rules}
+use Rattle.regex_lite_engine.proofs.Common.{places_of, table_of, end_told, IsCountable, position_at}
+use Rattle.regex_lite_engine.proofs.Common.{IsEndOutcome}
 use Rattle.regex_lite_engine.specs.Pikevm.Searching.{IsFresh}
 use Rattle.regex_lite_engine.proofs.lazy_dfa.ScanLemmas.{end_back}
 use Rattle.regex_lite_engine.proofs.search.OutcomeLemmas as outcome

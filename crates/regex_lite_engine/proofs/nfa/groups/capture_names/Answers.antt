@@ -1,5 +1,4 @@
-use Rattle.std.proofs.Common.{rules, ◌∙◌, sym, arith}
-use Rattle.regex_lite_syntax.specs.Tree.Views.{tree_of}
+use Rattle.regex_lite_engine.proofs.Common.{sym, ◌∙◌, arith, rules, tree_of}
 use Rattle.regex_lite_syntax.proofs.NameTableLemmas.{unnamed}
 use Rattle.regex_lite_engine.proofs.count.NameSizeLemmas.{no_name}
 use Rattle.regex_lite_engine.proofs.nfa.groups.capture_names.Goals as goal

@@ -1,11 +1,9 @@
-use Rattle.std.proofs.Common.{◌≡◌, ◌+◌, ◌∷◌, [], ◌∙◌, ap, sym, subst, arith, List}
-use Rattle.std.proofs.Common.{Some, drop, length, length-append, map, slice_get}
-use Rattle.std.proofs.lemmas.List.Sums.{sum_by-cons}
-use Rattle.regex_lite_syntax.specs.Tree.Views.{tree_of}
-use Rattle.regex_lite_engine.specs.Graph.PlaceCounts.{whole_places, whole_arrows, reading_places}
-use Rattle.regex_lite_engine.specs.Graph.SideBySide.{places_of_all, arrows_of_all}
-use Rattle.regex_lite_engine.specs.Graph.StoredList.{StoredGroups, TellGroupsOf}
-use Rattle.regex_lite_engine.specs.Nfa.Totals.{reading_of_all}
+use Rattle.regex_lite_engine.proofs.Common.{◌≡◌, ◌+◌, List, [], ◌∷◌, map, length, drop, slice_get}
+use Rattle.regex_lite_engine.proofs.Common.{Some, sym, ap, ◌∙◌, subst, arith, length-append}
+use Rattle.regex_lite_engine.proofs.Common.{sum_by-cons, tree_of, reading_places, whole_places}
+use Rattle.regex_lite_engine.proofs.Common.{whole_arrows, places_of_all, arrows_of_all}
+use Rattle.regex_lite_engine.proofs.Common.{TellGroupsOf, reading_of_all}
+use Rattle.regex_lite_engine.specs.Graph.StoredList.{StoredGroups}
 use Rattle.regex_lite_engine.proofs.count.TotalLemmas.{tree_there, trees_left}
 use Rattle.regex_lite_engine.proofs.nfa.list.GroupLemmas.{told_more}
 use Rattle.regex_lite_engine.proofs.nfa.list.totals_and_groups.Goals as goal

@@ -1,8 +1,6 @@
-use Rattle.std.proofs.Common.{◌≡◌, ◌+◌, ◌*◌, ◌≤◌, drop, length, map}
-use Rattle.regex_lite_syntax.specs.Tree.Views.{tree_of}
-use Rattle.regex_lite_engine.specs.Graph.SideBySide.{places_of_all, arrows_of_all}
-use Rattle.regex_lite_engine.specs.Graph.StoredList.{TellGroupsOf}
-use Rattle.regex_lite_engine.specs.Nfa.Totals.{reading_of_all}
+use Rattle.regex_lite_engine.proofs.Common.{◌≡◌, ◌+◌, ◌*◌, ◌≤◌, map, length, drop, tree_of}
+use Rattle.regex_lite_engine.proofs.Common.{places_of_all, arrows_of_all, TellGroupsOf}
+use Rattle.regex_lite_engine.proofs.Common.{reading_of_all}
 use Rattle.regex_lite_engine.proofs.nfa.list.totals_and_groups.Given as goal
 
 -- with the patterns that are left these are the totals of all

@@ -1,15 +1,10 @@
-use Rattle.std.proofs.Common.{◌≡◌, ◌<◌, ◌+◌, ◌^◌, ◌∙◌, ◌∷◌, ◌++◌, append_assoc, ap, sym, subst}
-use Rattle.std.proofs.Common.{arith, drop, get_or, length, map, slice_index_or}
+use Rattle.regex_lite_engine.proofs.Common.{◌≡◌, ◌+◌, ◌^◌, ◌<◌, ◌∷◌, ◌++◌, map, length, get_or}
+use Rattle.regex_lite_engine.proofs.Common.{drop, slice_index_or, sym, ap, ◌∙◌, subst, append_assoc}
+use Rattle.regex_lite_engine.proofs.Common.{arith, length-map, sum_by-cons, greatest_index, tree_of}
+use Rattle.regex_lite_engine.proofs.Common.{whole_places, places_of_all, place_of, pattern_layout}
+use Rattle.regex_lite_engine.proofs.Common.{pattern_table, patterns_table, patterns_entries}
 use Rattle.std.proofs.Math.ListN.{get_or-map}
-use Rattle.std.proofs.lemmas.List.{length-map, drop_more}
-use Rattle.std.proofs.lemmas.List.Sums.{sum_by-cons}
-use Rattle.regex_lite_syntax.specs.Tree.Views.{tree_of}
-use Rattle.regex_lite_syntax.specs.Tree.Properties.{greatest_index}
-use Rattle.regex_lite_engine.specs.Graph.Stored.{place_of}
-use Rattle.regex_lite_engine.specs.Graph.PlaceCounts.{whole_places}
-use Rattle.regex_lite_engine.specs.Graph.SideBySide.{places_of_all}
-use Rattle.regex_lite_engine.specs.Nfa.Layout.{pattern_layout, pattern_table}
-use Rattle.regex_lite_engine.specs.Nfa.Layout.{patterns_table, patterns_entries}
+use Rattle.std.proofs.lemmas.List.{drop_more}
 use Rattle.regex_lite_engine.proofs.nfa.write.write_all.Goals as goal
 
 pub write_pattern-requires-clause-slots : goal.write_pattern-requires-clause-slots

@@ -1,8 +1,6 @@
-use Rattle.std.proofs.Common.{◌≡◌, ◌+◌, ◌++◌, length, map, drop}
-use Rattle.regex_lite_syntax.specs.Tree.Views.{tree_of}
-use Rattle.regex_lite_engine.specs.Graph.Stored.{place_of}
-use Rattle.regex_lite_engine.specs.Graph.SideBySide.{places_of_all}
-use Rattle.regex_lite_engine.specs.Nfa.Layout.{patterns_table, patterns_entries}
+use Rattle.regex_lite_engine.proofs.Common.{◌≡◌, ◌+◌, ◌++◌, map, length, drop, tree_of}
+use Rattle.regex_lite_engine.proofs.Common.{places_of_all, place_of, patterns_table}
+use Rattle.regex_lite_engine.proofs.Common.{patterns_entries}
 use Rattle.regex_lite_engine.proofs.nfa.write.write_all.Given as goal
 
 -- with the patterns that are left these are all

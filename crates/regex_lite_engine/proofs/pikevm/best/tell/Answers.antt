@@ -1,5 +1,6 @@
-use Rattle.std.proofs.Common.{◌≡◌, ℕ, zero, suc, ◌+◌, ◌<◌, List, [], ◌∷◌, ◌++◌, length}
-use Rattle.std.proofs.Common.{take, drop, set, slice_index_or, Option, ap, ◌∙◌, arith}
+use Rattle.regex_lite_engine.proofs.Common.{◌≡◌, ℕ, zero, suc, ◌+◌, ◌<◌, List, [], ◌∷◌, ◌++◌}
+use Rattle.regex_lite_engine.proofs.Common.{length, take, drop, set, slice_index_or, Option, ap}
+use Rattle.regex_lite_engine.proofs.Common.{◌∙◌, arith}
 use Rattle.regex_lite_engine.proofs.pikevm.best.tell.Goals as goal
 
 -- one more of the first list

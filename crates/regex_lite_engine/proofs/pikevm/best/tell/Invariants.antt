@@ -1,4 +1,4 @@
-use Rattle.std.specs.Prelude.{◌≡◌, ◌++◌, take, drop}
+use Rattle.regex_lite_engine.proofs.Common.{◌≡◌, ◌++◌, take, drop}
 use Rattle.regex_lite_engine.proofs.pikevm.best.tell.Given as goal
 
 abbrev pub invariant-slots : goal.invariant-slots

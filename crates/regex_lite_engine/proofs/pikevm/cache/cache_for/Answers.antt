@@ -1,6 +1,5 @@
-use Rattle.std.proofs.Common.{◌≡◌, ◌<◌, length, map, sym, subst, ◌∙◌, ap, arith}
-use Rattle.std.proofs.lemmas.List.{length-map}
-use Rattle.regex_lite_engine.specs.Graph.Stored.{place_of}
+use Rattle.regex_lite_engine.proofs.Common.{◌≡◌, ◌<◌, map, length, sym, ap, ◌∙◌, subst, arith}
+use Rattle.regex_lite_engine.proofs.Common.{length-map, place_of}
 use Rattle.regex_lite_engine.proofs.pikevm.cache.cache_for.Goals as goal
 
 pub overflow_add-room : goal.overflow_add-room

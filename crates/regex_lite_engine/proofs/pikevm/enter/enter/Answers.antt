@@ -1,4 +1,4 @@
-use Rattle.std.proofs.Common.{◌∷◌, false, refl, sym, subst}
+use Rattle.regex_lite_engine.proofs.Common.{false, ◌∷◌, sym, refl, subst}
 use Rattle.regex_lite_engine.specs.declared.nfa.place.Place as code
 use Rattle.regex_lite_engine.specs.Pikevm.Entering.{Enters}
 use Rattle.regex_lite_engine.specs.Pikevm.Machine.{explore}

@@ -1,4 +1,4 @@
-use Rattle.std.proofs.Common.{refl, ◌∙◌, length-set}
+use Rattle.regex_lite_engine.proofs.Common.{refl, ◌∙◌, length-set}
 use Rattle.regex_lite_engine.proofs.pikevm.memory.CellLemmas.{cleared_more}
 use Rattle.regex_lite_engine.proofs.pikevm.memory.clear_rounds.Goals as goal
 

@@ -1,6 +1,5 @@
-use Rattle.std.proofs.Common.{◌≡◌, ℕ, ◌<◌, ◌≤◌, length, map, slice_index}
-use Rattle.std.specs.Prelude.{vec_capacity}
-use Rattle.regex_lite_engine.specs.Pikevm.Cells.{round_in}
+use Rattle.regex_lite_engine.proofs.Common.{◌≡◌, ℕ, ◌<◌, ◌≤◌, map, length, slice_index}
+use Rattle.regex_lite_engine.proofs.Common.{vec_capacity, round_in}
 use Rattle.regex_lite_engine.proofs.pikevm.memory.clear_rounds.Given as goal
 
 abbrev pub invariant-cells : goal.invariant-cells

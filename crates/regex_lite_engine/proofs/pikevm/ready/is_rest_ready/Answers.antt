@@ -1,4 +1,4 @@
-use Rattle.std.proofs.Common.{arith}
+use Rattle.regex_lite_engine.proofs.Common.{arith}
 use Rattle.regex_lite_engine.proofs.pikevm.memory.ReadyLemmas.{places_stay}
 use Rattle.regex_lite_engine.proofs.pikevm.ready.is_rest_ready.Goals as goal
 

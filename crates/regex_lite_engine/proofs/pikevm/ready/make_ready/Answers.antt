@@ -1,4 +1,4 @@
-use Rattle.std.proofs.Common.{◌≡◌, ◌+◌, ◌-◌, ◌++◌, length, replicate, subst, arith}
+use Rattle.regex_lite_engine.proofs.Common.{◌≡◌, ◌+◌, ◌-◌, ◌++◌, length, replicate, subst, arith}
 use Rattle.regex_lite_engine.proofs.pikevm.ready.RaiseLemmas.{end_blank, made_ready}
 use Rattle.regex_lite_engine.proofs.pikevm.ready.make_ready.Goals as goal
 

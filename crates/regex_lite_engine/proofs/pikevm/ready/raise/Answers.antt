@@ -1,6 +1,6 @@
-use Rattle.std.proofs.Common.{◌≡◌, ◌+◌, ◌-◌, ◌∙◌, length, map, take, ap, subst, sym, arith}
-use Rattle.std.proofs.lemmas.List.{length-map, length-take-le}
-use Rattle.regex_lite_engine.specs.Pikevm.Cells.{round_in, without_round}
+use Rattle.regex_lite_engine.proofs.Common.{◌≡◌, ◌+◌, ◌-◌, map, length, take, sym, ap, ◌∙◌, subst}
+use Rattle.regex_lite_engine.proofs.Common.{arith, length-map, length-take-le, round_in}
+use Rattle.regex_lite_engine.proofs.Common.{without_round}
 use Rattle.regex_lite_engine.proofs.pikevm.ready.RaiseLemmas.{gap, round_raised, rest_kept}
 use Rattle.regex_lite_engine.proofs.pikevm.ready.raise.Goals as goal
 

@@ -1,6 +1,5 @@
-use Rattle.std.proofs.Common.{◌≡◌, ◌-◌, ◌≤◌, length, map, take}
-use Rattle.std.specs.Prelude.{vec_capacity}
-use Rattle.regex_lite_engine.specs.Pikevm.Cells.{round_in, without_round}
+use Rattle.regex_lite_engine.proofs.Common.{◌≡◌, ◌-◌, ◌≤◌, map, length, take, vec_capacity}
+use Rattle.regex_lite_engine.proofs.Common.{round_in, without_round}
 use Rattle.regex_lite_engine.proofs.pikevm.ready.RaiseLemmas.{gap}
 use Rattle.regex_lite_engine.proofs.pikevm.ready.raise.Given as goal
 

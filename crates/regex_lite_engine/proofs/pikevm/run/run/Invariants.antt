@@ -1,9 +1,6 @@
-use Rattle.std.proofs.Common.{◌≡◌, ℕ, ◌-◌, length}
-use Rattle.std.specs.Prelude.{chars}
-use Rattle.regex_lite_engine.specs.Search.Bounds.{StaysCounted}
-use Rattle.regex_lite_engine.specs.Search.Offsets.{position_at}
+use Rattle.regex_lite_engine.proofs.Common.{◌≡◌, ℕ, ◌-◌, length, chars, StaysCounted, position_at}
+use Rattle.regex_lite_engine.proofs.Common.{IsHere}
 use Rattle.regex_lite_engine.specs.Pikevm.Passing.{IsUnderWay}
-use Rattle.regex_lite_engine.specs.Search.Standing.{IsHere}
 use Rattle.regex_lite_engine.proofs.pikevm.run.run.Given as goal
 
 abbrev pub invariant-positions : goal.invariant-positions

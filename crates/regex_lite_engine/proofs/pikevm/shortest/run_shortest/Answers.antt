@@ -1,10 +1,7 @@
-use Rattle.std.proofs.Common.{rules, refl, sym, subst, ◌∙◌, ℕ, length, ◌+◌, ◌≤◌, arith}
-use Rattle.std.specs.Prelude.{chars}
-use Rattle.regex_lite_engine.specs.Search.Bounds.{characters_left}
-use Rattle.regex_lite_engine.specs.Search.Offsets.{position_at}
-use Rattle.regex_lite_engine.specs.Search.Counting.{CanCount}
+use Rattle.regex_lite_engine.proofs.Common.{ℕ, ◌+◌, ◌≤◌, length, chars, sym, refl, ◌∙◌, subst}
+use Rattle.regex_lite_engine.proofs.Common.{arith, rules, best_of, characters_left, CanCount}
+use Rattle.regex_lite_engine.proofs.Common.{position_at}
 use Rattle.regex_lite_engine.specs.Pikevm.Passing.{Passes}
-use Rattle.regex_lite_engine.specs.Pikevm.Turns.{best_of}
 use Rattle.regex_lite_engine.proofs.search.here.HereLemmas.{less_left, over_at}
 use Rattle.regex_lite_engine.proofs.search.CountLemmas.{counted_at_first, still_counted}
 use Rattle.regex_lite_engine.proofs.pikevm.EndLemmas.{some_after}

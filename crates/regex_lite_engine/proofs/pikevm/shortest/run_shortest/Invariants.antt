@@ -1,10 +1,6 @@
-use Rattle.std.proofs.Common.{◌≡◌, ℕ, ◌-◌, length, None}
-use Rattle.std.specs.Prelude.{chars}
-use Rattle.regex_lite_engine.specs.Search.Bounds.{StaysCounted}
-use Rattle.regex_lite_engine.specs.Search.Offsets.{position_at}
+use Rattle.regex_lite_engine.proofs.Common.{◌≡◌, ℕ, ◌-◌, length, None, chars, best_of, StaysCounted}
+use Rattle.regex_lite_engine.proofs.Common.{position_at, IsHere}
 use Rattle.regex_lite_engine.specs.Pikevm.Passing.{IsUnderWay}
-use Rattle.regex_lite_engine.specs.Search.Standing.{IsHere}
-use Rattle.regex_lite_engine.specs.Pikevm.Turns.{best_of}
 use Rattle.regex_lite_engine.proofs.pikevm.shortest.run_shortest.Given as goal
 
 abbrev pub invariant-positions : goal.invariant-positions

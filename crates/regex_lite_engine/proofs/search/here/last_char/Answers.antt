@@ -1,4 +1,4 @@
-use Rattle.std.proofs.Common.{rules}
+use Rattle.regex_lite_engine.proofs.Common.{rules}
 use Rattle.std.specs.Char.{IsScalar}
 use Rattle.regex_lite_engine.proofs.search.here.HereLemmas.{none_before, some_before}
 use Rattle.regex_lite_engine.proofs.search.here.last_char.Goals as goal

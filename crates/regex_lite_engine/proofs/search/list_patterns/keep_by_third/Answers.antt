@@ -1,8 +1,6 @@
-use Rattle.std.proofs.Common.{rules, ◌≡◌, ◌+◌, ℕ, Bool, suc, List, [], ◌∷◌}
-use Rattle.std.proofs.Common.{None, filter, length, ap, refl, sym, ◌∙◌, arith}
-use Rattle.std.specs.Prelude.{chars}
-use Rattle.regex_lite_syntax.specs.Text.{after}
-use Rattle.regex_lite_engine.specs.Prefilter.Thirds.{may_go_on}
+use Rattle.regex_lite_engine.proofs.Common.{◌≡◌, ℕ, suc, ◌+◌, Bool, List, [], ◌∷◌, length, None}
+use Rattle.regex_lite_engine.proofs.Common.{filter, chars, sym, refl, ap, ◌∙◌, arith, rules, after}
+use Rattle.regex_lite_engine.proofs.Common.{may_go_on}
 use Rattle.regex_lite_engine.proofs.prefilter.list_heads.ThirdLemmas.{all_go_on, none_later}
 use Rattle.regex_lite_engine.proofs.search.list_patterns.keep_by_third.Goals as goal
 use Rattle.regex_lite_engine.proofs.search.list_patterns.keep_by_third.Goals.{

@@ -1,6 +1,5 @@
-use Rattle.std.proofs.Common.{◌≡◌, ◌+◌, ℕ, inl, inr, sym, subst, arith}
-use Rattle.std.proofs.lemmas.Bool.{cases_lt}
-use Rattle.regex_lite_engine.specs.Prefilter.ListHeads.{IsPassedByAll}
+use Rattle.regex_lite_engine.proofs.Common.{◌≡◌, ℕ, ◌+◌, sym, subst, inl, inr, arith, cases_lt}
+use Rattle.regex_lite_engine.proofs.Common.{IsPassedByAll}
 use Rattle.regex_lite_engine.proofs.search.list_skip.next_offset.Goals as goal
 use Rattle.regex_lite_engine.proofs.search.list_skip.next_offset.Goals.{
   then-not-passes_four+else-loop-k-test,

@@ -1,5 +1,4 @@
-use Rattle.std.proofs.Common.{length, ◌+◌, ◌-◌, ◌≤◌, ◌<◌, ℕ}
-use Rattle.regex_lite_engine.specs.Prefilter.ListHeads.{IsPassedByAll}
+use Rattle.regex_lite_engine.proofs.Common.{ℕ, ◌+◌, ◌-◌, ◌<◌, ◌≤◌, length, IsPassedByAll}
 use Rattle.regex_lite_engine.proofs.search.list_skip.next_offset.Given as goal
 
 abbrev pub invariant-fours : goal.invariant-fours

@@ -1,10 +1,7 @@
-use Rattle.std.proofs.Common.{◌≡◌, ◌≤◌, length, false, true, sym, ap, subst, ◌∙◌, arith}
-use Rattle.std.specs.Prelude.{chars, is_some}
+use Rattle.regex_lite_engine.proofs.Common.{◌≡◌, ◌≤◌, true, false, length, is_some, chars, sym, ap}
+use Rattle.regex_lite_engine.proofs.Common.{◌∙◌, subst, arith, table_of_list, IsPassedByAll}
+use Rattle.regex_lite_engine.proofs.Common.{MayBegin, position_at}
 use Rattle.regex_lite_syntax.specs.Text.{before}
-use Rattle.regex_lite_engine.specs.Graph.StoredList.{table_of_list}
-use Rattle.regex_lite_engine.specs.Prefilter.ListHeads.{IsPassedByAll}
-use Rattle.regex_lite_engine.specs.Prefilter.Starts.{MayBegin}
-use Rattle.regex_lite_engine.specs.Search.Offsets.{position_at}
 use Rattle.regex_lite_engine.proofs.search.here.HereLemmas.{at_most}
 use Rattle.regex_lite_engine.proofs.search.ListSkipLemmas.{passes_to}
 use Rattle.regex_lite_engine.proofs.search.FirstByteLemmas.{never_at}

@@ -1,8 +1,5 @@
-use Rattle.std.proofs.Common.{◌≡◌, ◌+◌, suc, Some, slice_index, ap, sym, ◌∙◌, arith}
-use Rattle.std.specs.Prelude.{chars}
-use Rattle.std.proofs.lemmas.Option.{slice_get-get_or}
-use Rattle.regex_lite_syntax.specs.Text.{after}
-use Rattle.regex_lite_engine.specs.Prefilter.ListHeads.{may_start}
+use Rattle.regex_lite_engine.proofs.Common.{◌≡◌, suc, ◌+◌, slice_index, Some, chars, sym, ap, ◌∙◌}
+use Rattle.regex_lite_engine.proofs.Common.{arith, slice_get-get_or, after, may_start}
 use Rattle.regex_lite_engine.proofs.search.one_of_list.may_start.Goals as goal
 
 pub returns-clause-dead : goal.returns-clause-dead

@@ -1,8 +1,5 @@
-use Rattle.std.proofs.Common.{rules, ◌≡◌, ◌+◌, inl, inr, false, slice_index, subst, arith}
-use Rattle.std.specs.Prelude.{chars}
-use Rattle.std.proofs.lemmas.Bool.{cases_lt}
-use Rattle.regex_lite_engine.specs.Graph.StoredList.{table_of_list}
-use Rattle.regex_lite_engine.specs.Search.Starts.{IsDeadAt}
+use Rattle.regex_lite_engine.proofs.Common.{◌≡◌, ◌+◌, false, slice_index, chars, subst, inl, inr}
+use Rattle.regex_lite_engine.proofs.Common.{arith, rules, cases_lt, table_of_list, IsDeadAt}
 use Rattle.regex_lite_engine.proofs.search.here.HereLemmas.{less_left}
 use Rattle.regex_lite_engine.proofs.search.one_of_list.pass_over_one.Goals as goal
 

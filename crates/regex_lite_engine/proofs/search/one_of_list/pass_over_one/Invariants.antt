@@ -1,9 +1,5 @@
-use Rattle.std.proofs.Common.{ℕ, ◌-◌, length, slice_index}
-use Rattle.std.specs.Prelude.{chars}
-use Rattle.regex_lite_engine.specs.Graph.StoredList.{table_of_list}
-use Rattle.regex_lite_engine.specs.Search.Standing.{IsHere}
-use Rattle.regex_lite_engine.specs.Search.Starts.{PassesTo}
-use Rattle.regex_lite_engine.specs.Search.Starts.{IsDeadAt}
+use Rattle.regex_lite_engine.proofs.Common.{ℕ, ◌-◌, length, slice_index, chars, table_of_list}
+use Rattle.regex_lite_engine.proofs.Common.{IsHere, IsDeadAt, PassesTo}
 use Rattle.regex_lite_engine.proofs.search.one_of_list.pass_over_one.Given as goal
 
 abbrev pub invariant-passed : goal.invariant-passed

@@ -1,5 +1,4 @@
-use Rattle.std.proofs.Common.{rules, ◌-◌, inl, inr, arith}
-use Rattle.std.proofs.lemmas.Bool.{cases_lt}
+use Rattle.regex_lite_engine.proofs.Common.{◌-◌, inl, inr, arith, rules, cases_lt}
 use Rattle.regex_lite_engine.proofs.search.BlockLemmas.{unsuited}
 use Rattle.regex_lite_engine.proofs.search.skip.next_block.Goals as goal
 

@@ -1,5 +1,4 @@
-use Rattle.std.proofs.Common.{length, ◌-◌, ◌≤◌, ◌<◌, ℕ}
-use Rattle.regex_lite_engine.specs.Prefilter.Heads.{IsPassed}
+use Rattle.regex_lite_engine.proofs.Common.{ℕ, ◌-◌, ◌<◌, ◌≤◌, length, IsPassed}
 use Rattle.regex_lite_engine.proofs.search.skip.next_offset.Given as goal
 
 abbrev pub invariant-stops : goal.invariant-stops

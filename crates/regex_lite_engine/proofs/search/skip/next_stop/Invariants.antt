@@ -1,5 +1,5 @@
-use Rattle.std.proofs.Common.{◌+◌, ◌-◌, ◌≡◌, ◌≤◌, ◌<◌, ℕ, false, slice_index}
-use Rattle.regex_lite_engine.specs.Prefilter.Starts.{stops_at}
+use Rattle.regex_lite_engine.proofs.Common.{◌≡◌, ℕ, ◌+◌, ◌-◌, ◌<◌, ◌≤◌, false, slice_index}
+use Rattle.regex_lite_engine.proofs.Common.{stops_at}
 use Rattle.regex_lite_engine.proofs.search.skip.next_stop.Given as goal
 
 abbrev pub invariant-fours : goal.invariant-fours

@@ -1,11 +1,8 @@
-use Rattle.std.proofs.Common.{◌≡◌, ◌≤◌, ◌<◌, inl, inr, length, slice_index, true, sym, subst, arith}
-use Rattle.std.specs.Prelude.{chars, IfSome}
-use Rattle.regex_lite_engine.specs.declared.prefilter.heads.Heads.{Heads}
+use Rattle.regex_lite_engine.proofs.Common.{◌≡◌, ◌<◌, ◌≤◌, true, length, IfSome, slice_index, chars}
+use Rattle.regex_lite_engine.proofs.Common.{sym, subst, inl, inr, arith, NeverBegins, IsPassed}
+use Rattle.regex_lite_engine.proofs.Common.{stops_at, may_begin, position_at, PassesTo, Heads}
 use Rattle.regex_lite_engine.specs.Prefilter.Bytes.{IsPrefilterOf}
-use Rattle.regex_lite_engine.specs.Prefilter.Heads.{IsCutOff, IsPassed, NeverBegins}
-use Rattle.regex_lite_engine.specs.Prefilter.Starts.{may_begin, stops_at}
-use Rattle.regex_lite_engine.specs.Search.Offsets.{position_at}
-use Rattle.regex_lite_engine.specs.Search.Starts.{PassesTo}
+use Rattle.regex_lite_engine.specs.Prefilter.Heads.{IsCutOff}
 use Rattle.regex_lite_engine.proofs.search.here.HereLemmas.{at_most}
 use Rattle.regex_lite_engine.proofs.search.FirstByteLemmas.{never_at, stopped}
 use Rattle.regex_lite_engine.proofs.search.SkipLemmas.{cut_off_here, passes_between}

@@ -1,7 +1,6 @@
-use Rattle.std.proofs.Common.{◌∙◌, sym, ap, IsTrue, arith, rules, tests, ltb}
-use Rattle.std.proofs.lemmas.Bool.Decides.{nat_tests}
-use Rattle.regex_lite_syntax.specs.Characters.{is_character}
-use Rattle.regex_lite_syntax.specs.Ranges.{in_ranges}
+use Rattle.regex_lite_syntax.proofs.Common.{IsTrue, sym, ap, ◌∙◌, arith, rules, nat_tests}
+use Rattle.regex_lite_syntax.proofs.Common.{is_character, in_ranges}
+use Rattle.std.proofs.Common.{tests, ltb}
 use Rattle.std.proofs.lemmas.Fn.{always_returns_same}
 use Rattle.std.proofs.lemmas.List.Sorted.{IsPartitionedBy-ltb}
 use Rattle.regex_lite_syntax.proofs.class.RangeSearchLemmas.{ends_rise, held_nowhere, held_there}

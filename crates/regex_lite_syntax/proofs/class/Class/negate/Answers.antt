@@ -1,8 +1,6 @@
-use Rattle.std.proofs.Common.{◌≡◌, ◌∙◌, ap, take, ◌+◌, ◌<◌, ◌≤◌, length, drop, get_or, arith}
-use Rattle.std.proofs.lemmas.List.{drop_more, take_all}
-use Rattle.regex_lite_syntax.specs.declared.class.ClassRange.{ClassRange}
-use Rattle.regex_lite_syntax.specs.Ranges.{in_ranges, next_character}
-use Rattle.regex_lite_syntax.specs.Parser.RangeEnds.{start_of}
+use Rattle.regex_lite_syntax.proofs.Common.{◌≡◌, ◌+◌, ◌<◌, ◌≤◌, length, get_or, take, drop, ap, ◌∙◌}
+use Rattle.regex_lite_syntax.proofs.Common.{arith, drop_more, take_all, start_of, in_ranges}
+use Rattle.regex_lite_syntax.proofs.Common.{next_character, ClassRange}
 use Rattle.regex_lite_syntax.proofs.RangeLemmas.{next_above, in_ranges_more}
 use Rattle.regex_lite_syntax.proofs.class.BetweenRangeLemmas.{span_before, start_next}
 use Rattle.regex_lite_syntax.proofs.class.BetweenRangeLemmas.{before_next, gap_step, last_gap}

@@ -1,7 +1,5 @@
-use Rattle.std.proofs.Common.{◌≡◌, ℕ, ◌<◌, ◌≤◌, ◌&&◌, All, IsTrue, take, drop, nat_lt}
-use Rattle.regex_lite_syntax.specs.Sets.{complement}
-use Rattle.regex_lite_syntax.specs.Ranges.{in_ranges, AreRuns}
-use Rattle.regex_lite_syntax.specs.Parser.RangeEnds.{start_of}
+use Rattle.regex_lite_syntax.proofs.Common.{◌≡◌, ℕ, ◌<◌, ◌≤◌, ◌&&◌, take, drop, IsTrue, nat_lt, All}
+use Rattle.regex_lite_syntax.proofs.Common.{start_of, in_ranges, AreRuns, complement}
 use Rattle.regex_lite_syntax.proofs.class.Class.negate.Given as goal
 
 abbrev pub invariant-loop-range : goal.invariant-loop-range

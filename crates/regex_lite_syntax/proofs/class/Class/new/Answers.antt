@@ -1,9 +1,8 @@
-use Rattle.std.proofs.Common.{rules, ◌≡◌, ◌∙◌, sym, ap, length, take, arith}
+use Rattle.regex_lite_syntax.proofs.Common.{◌≡◌, length, take, sym, ap, ◌∙◌, arith, rules}
+use Rattle.regex_lite_syntax.proofs.Common.{in_ranges, ClassRange}
 use Rattle.std.proofs.lemmas.List.{take_at}
 use Rattle.std.proofs.lemmas.Fn.{always_returns_same}
 use Rattle.std.proofs.lemmas.List.Sorted.{IsNonDecreasingBy-from_sort}
-use Rattle.regex_lite_syntax.specs.declared.class.ClassRange.{ClassRange}
-use Rattle.regex_lite_syntax.specs.Ranges.{in_ranges}
 use Rattle.regex_lite_syntax.proofs.RangeLemmas.{in_ranges-permutation}
 use Rattle.regex_lite_syntax.proofs.class.Class.new.Goals as goal
 

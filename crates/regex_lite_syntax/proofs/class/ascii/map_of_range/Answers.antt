@@ -1,5 +1,4 @@
-use Rattle.std.proofs.Common.{◌<◌, arith}
-use Rattle.std.proofs.lemmas.Bool.Decides.{nat_tests}
+use Rattle.regex_lite_syntax.proofs.Common.{◌<◌, arith, nat_tests}
 use Rattle.regex_lite_syntax.proofs.class.AsciiMapLemmas.{bits_between}
 use Rattle.regex_lite_syntax.proofs.class.ascii.map_of_range.Goals as goal
 

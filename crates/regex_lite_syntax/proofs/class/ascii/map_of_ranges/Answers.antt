@@ -1,5 +1,4 @@
-use Rattle.std.proofs.Common.{◌<◌, ◌∙◌, sym, length, get_or}
-use Rattle.regex_lite_syntax.specs.declared.class.ClassRange.{ClassRange}
+use Rattle.regex_lite_syntax.proofs.Common.{◌<◌, length, get_or, sym, ◌∙◌, ClassRange}
 use Rattle.regex_lite_syntax.proofs.RangeLemmas.{in_ranges_more}
 use Rattle.regex_lite_syntax.proofs.class.AsciiMapLemmas.{bits_of_either, held_before, past_ascii}
 use Rattle.regex_lite_syntax.proofs.class.ascii.map_of_ranges.Goals as goal

@@ -1,5 +1,4 @@
-use Rattle.std.proofs.Common.{take}
-use Rattle.regex_lite_syntax.specs.Ranges.{in_ranges}
+use Rattle.regex_lite_syntax.proofs.Common.{take, in_ranges}
 use Rattle.regex_lite_syntax.specs.AsciiMaps.{IsMapOf}
 use Rattle.regex_lite_syntax.proofs.class.ascii.map_of_ranges.Given as goal
 

@@ -1,8 +1,6 @@
-use Rattle.std.proofs.Common.{◌≡◌, ◌∙◌, ◌<◌, ◌&&◌, length, arith}
-use Rattle.std.proofs.lemmas.List.{take_all}
-use Rattle.regex_lite_syntax.specs.Characters.{is_letter, other_case}
-use Rattle.regex_lite_syntax.specs.Sets.{Set}
-use Rattle.regex_lite_syntax.specs.Ranges.{in_ranges}
+use Rattle.regex_lite_syntax.proofs.Common.{◌≡◌, ◌<◌, ◌&&◌, length, ◌∙◌, arith, take_all, is_letter}
+use Rattle.regex_lite_syntax.proofs.Common.{in_ranges, Set}
+use Rattle.regex_lite_syntax.specs.Characters.{other_case}
 use Rattle.regex_lite_syntax.proofs.RangeLemmas.{in_ranges_more}
 use Rattle.regex_lite_syntax.proofs.parse.bracket.ClassSetLemmas.{in_set}
 use Rattle.regex_lite_syntax.proofs.class.letters.ascii_case_fold.Goals as goal

@@ -1,6 +1,5 @@
-use Rattle.std.proofs.Common.{◌≡◌, ℕ, ◌&&◌, take}
-use Rattle.regex_lite_syntax.specs.Characters.{is_letter, other_case}
-use Rattle.regex_lite_syntax.specs.Ranges.{in_ranges}
+use Rattle.regex_lite_syntax.proofs.Common.{◌≡◌, ℕ, ◌&&◌, take, is_letter, in_ranges}
+use Rattle.regex_lite_syntax.specs.Characters.{other_case}
 use Rattle.regex_lite_syntax.proofs.class.letters.ascii_case_fold.Given as goal
 
 abbrev pub invariant-loop-range : goal.invariant-loop-range

@@ -1,6 +1,5 @@
-use Rattle.std.proofs.Common.{rules, ◌+◌, ◌≤◌, [], ◌∷◌, ◌++◌, IsTrue}
-use Rattle.regex_lite_syntax.specs.Characters.{is_character}
-use Rattle.regex_lite_syntax.specs.Ranges.{next_character, AreRuns}
+use Rattle.regex_lite_syntax.proofs.Common.{◌+◌, ◌≤◌, [], ◌∷◌, ◌++◌, IsTrue, rules, is_character}
+use Rattle.regex_lite_syntax.proofs.Common.{next_character, AreRuns}
 use Rattle.regex_lite_syntax.proofs.RangeLemmas.{in_ranges-push}
 use Rattle.regex_lite_syntax.proofs.class.JoinedRangeLemmas.{max_above, runs_append, runs_until}
 use Rattle.regex_lite_syntax.proofs.class.JoinedRangeLemmas.{in_joined, starts_until, starts_last}

@@ -1,9 +1,7 @@
-use Rattle.std.proofs.Common.{rules, ◌≡◌, ◌++◌, sym, subst, ◌+◌, ◌-◌, ◌≤◌}
-use Rattle.std.proofs.Common.{[], ◌∷◌, IsTrue, length, take, get_or, arith}
+use Rattle.regex_lite_syntax.proofs.Common.{◌≡◌, ◌+◌, ◌-◌, ◌≤◌, [], ◌∷◌, ◌++◌, length, get_or, take}
+use Rattle.regex_lite_syntax.proofs.Common.{IsTrue, sym, subst, arith, rules, is_character}
+use Rattle.regex_lite_syntax.proofs.Common.{next_character, AreRuns, ClassRange}
 use Rattle.std.proofs.lemmas.List.{take_more_set}
-use Rattle.regex_lite_syntax.specs.declared.class.ClassRange.{ClassRange}
-use Rattle.regex_lite_syntax.specs.Characters.{is_character}
-use Rattle.regex_lite_syntax.specs.Ranges.{next_character, AreRuns}
 use Rattle.regex_lite_syntax.proofs.RangeLemmas.{in_ranges-push}
 use Rattle.regex_lite_syntax.proofs.class.JoinedRangeLemmas.{max_above, until, runs_append}
 use Rattle.regex_lite_syntax.proofs.class.JoinedRangeLemmas.{runs_until, in_joined}

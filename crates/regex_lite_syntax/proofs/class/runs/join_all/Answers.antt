@@ -1,7 +1,5 @@
-use Rattle.std.proofs.Common.{◌∙◌, ap, ◌+◌, ◌≤◌, arith}
+use Rattle.regex_lite_syntax.proofs.Common.{◌+◌, ◌≤◌, ap, ◌∙◌, arith, span, ClassRange}
 use Rattle.std.proofs.lemmas.List.{get_or_default}
-use Rattle.regex_lite_syntax.specs.declared.class.ClassRange.{ClassRange}
-use Rattle.regex_lite_syntax.specs.Sets.{span}
 use Rattle.regex_lite_syntax.proofs.RangeLemmas.{in_ranges_more}
 use Rattle.regex_lite_syntax.proofs.class.JoinedRangeLemmas.{same_later, same_there}
 use Rattle.regex_lite_syntax.proofs.class.runs.join_all.Goals as goal

@@ -1,6 +1,6 @@
-use Rattle.std.proofs.Common.{◌≡◌, ℕ, ◌<◌, ◌≤◌, All, length, take, drop, slice_index_or}
-use Rattle.regex_lite_syntax.specs.declared.class.ClassRange.{ClassRange}
-use Rattle.regex_lite_syntax.specs.Ranges.{in_ranges, AreRuns}
+use Rattle.regex_lite_syntax.proofs.Common.{◌≡◌, ℕ, ◌<◌, ◌≤◌, length, take, drop, All, in_ranges}
+use Rattle.regex_lite_syntax.proofs.Common.{AreRuns, ClassRange}
+use Rattle.std.proofs.Common.{slice_index_or}
 use Rattle.regex_lite_syntax.proofs.class.runs.join_all.Given as goal
 
 abbrev pub invariant-loop-at : goal.invariant-loop-at

@@ -1,4 +1,4 @@
-use Rattle.std.proofs.Common.{◌≤◌}
+use Rattle.regex_lite_syntax.proofs.Common.{◌≤◌}
 use Rattle.regex_lite_syntax.specs.declared.hir.Hir.{size-Hir}
 use Rattle.regex_lite_syntax.proofs.hir.Hir.+drop.Given as goal
 

@@ -1,12 +1,7 @@
-use Rattle.std.specs.Option.{option_or}
-use Rattle.std.proofs.Common.{rules, ◌≡◌, ◌∙◌, ap, arith, ℕ, List, ◌++◌}
-use Rattle.std.proofs.Common.{Option, None, Global, length, take, drop}
+use Rattle.regex_lite_syntax.proofs.Common.{◌≡◌, ℕ, List, ◌++◌, length, take, drop, None, Option}
+use Rattle.regex_lite_syntax.proofs.Common.{Global, ap, ◌∙◌, arith, rules, option_or, RcStr, Tree}
+use Rattle.regex_lite_syntax.proofs.Common.{name_at, AddsNames, group_name, tree_of}
 use Rattle.std.proofs.lemmas.List.{take_at}
-use Rattle.std.specs.declared.rc.RcStr.{RcStr}
-use Rattle.regex_lite_syntax.specs.Tree.{Tree}
-use Rattle.regex_lite_syntax.specs.Tree.Properties.{group_name}
-use Rattle.regex_lite_syntax.specs.Tree.Views.{tree_of}
-use Rattle.regex_lite_syntax.specs.Tree.NameTables.{AddsNames, name_at}
 use Rattle.regex_lite_syntax.proofs.NameTableLemmas.{unnamed}
 use Rattle.regex_lite_syntax.proofs.hir.Hir.capture_names.Goals as goal
 

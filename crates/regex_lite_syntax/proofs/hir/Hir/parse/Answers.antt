@@ -1,4 +1,4 @@
-use Rattle.std.proofs.Common.{◌∙◌}
+use Rattle.regex_lite_syntax.proofs.Common.{◌∙◌}
 use Rattle.regex_lite_syntax.proofs.CharacterLemmas.{chars_are}
 use Rattle.regex_lite_syntax.proofs.hir.Hir.parse.Goals as goal
 

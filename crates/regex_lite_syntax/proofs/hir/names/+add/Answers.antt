@@ -1,13 +1,10 @@
-use Rattle.std.proofs.Common.{◌≡◌, ◌∙◌, ◌⊎◌, inl, inr, sym, ap, subst}
-use Rattle.std.proofs.Common.{IfOk, Result, List, Option, Vec, Global, map}
+use Rattle.regex_lite_syntax.proofs.Common.{◌≡◌, ◌⊎◌, List, map, Option, Result, Global, sym, ap}
+use Rattle.regex_lite_syntax.proofs.Common.{◌∙◌, subst, inl, inr, RcStr, Tree, AddsNames}
+use Rattle.regex_lite_syntax.proofs.Common.{group_name, group_name_in, tree_of, Hir}
+use Rattle.std.proofs.Common.{IfOk, Vec}
 use Rattle.std.specs.declared.alloc.AllocError.{AllocError}
-use Rattle.std.specs.declared.rc.RcStr.{RcStr}
-use Rattle.regex_lite_syntax.specs.Tree.Properties.{group_name, group_name_in}
-use Rattle.regex_lite_syntax.specs.Tree.{Tree, trees as trees_of}
-use Rattle.regex_lite_syntax.specs.Tree.Views.{tree_of}
-use Rattle.regex_lite_syntax.specs.declared.hir.Hir.{Hir}
+use Rattle.regex_lite_syntax.specs.Tree.{trees as trees_of}
 use Rattle.regex_lite_syntax.specs.declared.hir.Hir.TheVariants.{Concat, Alternation}
-use Rattle.regex_lite_syntax.specs.Tree.NameTables.{AddsNames}
 use Rattle.regex_lite_syntax.proofs.hir.names.+add.Goals as goal
 use Rattle.regex_lite_syntax.proofs.TreeLemmas.{tree_of-Concat, tree_of-Alternation}
 

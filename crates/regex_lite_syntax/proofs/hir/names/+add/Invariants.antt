@@ -1,9 +1,7 @@
-use Rattle.std.specs.Option.{option_or}
-use Rattle.std.proofs.Common.{◌≡◌, ◌<◌, ℕ, map, drop, length}
+use Rattle.regex_lite_syntax.proofs.Common.{◌≡◌, ℕ, ◌<◌, map, length, drop, option_or, name_at}
+use Rattle.regex_lite_syntax.proofs.Common.{group_name_in, tree_of}
 use Rattle.regex_lite_syntax.specs.Tree.{trees as trees_of}
-use Rattle.regex_lite_syntax.specs.Tree.Properties.{greatest_index_in, group_name_in}
-use Rattle.regex_lite_syntax.specs.Tree.Views.{tree_of}
-use Rattle.regex_lite_syntax.specs.Tree.NameTables.{name_at}
+use Rattle.regex_lite_syntax.specs.Tree.Properties.{greatest_index_in}
 use Rattle.regex_lite_syntax.proofs.hir.names.+add.Given as goal
 
 abbrev pub invariant-add_all_names-loop-tree : goal.invariant-add_all_names-loop-tree

@@ -1,14 +1,12 @@
-use Rattle.std.specs.Option.{option_or}
-use Rattle.std.proofs.Common.{rules, ◌≡◌, ◌≢◌, ◌==◌, ◌<◌, ◌∙◌, refl, sym, ap, ℕ, Bool, true}
-use Rattle.std.proofs.Common.{false, List, Option, Some, None, Global, map, option_map}
-use Rattle.std.proofs.Common.{length, get_or, slice_set, get_or-set_same, get_or-set_other}
-use Rattle.std.proofs.lemmas.Bool.{eqb-true, eq-eqb}
+use Rattle.regex_lite_syntax.proofs.Common.{◌≡◌, ℕ, ◌<◌, Bool, true, false, ◌≢◌, List, map, length}
+use Rattle.regex_lite_syntax.proofs.Common.{get_or, ◌==◌, Some, None, Option, option_map, Global}
+use Rattle.regex_lite_syntax.proofs.Common.{sym, refl, ap, ◌∙◌, rules, eqb-true, option_or, RcStr}
+use Rattle.regex_lite_syntax.proofs.Common.{Text, name_at, AddsNames, text_of_name}
+use Rattle.std.proofs.Common.{slice_set, get_or-set_same, get_or-set_other}
+use Rattle.std.proofs.lemmas.Bool.{eq-eqb}
 use Rattle.std.proofs.lemmas.List.{map-set, length-map, get_or-map}
-use Rattle.std.specs.declared.rc.RcStr.{RcStr}
-use Rattle.regex_lite_syntax.specs.Text.{Text}
 use Rattle.regex_lite_syntax.specs.Tree.Properties.{name_if}
-use Rattle.regex_lite_syntax.specs.Tree.Views.{text_of_name}
-use Rattle.regex_lite_syntax.specs.Tree.NameTables.{AddsNames, name_at, name_if_at}
+use Rattle.regex_lite_syntax.specs.Tree.NameTables.{name_if_at}
 use Rattle.regex_lite_syntax.proofs.hir.names.add_name.Goals as goal
 
 option_or-none : (name : Option Text) → option_or name None ≡ name

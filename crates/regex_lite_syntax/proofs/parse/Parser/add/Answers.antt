@@ -1,5 +1,4 @@
-use Rattle.std.proofs.Common.{refl}
-use Rattle.regex_lite_syntax.specs.Tree.Views.{tree_of}
+use Rattle.regex_lite_syntax.proofs.Common.{refl, tree_of}
 use Rattle.regex_lite_syntax.specs.Parser.Machine.{with_items}
 use Rattle.regex_lite_syntax.specs.Parser.States.{state}
 use Rattle.regex_lite_syntax.proofs.machine.StateLemmas.{map_pushed}

@@ -1,7 +1,6 @@
-use Rattle.std.proofs.Common.{refl, map, reverse}
-use Rattle.regex_lite_syntax.specs.Tree.Views.{tree_of}
+use Rattle.regex_lite_syntax.proofs.Common.{map, reverse, refl, frame_of, tree_of}
 use Rattle.regex_lite_syntax.specs.Parser.Machine.{closed}
-use Rattle.regex_lite_syntax.specs.Parser.States.{state, frame_of}
+use Rattle.regex_lite_syntax.specs.Parser.States.{state}
 use Rattle.regex_lite_syntax.proofs.machine.StateLemmas.{map_pushed, reverse_pushed}
 use Rattle.regex_lite_syntax.proofs.parse.Parser.close.Goals as goal
 

@@ -1,7 +1,6 @@
-use Rattle.std.proofs.Common.{sym, ◌∙◌, ap, map, reverse}
-use Rattle.std.proofs.lemmas.Bool.{both_ways, eqb-true}
-use Rattle.regex_lite_syntax.specs.Tree.Views.{tree_of}
-use Rattle.regex_lite_syntax.specs.Parser.States.{state, frame_of}
+use Rattle.regex_lite_syntax.proofs.Common.{map, reverse, sym, ap, ◌∙◌, both_ways, eqb-true}
+use Rattle.regex_lite_syntax.proofs.Common.{frame_of, tree_of}
+use Rattle.regex_lite_syntax.specs.Parser.States.{state}
 use Rattle.regex_lite_syntax.proofs.machine.StateLemmas.{none_left}
 use Rattle.regex_lite_syntax.proofs.parse.Parser.finish.Goals as goal
 

@@ -1,6 +1,6 @@
-use Rattle.std.proofs.Common.{refl}
+use Rattle.regex_lite_syntax.proofs.Common.{refl, frame_of}
 use Rattle.regex_lite_syntax.specs.Parser.Machine.{opened}
-use Rattle.regex_lite_syntax.specs.Parser.States.{state, frame_of}
+use Rattle.regex_lite_syntax.specs.Parser.States.{state}
 use Rattle.regex_lite_syntax.proofs.machine.StateLemmas.{reverse_pushed}
 use Rattle.regex_lite_syntax.proofs.parse.Parser.open.Goals as goal
 

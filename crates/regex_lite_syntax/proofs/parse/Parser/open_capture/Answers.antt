@@ -1,6 +1,5 @@
-use Rattle.std.proofs.Common.{◌≡◌, ◌∙◌, ap, ◌+◌, option_map, length, arith}
-use Rattle.regex_lite_syntax.specs.Grammar.Heads.{capturing, inside}
-use Rattle.regex_lite_syntax.specs.Tree.Views.{text_of_name}
+use Rattle.regex_lite_syntax.proofs.Common.{◌≡◌, ◌+◌, length, option_map, ap, ◌∙◌, arith, capturing}
+use Rattle.regex_lite_syntax.proofs.Common.{inside, text_of_name}
 use Rattle.regex_lite_syntax.specs.Parser.Machine.{opened}
 use Rattle.regex_lite_syntax.specs.Parser.States.{state}
 use Rattle.regex_lite_syntax.proofs.parse.Parser.open_capture.Goals as goal

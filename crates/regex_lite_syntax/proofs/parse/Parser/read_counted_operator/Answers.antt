@@ -1,8 +1,5 @@
-use Rattle.std.proofs.Common.{refl, ℕ, sym, ◌∙◌, ap, subst, map, arith, drop, ◌+◌, ◌++◌}
-use Rattle.regex_lite_syntax.specs.Text.{Text}
-use Rattle.regex_lite_syntax.specs.Grammar.Gaps.{Gap}
-use Rattle.regex_lite_syntax.specs.Grammar.Operators.{greed, counted_lazy}
-use Rattle.regex_lite_syntax.specs.Tree.Views.{tree_of}
+use Rattle.regex_lite_syntax.proofs.Common.{ℕ, ◌+◌, ◌++◌, map, drop, sym, refl, ap, ◌∙◌, subst}
+use Rattle.regex_lite_syntax.proofs.Common.{arith, Gap, greed, counted_lazy, Text, tree_of}
 use Rattle.regex_lite_syntax.specs.Parser.Machine.{with_items}
 use Rattle.regex_lite_syntax.specs.Parser.States.{state}
 use Rattle.regex_lite_syntax.proofs.ExitLemmas.{at_exit}

@@ -1,12 +1,9 @@
-use Rattle.std.proofs.Common.{inl, inr, ◌⊎◌, ◌≡◌, ◌≢◌, Bool, ◌∷◌, ◌+◌}
-use Rattle.std.proofs.Common.{sym, ◌∙◌, ap, subst, refl, drop, arith}
+use Rattle.regex_lite_syntax.proofs.Common.{◌≡◌, ◌+◌, Bool, ◌≢◌, ◌⊎◌, ◌∷◌, drop, sym, refl, ap, ◌∙◌}
+use Rattle.regex_lite_syntax.proofs.Common.{subst, inl, inr, arith, FlagLetters, Gap, WholeGap}
+use Rattle.regex_lite_syntax.proofs.Common.{EndsInOpening, Text, Begins, the}
 use Rattle.regex_lite_syntax.specs.declared.error.syntax.SyntaxFault.TheVariants.{
   EmptyFlags,
 }
-use Rattle.regex_lite_syntax.specs.Text.{Text, Begins, the}
-use Rattle.regex_lite_syntax.specs.Grammar.Gaps.{Gap, WholeGap}
-use Rattle.regex_lite_syntax.specs.Grammar.FlagLetters.{FlagLetters}
-use Rattle.regex_lite_syntax.specs.Parser.NameOpenings.{EndsInOpening}
 use Rattle.regex_lite_syntax.proofs.ExitLemmas.{at_exit}
 use Rattle.regex_lite_syntax.proofs.parse.IndexLemmas.{drop_begins}
 use Rattle.regex_lite_syntax.proofs.grammar.NewNameLemmas.{opening_completes}

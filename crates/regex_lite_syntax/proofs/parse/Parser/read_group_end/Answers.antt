@@ -1,4 +1,4 @@
-use Rattle.std.proofs.Common.{◌++◌, ap, arith, drop}
+use Rattle.regex_lite_syntax.proofs.Common.{◌++◌, drop, ap, arith}
 use Rattle.regex_lite_syntax.proofs.machine.ReadStepLemmas.{reads_end, reads_no_end}
 use Rattle.regex_lite_syntax.proofs.parse.Parser.read_group_end.Goals as goal
 

@@ -1,4 +1,4 @@
-use Rattle.std.proofs.Common.{drop, ◌+◌, arith}
+use Rattle.regex_lite_syntax.proofs.Common.{◌+◌, drop, arith}
 use Rattle.regex_lite_syntax.proofs.ExitLemmas.{at_exit}
 use Rattle.regex_lite_syntax.proofs.parse.DenialLemmas.{number_refuses}
 use Rattle.regex_lite_syntax.proofs.machine.ReadHeadLemmas.{reads_numbered, begins_numbered}

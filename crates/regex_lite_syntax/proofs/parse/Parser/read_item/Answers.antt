@@ -1,9 +1,4 @@
-use Rattle.std.proofs.Common.{drop}
-use Rattle.regex_lite_syntax.specs.Refusals.{Completable}
-use Rattle.regex_lite_syntax.specs.Text.{Text}
-use Rattle.regex_lite_syntax.specs.Grammar.Atoms.{Atom}
-use Rattle.regex_lite_syntax.specs.Tree.{Tree}
-use Rattle.regex_lite_syntax.specs.Parser.States.{CanRead, CanReadOn}
+use Rattle.regex_lite_syntax.proofs.Common.{drop, Atom, CanRead, CanReadOn, Completable, Text, Tree}
 use Rattle.regex_lite_syntax.proofs.ExitLemmas.{at_exit}
 use Rattle.regex_lite_syntax.proofs.parse.DenialLemmas.{denial_refuses}
 use Rattle.regex_lite_syntax.proofs.parse.CompletionLemmas.{cut_short_says}

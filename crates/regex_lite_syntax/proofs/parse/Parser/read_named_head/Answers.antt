@@ -1,10 +1,8 @@
-use Rattle.std.proofs.Common.{true, false, ◌≡◌, sym, subst, Contains, drop, arith}
+use Rattle.regex_lite_syntax.proofs.Common.{◌≡◌, true, false, drop, Contains, sym, subst, arith}
+use Rattle.regex_lite_syntax.proofs.Common.{NameWritten, NameOpening, Named, Text, text_of_name}
 use Rattle.regex_lite_syntax.specs.declared.error.syntax.SyntaxFault.TheVariants.{
   DuplicateCaptureName,
 }
-use Rattle.regex_lite_syntax.specs.Text.{Text}
-use Rattle.regex_lite_syntax.specs.Grammar.GroupNames.{NameOpening, NameWritten, Named}
-use Rattle.regex_lite_syntax.specs.Tree.Views.{text_of_name}
 use Rattle.regex_lite_syntax.proofs.ExitLemmas.{at_exit}
 use Rattle.regex_lite_syntax.proofs.parse.DenialLemmas.{number_refuses}
 use Rattle.regex_lite_syntax.proofs.grammar.NameOpeningLemmas.{opening_question}

@@ -1,8 +1,6 @@
-use Rattle.std.proofs.Common.{◌≡◌, ℕ, refl, sym, ◌∙◌, ap, map, arith, drop, get_or, ◌+◌}
-use Rattle.std.proofs.Common.{◌∷◌, ◌++◌}
-use Rattle.regex_lite_syntax.specs.Text.{Text, the}
-use Rattle.regex_lite_syntax.specs.Grammar.Operators.{greed, uncounted, uncounted_lazy}
-use Rattle.regex_lite_syntax.specs.Tree.Views.{tree_of}
+use Rattle.regex_lite_syntax.proofs.Common.{◌≡◌, ℕ, ◌+◌, ◌∷◌, ◌++◌, map, get_or, drop, sym, refl}
+use Rattle.regex_lite_syntax.proofs.Common.{ap, ◌∙◌, arith, greed, uncounted, uncounted_lazy, Text}
+use Rattle.regex_lite_syntax.proofs.Common.{the, tree_of}
 use Rattle.regex_lite_syntax.specs.Parser.Machine.{with_items}
 use Rattle.regex_lite_syntax.specs.Parser.States.{state}
 use Rattle.regex_lite_syntax.proofs.parse.IndexLemmas.{drop_at}

@@ -1,4 +1,4 @@
-use Rattle.std.proofs.Common.{refl}
+use Rattle.regex_lite_syntax.proofs.Common.{refl}
 use Rattle.regex_lite_syntax.specs.Parser.Machine.{with_items}
 use Rattle.regex_lite_syntax.specs.Parser.States.{state}
 use Rattle.regex_lite_syntax.proofs.parse.Parser.set_flags.Goals as goal

@@ -1,4 +1,4 @@
-use Rattle.std.proofs.Common.{◌∙◌, ap, arith, drop, ◌+◌, ◌∷◌}
+use Rattle.regex_lite_syntax.proofs.Common.{◌+◌, ◌∷◌, drop, ap, ◌∙◌, arith}
 use Rattle.regex_lite_syntax.proofs.parse.IndexLemmas.{drop_char}
 use Rattle.regex_lite_syntax.proofs.machine.ReadStepLemmas.{reads_bar}
 use Rattle.regex_lite_syntax.proofs.parse.Parser.step.Goals as goal

@@ -1,7 +1,5 @@
-use Rattle.std.proofs.Common.{sym, ◌∙◌}
+use Rattle.regex_lite_syntax.proofs.Common.{sym, ◌∙◌, IfOk-weaker, tree_of}
 use Rattle.std.proofs.lemmas.Bool.{not-false}
-use Rattle.std.proofs.lemmas.Result.{IfOk-weaker}
-use Rattle.regex_lite_syntax.specs.Tree.Views.{tree_of}
 use Rattle.regex_lite_syntax.proofs.LetterCaseLemmas.{letter_as}
 use Rattle.regex_lite_syntax.proofs.parse.atom.AtomTreeLemmas.{class_of, both_cases}
 use Rattle.regex_lite_syntax.proofs.parse.atom.char_tree.Goals as goal

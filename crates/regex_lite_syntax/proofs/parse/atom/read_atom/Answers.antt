@@ -1,9 +1,5 @@
-use Rattle.std.proofs.Common.{rules, refl, ◌∙◌, ap, arith, drop, ◌+◌, ◌∷◌, ◌++◌}
-use Rattle.regex_lite_syntax.specs.Text.{Text, the}
-use Rattle.regex_lite_syntax.specs.Sets.{Set}
-use Rattle.regex_lite_syntax.specs.Grammar.Classes.{BracketedClass}
-use Rattle.regex_lite_syntax.specs.Grammar.Atoms.{bracketed, Atom}
-use Rattle.regex_lite_syntax.specs.Tree.{Tree}
+use Rattle.regex_lite_syntax.proofs.Common.{◌+◌, ◌∷◌, ◌++◌, drop, refl, ap, ◌∙◌, arith, rules}
+use Rattle.regex_lite_syntax.proofs.Common.{bracketed, Atom, BracketedClass, Set, Text, the, Tree}
 use Rattle.regex_lite_syntax.proofs.ExitLemmas.{at_exit}
 use Rattle.regex_lite_syntax.proofs.grammar.AtomLemmas.{by_kind, NoSign, no_escape}
 use Rattle.regex_lite_syntax.proofs.CharacterLemmas.{left_are}

@@ -1,10 +1,7 @@
-use Rattle.std.proofs.Common.{◌≡◌, sym, subst, drop, List, ◌∷◌, ◌++◌, ℕ, arith}
-use Rattle.regex_lite_syntax.specs.Text.{Text, the}
-use Rattle.regex_lite_syntax.specs.Sets.{Set, just, union}
-use Rattle.regex_lite_syntax.specs.Ranges.{in_ranges}
-use Rattle.regex_lite_syntax.specs.Grammar.Classes.{ClassItems, ClassOpening, only_if}
-use Rattle.regex_lite_syntax.specs.Grammar.Classes.{BracketedClass}
-use Rattle.regex_lite_syntax.specs.Refusals.{Denies, Completable, IfCutShort}
+use Rattle.regex_lite_syntax.proofs.Common.{◌≡◌, ℕ, List, ◌∷◌, ◌++◌, drop, sym, subst, arith}
+use Rattle.regex_lite_syntax.proofs.Common.{ClassOpening, ClassItems, only_if, BracketedClass}
+use Rattle.regex_lite_syntax.proofs.Common.{in_ranges, Denies, Completable, IfCutShort, Set, just}
+use Rattle.regex_lite_syntax.proofs.Common.{union, Text, the}
 use Rattle.regex_lite_syntax.proofs.ExitLemmas.{at_exit}
 use Rattle.regex_lite_syntax.proofs.grammar.LongerClassLemmas.{opening_longer}
 use Rattle.regex_lite_syntax.proofs.parse.DenialLemmas.{none_at_end, denies_part}

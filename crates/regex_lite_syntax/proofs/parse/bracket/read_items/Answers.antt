@@ -1,13 +1,8 @@
-use Rattle.std.proofs.Common.{◌≡◌, refl, sym, ◌∙◌, ap, subst, ◌+◌, ◌++◌, drop, List, [], ◌∷◌}
-use Rattle.std.proofs.Common.{arith}
+use Rattle.regex_lite_syntax.proofs.Common.{◌≡◌, ◌+◌, List, [], ◌∷◌, ◌++◌, drop, sym, refl, ap, ◌∙◌}
+use Rattle.regex_lite_syntax.proofs.Common.{subst, arith, append-nil, ClassItems, WholeGap, Denies}
+use Rattle.regex_lite_syntax.proofs.Common.{Completable, IfCutShort, Set, Text, the}
 use Rattle.std.proofs.Math.Bool.{or-false}
-use Rattle.std.proofs.lemmas.List.{append-nil}
-use Rattle.regex_lite_syntax.specs.Text.{Text, the}
-use Rattle.regex_lite_syntax.specs.Sets.{Set}
-use Rattle.regex_lite_syntax.specs.Grammar.Classes.{ClassItems}
 use Rattle.regex_lite_syntax.specs.Parser.ClassReadings.{item_set}
-use Rattle.regex_lite_syntax.specs.Grammar.Gaps.{WholeGap}
-use Rattle.regex_lite_syntax.specs.Refusals.{Denies, Completable, IfCutShort}
 use Rattle.regex_lite_syntax.proofs.ExitLemmas.{at_exit}
 use Rattle.regex_lite_syntax.proofs.grammar.LongerGapLemmas.{begins_longer}
 use Rattle.regex_lite_syntax.proofs.parse.IndexLemmas.{left_at_end, some_at}

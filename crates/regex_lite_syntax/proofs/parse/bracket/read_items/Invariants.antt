@@ -1,10 +1,6 @@
-use Rattle.std.proofs.Common.{◌≡◌, ◌≤◌, ◌-◌, ◌++◌, ◌||◌, drop, length, ℕ, List, []}
-use Rattle.regex_lite_syntax.specs.Text.{Text}
-use Rattle.regex_lite_syntax.specs.Grammar.Gaps.{EndsGap}
-use Rattle.regex_lite_syntax.specs.Sets.{Set, union}
-use Rattle.regex_lite_syntax.specs.Ranges.{in_ranges}
-use Rattle.regex_lite_syntax.specs.Grammar.Classes.{ClassItems}
-use Rattle.regex_lite_syntax.specs.Refusals.{Completable}
+use Rattle.regex_lite_syntax.proofs.Common.{◌≡◌, ℕ, ◌-◌, ◌≤◌, ◌||◌, List, [], ◌++◌, length, drop}
+use Rattle.regex_lite_syntax.proofs.Common.{ClassItems, EndsGap, in_ranges, Completable, Set, union}
+use Rattle.regex_lite_syntax.proofs.Common.{Text}
 use Rattle.regex_lite_syntax.proofs.parse.bracket.CompletedClassLemmas.{ClassTo}
 use Rattle.regex_lite_syntax.proofs.parse.bracket.read_items.Given as goal
 

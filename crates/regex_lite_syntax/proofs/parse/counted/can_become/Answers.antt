@@ -1,6 +1,5 @@
-use Rattle.std.proofs.Common.{inl, inr, refl, subst, drop, arith}
-use Rattle.std.proofs.lemmas.Bool.{leb-true, le-leb}
-use Rattle.regex_lite_syntax.specs.Grammar.Gaps.{Gap}
+use Rattle.regex_lite_syntax.proofs.Common.{drop, refl, subst, inl, inr, arith, le-leb, leb-true}
+use Rattle.regex_lite_syntax.proofs.Common.{Gap}
 use Rattle.regex_lite_syntax.proofs.grammar.MoreDigitsLemmas.{grows_where, stays_where}
 use Rattle.regex_lite_syntax.proofs.grammar.GapLemmas.{gap_to_end}
 use Rattle.regex_lite_syntax.proofs.parse.IndexLemmas.{left_at_end, some_at}

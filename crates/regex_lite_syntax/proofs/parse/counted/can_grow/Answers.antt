@@ -1,6 +1,4 @@
-use Rattle.std.proofs.Common.{inr, arith}
-use Rattle.std.proofs.lemmas.Bool.{leb-true, le-leb}
-use Rattle.regex_lite_syntax.specs.Parser.Numbers.{as_it_is}
+use Rattle.regex_lite_syntax.proofs.Common.{inr, arith, le-leb, leb-true, as_it_is}
 use Rattle.regex_lite_syntax.proofs.grammar.MoreDigitsLemmas.{between_more, others_more}
 use Rattle.regex_lite_syntax.proofs.grammar.MoreDigitsLemmas.{reaches_between, reaches_small}
 use Rattle.regex_lite_syntax.proofs.parse.counted.can_grow.Goals as goal

@@ -1,5 +1,4 @@
-use Rattle.std.proofs.Common.{ℕ, ◌-◌, ◌≤◌, ◌<◌, ◌^◌, ◌*◌}
-use Rattle.regex_lite_syntax.specs.Parser.Numbers.{GrowsTo}
+use Rattle.regex_lite_syntax.proofs.Common.{ℕ, ◌-◌, ◌*◌, ◌^◌, ◌<◌, ◌≤◌, GrowsTo}
 use Rattle.regex_lite_syntax.proofs.grammar.MoreDigitsLemmas.{TooSmallOrFrom}
 use Rattle.regex_lite_syntax.proofs.parse.counted.can_grow.Given as goal
 

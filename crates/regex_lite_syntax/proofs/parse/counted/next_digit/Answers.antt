@@ -1,4 +1,4 @@
-use Rattle.std.proofs.Common.{sym, ◌∙◌, arith}
+use Rattle.regex_lite_syntax.proofs.Common.{sym, ◌∙◌, arith}
 use Rattle.regex_lite_syntax.proofs.ListLemmas.{same_head}
 use Rattle.regex_lite_syntax.proofs.grammar.NumberLemmas.{digit_bounds, no_digit_past}
 use Rattle.regex_lite_syntax.proofs.parse.counted.next_digit.Goals as goal

@@ -1,6 +1,5 @@
-use Rattle.std.proofs.Common.{refl, ◌∙◌, ap, subst, drop, ◌++◌, arith}
-use Rattle.regex_lite_syntax.specs.Grammar.Gaps.{WholeGap}
-use Rattle.regex_lite_syntax.specs.Grammar.Counted.{Counted, Number}
+use Rattle.regex_lite_syntax.proofs.Common.{◌++◌, drop, refl, ap, ◌∙◌, subst, arith, Number}
+use Rattle.regex_lite_syntax.proofs.Common.{Counted, WholeGap}
 use Rattle.regex_lite_syntax.proofs.ExitLemmas.{at_exit}
 use Rattle.regex_lite_syntax.proofs.grammar.NumberLemmas.{no_ender, nothing_left, other_ender}
 use Rattle.regex_lite_syntax.proofs.grammar.CountLemmas.{counted_to, first_number}

@@ -1,9 +1,5 @@
-use Rattle.std.proofs.Common.{inr, refl, sym, ◌∙◌, ap, subst, drop, ◌∷◌, ◌++◌, arith}
-use Rattle.std.proofs.lemmas.Bool.{both_ways}
-use Rattle.regex_lite_syntax.specs.Text.{the}
-use Rattle.regex_lite_syntax.specs.Grammar.Gaps.{WholeGap}
-use Rattle.regex_lite_syntax.specs.Grammar.Counted.{Limit}
-use Rattle.regex_lite_syntax.specs.Parser.Readings.{IsNotBelow}
+use Rattle.regex_lite_syntax.proofs.Common.{◌∷◌, ◌++◌, drop, sym, refl, ap, ◌∙◌, subst, inr, arith}
+use Rattle.regex_lite_syntax.proofs.Common.{both_ways, Limit, WholeGap, IsNotBelow, the}
 use Rattle.regex_lite_syntax.proofs.ExitLemmas.{at_exit}
 use Rattle.regex_lite_syntax.proofs.ListLemmas.{same_head}
 use Rattle.regex_lite_syntax.proofs.grammar.NumberLemmas.{no_ender, nothing_left}

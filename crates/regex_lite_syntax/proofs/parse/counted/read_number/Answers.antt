@@ -1,5 +1,5 @@
-use Rattle.std.proofs.Common.{◌-◌, ◌^◌, codes, refl, subst, drop, arith}
-use Rattle.regex_lite_syntax.specs.Grammar.Counted.{WholeSide, Number}
+use Rattle.regex_lite_syntax.proofs.Common.{◌-◌, ◌^◌, drop, codes, refl, subst, arith, WholeSide}
+use Rattle.regex_lite_syntax.proofs.Common.{Number}
 use Rattle.regex_lite_syntax.proofs.grammar.NumberLemmas.{NoDigit, digit_read, no_digits_read}
 use Rattle.regex_lite_syntax.proofs.grammar.NumberLemmas.{number_read, no_number_at_end}
 use Rattle.regex_lite_syntax.proofs.grammar.LongerNumberLemmas.{of_text, longer_too_large}

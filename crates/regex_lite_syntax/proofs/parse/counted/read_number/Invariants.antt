@@ -1,4 +1,4 @@
-use Rattle.std.proofs.Common.{◌^◌, ◌<◌, ◌≤◌, ◌-◌, drop, length}
+use Rattle.regex_lite_syntax.proofs.Common.{◌-◌, ◌^◌, ◌<◌, ◌≤◌, length, drop}
 use Rattle.regex_lite_syntax.proofs.grammar.NumberLemmas.{DigitsRead}
 use Rattle.regex_lite_syntax.proofs.parse.counted.read_number.Given as goal
 

@@ -1,6 +1,4 @@
-use Rattle.std.proofs.Common.{◌≤◌, ◌-◌, drop, length}
-use Rattle.regex_lite_syntax.specs.Text.{Text}
-use Rattle.regex_lite_syntax.specs.Grammar.Counted.{WhiteSpace}
+use Rattle.regex_lite_syntax.proofs.Common.{◌-◌, ◌≤◌, length, drop, WhiteSpace, Text}
 use Rattle.regex_lite_syntax.proofs.parse.counted.skip_side.Given as goal
 
 abbrev pub invariant-loop-end : goal.invariant-loop-end

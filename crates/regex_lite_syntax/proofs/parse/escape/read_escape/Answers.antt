@@ -1,11 +1,8 @@
-use Rattle.std.proofs.Common.{◌≡◌, refl, sym, ap, subst, ℕ, ◌≤◌, [], ◌∷◌, ◌++◌, Bool, arith}
-use Rattle.regex_lite_syntax.specs.declared.hir.look.Look.{Look}
-use Rattle.regex_lite_syntax.specs.Text.{Text, Begins, the}
-use Rattle.regex_lite_syntax.specs.Grammar.Escapes.{Primitive, one, look_at, Escape, escape_kind}
-use Rattle.regex_lite_syntax.specs.Grammar.Escapes.{word_boundary, hexadecimal}
-use Rattle.regex_lite_syntax.specs.Grammar.Escapes.{WordBoundary, Hexadecimal}
-use Rattle.regex_lite_syntax.specs.Parser.Readings.{ReachesTo}
-use Rattle.regex_lite_syntax.specs.Refusals.{Completable}
+use Rattle.regex_lite_syntax.proofs.Common.{◌≡◌, ℕ, ◌≤◌, Bool, [], ◌∷◌, ◌++◌, sym, refl, ap, subst}
+use Rattle.regex_lite_syntax.proofs.Common.{arith, one, look_at, word_boundary, hexadecimal}
+use Rattle.regex_lite_syntax.proofs.Common.{escape_kind, Hexadecimal, WordBoundary, Escape}
+use Rattle.regex_lite_syntax.proofs.Common.{ReachesTo, Completable, Text, Begins, the, Look}
+use Rattle.regex_lite_syntax.specs.Grammar.Escapes.{Primitive}
 use Rattle.regex_lite_syntax.proofs.ExitLemmas.{at_exit}
 use Rattle.regex_lite_syntax.proofs.grammar.GapLemmas.{empty_gap}
 use Rattle.regex_lite_syntax.proofs.grammar.EscapeLemmas.{escape_as, escape_from, boundary_is_b}

@@ -1,7 +1,6 @@
-use Rattle.std.proofs.Common.{subst, MatchOption}
+use Rattle.regex_lite_syntax.proofs.Common.{subst, HasTree, Stop}
+use Rattle.std.proofs.Common.{MatchOption}
 use Rattle.regex_lite_syntax.specs.FaultPlaces.{IsFaultAt}
-use Rattle.regex_lite_syntax.specs.Grammar.{HasTree}
-use Rattle.regex_lite_syntax.specs.declared.parse.fault.Stop.{Stop}
 use Rattle.regex_lite_syntax.proofs.machine.FaultEndLemmas.{tree_goes_on}
 use Rattle.regex_lite_syntax.proofs.parse.fault.begins_none.Goals as goal
 

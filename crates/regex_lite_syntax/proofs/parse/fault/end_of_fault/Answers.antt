@@ -1,7 +1,6 @@
-use Rattle.std.proofs.Common.{sym, subst, arith, take, MatchBool}
-use Rattle.std.proofs.lemmas.List.{take_all}
-use Rattle.std.proofs.lemmas.Result.{IfOk-weaker}
-use Rattle.regex_lite_syntax.specs.FaultPlaces.{BeginsNone, BeginsSome, IsEndOfFault}
+use Rattle.regex_lite_syntax.proofs.Common.{take, MatchBool, sym, subst, arith, take_all}
+use Rattle.regex_lite_syntax.proofs.Common.{IfOk-weaker, BeginsNone, BeginsSome}
+use Rattle.regex_lite_syntax.specs.FaultPlaces.{IsEndOfFault}
 use Rattle.regex_lite_syntax.specs.Parser.FaultEnds.{IsEndAbove}
 use Rattle.regex_lite_syntax.proofs.CharacterLemmas.{first_are}
 use Rattle.regex_lite_syntax.proofs.machine.FaultEndLemmas.{end_of_fault}

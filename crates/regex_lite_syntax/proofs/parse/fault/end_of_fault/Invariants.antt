@@ -1,5 +1,4 @@
-use Rattle.std.proofs.Common.{◌<◌, ◌≤◌, ◌-◌, length}
-use Rattle.regex_lite_syntax.specs.Parser.FaultEnds.{GoesOnFrom}
+use Rattle.regex_lite_syntax.proofs.Common.{◌-◌, ◌<◌, ◌≤◌, length, GoesOnFrom}
 use Rattle.regex_lite_syntax.proofs.parse.fault.end_of_fault.Given as goal
 
 abbrev pub invariant-loop-alloc : goal.invariant-loop-alloc

@@ -1,6 +1,6 @@
-use Rattle.std.proofs.Common.{◌∙◌, sym, subst, IfSome, MatchBool}
-use Rattle.regex_lite_syntax.specs.declared.parse.fault.Stop.{Stop}
-use Rattle.regex_lite_syntax.specs.FaultPlaces.{BeginsNone, BeginsSome}
+use Rattle.regex_lite_syntax.proofs.Common.{MatchBool, sym, ◌∙◌, subst, BeginsNone, BeginsSome}
+use Rattle.regex_lite_syntax.proofs.Common.{Stop}
+use Rattle.std.proofs.Common.{IfSome}
 use Rattle.regex_lite_syntax.proofs.CharacterLemmas.{chars_are}
 use Rattle.regex_lite_syntax.proofs.parse.fault.fault_at.Goals as goal
 

@@ -1,8 +1,6 @@
-use Rattle.std.proofs.Common.{inl, refl, sym, subst, arith, drop, length, ◌<◌}
-use Rattle.std.proofs.lemmas.Result.{IfOk-weaker, IfErr-weaker}
-use Rattle.regex_lite_syntax.specs.Grammar.GroupNames.{NamesDiffer}
+use Rattle.regex_lite_syntax.proofs.Common.{◌<◌, length, drop, sym, refl, subst, inl, arith}
+use Rattle.regex_lite_syntax.proofs.Common.{IfErr-weaker, IfOk-weaker, NamesDiffer, CanRead}
 use Rattle.regex_lite_syntax.specs.Parser.Starts.{Tracks}
-use Rattle.regex_lite_syntax.specs.Parser.States.{CanRead}
 use Rattle.regex_lite_syntax.proofs.grammar.NameLemmas.{no_names_differ}
 use Rattle.regex_lite_syntax.proofs.machine.CompletedRunLemmas.{reads_on_at_end}
 use Rattle.regex_lite_syntax.proofs.machine.FaultEndLemmas.{goes_on_as, goes_on_open}

@@ -1,4 +1,4 @@
-use Rattle.std.proofs.Common.{◌≤◌, ◌-◌, drop, length}
+use Rattle.regex_lite_syntax.proofs.Common.{◌-◌, ◌≤◌, length, drop}
 use Rattle.regex_lite_syntax.proofs.machine.FaultLemmas.{Comes}
 use Rattle.regex_lite_syntax.proofs.parse.fault.first_stop.Given as goal
 

@@ -1,5 +1,4 @@
-use Rattle.std.proofs.Common.{subst, arith}
-use Rattle.regex_lite_syntax.specs.Parser.FaultEnds.{GoesOnFrom}
+use Rattle.regex_lite_syntax.proofs.Common.{subst, arith, GoesOnFrom}
 use Rattle.regex_lite_syntax.proofs.CharacterLemmas.{first_are}
 use Rattle.regex_lite_syntax.proofs.parse.fault.least_refused.Goals as goal
 

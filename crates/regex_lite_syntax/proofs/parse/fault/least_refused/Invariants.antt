@@ -1,6 +1,4 @@
-use Rattle.std.proofs.Common.{◌<◌, ◌≤◌, ◌-◌, take}
-use Rattle.regex_lite_syntax.specs.FaultPlaces.{BeginsNone}
-use Rattle.regex_lite_syntax.specs.Parser.FaultEnds.{GoesOnFrom}
+use Rattle.regex_lite_syntax.proofs.Common.{◌-◌, ◌<◌, ◌≤◌, take, BeginsNone, GoesOnFrom}
 use Rattle.regex_lite_syntax.proofs.parse.fault.least_refused.Given as goal
 
 abbrev pub invariant-loop-end : goal.invariant-loop-end

@@ -1,5 +1,4 @@
-use Rattle.std.proofs.Common.{subst, MatchBool}
-use Rattle.regex_lite_syntax.specs.FaultPlaces.{BeginsNone, BeginsSome}
+use Rattle.regex_lite_syntax.proofs.Common.{MatchBool, subst, BeginsNone, BeginsSome}
 use Rattle.regex_lite_syntax.proofs.ExitLemmas.{at_exit}
 use Rattle.regex_lite_syntax.proofs.machine.FaultEndLemmas.{unread_untold}
 use Rattle.regex_lite_syntax.proofs.parse.fault.place_of.Goals as goal

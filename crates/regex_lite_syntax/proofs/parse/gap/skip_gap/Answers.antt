@@ -1,4 +1,4 @@
-use Rattle.std.proofs.Common.{arith}
+use Rattle.regex_lite_syntax.proofs.Common.{arith}
 use Rattle.regex_lite_syntax.proofs.grammar.ScanLemmas.{spacing_of_scan}
 use Rattle.regex_lite_syntax.proofs.parse.gap.skip_gap.Goals as goal
 

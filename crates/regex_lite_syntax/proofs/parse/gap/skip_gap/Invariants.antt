@@ -1,6 +1,4 @@
-use Rattle.std.proofs.Common.{◌≤◌, ◌-◌, drop, length}
-use Rattle.regex_lite_syntax.specs.Text.{Text}
-use Rattle.regex_lite_syntax.specs.Grammar.Gaps.{Spacing}
+use Rattle.regex_lite_syntax.proofs.Common.{◌-◌, ◌≤◌, length, drop, Spacing, Text}
 use Rattle.regex_lite_syntax.proofs.grammar.ScanLemmas.{Scan}
 use Rattle.regex_lite_syntax.proofs.parse.gap.skip_gap.Given as goal
 

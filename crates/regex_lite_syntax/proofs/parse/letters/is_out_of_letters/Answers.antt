@@ -1,4 +1,4 @@
-use Rattle.std.proofs.Common.{length, ◌<◌, arith}
+use Rattle.regex_lite_syntax.proofs.Common.{◌<◌, length, arith}
 use Rattle.regex_lite_syntax.proofs.parse.IndexLemmas.{some_at}
 use Rattle.regex_lite_syntax.proofs.parse.letters.is_out_of_letters.Goals as goal
 

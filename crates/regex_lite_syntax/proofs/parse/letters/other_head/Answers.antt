@@ -1,6 +1,7 @@
-use Rattle.std.proofs.Common.{inl, inr, ◌≡◌, ℕ, false, refl, sym, ◌∙◌, ap}
-use Rattle.std.proofs.Common.{[], ◌∷◌, ◌+◌, ◌++◌, codes, subst, arith}
-use Rattle.regex_lite_syntax.specs.declared.error.syntax.SyntaxFault.{SyntaxFault}
+use Rattle.regex_lite_syntax.proofs.Common.{◌≡◌, ℕ, ◌+◌, false, [], ◌∷◌, ◌++◌, codes, sym, refl, ap}
+use Rattle.regex_lite_syntax.proofs.Common.{◌∙◌, subst, inl, inr, arith, is_one_of, is_flag_letter}
+use Rattle.regex_lite_syntax.proofs.Common.{with_p, without_p, EndedFlags, EndsInOpening, NoReading}
+use Rattle.regex_lite_syntax.proofs.Common.{Text, the, SyntaxFault, Flags}
 use Rattle.regex_lite_syntax.specs.declared.error.syntax.SyntaxFault.TheVariants.{
   LookUnsupported,
   CutShort,
@@ -8,14 +9,6 @@ use Rattle.regex_lite_syntax.specs.declared.error.syntax.SyntaxFault.TheVariants
 use Rattle.regex_lite_syntax.specs.declared.error.unexpected_eof.UnexpectedEof.TheVariants.{
   FlagOrName,
 }
-use Rattle.regex_lite_syntax.specs.declared.flags.Flags.{Flags}
-use Rattle.regex_lite_syntax.specs.Text.{Text, the}
-use Rattle.regex_lite_syntax.specs.Characters.{is_one_of}
-use Rattle.regex_lite_syntax.specs.Grammar.FlagLetters.{is_flag_letter}
-use Rattle.regex_lite_syntax.specs.Grammar.GroupNames.{with_p, without_p}
-use Rattle.regex_lite_syntax.specs.Parser.FlagRuns.{EndedFlags}
-use Rattle.regex_lite_syntax.specs.Refusals.{NoReading}
-use Rattle.regex_lite_syntax.specs.Parser.NameOpenings.{EndsInOpening}
 use Rattle.regex_lite_syntax.proofs.parse.IndexLemmas.{drop_at, left_at_end}
 use Rattle.regex_lite_syntax.proofs.grammar.LongerOpeningLemmas.{not_inside}
 use Rattle.regex_lite_syntax.proofs.parse.letters.WholeFlagLemmas.{no_flags_other}

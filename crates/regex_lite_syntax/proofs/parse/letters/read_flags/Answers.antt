@@ -1,8 +1,6 @@
-use Rattle.std.proofs.Common.{false, ◌≡◌, ◌+◌, ◌∙◌, ap, drop, slice_range, [], ◌∷◌, ◌++◌, arith}
-use Rattle.regex_lite_syntax.specs.declared.flags.Flags.{Flags}
-use Rattle.regex_lite_syntax.specs.Text.{Text, the}
-use Rattle.regex_lite_syntax.specs.Grammar.FlagLetters.{with_flags}
-use Rattle.regex_lite_syntax.specs.Parser.FlagRuns.{EndedFlags, LetterRun}
+use Rattle.regex_lite_syntax.proofs.Common.{◌≡◌, ◌+◌, false, [], ◌∷◌, ◌++◌, drop, slice_range, ap}
+use Rattle.regex_lite_syntax.proofs.Common.{◌∙◌, arith, with_flags, EndedFlags, LetterRun, Text}
+use Rattle.regex_lite_syntax.proofs.Common.{the, Flags}
 use Rattle.regex_lite_syntax.proofs.ExitLemmas.{at_exit}
 use Rattle.regex_lite_syntax.proofs.parse.letters.SliceLemmas.{slice_length}
 use Rattle.regex_lite_syntax.proofs.parse.letters.FlagRunLemmas.{run_longer}

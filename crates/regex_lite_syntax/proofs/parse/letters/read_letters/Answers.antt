@@ -1,15 +1,9 @@
-use Rattle.std.proofs.Common.{◌≡◌, refl, sym, ◌∙◌, ap, subst, ◌++◌, ◌||◌}
-use Rattle.std.proofs.Common.{true, slice_range, IsTrue, arith}
-use Rattle.std.proofs.lemmas.Bool.{or_left, or_right}
-use Rattle.std.proofs.lemmas.List.{drop_all}
+use Rattle.regex_lite_syntax.proofs.Common.{◌≡◌, true, ◌||◌, ◌++◌, IsTrue, slice_range, sym, refl}
+use Rattle.regex_lite_syntax.proofs.Common.{ap, ◌∙◌, subst, arith, or_left, or_right, drop_all}
+use Rattle.regex_lite_syntax.proofs.Common.{drop_split, AllPass, is_one_of, is_flag_letter}
+use Rattle.regex_lite_syntax.proofs.Common.{with_flags, all_differ, EndsRun, LetterRun, Text}
 use Rattle.std.proofs.lemmas.Result.{err_from_is_err_and}
-use Rattle.std.specs.List.{AllPass}
-use Rattle.std.proofs.lemmas.List.Folds.{drop_split}
-use Rattle.regex_lite_syntax.specs.Text.{Text}
-use Rattle.regex_lite_syntax.specs.Characters.{is_one_of}
-use Rattle.regex_lite_syntax.specs.Grammar.FlagLetters.{is_flag_letter, with_flag}
-use Rattle.regex_lite_syntax.specs.Grammar.FlagLetters.{with_flags, all_differ}
-use Rattle.regex_lite_syntax.specs.Parser.FlagRuns.{EndsRun, LetterRun}
+use Rattle.regex_lite_syntax.specs.Grammar.FlagLetters.{with_flag}
 use Rattle.regex_lite_syntax.proofs.grammar.WordLemmas.{pass_push}
 use Rattle.regex_lite_syntax.proofs.parse.IndexLemmas.{drop_char}
 use Rattle.regex_lite_syntax.proofs.parse.DenialLemmas.{none_at_end}

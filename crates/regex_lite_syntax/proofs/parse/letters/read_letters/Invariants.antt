@@ -1,6 +1,5 @@
-use Rattle.std.proofs.Common.{◌≡◌, ◌++◌, IsTrue, slice_range}
-use Rattle.std.specs.List.{AllPass}
-use Rattle.regex_lite_syntax.specs.Grammar.FlagLetters.{is_flag_letter, with_flags, all_differ}
+use Rattle.regex_lite_syntax.proofs.Common.{◌≡◌, ◌++◌, IsTrue, slice_range, AllPass, is_flag_letter}
+use Rattle.regex_lite_syntax.proofs.Common.{with_flags, all_differ}
 use Rattle.regex_lite_syntax.proofs.parse.letters.read_letters.Given as goal
 
 abbrev pub invariant-loop-end : goal.invariant-loop-end

@@ -1,8 +1,7 @@
-use Rattle.std.proofs.Common.{◌∙◌, ap, chars, Ok}
+use Rattle.regex_lite_syntax.proofs.Common.{Ok, chars, ap, ◌∙◌, IfOk-weaker}
 use Rattle.std.specs.declared.alloc.AllocError.{AllocError}
 use Rattle.std.proofs.lemmas.Iterator.{YieldsList-from_slice, text_from_collect}
 use Rattle.std.proofs.lemmas.Iterator.Consumers.{YieldsList-from_copied}
-use Rattle.std.proofs.lemmas.Result.{IfOk-weaker}
 use Rattle.regex_lite_syntax.proofs.parse.name.StringLemmas.{chars_of_made}
 use Rattle.regex_lite_syntax.proofs.parse.name.name_of.Goals as goal
 

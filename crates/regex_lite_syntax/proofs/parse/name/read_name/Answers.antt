@@ -1,8 +1,5 @@
-use Rattle.std.proofs.Common.{refl, sym, ◌∙◌, ap, subst, ◌++◌, slice_range, arith}
-use Rattle.std.proofs.lemmas.Bool.{both_ways}
-use Rattle.std.proofs.lemmas.List.{append-nil}
-use Rattle.std.proofs.lemmas.List.Folds.{drop_split}
-use Rattle.regex_lite_syntax.specs.Refusals.{Completable}
+use Rattle.regex_lite_syntax.proofs.Common.{◌++◌, slice_range, sym, refl, ap, ◌∙◌, subst, arith}
+use Rattle.regex_lite_syntax.proofs.Common.{both_ways, append-nil, drop_split, Completable}
 use Rattle.regex_lite_syntax.proofs.grammar.NameReadingLemmas.{first_of_name, name_begun}
 use Rattle.regex_lite_syntax.proofs.grammar.NameReadingLemmas.{name_goes_on, name_read}
 use Rattle.regex_lite_syntax.proofs.grammar.NameReadingLemmas.{next_of_name}

@@ -1,6 +1,5 @@
-use Rattle.std.proofs.Common.{◌<◌, ◌≤◌, ◌-◌, ◌++◌, drop, length, slice_range}
-use Rattle.regex_lite_syntax.specs.Text.{Text}
-use Rattle.regex_lite_syntax.specs.Grammar.GroupNames.{NameWritten}
+use Rattle.regex_lite_syntax.proofs.Common.{◌-◌, ◌<◌, ◌≤◌, ◌++◌, length, drop, slice_range}
+use Rattle.regex_lite_syntax.proofs.Common.{NameWritten, Text}
 use Rattle.regex_lite_syntax.proofs.grammar.NameReadingLemmas.{NameLeft, NameSoFar}
 use Rattle.regex_lite_syntax.proofs.parse.name.read_name.Given as goal
 

@@ -1,5 +1,4 @@
-use Rattle.std.proofs.Common.{◌≡◌, sym, ◌∙◌, ap, subst, ◌+◌, drop, arith}
-use Rattle.regex_lite_syntax.specs.Text.{Begins, the}
+use Rattle.regex_lite_syntax.proofs.Common.{◌≡◌, ◌+◌, drop, sym, ap, ◌∙◌, subst, arith, Begins, the}
 use Rattle.regex_lite_syntax.proofs.ListLemmas.{same_tail}
 use Rattle.regex_lite_syntax.proofs.grammar.ClassLemmas.{begins}
 use Rattle.regex_lite_syntax.proofs.grammar.LongerOpeningLemmas.{none_opened, no_question}

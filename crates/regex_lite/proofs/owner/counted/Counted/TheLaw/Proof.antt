@@ -1,15 +1,14 @@
 -- A `&` to a counted owner holds a share of its token.
-use base.Fml.{ftrue}
-use denote.RattleType.{RattleType}
+use Rattle.regex_lite.proofs.Common.{ftrue, Laws, RattleType, lent_at_shr_laws, only_one}
+use Rattle.regex_lite.proofs.Common.{value_place, lends, owned}
 use denote.RawPtr.{block_of, count_of}
-use denote.Param.Laws.{Laws}
 use denote.Param.Shared.{copy_shared}
 use denote.Struct.Field.{RawPtr-field}
 use denote.Struct.Laws.{RawPtr-copy}
-use denote.Struct.Lending.{of_Lends, lent_at_shr_laws}
+use denote.Struct.Lending.{of_Lends}
 use denote.RcWeak.{Lends-rc, rc_shr_laws}
 use mathlib.Core.List.{[]}
-use Rattle.regex_lite.specs.Owner.Ownership.{count_at, only_one, value_place, lends, owned}
+use Rattle.regex_lite.specs.Owner.Ownership.{count_at}
 use Rattle.regex_lite.specs.contracts.owner.counted.Counted as C
 use Rattle.regex_lite.proofs.owner.counted.Counted.TheLaw.Statement.{statement}
 

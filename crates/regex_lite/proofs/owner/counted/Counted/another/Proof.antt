@@ -1,46 +1,39 @@
 -- `another` makes one more owner, or finds the count full, and then gives what a `&'static` holds.
-use mathlib.Core.Path.{◌≡◌, refl, sym, subst, ap}
+use Rattle.regex_lite.proofs.Common.{Ok, Err, sym, refl, ap, subst, arith, lit<, word, word-Good}
+use Rattle.regex_lite.proofs.Common.{word_ty, Lft, Share, fex, fhide, flft, ftok, ftrue, SProp, ent}
+use Rattle.regex_lite.proofs.Common.{id⊢, every, RefOf, yes, hidden_shr, lone, hide, layouts, param}
+use Rattle.regex_lite.proofs.Common.{param_laws, RattleType, owns, Ptr, ptr_val, plain, types_at}
+use Rattle.regex_lite.proofs.Common.{lent_at, lent_at_shr_laws, Goes-dropped, Stays, ends_at, says}
+use Rattle.regex_lite.proofs.Common.{stay_dropped, walk_of, inst_fn, Sym, a_type, Val, vcons, vnil}
+use Rattle.regex_lite.proofs.Common.{vptr, align, up, Env, WpFn, alloc_all, env, free_all, get}
+use Rattle.regex_lite.proofs.Common.{look_at, pass_all, sets, through, !, at_ret, await, done}
+use Rattle.regex_lite.proofs.Common.{feq_i, feq_l, fjoin, fpack, fpick, frame, fsplit, join, keep}
+use Rattle.regex_lite.proofs.Common.{later, move, qed, raw, rewrite, split, suffices, use1, use3, ‵}
+use Rattle.regex_lite.proofs.Common.{◌$◌, ◌∵◌, ◌⊛◌, agg, look_in, sub, addr, and_then, blocks}
+use Rattle.regex_lite.proofs.Common.{enter, exec, first, fld, no_more, of_opd, returns, stop, top}
+use Rattle.regex_lite.proofs.Common.{stands_for, value_place, lends}
+use mathlib.Core.Path.{◌≡◌}
 use mathlib.Core.Bool.{Bool, true, false}
 use Prim.Native.Nat.{ℕ, ◌+◌, ◌-◌, ◌<◌, ◌^◌}
-use native.Mathlib.Omega.{arith}
-use lib.Dec.{lit<, nleb→lt}
-use mir.Syntax.{Sym, a_type}
-use mir.Val.{Val, vptr, vcons, vnil}
-use base.Logic.{SProp, ent, id⊢}
-use base.Fml.{Lft, Share, ftrue, flft, fhide, ftok, fex}
-use prog.Wp.{Env, Wp, WpFn, after_block, after_seq, at_return}
-use prog.Memory.{align, up}
-use types.Kit.{‵, raw, later, ◌⊛◌, at_ret, any_q, ◌$◌, ◌∵◌, !, qed}
-use types.Kit.{move, keep, drop, use1, use3, split, join, fsplit, fjoin}
-use types.Kit.{fpick, fpack, feq_i, feq_l, rewrite, await, suffices, frame, done}
-use types.Run.{look, store, stop, fld, addr, load, lit, neg_lit, bin, of_opd}
-use types.Run.{and_then, no_more, assigns, assigns_last, first, blocks}
-use types.Run.{skips, branches, exec, returns, returns_within, enter}
-use types.Part.{look_in, sub, whole, agg}
+use lib.Dec.{nleb→lt}
+use prog.Wp.{Wp, after_block, after_seq, at_return}
+use types.Kit.{any_q}
+use types.Kit.{drop}
+use types.Run.{look, store, load, lit, neg_lit, bin}
+use types.Run.{assigns, assigns_last}
+use types.Run.{skips, branches, returns_within}
+use types.Part.{whole}
 use types.Match.{live}
-use types.ByLocal.{alloc_all, pass_all, free_all, look_at, get, through, sets, is, env}
-use denote.RattleType.{RattleType, owns}
-use denote.RawPtr.{Ptr, ptr_val, ◌+ₚ◌}
-use denote.Opens.{hide}
+use types.ByLocal.{is}
+use denote.RawPtr.{◌+ₚ◌}
 use denote.SharingLaws.{contraction}
 use denote.Steps.{nothing}
-use denote.Struct.Lending.{lent_at, lent_at_shr_laws}
-use denote.Triple.Walked.{says, Stays, stay_dropped, walk_of, ends_at, Goes-dropped}
 use mathlib.Core.List.{List, [], ◌∷◌, ◌++◌}
-use mir.MapTy.{inst_fn}
-use denote.Exit.{yes}
-use denote.Signature.{types_at, type_at, plain}
-use denote.Builtin.{RefOf}
-use denote.Memory.{hidden_shr, lone}
-use denote.Param.{layouts, param}
-use denote.Param.Laws.{param_laws}
-use base.Mask.{every}
+use denote.Signature.{type_at}
 use Rattle.std.specs.contracts.result.Result as Res
-use Rattle.std.specs.Prelude.{Ok, Err}
 use Rattle.std.proofs.VecSteps.Shapes.{after, head, inside}
-use Rattle.std.proofs.RcSteps.{word, word_ty, word-Good, first_Good}
+use Rattle.std.proofs.RcSteps.{first_Good}
 use Rattle.std.proofs.ResultValues.{ok_of, err_of}
-use Rattle.regex_lite.specs.Owner.Ownership.{top, stands_for, lends, value_place}
 use Rattle.regex_lite.proofs.PointerLemmas.{Word}
 use Rattle.regex_lite.proofs.owner.CountLemmas.{lent, value, static, fills, lent_out, lent_back}
 use Rattle.regex_lite.proofs.owner.CountLemmas.{opens, shuts, more, counted, says_n, handle_made}

@@ -1,31 +1,16 @@
 -- `first` makes the first owner of a block.
-use Rattle.std.proofs.Common.{◌≡◌, ℕ, List, [], ◌∷◌, ◌++◌, refl, sym, subst}
-use mir.Syntax.{Sym, a_type}
-use mir.Val.{Val, vptr}
-use mir.MapTy.{inst_fn}
-use base.Fraction.{full_share}
-use base.Logic.{SProp, ent, emp, id⊢}
-use base.Fml.{ftrue, fex, flft}
-use prog.Wp.{WpFn}
-use types.Kit.{‵, raw, ◌⊛◌, later, ◌$◌, ◌∵◌, !, qed, by, move, keep, split}
-use types.Kit.{join, fsplit, fjoin, suffices, use0, use3, await, rewrite}
-use types.Run.{stop, fld, of_opd, no_more, and_then, returns, enter}
-use types.ByLocal.{alloc_all, pass_all, free_all, look_at, get, get_in, sets}
-use types.Part.{agg, sub, whole}
-use contract.Monad.{fact, fact_i}
-use contract.BorrowLft.{◌⊑◌}
-use contract.Running.{tables}
-use denote.Exit.{no}
-use denote.RattleType.{RattleType, owns}
-use denote.Signature.{types_at, plain}
-use denote.Memory.{part_at}
-use denote.RawPtr.{Ptr, block_ptr}
+use Rattle.regex_lite.proofs.Common.{◌≡◌, ℕ, List, [], ◌∷◌, ◌++◌, sym, refl, subst, word, word-Good}
+use Rattle.regex_lite.proofs.Common.{Goes-blank, leaves, proved_at, fex, flft, ftrue, full_share}
+use Rattle.regex_lite.proofs.Common.{SProp, emp, ent, id⊢, ◌⊑◌, fact, fact_i, tables, no, part_at}
+use Rattle.regex_lite.proofs.Common.{layouts, param, RattleType, owns, Ptr, block_ptr, plain}
+use Rattle.regex_lite.proofs.Common.{types_at, Stays, stay_dropped, walk_of, inst_fn, Sym, a_type}
+use Rattle.regex_lite.proofs.Common.{Val, vptr, WpFn, alloc_all, free_all, get, get_in, look_at}
+use Rattle.regex_lite.proofs.Common.{pass_all, sets, !, await, by, fjoin, fsplit, join, keep, later}
+use Rattle.regex_lite.proofs.Common.{move, qed, raw, rewrite, split, suffices, use0, use3, ‵, ◌$◌}
+use Rattle.regex_lite.proofs.Common.{◌∵◌, ◌⊛◌, agg, sub, and_then, enter, fld, no_more, of_opd}
+use Rattle.regex_lite.proofs.Common.{returns, stop}
+use types.Part.{whole}
 use denote.Steps.{nothing, heard}
-use denote.Param.{param, layouts}
-use denote.Triple.Walked.{Stays, stay_dropped, walk_of}
-use Rattle.std.proofs.alloc.Calls.{Goes-blank}
-use Rattle.std.proofs.raw_atomic.Walks.{proved_at, leaves}
-use Rattle.std.proofs.RcSteps.{word, word-Good}
 use Rattle.std.specs.contracts.alloc.Global as Heap
 use Rattle.std.specs.contracts.impls.GlobalAllocator.TheImpl as HeapImpl
 use Rattle.std.proofs.alloc.Global.TheLaws as HeapLaws

@@ -1,46 +1,38 @@
 -- `release` is one owner less, and the last one has the block back. A full count stays full.
-use mathlib.Core.Path.{◌≡◌, refl, sym, subst, ap, ◌∙◌}
+use Rattle.regex_lite.proofs.Common.{Some, None, sym, refl, ap, ◌∙◌, subst, arith, lit<, cell, word}
+use Rattle.regex_lite.proofs.Common.{word-Good, handle_tells, flft, fsep, ftok, ftrue, full_share}
+use Rattle.regex_lite.proofs.Common.{SProp, ent, id⊢, every, ◌⊑◌, fact, no, yes, part_at, layout}
+use Rattle.regex_lite.proofs.Common.{layouts, param, RattleType, owns, Ptr, block_ptr, ptr_val}
+use Rattle.regex_lite.proofs.Common.{plain, types_at, Goes-dropped, Stays, ends_at, says}
+use Rattle.regex_lite.proofs.Common.{stay_dropped, walk_of, inst_fn, Sym, a_type, dnil, Val, vcons}
+use Rattle.regex_lite.proofs.Common.{vnil, vptr, Env, WpFn, alloc_all, env, free_all, get, get_in}
+use Rattle.regex_lite.proofs.Common.{look_at, pass_all, sets, through, !, at_ret, await, done}
+use Rattle.regex_lite.proofs.Common.{fjoin, frame, fsplit, group, join, keep, later, move, qed, raw}
+use Rattle.regex_lite.proofs.Common.{rewrite, split, suffices, use0, use1, ‵, ◌$◌, ◌∵◌, ◌⊛◌, agg}
+use Rattle.regex_lite.proofs.Common.{sub, and_then, blocks, enter, exec, first, fld, no_more}
+use Rattle.regex_lite.proofs.Common.{of_opd, returns, stop}
+use mathlib.Core.Path.{◌≡◌}
 use mathlib.Core.Bool.{true}
 use Prim.Native.Nat.{ℕ, ◌-◌, ◌<◌, ◌^◌}
-use native.Mathlib.Omega.{arith}
-use lib.Dec.{lit<}
-use mir.Syntax.{Sym, a_type}
-use mir.Val.{Val, vptr, vcons, vnil}
-use base.Logic.{SProp, ent, id⊢}
-use base.Fml.{ftrue, fsep, flft, ftok}
-use prog.Wp.{Env, Wp, WpFn, after_block, after_seq, at_return}
-use types.Kit.{‵, raw, later, ◌⊛◌, at_ret, any_q, ◌$◌, ◌∵◌, !, qed, move, keep, use0}
-use types.Kit.{use1, split, join, group, fsplit, fjoin, rewrite, await, suffices, frame, done}
-use types.Run.{look, store, stop, fld, load, lit, neg_lit, bin, of_opd, and_then, no_more}
-use types.Run.{assigns, first, blocks, skips, branches, exec, returns, returns_within, enter}
-use types.Part.{sub, whole, agg}
+use prog.Wp.{Wp, after_block, after_seq, at_return}
+use types.Kit.{any_q}
+use types.Run.{look, store, load, lit, neg_lit, bin}
+use types.Run.{assigns, skips, branches, returns_within}
+use types.Part.{whole}
 use types.Match.{live}
-use types.ByLocal.{alloc_all, pass_all, free_all, look_at, get, get_in, through, sets, is, env}
-use denote.RattleType.{RattleType, owns}
-use denote.RawPtr.{Ptr, block_ptr, ptr_val}
+use types.ByLocal.{is}
 use denote.Steps.{nothing}
-use denote.Triple.Walked.{says, Stays, stay_dropped, walk_of, ends_at, Goes-dropped}
 use mathlib.Core.List.{List, [], ◌∷◌, ◌++◌}
-use mir.MapTy.{inst_fn}
-use denote.Exit.{yes, no}
-use denote.Signature.{types_at, plain}
-use contract.Monad.{fact}
-use denote.Param.{layout, layouts, param}
-use base.Mask.{every}
 use Rattle.std.specs.contracts.option.Option as Opt
-use Rattle.std.specs.Prelude.{None, Some}
-use contract.BorrowLft.{◌⊑◌}
 use types.RcWeak.{part, part_in}
-use mir.Syntax.{impl, tnil, dnil}
-use Rattle.std.proofs.alloc.Calls.{Al, handle_tells}
+use mir.Syntax.{impl, tnil}
+use Rattle.std.proofs.alloc.Calls.{Al}
 use Rattle.std.specs.contracts.alloc.Global as Heap
 use Rattle.std.specs.contracts.impls.GlobalAllocator.TheImpl as HeapImpl
 use Rattle.std.proofs.alloc.Global.TheLaws as HeapLaws
 use Rattle.std.proofs.VecSteps.Shapes.{after, head, inside}
-use Rattle.std.proofs.RcSteps.{cell, word, word-Good, some_Good, is_not, is_so, Some-of, none_of}
+use Rattle.std.proofs.RcSteps.{some_Good, is_not, is_so, Some-of, none_of}
 use mir.Raw.{raw as bare}
-use denote.Memory.{part_at}
-use base.Fraction.{full_share}
 use Rattle.regex_lite.specs.Owner.Ownership.{frees}
 use Rattle.regex_lite.proofs.UnboxedLemmas.{Unboxed, both, both_good, unboxed_made}
 use Rattle.regex_lite.proofs.owner.CountLemmas.{value, opens, shuts, less}

@@ -1,38 +1,27 @@
 -- `value` shows what every owner lends.
-use mathlib.Core.Path.{refl, sym, subst}
+use Rattle.regex_lite.proofs.Common.{sym, refl, subst, word, word_ty, proved_at, fat, fhide, flft}
+use Rattle.regex_lite.proofs.Common.{ftrue, SProp, ent, fst∗, id⊢, never, tables, RefOf, yes}
+use Rattle.regex_lite.proofs.Common.{hidden_shr, lone, hide, unhide, layouts, param, param_laws}
+use Rattle.regex_lite.proofs.Common.{RattleType, owns, Ptr, in_a_block, plain, types_at, lent_at}
+use Rattle.regex_lite.proofs.Common.{lent_at_shr_laws, Goes-dropped, Stays, ends_at, says}
+use Rattle.regex_lite.proofs.Common.{stay_dropped, walk_of, inst_fn, Sym, a_type, Val, vptr, align}
+use Rattle.regex_lite.proofs.Common.{up, Env, WpFn, alloc_all, env, free_all, get, look_at}
+use Rattle.regex_lite.proofs.Common.{pass_all, sets, through, !, at_ret, done, feq_i, feq_l, fjoin}
+use Rattle.regex_lite.proofs.Common.{fsplit, join, keep, move, qed, raw, rewrite, split, suffices}
+use Rattle.regex_lite.proofs.Common.{use1, ‵, ◌$◌, ◌∵◌, ◌⊛◌, sem, look_in, sub, addr, blocks, enter}
+use Rattle.regex_lite.proofs.Common.{exec, first, fld, of_opd, returns, stop, only_one, value_place}
+use Rattle.regex_lite.proofs.Common.{lends, owned}
 use Prim.Native.Nat.{ℕ, ◌+◌}
-use mir.Syntax.{Sym, a_type}
-use mir.Val.{Val, vptr}
-use base.Logic.{SProp, ent, fst∗, never, id⊢}
-use base.Fml.{ftrue, fat, flft, fhide}
-use prog.Wp.{Env, WpFn}
-use prog.Memory.{align, up}
-use types.Kit.{‵, raw, ◌⊛◌, at_ret, ◌$◌, ◌∵◌, !, qed, move, keep, drop}
-use types.Kit.{use1, split, join, fsplit, fjoin, feq_i, feq_l, rewrite, suffices, done}
-use types.Run.{stop, hop, fld, addr, of_opd, first, blocks, exec, returns, enter}
-use types.Part.{look_in, sub, whole}
-use types.ByLocal.{alloc_all, pass_all, free_all, look_at, get, through, sets, sets_last, env}
+use types.Kit.{drop}
+use types.Run.{hop}
+use types.Part.{whole}
+use types.ByLocal.{sets_last}
 use denote.RcWeak.{rc_sees}
-use denote.RattleType.{RattleType, owns}
-use denote.RawPtr.{Ptr, in_a_block, ◌+ₚ◌}
-use denote.Opens.{unhide, hide}
+use denote.RawPtr.{◌+ₚ◌}
 use denote.Steps.{nothing}
-use denote.Struct.Lending.{lent_at, lent_at_shr_laws}
-use denote.Triple.Walked.{says, Stays, stay_dropped, walk_of, ends_at, Goes-dropped}
 use mathlib.Core.List.{List, [], ◌∷◌, ◌++◌}
-use mir.MapTy.{inst_fn}
-use types.Logic.{sem}
-use denote.Exit.{yes}
-use denote.Signature.{types_at, plain}
-use denote.Builtin.{RefOf}
-use denote.Memory.{shared_of, hidden_shr, lone}
-use denote.Param.{layouts, param}
-use denote.Param.Laws.{param_laws}
-use contract.Running.{tables}
+use denote.Memory.{shared_of}
 use Rattle.std.proofs.VecSteps.Shapes.{after}
-use Rattle.std.proofs.RcSteps.{word, word_ty}
-use Rattle.std.proofs.raw_atomic.Walks.{proved_at}
-use Rattle.regex_lite.specs.Owner.Ownership.{lends, owned, value_place, only_one}
 use Rattle.regex_lite.proofs.PointerLemmas.{Word, reads, read}
 use Rattle.regex_lite.proofs.owner.CountLemmas.{key, S, lent}
 use Rattle.regex_lite.specs.contracts.owner.counted.Counted as counted

@@ -2,21 +2,19 @@
 use mathlib.Core.List.{[], ◌∷◌}
 use seplogic.Ra.Ura.{Ura}
 use base.Before.{before}
-use base.Logic.{ent, sep, wand, snd∗, apply∗}
-use base.Fml.{Fml, Lft, fbor}
-use types.Logic.{Logic, sem, lfts}
-use types.Kit.{‵, ◌⊛◌, raw, later, await, ◌$◌, !, qed, move}
-use types.Kit.{drop, use1, use2, split, updating, now, done}
-use denote.RattleType.{RattleType}
-use denote.RawPtr.{Ptr}
-use denote.Param.{param}
-use denote.Param.Laws.{Laws}
+use Rattle.regex_lite.proofs.Common.{Fml, Lft, ent, sep, param, Laws, RattleType, Ptr, lent_at}
+use Rattle.regex_lite.proofs.Common.{lent_at_shr_laws, !, await, done, later, move, now, qed, raw}
+use Rattle.regex_lite.proofs.Common.{split, updating, use1, use2, ‵, ◌$◌, ◌⊛◌, Logic, sem}
+use base.Logic.{wand, snd∗, apply∗}
+use base.Fml.{fbor}
+use types.Logic.{lfts}
+use types.Kit.{drop}
 use denote.Param.Shared.{copy_shared}
 use denote.Sharing.{ShrLaws}
 use denote.SharingLaws.{contraction}
 use denote.Struct.Field.{RawPtr-field}
 use denote.Struct.Laws.{RawPtr-copy}
-use denote.Struct.Lending.{Lends, of_Lends, lent_at, lent_at_shr_laws}
+use denote.Struct.Lending.{Lends, of_Lends}
 use Rattle.regex_lite.specs.Owner.Ownership.{lent_static}
 use Rattle.regex_lite.specs.contracts.owner.lasting.Lasting as lasting
 use Rattle.regex_lite.proofs.owner.lasting.Lasting.TheLaw.Statement.{statement}

@@ -1,29 +1,14 @@
 -- `of` keeps the pointer, and what the reference holds.
-use Rattle.std.proofs.Common.{◌≡◌, List, [], ◌∷◌, ◌++◌, refl, sym, subst}
-use mir.Syntax.{Sym, a_type}
-use mir.Val.{Val, vptr}
-use mir.MapTy.{inst_fn}
-use base.Logic.{SProp, ent, emp, id⊢}
-use base.Fml.{ftrue, flft}
-use prog.Wp.{WpFn}
-use types.Kit.{‵, raw, ◌⊛◌, ◌$◌, ◌∵◌, !, qed, by, move, keep}
-use types.Kit.{split, fsplit, fjoin, suffices, use0, feq_l}
-use types.Run.{stop, addr, no_more, and_then, returns, enter}
-use types.ByLocal.{alloc_all, pass_all, free_all, look_at, get, through, sets}
-use types.Part.{agg}
-use contract.Monad.{fact, fact_i}
-use contract.Running.{tables}
-use denote.Builtin.{RefOf}
-use denote.Exit.{yes}
-use denote.Opens.{unhide}
-use denote.RattleType.{RattleType, owns}
-use denote.Signature.{types_at, plain}
-use denote.RawPtr.{Ptr, block_ptr}
+use Rattle.regex_lite.proofs.Common.{◌≡◌, List, [], ◌∷◌, ◌++◌, sym, refl, subst, word, word-Good}
+use Rattle.regex_lite.proofs.Common.{leaves, proved_at, flft, ftrue, SProp, emp, ent, id⊢, fact}
+use Rattle.regex_lite.proofs.Common.{fact_i, tables, RefOf, yes, unhide, layouts, param, RattleType}
+use Rattle.regex_lite.proofs.Common.{owns, Ptr, block_ptr, plain, types_at, Goes-dropped, Stays}
+use Rattle.regex_lite.proofs.Common.{stay_dropped, walk_of, inst_fn, Sym, a_type, Val, vptr, WpFn}
+use Rattle.regex_lite.proofs.Common.{alloc_all, free_all, get, look_at, pass_all, sets, !, through}
+use Rattle.regex_lite.proofs.Common.{by, feq_l, fjoin, fsplit, keep, move, qed, raw, split}
+use Rattle.regex_lite.proofs.Common.{suffices, use0, ‵, ◌$◌, ◌∵◌, ◌⊛◌, agg, addr, and_then, enter}
+use Rattle.regex_lite.proofs.Common.{no_more, returns, stop}
 use denote.Steps.{nothing}
-use denote.Param.{param, layouts}
-use denote.Triple.Walked.{Stays, stay_dropped, walk_of, Goes-dropped}
-use Rattle.std.proofs.RcSteps.{word, word-Good}
-use Rattle.std.proofs.raw_atomic.Walks.{proved_at, leaves}
 use Rattle.regex_lite.proofs.PointerLemmas.{word_made}
 use Rattle.regex_lite.specs.contracts.owner.lasting.Lasting as lasting
 use Rattle.regex_lite.specs.contracts.owner.lasting.Lasting.of.{ended, clauses}

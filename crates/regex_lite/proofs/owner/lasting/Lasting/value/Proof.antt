@@ -1,32 +1,22 @@
 -- `value` shows what every owner lends.
-use mathlib.Core.Path.{refl, sym, subst}
-use mir.Syntax.{Sym, a_type}
-use mir.Val.{Val, vptr}
-use base.Logic.{SProp, ent, fst∗, never, id⊢}
-use base.Fml.{ftrue, fat, flft, fhide}
-use prog.Wp.{Env, WpFn}
-use types.Kit.{‵, raw, ◌⊛◌, at_ret, ◌$◌, ◌∵◌, !, qed, move, keep, drop}
-use types.Kit.{use1, split, join, fsplit, fjoin, feq_i, feq_l, rewrite, suffices, done}
-use types.Run.{stop, hop, fld, addr, of_opd, first, blocks, exec, returns, enter}
-use types.Part.{look_in, sub, whole}
-use types.ByLocal.{alloc_all, pass_all, free_all, look_at, get, through, sets, sets_last, env}
-use denote.RattleType.{RattleType, owns}
-use denote.RawPtr.{Ptr, in_a_block}
-use denote.Opens.{unhide, hide}
+use Rattle.regex_lite.proofs.Common.{sym, refl, subst, word, word_ty, proved_at, fat, fhide, flft}
+use Rattle.regex_lite.proofs.Common.{ftrue, SProp, ent, fst∗, id⊢, never, tables, RefOf, yes}
+use Rattle.regex_lite.proofs.Common.{hidden_shr, hide, unhide, layouts, param, RattleType, owns}
+use Rattle.regex_lite.proofs.Common.{Ptr, in_a_block, plain, types_at, Goes-dropped, Stays, ends_at}
+use Rattle.regex_lite.proofs.Common.{says, stay_dropped, walk_of, inst_fn, Sym, a_type, Val, vptr}
+use Rattle.regex_lite.proofs.Common.{Env, WpFn, alloc_all, env, free_all, get, look_at, pass_all}
+use Rattle.regex_lite.proofs.Common.{sets, through, !, at_ret, done, feq_i, feq_l, fjoin, fsplit}
+use Rattle.regex_lite.proofs.Common.{join, keep, move, qed, raw, rewrite, split, suffices, use1, ‵}
+use Rattle.regex_lite.proofs.Common.{◌$◌, ◌∵◌, ◌⊛◌, sem, look_in, sub, addr, blocks, enter, exec}
+use Rattle.regex_lite.proofs.Common.{first, fld, of_opd, returns, stop}
+use types.Kit.{drop}
+use types.Run.{hop}
+use types.Part.{whole}
+use types.ByLocal.{sets_last}
 use denote.Steps.{nothing}
-use denote.Triple.Walked.{says, Stays, stay_dropped, walk_of, ends_at, Goes-dropped}
 use mathlib.Core.List.{List, [], ◌∷◌, ◌++◌}
-use mir.MapTy.{inst_fn}
-use types.Logic.{sem}
-use denote.Exit.{yes}
-use denote.Signature.{types_at, plain}
-use denote.Builtin.{RefOf}
-use denote.Memory.{shared_of, hidden_shr}
-use denote.Param.{layouts, param}
-use contract.Running.{tables}
+use denote.Memory.{shared_of}
 use Rattle.std.proofs.VecSteps.Shapes.{after}
-use Rattle.std.proofs.RcSteps.{word, word_ty}
-use Rattle.std.proofs.raw_atomic.Walks.{proved_at}
 use Rattle.regex_lite.specs.Owner.Ownership.{lent_static}
 use Rattle.regex_lite.proofs.PointerLemmas.{Word, reads, read}
 use Rattle.regex_lite.specs.contracts.owner.lasting.Lasting as lasting

@@ -1,41 +1,31 @@
 -- `into_box` makes the box again.
-use Rattle.std.proofs.Common.{◌≡◌, List, [], ◌∷◌, ◌++◌, suc, refl, sym, ap, subst}
+use Rattle.regex_lite.proofs.Common.{◌≡◌, suc, List, [], ◌∷◌, ◌++◌, sym, refl, ap, subst}
+use Rattle.regex_lite.proofs.Common.{Goes-blank, leaves, proved_at, flft, ftrue, SProp, ent, id⊢}
+use Rattle.regex_lite.proofs.Common.{◌⊑◌, fact, tables, no, layout, param, param_laws, RattleType}
+use Rattle.regex_lite.proofs.Common.{owns, block_ptr, plain, types_at, triple_of, Stays}
+use Rattle.regex_lite.proofs.Common.{stay_dropped, walk_of, inst_fn, a_type, dnil, Val, vptr, WpFn}
+use Rattle.regex_lite.proofs.Common.{alloc_all, env, free_all, get, get_in, look_at, pass_all, sets}
+use Rattle.regex_lite.proofs.Common.{Goal, !, Item, Seq, Soaks, at_ret, await, by, feq_i, fjoin}
+use Rattle.regex_lite.proofs.Common.{fsplit, join, keep, later, move, pick, qed, raw, rewrite, some}
+use Rattle.regex_lite.proofs.Common.{split, split3, suffices, use1, ‵, ◌$◌, ◌∵◌, ◌⊛◌, Logic, sub}
+use Rattle.regex_lite.proofs.Common.{and_then, blocks, enter, exec, first, fld, no_more, of_opd}
+use Rattle.regex_lite.proofs.Common.{returns, stop}
 use seplogic.Ra.Ura.{Ura}
-use mir.Syntax.{a_type, dcons, dnil}
-use mir.Val.{Val, vptr}
-use mir.MapTy.{inst_fn}
-use base.Logic.{SProp, ent, id⊢}
-use base.Fml.{ftrue, flft}
-use prog.Wp.{WpFn}
-use types.Logic.{Logic}
-use types.Kit.{Item, Goal, Seq, Soaks, mean}
-use types.Kit.{‵, raw, ◌⊛◌, some, later, at_ret, ◌$◌, ◌∵◌, !, qed, by, move, keep, drop, split}
-use types.Kit.{split3, join, fsplit, fjoin, pick, suffices, use1, await, rewrite, feq_i}
-use types.Run.{stop, fld, of_opd, no_more, and_then, first, blocks, exec, returns, enter}
-use types.ByLocal.{alloc_all, pass_all, free_all, look_at, get, get_in, sets, lands_last, env}
+use mir.Syntax.{dcons}
+use types.Kit.{mean}
+use types.Kit.{drop}
+use types.ByLocal.{lands_last}
 use types.ByLocal.{holding}
-use types.Part.{sub, whole}
-use contract.Monad.{fact}
-use contract.BorrowLft.{◌⊑◌}
-use contract.Running.{tables}
-use denote.Exit.{no}
-use denote.RattleType.{RattleType, owns}
-use denote.Signature.{types_at, plain}
-use denote.RawPtr.{block_ptr}
+use types.Part.{whole}
 use denote.Steps.{nothing, only}
-use denote.Param.{param, layout, bounded}
-use denote.Param.Laws.{param_laws}
+use denote.Param.{bounded}
 use denote.Triple.Clauses.{Lasts, lasts}
-use denote.Triple.Spec.{triple_of}
 use denote.Triple.Call.{calls_at_last}
-use denote.Triple.Walked.{Stays, stay_dropped, walk_of}
 use denote.Triple.Table.{framed}
-use Rattle.std.proofs.alloc.Calls.{Goes-blank}
 use Rattle.std.proofs.alloc.Shapes.{after}
 use Rattle.std.proofs.cell.Inside.{Good}
 use Rattle.std.proofs.BoxSteps.Form as box
 use Rattle.std.proofs.BoxSteps.Steps.{box_out, box_in}
-use Rattle.std.proofs.raw_atomic.Walks.{proved_at, leaves}
 use Rattle.std.specs.contracts.boxed.Box.from_raw as callee
 use Rattle.std.proofs.boxed.Box.from_raw.Met.{met}
 use Rattle.regex_lite.proofs.UnboxedLemmas.{Unboxed, both, both_good, others, unboxed_had}

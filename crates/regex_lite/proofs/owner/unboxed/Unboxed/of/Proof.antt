@@ -1,36 +1,28 @@
 -- `of` takes the pointer of the box.
-use Rattle.std.proofs.Common.{◌≡◌, List, [], ◌∷◌, ◌++◌, refl, sym, ap, ◌∙◌, subst}
-use mir.Syntax.{a_type, dcons, dnil}
-use mir.Val.{Val, vptr, vstruct, of_list}
-use mir.MapTy.{inst_fn}
-use base.Logic.{SProp, ent, emp, id⊢}
-use base.Fml.{ftrue, flft}
-use prog.Wp.{WpFn}
-use types.Kit.{‵, raw, ◌⊛◌, some, later, ◌$◌, ◌∵◌, !, qed, by, move, keep, drop, split, split3}
-use types.Kit.{join, fsplit, fjoin, fpick, pick, suffices, use0, use1, await, rewrite, feq_l}
-use types.Run.{stop, fld, of_opd, no_more, and_then, returns, enter}
-use types.ByLocal.{alloc_all, pass_all, free_all, look_at, get, get_in, sets, lands_as}
-use types.Part.{agg, sub, whole}
-use contract.Monad.{fact, fact_i}
-use contract.Running.{tables}
-use denote.Exit.{no}
-use denote.RattleType.{RattleType, owns}
-use denote.Signature.{types_at, plain}
+use Rattle.regex_lite.proofs.Common.{◌≡◌, List, [], ◌∷◌, ◌++◌, sym, refl, ap, ◌∙◌, subst}
+use Rattle.regex_lite.proofs.Common.{Goes-blank, handle_tells, leaves, proved_at, flft, ftrue}
+use Rattle.regex_lite.proofs.Common.{SProp, emp, ent, id⊢, fact, fact_i, tables, no, param}
+use Rattle.regex_lite.proofs.Common.{param_laws, RattleType, owns, Ptr, block_ptr, ptr_val, plain}
+use Rattle.regex_lite.proofs.Common.{types_at, triple_of, Stays, stay_dropped, walk_of, inst_fn}
+use Rattle.regex_lite.proofs.Common.{a_type, dnil, Val, of_list, vptr, vstruct, WpFn, alloc_all}
+use Rattle.regex_lite.proofs.Common.{free_all, get, get_in, look_at, pass_all, sets, !, await, by}
+use Rattle.regex_lite.proofs.Common.{feq_l, fjoin, fpick, fsplit, join, keep, later, move, pick}
+use Rattle.regex_lite.proofs.Common.{qed, raw, rewrite, some, split, split3, suffices, use0, use1}
+use Rattle.regex_lite.proofs.Common.{‵, ◌$◌, ◌∵◌, ◌⊛◌, agg, sub, and_then, enter, fld, no_more}
+use Rattle.regex_lite.proofs.Common.{of_opd, returns, stop}
+use mir.Syntax.{dcons}
+use types.Kit.{drop}
+use types.ByLocal.{lands_as}
+use types.Part.{whole}
 use denote.Builtin.{RawPtr}
-use denote.RawPtr.{Ptr, block_ptr, ptr_val}
 use denote.Steps.{nothing, only, heard}
-use denote.Param.{param, bounded}
-use denote.Param.Laws.{param_laws}
+use denote.Param.{bounded}
 use denote.Struct.Tuple.{Tuple}
 use denote.Triple.Clauses.{Lasts, lasts}
-use denote.Triple.Spec.{triple_of}
 use denote.Triple.Call.{calls_at}
-use denote.Triple.Walked.{Stays, stay_dropped, walk_of}
 use denote.Triple.Table.{framed}
-use Rattle.std.proofs.alloc.Calls.{Goes-blank, handle_tells}
 use Rattle.std.proofs.BoxSteps.Form as box
 use Rattle.std.proofs.BoxSteps.Steps.{box_out, box_in}
-use Rattle.std.proofs.raw_atomic.Walks.{proved_at, leaves}
 use Rattle.std.specs.contracts.boxed.Box.into_raw_with_allocator as callee
 use Rattle.std.proofs.boxed.Box.into_raw_with_allocator.Met.{met}
 use Rattle.regex_lite.proofs.UnboxedLemmas.{both, both_good, owned_at, lies, unboxed_made}

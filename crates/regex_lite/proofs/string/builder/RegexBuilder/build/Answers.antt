@@ -1,7 +1,4 @@
-use Rattle.std.proofs.Common.{inr, refl}
-use Rattle.std.proofs.lemmas.Result.{err_from_is_err_and}
-use Rattle.regex_lite_syntax.specs.Errors.{kind_of}
-use Rattle.regex_lite_syntax.specs.Tree.Views.{tree_of}
+use Rattle.regex_lite.proofs.Common.{refl, inr, err_from_is_err_and, kind_of, tree_of}
 use Rattle.regex_lite_engine.specs.Graph.Size.{IsDueToTree}
 use Rattle.regex_lite.proofs.string.AcceptanceLemmas.{builds_refused}
 use Rattle.regex_lite.proofs.string.builder.RegexBuilder.build.Goals as goal

@@ -1,8 +1,7 @@
-use Rattle.std.proofs.Common.{◌≡◌, ◌++◌, List, ℕ, length, string_bytes}
+use Rattle.regex_lite.proofs.Common.{◌≡◌, ℕ, List, ◌++◌, length, string_bytes, IsInterpolation}
+use Rattle.regex_lite.proofs.Common.{texts_of}
 use denote.Shadow.{shadow}
 use denote.Text.{Utf8}
-use Rattle.regex_lite_engine.specs.Interpolation.{IsInterpolation}
-use Rattle.regex_lite.specs.Templates.{texts_of}
 use Rattle.regex_lite.proofs.string.captures.Captures.expand.Given as goal
 
 abbrev pub invariant-pieces : goal.invariant-pieces

@@ -1,5 +1,4 @@
-use Rattle.std.proofs.Common.{◌≡◌, ◌++◌, length, take, map}
-use Rattle.regex_lite.specs.Groups.{texts_from}
+use Rattle.regex_lite.proofs.Common.{◌≡◌, ◌++◌, map, length, take, texts_from}
 use Rattle.regex_lite.proofs.string.captures_in.CapturesIn.extract.Given as goal
 
 abbrev pub invariant-loop-i : goal.invariant-loop-i

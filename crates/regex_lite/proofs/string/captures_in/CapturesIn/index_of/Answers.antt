@@ -1,7 +1,5 @@
-use Rattle.std.proofs.Common.{◌∙◌, ap, sym, map, option_map, length, arith}
-use Rattle.std.proofs.lemmas.List.{length-map}
-use Rattle.std.specs.Rc.{rc_str_bytes}
-use Rattle.regex_lite.specs.Groups.{Groups}
+use Rattle.regex_lite.proofs.Common.{map, length, option_map, sym, ap, ◌∙◌, arith, length-map}
+use Rattle.regex_lite.proofs.Common.{rc_str_bytes, Groups}
 use Rattle.regex_lite.proofs.string.GroupLemmas.{named_first, named_nowhere, name_read, one_more}
 use Rattle.regex_lite.proofs.string.captures_in.CapturesIn.index_of.Goals as goal
 

@@ -1,4 +1,4 @@
-use Rattle.std.proofs.Common.{◌≡◌, ◌<◌, ℕ, false, None, get_or}
+use Rattle.regex_lite.proofs.Common.{◌≡◌, ℕ, ◌<◌, false, get_or, None}
 use Rattle.regex_lite.specs.Groups.{is_named}
 use Rattle.regex_lite.proofs.string.captures_in.CapturesIn.index_of.Given as goal
 

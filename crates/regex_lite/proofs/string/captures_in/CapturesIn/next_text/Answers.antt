@@ -1,5 +1,4 @@
-use Rattle.std.proofs.Common.{◌<◌, ◌∙◌, ap, sym, subst}
-use Rattle.regex_lite.specs.Groups.{Groups, text_at}
+use Rattle.regex_lite.proofs.Common.{◌<◌, sym, ap, ◌∙◌, subst, text_at, Groups}
 use Rattle.regex_lite.proofs.string.GroupLemmas.{no_text, first_text}
 use Rattle.regex_lite.proofs.string.captures_in.CapturesIn.next_text.Goals as goal
 

@@ -1,5 +1,4 @@
-use Rattle.std.proofs.Common.{◌≡◌}
-use Rattle.regex_lite.specs.Groups.{texts_from}
+use Rattle.regex_lite.proofs.Common.{◌≡◌, texts_from}
 use Rattle.regex_lite.proofs.string.captures_in.CapturesIn.next_text.Given as goal
 
 abbrev pub invariant-loop-k : goal.invariant-loop-k

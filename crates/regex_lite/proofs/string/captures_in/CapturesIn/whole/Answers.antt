@@ -1,5 +1,4 @@
-use Rattle.std.proofs.Common.{◌≡◌, ◌∙◌, ℕ, Some, sym}
-use Rattle.regex_lite.specs.Groups.{AreGroups, group_span}
+use Rattle.regex_lite.proofs.Common.{◌≡◌, ℕ, Some, sym, ◌∙◌, group_span, AreGroups}
 use Rattle.regex_lite.proofs.string.GroupLemmas.{enough_behind}
 use Rattle.regex_lite.proofs.string.captures_in.CapturesIn.whole.Goals as goal
 

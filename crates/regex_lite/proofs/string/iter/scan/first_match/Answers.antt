@@ -1,5 +1,4 @@
-use Rattle.std.proofs.Common.{inr, chars}
-use Rattle.std.proofs.lemmas.Str.{IsCharBoundary-start}
+use Rattle.regex_lite.proofs.Common.{chars, inr, IsCharBoundary-start}
 use Rattle.regex_lite.proofs.string.NextLemmas.{first_told}
 use Rattle.regex_lite.proofs.string.iter.scan.first_match.Goals as goal
 

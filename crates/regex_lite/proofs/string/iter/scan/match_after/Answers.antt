@@ -1,6 +1,5 @@
-use Rattle.std.proofs.Common.{◌<◌, ◌≤◌, Some, chars, sym, subst, arith}
-use Rattle.regex_lite.specs.Answers.{IsEmptyAnswerFrom}
-use Rattle.regex_lite.specs.MatchViews.{span_of_match}
+use Rattle.regex_lite.proofs.Common.{◌<◌, ◌≤◌, Some, chars, sym, subst, arith, IsEmptyAnswerFrom}
+use Rattle.regex_lite.proofs.Common.{span_of_match}
 use Rattle.regex_lite.specs.NextMatch.{TellsNextMatch}
 use Rattle.regex_lite.proofs.string.NextLemmas.{empty_told, later_told, none_told}
 use Rattle.regex_lite.proofs.string.iter.scan.match_after.Goals as goal

@@ -1,4 +1,4 @@
-use Rattle.std.proofs.Common.{chars}
+use Rattle.regex_lite.proofs.Common.{chars}
 use Rattle.regex_lite.proofs.string.NextLemmas.{after_told}
 use Rattle.regex_lite.proofs.string.iter.scan.match_after_empty.Goals as goal
 

@@ -1,5 +1,4 @@
-use Rattle.std.proofs.Common.{chars}
-use Rattle.regex_lite_engine.specs.Search.Offsets.{search_start}
+use Rattle.regex_lite.proofs.Common.{chars, search_start}
 use Rattle.regex_lite.proofs.string.NextLemmas.{match_told, span_lies}
 use Rattle.regex_lite.proofs.string.ScanLemmas.{empty_from}
 use Rattle.regex_lite.proofs.string.iter.scan.match_at.Goals as goal

@@ -1,8 +1,7 @@
-use Rattle.std.proofs.Common.{◌≡◌, ◌++◌, ◌+◌, ◌∙◌, inr, drop, subst, rules}
+use Rattle.regex_lite.proofs.Common.{◌≡◌, ◌+◌, ◌++◌, drop, ◌∙◌, subst, inr, rules, IsNextOffset}
 use Rattle.std.specs.Char.{len_utf8}
 use lib.Utf8.{encode}
 use Rattle.regex_lite_engine.proofs.PositionLemmas.{next_position, start_position}
-use Rattle.regex_lite.specs.NextMatch.{IsNextOffset}
 use Rattle.regex_lite.proofs.string.iter.scan.next_offset.Goals as goal
 
 pub returns-in-Some : goal.returns-in-Some

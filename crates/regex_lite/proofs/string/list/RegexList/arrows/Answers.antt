@@ -1,7 +1,4 @@
-use Rattle.std.proofs.Common.{ap, arith}
-use Rattle.regex_lite_engine.specs.Graph.SideBySide.{places_of_all}
-use Rattle.regex_lite.specs.declared.string.list.compiled.CompiledList.{CompiledList}
-use Rattle.regex_lite.specs.RegexList.{AreTrees}
+use Rattle.regex_lite.proofs.Common.{ap, arith, places_of_all, AreTrees, CompiledList}
 use Rattle.regex_lite.proofs.string.ListBuildLemmas.{arrows_few_of_all, one_list}
 use Rattle.regex_lite.proofs.string.list.RegexList.arrows.Goals as goal
 

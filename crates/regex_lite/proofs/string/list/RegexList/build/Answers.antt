@@ -1,8 +1,5 @@
-use Rattle.std.proofs.Common.{◌∙◌, sym, ap, subst, length, map}
-use Rattle.std.proofs.lemmas.Result.{err_from_is_err_and}
-use Rattle.regex_lite_syntax.specs.Tree.Views.{tree_of}
-use Rattle.regex_lite_engine.specs.Graph.SideBySide.{AreRegular}
-use Rattle.regex_lite.specs.Expression.{expression_of}
+use Rattle.regex_lite.proofs.Common.{map, length, sym, ap, ◌∙◌, subst, err_from_is_err_and, tree_of}
+use Rattle.regex_lite.proofs.Common.{AreRegular, expression_of}
 use Rattle.regex_lite.specs.RegexList.{IsAcceptedAs}
 use Rattle.regex_lite.proofs.string.ListBuildLemmas.{accepted_trees, each_fits, refused_before}
 use Rattle.regex_lite.proofs.string.ListBuildLemmas.{refused_together, regular_trees}

@@ -1,6 +1,5 @@
-use Rattle.std.proofs.Common.{◌≡◌, ◌∙◌, ◌*◌, ap, max, None, replicate, rules}
-use Rattle.regex_lite.specs.Groups.{spans_of}
-use Rattle.regex_lite.specs.Scanning.{most_captures}
+use Rattle.regex_lite.proofs.Common.{◌≡◌, ◌*◌, max, replicate, None, ap, ◌∙◌, rules, spans_of}
+use Rattle.regex_lite.proofs.Common.{most_captures}
 use Rattle.regex_lite.proofs.string.SlotLemmas.{no_spans, room_for_most}
 use Rattle.regex_lite.proofs.string.list.RegexList.capture_locations.Goals as goal
 

@@ -1,5 +1,4 @@
-use Rattle.std.proofs.Common.{inr}
-use Rattle.std.proofs.lemmas.Str.{IsCharBoundary-start}
+use Rattle.regex_lite.proofs.Common.{inr, IsCharBoundary-start}
 use Rattle.regex_lite.proofs.string.list.RegexList.captures.Goals as goal
 
 pub captures_at-requires : goal.captures_at-requires

@@ -1,12 +1,6 @@
-use Rattle.std.proofs.Common.{◌≡◌, ◌∙◌, ◌*◌, ap, sym, subst, length, take, Some}
-use Rattle.regex_lite_engine.specs.Graph.StoredList.{StoredGroups}
-use Rattle.regex_lite_engine.specs.Search.Outcomes.{IsOutcomeOfList}
-use Rattle.regex_lite.specs.declared.string.list.compiled.CompiledList.{CompiledList}
-use Rattle.regex_lite.specs.Compiled.{groups_of}
-use Rattle.regex_lite.specs.CompiledList.{groups_at}
-use Rattle.regex_lite.specs.Groups.{AreGroups, Groups}
-use Rattle.regex_lite.specs.RegexList.{AreTrees}
-use Rattle.regex_lite.specs.RegexListSearches.{TellsGroupsOfList}
+use Rattle.regex_lite.proofs.Common.{◌≡◌, ◌*◌, length, take, Some, sym, ap, ◌∙◌, subst}
+use Rattle.regex_lite.proofs.Common.{StoredGroups, IsOutcomeOfList, groups_of, groups_at, Groups}
+use Rattle.regex_lite.proofs.Common.{AreGroups, AreTrees, TellsGroupsOfList, CompiledList}
 use Rattle.regex_lite.proofs.string.ListGroupLemmas.{listed_groups_are, listed_groups_told}
 use Rattle.regex_lite.proofs.string.ListGroupLemmas.{listed_of_pattern}
 use Rattle.regex_lite.proofs.string.ListSlotLemmas.{kept_width}

@@ -1,6 +1,4 @@
-use Rattle.std.proofs.Common.{ap}
-use Rattle.regex_lite.specs.declared.string.list.compiled.CompiledList.{CompiledList}
-use Rattle.regex_lite.specs.RegexList.{AreTrees}
+use Rattle.regex_lite.proofs.Common.{ap, AreTrees, CompiledList}
 use Rattle.regex_lite.proofs.string.ListToldLemmas.{list_match_told, list_span_lies}
 use Rattle.regex_lite.proofs.string.ListToldLemmas.{outcome_of_list}
 use Rattle.regex_lite.proofs.string.list.RegexList.find_counted_at.Goals as goal

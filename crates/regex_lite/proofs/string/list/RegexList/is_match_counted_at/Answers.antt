@@ -1,7 +1,4 @@
-use Rattle.std.proofs.Common.{ap, subst, sym}
-use Rattle.regex_lite_engine.specs.Graph.StoredList.{IsGraphOfList}
-use Rattle.regex_lite.specs.declared.string.list.compiled.CompiledList.{CompiledList}
-use Rattle.regex_lite.specs.RegexList.{AreTrees}
+use Rattle.regex_lite.proofs.Common.{sym, ap, subst, IsGraphOfList, AreTrees, CompiledList}
 use Rattle.regex_lite.proofs.string.ListToldLemmas.{any_told}
 use Rattle.regex_lite.proofs.string.list.RegexList.is_match_counted_at.Goals as goal
 

@@ -1,7 +1,4 @@
-use Rattle.std.proofs.Common.{◌∙◌, ap}
-use Rattle.regex_lite.specs.declared.string.list.compiled.CompiledList.{CompiledList}
-use Rattle.regex_lite.specs.RegexList.{AreTrees}
-use Rattle.regex_lite.specs.Slots.{kept_slots}
+use Rattle.regex_lite.proofs.Common.{ap, ◌∙◌, AreTrees, kept_slots, CompiledList}
 use Rattle.regex_lite.proofs.string.ListSlotLemmas.{most_are}
 use Rattle.regex_lite.proofs.string.list.RegexList.kept_slots.Goals as goal
 

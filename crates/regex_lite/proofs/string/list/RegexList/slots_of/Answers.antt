@@ -1,7 +1,5 @@
-use Rattle.std.proofs.Common.{◌∙◌, ◌*◌, ap, arith, chars, length}
-use Rattle.regex_lite_syntax.specs.Grammar.{IsTree}
-use Rattle.regex_lite.specs.declared.string.list.compiled.CompiledList.{CompiledList}
-use Rattle.regex_lite.specs.RegexList.{AreTrees}
+use Rattle.regex_lite.proofs.Common.{◌*◌, length, chars, ap, ◌∙◌, arith, IsTree, AreTrees}
+use Rattle.regex_lite.proofs.Common.{CompiledList}
 use Rattle.regex_lite.proofs.string.PairedLemmas.{paired_length}
 use Rattle.regex_lite.proofs.string.list.RegexList.slots_of.Goals as goal
 

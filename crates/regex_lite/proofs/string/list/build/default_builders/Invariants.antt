@@ -1,4 +1,4 @@
-use Rattle.std.proofs.Common.{◌≡◌, map, take}
+use Rattle.regex_lite.proofs.Common.{◌≡◌, map, take}
 use Rattle.regex_lite.specs.Settings.{default_settings}
 use Rattle.regex_lite.proofs.string.list.build.default_builders.Given as goal
 

@@ -1,5 +1,4 @@
-use Rattle.std.proofs.Common.{◌≡◌, ◌∙◌, ◌*◌, ap, arith, length, max}
-use Rattle.std.proofs.lemmas.Bool.Decides.{nat_tests}
+use Rattle.regex_lite.proofs.Common.{◌≡◌, ◌*◌, max, length, ap, ◌∙◌, arith, nat_tests}
 use Rattle.regex_lite.proofs.string.SlotLemmas.{most_on}
 use Rattle.regex_lite.proofs.string.list.build.kept_slots.Goals as goal
 

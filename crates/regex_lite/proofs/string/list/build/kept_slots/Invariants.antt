@@ -1,5 +1,4 @@
-use Rattle.std.proofs.Common.{◌≡◌, ◌*◌, drop, max}
-use Rattle.regex_lite.specs.Slots.{most_groups}
+use Rattle.regex_lite.proofs.Common.{◌≡◌, ◌*◌, max, drop, most_groups}
 use Rattle.regex_lite.proofs.string.list.build.kept_slots.Given as goal
 
 -- with the patterns that are left these are all

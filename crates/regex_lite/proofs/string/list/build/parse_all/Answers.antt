@@ -1,8 +1,6 @@
-use Rattle.std.proofs.Common.{◌∙◌, ◌∷◌, [], ap, map, refl}
+use Rattle.regex_lite.proofs.Common.{[], ◌∷◌, map, refl, ap, ◌∙◌, err_from_is_err_and, tree_of}
 use Rattle.std.proofs.lemmas.List.{map-append}
 use Rattle.std.proofs.lemmas.Option.{slice_get_read}
-use Rattle.std.proofs.lemmas.Result.{err_from_is_err_and}
-use Rattle.regex_lite_syntax.specs.Tree.Views.{tree_of}
 use Rattle.regex_lite.proofs.string.ListBuildLemmas.{accepted_more, lowest_fails}
 use Rattle.regex_lite.proofs.string.list.build.parse_all.Goals as goal
 

@@ -1,6 +1,4 @@
-use Rattle.std.proofs.Common.{map, take}
-use Rattle.regex_lite_syntax.specs.Tree.Views.{tree_of}
-use Rattle.regex_lite.specs.RegexList.{AreAcceptedAs}
+use Rattle.regex_lite.proofs.Common.{map, take, tree_of, AreAcceptedAs}
 use Rattle.regex_lite.proofs.string.list.build.parse_all.Given as goal
 
 -- those so far are accepted

@@ -1,5 +1,4 @@
-use Rattle.std.proofs.Common.{◌≡◌, map, take}
-use Rattle.regex_lite.specs.Expression.{expression_of}
+use Rattle.regex_lite.proofs.Common.{◌≡◌, map, take, expression_of}
 use Rattle.regex_lite.proofs.string.list.build.patterns_of.Given as goal
 
 abbrev pub invariant-loop-builder : goal.invariant-loop-builder

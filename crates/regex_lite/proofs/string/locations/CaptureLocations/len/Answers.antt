@@ -1,4 +1,4 @@
-use Rattle.std.proofs.Common.{rules}
+use Rattle.regex_lite.proofs.Common.{rules}
 use Rattle.regex_lite.proofs.string.SlotLemmas.{half}
 use Rattle.regex_lite.proofs.string.locations.CaptureLocations.len.Goals as goal
 

@@ -1,7 +1,7 @@
-use Rattle.std.proofs.Common.{◌≡◌, ◌∙◌, ◌*◌, ◌++◌, ap, length, min, replicate, None}
-use Rattle.std.proofs.Common.{arith, rules, take}
+use Rattle.regex_lite.proofs.Common.{◌≡◌, ◌*◌, ◌++◌, length, take, replicate, None, ap, ◌∙◌, arith}
+use Rattle.regex_lite.proofs.Common.{rules, spans_of, resized}
+use Rattle.std.proofs.Common.{min}
 use Rattle.std.proofs.lemmas.List.{length-append, with_items_is}
-use Rattle.regex_lite.specs.Groups.{resized, spans_of}
 use Rattle.regex_lite.proofs.string.SlotLemmas.{half, resized_length, spans_with_none}
 use Rattle.regex_lite.proofs.string.locations.CaptureLocations.write.Goals as goal
 

@@ -1,9 +1,5 @@
-use Rattle.std.proofs.Common.{◌≡◌, ap, chars, arith}
-use Rattle.regex_lite_syntax.specs.Grammar.{IsTree}
-use Rattle.regex_lite_engine.specs.Graph.PlaceCounts.{whole_places}
+use Rattle.regex_lite.proofs.Common.{◌≡◌, chars, ap, arith, IsTree, whole_places, IsBuilt, Compiled}
 use Rattle.regex_lite_engine.proofs.ArrowBoundLemmas.{arrows_few}
-use Rattle.regex_lite.specs.declared.string.compiled.Compiled.{Compiled}
-use Rattle.regex_lite.specs.Compiled.{IsBuilt}
 use Rattle.regex_lite.proofs.string.OneTreeLemmas.{one_tree}
 use Rattle.regex_lite.proofs.string.regex.Regex.arrows.Goals as goal
 

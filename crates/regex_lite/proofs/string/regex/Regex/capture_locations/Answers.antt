@@ -1,7 +1,6 @@
-use Rattle.std.proofs.Common.{◌≡◌, ◌∙◌, ap, ℕ, Option, None, length, replicate, rules, arith}
+use Rattle.regex_lite.proofs.Common.{◌≡◌, ℕ, length, replicate, None, Option, ap, ◌∙◌, arith, rules}
+use Rattle.regex_lite.proofs.Common.{captures_len, spans_of}
 use Rattle.std.proofs.lemmas.List.{length-replicate}
-use Rattle.regex_lite_syntax.specs.Tree.Properties.{captures_len}
-use Rattle.regex_lite.specs.Groups.{spans_of}
 use Rattle.regex_lite.proofs.string.SlotLemmas.{no_spans}
 use Rattle.regex_lite.proofs.string.regex.Regex.capture_locations.Goals as goal
 

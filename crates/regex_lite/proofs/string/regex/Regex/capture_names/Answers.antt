@@ -1,5 +1,4 @@
-use Rattle.std.proofs.Common.{◌∙◌, ap, map, option_map}
-use Rattle.std.specs.Rc.{rc_str_bytes}
+use Rattle.regex_lite.proofs.Common.{map, option_map, ap, ◌∙◌, rc_str_bytes}
 use Rattle.regex_lite.proofs.string.GroupNameLemmas.{are_names}
 use Rattle.regex_lite.proofs.string.regex.Regex.capture_names.Goals as goal
 

@@ -1,6 +1,4 @@
-use Rattle.std.proofs.Common.{◌∙◌, ap, chars}
-use Rattle.regex_lite_syntax.specs.Grammar.{IsTree}
-use Rattle.regex_lite.specs.Compiled.{stored_groups}
+use Rattle.regex_lite.proofs.Common.{chars, ap, ◌∙◌, IsTree, stored_groups}
 use Rattle.regex_lite.proofs.string.ToldLemmas.{groups_are, groups_told, outcome_of, slots_are}
 use Rattle.regex_lite.proofs.string.regex.Regex.captures_counted_at.Goals as goal
 

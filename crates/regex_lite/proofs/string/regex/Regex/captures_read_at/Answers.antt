@@ -1,4 +1,4 @@
-use Rattle.std.proofs.Common.{length}
+use Rattle.regex_lite.proofs.Common.{length}
 use Rattle.regex_lite.proofs.string.ToldLemmas.{room_told, locations_told}
 use Rattle.regex_lite.proofs.string.regex.Regex.captures_read_at.Goals as goal
 

@@ -1,5 +1,4 @@
-use Rattle.std.proofs.Common.{ap, chars}
-use Rattle.regex_lite_syntax.specs.Grammar.{IsTree}
+use Rattle.regex_lite.proofs.Common.{chars, ap, IsTree}
 use Rattle.regex_lite.proofs.string.ToldLemmas.{match_told, outcome_of, span_lies}
 use Rattle.regex_lite.proofs.string.regex.Regex.find_counted_at.Goals as goal
 

@@ -1,7 +1,4 @@
-use Rattle.std.proofs.Common.{ap, chars, subst, sym, ◌∙◌}
-use Rattle.regex_lite_syntax.specs.Grammar.{IsTree}
-use Rattle.regex_lite_engine.specs.Graph.Renumbered.{IsGraphOf}
-use Rattle.regex_lite.specs.declared.string.compiled.Compiled.{Compiled}
+use Rattle.regex_lite.proofs.Common.{chars, sym, ap, ◌∙◌, subst, IsTree, IsGraphOf, Compiled}
 use Rattle.regex_lite.proofs.string.regex.Regex.memory.Goals as goal
 
 pub returns-clause-searches : goal.returns-clause-searches

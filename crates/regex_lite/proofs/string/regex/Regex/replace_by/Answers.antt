@@ -1,8 +1,7 @@
-use Rattle.std.proofs.Common.{◌++◌, ◌∙◌, unwrap_or, string_bytes, slice_range, chars, refl, sym, ap}
+use Rattle.regex_lite.proofs.Common.{◌++◌, slice_range, string_bytes, chars, unwrap_or, sym, refl}
+use Rattle.regex_lite.proofs.Common.{ap, ◌∙◌, ahead_of, span_of_match, found_span}
 use Rattle.std.specs.declared.borrow.CowStr.TheVariants.{Borrowed}
-use Rattle.regex_lite.specs.Ahead.{ahead_of, whole}
-use Rattle.regex_lite.specs.MatchViews.{span_of_match}
-use Rattle.regex_lite.specs.Pieces.{found_span}
+use Rattle.regex_lite.specs.Ahead.{whole}
 use Rattle.regex_lite.specs.Replacements.{IsReplacedBy}
 use Rattle.regex_lite.proofs.string.AnsweredLemmas.{begun_on, borrowed_where_over, owned_where_some}
 use Rattle.regex_lite.proofs.string.AnsweredLemmas.{so_finished}

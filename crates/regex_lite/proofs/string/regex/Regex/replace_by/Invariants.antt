@@ -1,5 +1,5 @@
-use Rattle.std.proofs.Common.{◌≡◌, string_bytes, unwrap_or}
-use Rattle.regex_lite.specs.Ahead.{ahead_of, whole}
+use Rattle.regex_lite.proofs.Common.{◌≡◌, string_bytes, unwrap_or, ahead_of}
+use Rattle.regex_lite.specs.Ahead.{whole}
 use Rattle.regex_lite.proofs.string.AnsweredLemmas.{IsBegun}
 use Rattle.regex_lite.proofs.string.ReplacementLemmas.{Continues}
 use Rattle.regex_lite.proofs.string.regex.Regex.replace_by.Given as goal

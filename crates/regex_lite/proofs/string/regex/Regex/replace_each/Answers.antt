@@ -1,11 +1,8 @@
-use Rattle.std.proofs.Common.{inl, inr, ◌++◌, ◌∙◌, unwrap_or}
-use Rattle.std.proofs.Common.{option_map, string_bytes, slice_range, sym, ap, subst}
+use Rattle.regex_lite.proofs.Common.{◌++◌, slice_range, string_bytes, option_map, unwrap_or, sym}
+use Rattle.regex_lite.proofs.Common.{ap, ◌∙◌, subst, inl, inr, position_at, Passes, ahead}
+use Rattle.regex_lite.proofs.Common.{whole_span, RegexSearching, Scanning}
 use Rattle.std.specs.declared.borrow.CowStr.TheVariants.{Borrowed}
-use Rattle.regex_lite_engine.specs.Search.Offsets.{position_at}
-use Rattle.regex_lite.specs.Ahead.{Passes, ahead}
-use Rattle.regex_lite.specs.Groups.{whole_span}
 use Rattle.regex_lite.specs.Replacements.{IsRefused, IsReplacedInTurn}
-use Rattle.regex_lite.specs.Scanning.{RegexSearching, Scanning}
 use Rattle.regex_lite.proofs.string.AnsweredLemmas.{begun_on, borrowed_where_over}
 use Rattle.regex_lite.proofs.string.AnsweredLemmas.{owned_where_some, so_finished}
 use Rattle.regex_lite.proofs.string.ReplacementLemmas.{found_there, handed_on, in_turn_at_end}

@@ -1,5 +1,4 @@
-use Rattle.std.proofs.Common.{◌≡◌, string_bytes, unwrap_or}
-use Rattle.regex_lite.specs.Ahead.{ahead, most_ahead}
+use Rattle.regex_lite.proofs.Common.{◌≡◌, string_bytes, unwrap_or, ahead, most_ahead}
 use Rattle.regex_lite.proofs.string.AnsweredLemmas.{IsBegun}
 use Rattle.regex_lite.proofs.string.ReplacementLemmas.{ContinuesInTurn}
 use Rattle.regex_lite.proofs.string.regex.Regex.replace_each.Given as goal

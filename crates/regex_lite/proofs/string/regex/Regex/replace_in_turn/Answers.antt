@@ -1,7 +1,6 @@
-use Rattle.std.proofs.Common.{◌≡◌, IfOk, rules, subst}
-use Rattle.std.specs.Cow.{IsOwnedStr}
+use Rattle.regex_lite.proofs.Common.{◌≡◌, IfOk, subst, rules, IsOwnedStr, IsOver, ahead}
 use Rattle.std.specs.declared.borrow.CowStr.TheVariants.{Borrowed}
-use Rattle.regex_lite.specs.Ahead.{IsOver, ahead, whole}
+use Rattle.regex_lite.specs.Ahead.{whole}
 use Rattle.regex_lite.proofs.string.regex.Regex.replace_in_turn.Goals as goal
 
 pub returns-clause-borrowed : goal.returns-clause-borrowed

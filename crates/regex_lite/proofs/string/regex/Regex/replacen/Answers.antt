@@ -1,4 +1,4 @@
-use Rattle.std.specs.Cow.{IsOwnedStr}
+use Rattle.regex_lite.proofs.Common.{IsOwnedStr}
 use Rattle.regex_lite.proofs.string.AnsweredLemmas.{where_it_matches}
 use Rattle.regex_lite.proofs.string.regex.Regex.replacen.Goals as goal
 

@@ -1,5 +1,4 @@
-use Rattle.std.proofs.Common.{arith}
-use Rattle.regex_lite.specs.Ahead.{ahead_of}
+use Rattle.regex_lite.proofs.Common.{arith, ahead_of}
 use Rattle.regex_lite.proofs.string.PieceLemmas.{left_at_first}
 use Rattle.regex_lite.proofs.string.regex.Regex.splitn.Goals as goal
 

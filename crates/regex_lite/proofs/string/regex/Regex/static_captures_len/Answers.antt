@@ -1,6 +1,4 @@
-use Rattle.std.proofs.Common.{◌≡◌, ◌∙◌, Some, refl}
-use Rattle.regex_lite_syntax.specs.Tree.Properties.{static_captures_len}
-use Rattle.regex_lite.specs.Expression.{OfTree}
+use Rattle.regex_lite.proofs.Common.{◌≡◌, Some, refl, ◌∙◌, static_captures_len, OfTree}
 use Rattle.regex_lite.proofs.StaticNumberLemmas.{static_number}
 use Rattle.regex_lite.proofs.string.regex.Regex.static_captures_len.Goals as goal
 

@@ -1,5 +1,4 @@
-use Rattle.std.proofs.Common.{inr}
-use Rattle.std.proofs.lemmas.Str.{IsCharBoundary-start}
+use Rattle.regex_lite.proofs.Common.{inr, IsCharBoundary-start}
 use Rattle.regex_lite.proofs.string.regex_searcher.RegexSearcher.captures_read.Goals as goal
 
 pub captures_read_at-requires-clause-start : goal.captures_read_at-requires-clause-start

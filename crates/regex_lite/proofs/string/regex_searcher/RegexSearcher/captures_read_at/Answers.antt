@@ -1,6 +1,4 @@
-use Rattle.std.proofs.Common.{Some, sym, subst}
-use Rattle.regex_lite.specs.Expression.{Expression}
-use Rattle.regex_lite.specs.Searches.{TellsLocations, TellsMatch}
+use Rattle.regex_lite.proofs.Common.{Some, sym, subst, Expression, TellsMatch, TellsLocations}
 use Rattle.regex_lite.proofs.string.regex_searcher.RegexSearcher.captures_read_at.Goals as goal
 
 pub returns-clause-found : goal.returns-clause-found

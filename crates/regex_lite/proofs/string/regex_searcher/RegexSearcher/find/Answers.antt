@@ -1,5 +1,4 @@
-use Rattle.std.proofs.Common.{inr}
-use Rattle.std.proofs.lemmas.Str.{IsCharBoundary-start}
+use Rattle.regex_lite.proofs.Common.{inr, IsCharBoundary-start}
 use Rattle.regex_lite.proofs.string.regex_searcher.RegexSearcher.find.Goals as goal
 
 pub find_at-requires : goal.find_at-requires

@@ -1,6 +1,4 @@
-use Rattle.std.proofs.Common.{subst}
-use Rattle.regex_lite_engine.specs.Search.Outcomes.{IsSpanOutcome}
-use Rattle.regex_lite.specs.Expression.{OfTree}
+use Rattle.regex_lite.proofs.Common.{subst, IsSpanOutcome, OfTree}
 use Rattle.regex_lite.proofs.string.ToldLemmas.{span_lies, span_of}
 use Rattle.regex_lite.proofs.string.regex_searcher.RegexSearcher.find_at.Goals as goal
 

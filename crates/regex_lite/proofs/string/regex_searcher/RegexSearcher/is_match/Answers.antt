@@ -1,5 +1,4 @@
-use Rattle.std.proofs.Common.{◌↔◌, IsTrue, sym, subst}
-use Rattle.regex_lite.specs.Searches.{IsMatchOf, MatchesFrom}
+use Rattle.regex_lite.proofs.Common.{◌↔◌, IsTrue, sym, subst, MatchesFrom, IsMatchOf}
 use Rattle.regex_lite.proofs.string.AgreementLemmas.{answer_told}
 use Rattle.regex_lite.proofs.string.regex_searcher.RegexSearcher.is_match.Goals as goal
 

@@ -1,10 +1,7 @@
-use Rattle.std.proofs.Common.{◌≡◌, ◌*◌, ◌∙◌, ℕ, [], ◌∷◌, length, take, Some, None, sym, subst, ap}
-use Rattle.regex_lite_syntax.specs.Tree.Properties.{captures_len}
-use Rattle.regex_lite_engine.specs.Search.Outcomes.{IsSpanOutcome}
-use Rattle.regex_lite.specs.Expression.{Expression, OfTree}
+use Rattle.regex_lite.proofs.Common.{◌≡◌, ℕ, ◌*◌, [], ◌∷◌, length, take, Some, None, sym, ap, ◌∙◌}
+use Rattle.regex_lite.proofs.Common.{subst, captures_len, IsSpanOutcome, Expression, OfTree}
+use Rattle.regex_lite.proofs.Common.{span_of_match, all_slots}
 use Rattle.regex_lite.specs.Keeping.{SearchesForGroups}
-use Rattle.regex_lite.specs.MatchViews.{span_of_match}
-use Rattle.regex_lite.specs.Slots.{all_slots}
 use Rattle.regex_lite.proofs.string.KeptLemmas.{locations_read, room_for, room_read}
 use Rattle.regex_lite.proofs.string.KeptLemmas.{slots_again, slots_of_whole, still_searches}
 use Rattle.regex_lite.proofs.string.SlotLemmas.{resized_few}

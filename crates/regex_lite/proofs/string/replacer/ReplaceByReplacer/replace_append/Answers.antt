@@ -1,4 +1,4 @@
-use Rattle.std.proofs.Common.{rules, refl, sym, subst, [], Err, string_bytes}
+use Rattle.regex_lite.proofs.Common.{[], Err, string_bytes, sym, refl, subst, rules}
 use Rattle.std.proofs.lemmas.List.{append-nil}
 use Rattle.regex_lite.specs.Replacing.{IsAppendedResult}
 use Rattle.regex_lite.proofs.string.replacer.ReplaceByReplacer.replace_append.Goals as goal

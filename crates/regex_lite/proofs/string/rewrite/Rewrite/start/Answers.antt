@@ -1,4 +1,4 @@
-use Rattle.std.proofs.lemmas.Str.{IsCharBoundary-start}
+use Rattle.regex_lite.proofs.Common.{IsCharBoundary-start}
 use Rattle.regex_lite.proofs.string.rewrite.Rewrite.start.Goals as goal
 
 pub invariant_of-result : goal.invariant_of-result

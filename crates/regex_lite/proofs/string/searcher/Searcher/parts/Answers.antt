@@ -1,8 +1,6 @@
-use Rattle.std.proofs.Common.{◌∙◌, ap, chars, sym, subst}
-use Rattle.regex_lite_syntax.specs.Grammar.{IsTree}
-use Rattle.regex_lite_engine.specs.Graph.StoredList.{StoredGroups}
-use Rattle.regex_lite.specs.Compiled.{NamesGroups, SharesGroups, names_of, stored_groups}
-use Rattle.regex_lite.specs.Scanning.{RegexSearching}
+use Rattle.regex_lite.proofs.Common.{chars, sym, ap, ◌∙◌, subst, IsTree, StoredGroups}
+use Rattle.regex_lite.proofs.Common.{stored_groups, names_of, NamesGroups, RegexSearching}
+use Rattle.regex_lite.specs.Compiled.{SharesGroups}
 use Rattle.regex_lite.proofs.string.CapturedLemmas.{built_shares}
 use Rattle.regex_lite.proofs.string.searcher.Searcher.parts.Goals as goal
 

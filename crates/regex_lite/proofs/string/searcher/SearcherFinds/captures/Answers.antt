@@ -1,8 +1,5 @@
-use Rattle.std.proofs.Common.{◌≡◌, ◌∙◌, ap, sym, subst, rules}
-use Rattle.regex_lite.specs.Items.{AreGroupsFound}
-use Rattle.regex_lite.specs.MatchViews.{span_of_match}
-use Rattle.regex_lite.specs.Scanning.{RegexSearching}
-use Rattle.regex_lite.specs.Slots.{all_slots}
+use Rattle.regex_lite.proofs.Common.{◌≡◌, sym, ap, ◌∙◌, subst, rules, AreGroupsFound, span_of_match}
+use Rattle.regex_lite.proofs.Common.{RegexSearching, all_slots}
 use Rattle.regex_lite.proofs.string.ScanLemmas.{groups_held, groups_kept, span_of_last}
 use Rattle.regex_lite.proofs.string.searcher.SearcherFinds.captures.Goals as goal
 

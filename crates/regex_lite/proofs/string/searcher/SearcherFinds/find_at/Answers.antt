@@ -1,5 +1,5 @@
-use Rattle.std.proofs.Common.{None, Some, chars, sym, subst}
-use Rattle.regex_lite.specs.Scanning.{RegexSearching, TellsSpan}
+use Rattle.regex_lite.proofs.Common.{Some, None, chars, sym, subst, RegexSearching}
+use Rattle.regex_lite.specs.Scanning.{TellsSpan}
 use Rattle.regex_lite.proofs.string.LawfulLemmas.{regex_lawful}
 use Rattle.regex_lite.proofs.string.ToldLemmas.{span_of, span_told}
 use Rattle.regex_lite.proofs.string.searcher.SearcherFinds.find_at.Goals as goal

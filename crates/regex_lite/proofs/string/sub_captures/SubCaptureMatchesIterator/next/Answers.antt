@@ -1,4 +1,4 @@
-use Rattle.std.proofs.Common.{◌<◌, subst}
+use Rattle.regex_lite.proofs.Common.{◌<◌, subst}
 use Rattle.regex_lite.proofs.string.GroupLemmas.{groups_on}
 use Rattle.regex_lite.proofs.string.sub_captures.SubCaptureMatchesIterator.next.Goals as goal
 

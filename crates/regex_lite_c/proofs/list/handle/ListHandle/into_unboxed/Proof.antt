@@ -1,29 +1,21 @@
 -- `into_unboxed` tests the pointer, and hands on the box.
-use Rattle.std.proofs.Common.{List, [], ◌∷◌, refl, ap, lit<}
-use mir.Syntax.{Sym}
-use mir.Val.{Val, vptr, vcons, vnil}
-use base.Logic.{SProp}
-use base.Fml.{ftrue}
-use prog.Wp.{WpFn}
-use types.Kit.{‵, raw, ◌⊛◌, at_ret, ◌$◌, ◌∵◌, !, qed, by, move, keep}
-use types.Kit.{drop, split, fsplit, fjoin, suffices, use0}
-use types.Run.{stop, fld, lit, bin, of_opd, no_more, and_then, first}
-use types.Run.{branches, skips, exec, returns, returns_within, enter}
-use types.ByLocal.{alloc_all, pass_all, free_all, look_at, get, get_in, sets, is, env}
-use types.Part.{agg, sub, whole}
-use types.Match.{live}
-use contract.Running.{tables}
-use denote.Exit.{yes}
-use denote.RattleType.{RattleType, owns}
-use denote.Signature.{types_at, plain}
-use denote.Param.{layout}
-use denote.RawPtr.{Ptr, block_ptr, ptr_val, tests_null}
-use denote.Steps.{nothing}
-use denote.Triple.Walked.{Stays, stay_dropped, walk_of, Goes-dropped}
-use Rattle.std.proofs.raw_atomic.Walks.{proved_at, leaves}
-use Rattle.std.proofs.RcSteps.{word, word-Good, some_Good, none_of}
+use Rattle.regex_lite_c.proofs.Common.{List, [], ◌∷◌, Some, None, Option, refl, ap, lit<, word}
+use Rattle.regex_lite_c.proofs.Common.{word-Good, leaves, proved_at, ftrue, SProp, tables, yes}
+use Rattle.regex_lite_c.proofs.Common.{layout, RattleType, owns, Ptr, block_ptr, plain, types_at}
+use Rattle.regex_lite_c.proofs.Common.{nothing, Goes-dropped, Stays, stay_dropped, walk_of, Sym}
+use Rattle.regex_lite_c.proofs.Common.{Val, vcons, vnil, vptr, WpFn, alloc_all, free_all, get}
+use Rattle.regex_lite_c.proofs.Common.{get_in, look_at, pass_all, sets, !, by, fjoin, fsplit, keep}
+use Rattle.regex_lite_c.proofs.Common.{move, qed, raw, split, suffices, use0, ‵, ◌$◌, ◌∵◌, ◌⊛◌}
+use Rattle.regex_lite_c.proofs.Common.{live, agg, sub, whole, and_then, enter, fld, lit, no_more}
+use Rattle.regex_lite_c.proofs.Common.{of_opd, returns, stop}
+use types.Kit.{at_ret}
+use types.Kit.{drop}
+use types.Run.{bin, first}
+use types.Run.{branches, skips, exec, returns_within}
+use types.ByLocal.{is, env}
+use denote.RawPtr.{ptr_val, tests_null}
+use Rattle.std.proofs.RcSteps.{some_Good, none_of}
 use Rattle.std.proofs.VecSteps.Shapes.{after}
-use Rattle.std.specs.Prelude.{Option, None, Some}
 use Rattle.std.specs.contracts.option.Option as Opt
 use Rattle.std.specs.contracts.impls.GlobalAllocator.TheImpl as HeapImpl
 use Rattle.std.proofs.alloc.Global.TheLaws as HeapLaws

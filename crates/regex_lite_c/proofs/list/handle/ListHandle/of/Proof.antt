@@ -1,25 +1,13 @@
 -- `of` keeps the pointer.
-use Rattle.std.proofs.Common.{◌≡◌, List, [], ◌∷◌, refl}
-use mir.Syntax.{Sym}
-use mir.Val.{Val, vptr}
-use base.Logic.{SProp}
-use base.Fml.{ftrue}
-use prog.Wp.{WpFn}
-use types.Kit.{‵, raw, ◌⊛◌, ◌$◌, ◌∵◌, !, qed, by, move, keep}
-use types.Kit.{drop, split, fsplit, fjoin, suffices}
-use types.Run.{stop, fld, of_opd, no_more, and_then, returns, enter}
-use types.ByLocal.{alloc_all, pass_all, free_all, look_at, get, get_in, sets}
-use types.Part.{agg, sub, whole}
-use contract.Running.{tables}
-use denote.Exit.{yes}
-use denote.RattleType.{RattleType, owns}
-use denote.Signature.{types_at, plain}
-use denote.RawPtr.{Ptr, block_ptr}
-use denote.Steps.{nothing}
-use denote.Triple.Walked.{Stays, stay_dropped, walk_of, Goes-dropped}
-use Rattle.std.proofs.raw_atomic.Walks.{proved_at, leaves}
-use Rattle.std.proofs.RcSteps.{word, word-Good}
-use Rattle.std.specs.Prelude.{Option, Some}
+use Rattle.regex_lite_c.proofs.Common.{◌≡◌, List, [], ◌∷◌, Some, Option, refl, word, word-Good}
+use Rattle.regex_lite_c.proofs.Common.{leaves, proved_at, ftrue, SProp, tables, yes, RattleType}
+use Rattle.regex_lite_c.proofs.Common.{owns, Ptr, block_ptr, plain, types_at, nothing, Goes-dropped}
+use Rattle.regex_lite_c.proofs.Common.{Stays, stay_dropped, walk_of, Sym, Val, vptr, WpFn}
+use Rattle.regex_lite_c.proofs.Common.{alloc_all, free_all, get, get_in, look_at, pass_all, !, sets}
+use Rattle.regex_lite_c.proofs.Common.{by, fjoin, fsplit, keep, move, qed, raw, split, suffices, ‵}
+use Rattle.regex_lite_c.proofs.Common.{◌$◌, ◌∵◌, ◌⊛◌, agg, sub, whole, and_then, enter, fld}
+use Rattle.regex_lite_c.proofs.Common.{no_more, of_opd, returns, stop}
+use types.Kit.{drop}
 use Rattle.std.specs.contracts.impls.GlobalAllocator.TheImpl as HeapImpl
 use Rattle.std.proofs.alloc.Global.TheLaws as HeapLaws
 use Rattle.regex_lite.proofs.UnboxedLemmas.{both, both_good, unboxed_had}

@@ -1,12 +1,8 @@
-use Rattle.std.proofs.Common.{rules, ◌≡◌, ◌+◌, ◌-◌, ◌*◌, ◌≤◌, ◌<◌, ◌^◌, ℕ, length, None, sum_by}
-use Rattle.std.proofs.Common.{false, replicate, ap, sym, subst, ◌∙◌, arith}
-use Rattle.std.specs.Prelude.{IsCharBoundary}
-use Rattle.std.proofs.lemmas.List.{length-map, length-replicate}
-use Rattle.std.proofs.Math.Nat.{mul-le-mul_left}
-use Rattle.regex_lite_engine.specs.Graph.Places.{kept_back_with}
-use Rattle.regex_lite_engine.specs.Graph.Stored.{place_of, table_of}
-use Rattle.regex_lite_engine.specs.Search.Offsets.{position_at}
-use Rattle.regex_lite_engine.specs.Search.Rows.{IsBlank}
+use Rattle.regex_lite_engine.proofs.Common.{◌≡◌, ℕ, ◌+◌, ◌-◌, ◌*◌, ◌^◌, ◌<◌, ◌≤◌, false, length}
+use Rattle.regex_lite_engine.proofs.Common.{replicate, None, sum_by, IsCharBoundary, sym, ap, ◌∙◌}
+use Rattle.regex_lite_engine.proofs.Common.{subst, arith, rules, mul-le-mul_left, length-map}
+use Rattle.regex_lite_engine.proofs.Common.{length-replicate, kept_back_with, place_of, table_of}
+use Rattle.regex_lite_engine.proofs.Common.{position_at, IsBlank}
 use Rattle.regex_lite_engine.proofs.search.MarkLemmas.{blank_row}
 use Rattle.regex_lite_engine.proofs.search.OutcomeLemmas.{can_count}
 use Rattle.regex_lite_engine.proofs.backtrack.short.ShortSearcher.search.Goals as goal

@@ -1,5 +1,5 @@
-use Rattle.std.proofs.Common.{◌∷◌, map, reverse, length, ap, ◌∙◌, arith}
-use Rattle.regex_lite_engine.specs.Backtrack.Machine.{Held, frame_of}
+use Rattle.regex_lite_engine.proofs.Common.{◌∷◌, map, reverse, length, ap, ◌∙◌, arith, Held}
+use Rattle.regex_lite_engine.specs.Backtrack.Machine.{frame_of}
 use Rattle.regex_lite_engine.proofs.backtrack.StackLemmas.{frames_long, held_is, last_is_next}
 use Rattle.regex_lite_engine.proofs.backtrack.stack.Stack.push.Goals as goal
 

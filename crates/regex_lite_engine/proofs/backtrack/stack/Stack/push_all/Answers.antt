@@ -1,5 +1,5 @@
-use Rattle.std.proofs.Common.{rules, ◌∷◌, ◌-◌, slice_index, ap, ◌∙◌}
-use Rattle.regex_lite_engine.specs.Backtrack.Machine.{Held, explore}
+use Rattle.regex_lite_engine.proofs.Common.{◌-◌, ◌∷◌, slice_index, ap, ◌∙◌, rules, Held}
+use Rattle.regex_lite_engine.specs.Backtrack.Machine.{explore}
 use Rattle.regex_lite_engine.proofs.backtrack.StackLemmas.{one_before}
 use Rattle.regex_lite_engine.proofs.backtrack.stack.Stack.push_all.Goals as goal
 

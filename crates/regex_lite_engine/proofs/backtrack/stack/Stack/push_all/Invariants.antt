@@ -1,4 +1,4 @@
-use Rattle.std.proofs.Common.{◌≡◌, ◌++◌, map, drop}
+use Rattle.regex_lite_engine.proofs.Common.{◌≡◌, ◌++◌, map, drop}
 use Rattle.regex_lite_engine.specs.Backtrack.Machine.{explore}
 use Rattle.regex_lite_engine.proofs.backtrack.stack.Stack.push_all.Given as goal
 

@@ -1,5 +1,4 @@
-use Rattle.std.proofs.Common.{◌+◌, ◌-◌, ◌*◌, arith}
-use Rattle.std.proofs.Math.Nat.{mul-le-mul_right}
+use Rattle.regex_lite_engine.proofs.Common.{◌+◌, ◌-◌, ◌*◌, arith, mul-le-mul_right}
 use Rattle.regex_lite_engine.proofs.backtrack.BitLemmas.{none_of_zeros}
 use Rattle.regex_lite_engine.proofs.backtrack.visited.Visited.few.Goals as goal
 

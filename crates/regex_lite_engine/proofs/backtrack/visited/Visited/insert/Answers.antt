@@ -1,4 +1,4 @@
-use Rattle.std.proofs.Common.{ap, ◌∙◌, arith}
+use Rattle.regex_lite_engine.proofs.Common.{ap, ◌∙◌, arith}
 use Rattle.regex_lite_engine.specs.Backtrack.Bits.{room_of, words_of}
 use Rattle.regex_lite_engine.specs.contracts.backtrack.visited.Visited.{the_view}
 use Rattle.regex_lite_engine.proofs.backtrack.BitLemmas.{number_inside}

@@ -1,5 +1,4 @@
-use Rattle.std.proofs.Common.{ap, ◌∙◌}
-use Rattle.regex_lite_engine.specs.Backtrack.Bits.{bits_of}
+use Rattle.regex_lite_engine.proofs.Common.{ap, ◌∙◌, bits_of}
 use Rattle.regex_lite_engine.proofs.backtrack.BitLemmas.{none_of_zeros}
 use Rattle.regex_lite_engine.proofs.backtrack.visited.Words.for_pairs.Goals as goal
 

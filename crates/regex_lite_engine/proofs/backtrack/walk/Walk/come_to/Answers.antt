@@ -1,11 +1,9 @@
-use Rattle.std.proofs.Common.{◌+◌, [], ◌∷◌, None, unwrap_or, sym, ap, subst, ◌∙◌}
-use Rattle.std.proofs.lemmas.List.{length-map}
+use Rattle.regex_lite_engine.proofs.Common.{◌+◌, [], ◌∷◌, None, unwrap_or, sym, ap, ◌∙◌, subst}
+use Rattle.regex_lite_engine.proofs.Common.{length-map, was_entered, with_arrows, place_of}
+use Rattle.regex_lite_engine.proofs.Common.{table_of, LeadsBelow}
 use Rattle.regex_lite_engine.specs.declared.backtrack.walk.Walk.{Walk}
 use Rattle.regex_lite_engine.specs.Backtrack.Machine.{completes, end_at, explore, onto}
-use Rattle.regex_lite_engine.specs.Backtrack.Machine.{was_entered}
 use Rattle.regex_lite_engine.specs.Backtrack.Room.{with_frames, Went}
-use Rattle.regex_lite_engine.specs.Graph.Stored.{LeadsBelow, place_of, table_of}
-use Rattle.regex_lite_engine.specs.Graph.Places.{with_arrows}
 use Rattle.regex_lite_engine.proofs.backtrack.LeadsLemmas.{entered_at, leads_entered, leads_passed}
 use Rattle.regex_lite_engine.proofs.backtrack.LeftLemmas.{pair_inside}
 use Rattle.regex_lite_engine.proofs.backtrack.WentLemmas.{enter_room, entered_again}

@@ -1,10 +1,9 @@
-use Rattle.std.proofs.Common.{[], ◌∷◌, length, None, Some, refl, ap, subst, sym, arith}
+use Rattle.regex_lite_engine.proofs.Common.{[], ◌∷◌, length, Some, None, sym, refl, ap, subst}
+use Rattle.regex_lite_engine.proofs.Common.{arith, Unwinds, table_of, StaysCounted}
 use Rattle.regex_lite_engine.specs.declared.backtrack.walk.Walk.{Walk}
 use Rattle.regex_lite_engine.specs.Backtrack.Machine.{end_at, explore, onto}
 use Rattle.regex_lite_engine.specs.Backtrack.Room.{with_frames, TakesFrame}
-use Rattle.regex_lite_engine.specs.Backtrack.Searching.{Explores, Unwinds}
-use Rattle.regex_lite_engine.specs.Graph.Stored.{table_of}
-use Rattle.regex_lite_engine.specs.Search.Bounds.{StaysCounted}
+use Rattle.regex_lite_engine.specs.Backtrack.Searching.{Explores}
 use Rattle.regex_lite_engine.proofs.backtrack.ExploreLemmas.{ended, found, goes_further, went_back}
 use Rattle.regex_lite_engine.proofs.backtrack.UnwindLemmas.{slots_below}
 use Rattle.regex_lite_engine.proofs.search.CountLemmas.{still_counted}

@@ -1,8 +1,6 @@
-use Rattle.std.proofs.Common.{[], ◌∷◌, None}
+use Rattle.regex_lite_engine.proofs.Common.{[], ◌∷◌, None, table_of, StaysCounted}
 use Rattle.regex_lite_engine.specs.Backtrack.Machine.{explore}
 use Rattle.regex_lite_engine.specs.Backtrack.Room.{with_frames, GoesOn, HasRoom, work}
-use Rattle.regex_lite_engine.specs.Graph.Stored.{table_of}
-use Rattle.regex_lite_engine.specs.Search.Bounds.{StaysCounted}
 use Rattle.regex_lite_engine.proofs.backtrack.walk.Walk.explore.Given as goal
 
 abbrev pub invariant-ways : goal.invariant-ways

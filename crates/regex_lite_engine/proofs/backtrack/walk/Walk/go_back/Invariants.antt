@@ -1,7 +1,6 @@
-use Rattle.std.proofs.Common.{◌≡◌, ℕ, List, Option, length}
+use Rattle.regex_lite_engine.proofs.Common.{◌≡◌, ℕ, List, length, Option, Unwinds, Row}
 use Rattle.regex_lite_engine.specs.Backtrack.Machine.{Frame}
-use Rattle.regex_lite_engine.specs.Backtrack.Searching.{SlotsBelow, Unwinds}
-use Rattle.regex_lite_engine.specs.Search.Rows.{Row}
+use Rattle.regex_lite_engine.specs.Backtrack.Searching.{SlotsBelow}
 use Rattle.regex_lite_engine.proofs.backtrack.walk.Walk.go_back.Given as goal
 
 abbrev pub invariant-frames : goal.invariant-frames

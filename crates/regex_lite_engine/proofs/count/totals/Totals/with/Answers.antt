@@ -1,5 +1,4 @@
-use Rattle.std.proofs.Common.{◌≡◌, ◌<◌, ◌+◌, ◌^◌, arith}
-use Rattle.regex_lite_engine.specs.Graph.PlaceCounts.{whole_places}
+use Rattle.regex_lite_engine.proofs.Common.{◌≡◌, ◌+◌, ◌^◌, ◌<◌, arith, whole_places}
 use Rattle.regex_lite_engine.proofs.ArrowBoundLemmas.{arrows_few}
 use Rattle.regex_lite_engine.proofs.count.ReadingCountLemmas.{reading_few}
 use Rattle.regex_lite_engine.proofs.count.totals.Totals.with.Goals as goal

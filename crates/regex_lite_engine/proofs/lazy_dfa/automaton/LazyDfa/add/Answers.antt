@@ -1,7 +1,7 @@
-use Rattle.std.proofs.Common.{rules, ◌≡◌, ◌-◌, ◌∷◌, [], ◌++◌, length, refl, replicate, ap, ◌∙◌}
+use Rattle.regex_lite_engine.proofs.Common.{◌≡◌, ◌-◌, [], ◌∷◌, ◌++◌, length, replicate, refl, ap}
+use Rattle.regex_lite_engine.proofs.Common.{◌∙◌, rules, Automaton, unknown, hit_in}
 use Rattle.std.specs.Vec.{vec_len}
-use Rattle.regex_lite_engine.specs.LazyDfa.Automaton.{Automaton, State, unknown}
-use Rattle.regex_lite_engine.specs.LazyDfa.Stored.{hit_in}
+use Rattle.regex_lite_engine.specs.LazyDfa.Automaton.{State}
 use Rattle.regex_lite_engine.proofs.lazy_dfa.StoredChangeLemmas.{added_extends, added_is, blank_row}
 use Rattle.regex_lite_engine.proofs.lazy_dfa.StoredChangeLemmas.{seen_added}
 use Rattle.regex_lite_engine.proofs.lazy_dfa.StoredStateLemmas.{seen}

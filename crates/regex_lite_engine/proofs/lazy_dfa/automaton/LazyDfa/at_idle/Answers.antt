@@ -1,9 +1,5 @@
-use Rattle.std.proofs.Common.{rules, ◌≡◌, None, sym, subst, arith}
-use Rattle.std.specs.Prelude.{chars}
-use Rattle.std.proofs.lemmas.List.{nil_from_length}
-use Rattle.regex_lite_engine.specs.LazyDfa.Learning.{IsFirstStart}
-use Rattle.regex_lite_engine.specs.Search.Standing.{IsHere}
-use Rattle.regex_lite_engine.specs.Pikevm.Turns.{best_of}
+use Rattle.regex_lite_engine.proofs.Common.{◌≡◌, None, chars, sym, subst, arith, rules}
+use Rattle.regex_lite_engine.proofs.Common.{nil_from_length, IsFirstStart, best_of, IsHere}
 use Rattle.regex_lite_engine.proofs.lazy_dfa.RunLemmas.{at_later, maybe_in_empty}
 use Rattle.regex_lite_engine.proofs.lazy_dfa.RunLemmas.{own_first, passed_over}
 use Rattle.regex_lite_engine.proofs.lazy_dfa.automaton.LazyDfa.at_idle.Goals as goal

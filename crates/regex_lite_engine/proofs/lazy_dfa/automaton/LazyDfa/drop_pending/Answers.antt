@@ -1,5 +1,4 @@
-use Rattle.std.proofs.Common.{[], ap, ◌∙◌}
-use Rattle.regex_lite_engine.specs.LazyDfa.Automaton.{Automaton}
+use Rattle.regex_lite_engine.proofs.Common.{[], ap, ◌∙◌, Automaton}
 use Rattle.regex_lite_engine.proofs.lazy_dfa.StoredChangeLemmas.{seen_cut}
 use Rattle.regex_lite_engine.proofs.lazy_dfa.automaton.LazyDfa.drop_pending.Goals as goal
 

@@ -1,7 +1,5 @@
-use Rattle.std.proofs.Common.{rules, refl, slice_get, slice_index_or, ap, sym, ◌∙◌}
-use Rattle.regex_lite_engine.specs.declared.lazy_dfa.state.StoredState.{StoredState}
-use Rattle.regex_lite_engine.specs.LazyDfa.Automaton.{Automaton}
-use Rattle.regex_lite_engine.specs.LazyDfa.Stored.{state_in}
+use Rattle.regex_lite_engine.proofs.Common.{slice_get, slice_index_or, sym, refl, ap, ◌∙◌, rules}
+use Rattle.regex_lite_engine.proofs.Common.{Automaton, state_in, StoredState}
 use Rattle.regex_lite_engine.proofs.lazy_dfa.StoredStateLemmas.{empty_by_len, state_at}
 use Rattle.regex_lite_engine.proofs.lazy_dfa.automaton.LazyDfa.empty_state.Goals as goal
 

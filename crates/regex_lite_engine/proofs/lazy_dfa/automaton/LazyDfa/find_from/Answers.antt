@@ -1,6 +1,4 @@
-use Rattle.std.proofs.Common.{refl, arith}
-use Rattle.std.specs.Prelude.{chars}
-use Rattle.regex_lite_engine.specs.Pikevm.Turns.{best_of}
+use Rattle.regex_lite_engine.proofs.Common.{chars, refl, arith, best_of}
 use Rattle.regex_lite_engine.proofs.lazy_dfa.OnceLemmas.{found_told}
 use Rattle.regex_lite_engine.proofs.lazy_dfa.RunLemmas.{bounded_on, match_counted}
 use Rattle.regex_lite_engine.proofs.lazy_dfa.automaton.LazyDfa.find_from.Goals as goal

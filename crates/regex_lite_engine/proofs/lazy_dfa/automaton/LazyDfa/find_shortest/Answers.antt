@@ -1,4 +1,4 @@
-use Rattle.regex_lite_engine.specs.Search.Offsets.{position_at}
+use Rattle.regex_lite_engine.proofs.Common.{position_at}
 use Rattle.regex_lite_engine.proofs.lazy_dfa.automaton.LazyDfa.find_shortest.Goals as goal
 
 pub find_shortest_from-requires-clause-stands : goal.find_shortest_from-requires-clause-stands

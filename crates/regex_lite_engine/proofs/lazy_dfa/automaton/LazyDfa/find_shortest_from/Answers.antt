@@ -1,10 +1,5 @@
-use Rattle.std.proofs.Common.{rules, ◌+◌, length, sym, subst, arith}
-use Rattle.std.specs.Prelude.{chars}
-use Rattle.regex_lite_engine.specs.Graph.Renumbered.{arrows_of}
-use Rattle.regex_lite_engine.specs.Search.Bounds.{IsBoundedBy}
-use Rattle.regex_lite_engine.specs.LazyDfa.Scanning.{end_told}
-use Rattle.regex_lite_engine.specs.Search.NumberedOutcomes.{IsNumberedEndOf}
-use Rattle.regex_lite_engine.specs.Pikevm.Turns.{best_of}
+use Rattle.regex_lite_engine.proofs.Common.{◌+◌, length, chars, sym, subst, arith, rules, arrows_of}
+use Rattle.regex_lite_engine.proofs.Common.{end_told, best_of, IsBoundedBy, IsNumberedEndOf}
 use Rattle.regex_lite_engine.proofs.lazy_dfa.RunLemmas.{bounded_on, end_counted, turned_from}
 use Rattle.regex_lite_engine.proofs.lazy_dfa.ScanLemmas.{end_alone}
 use Rattle.regex_lite_engine.proofs.search.here.HereLemmas.{over_at, at_most}

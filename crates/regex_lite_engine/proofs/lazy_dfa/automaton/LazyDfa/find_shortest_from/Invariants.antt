@@ -1,8 +1,5 @@
-use Rattle.std.proofs.Common.{◌≡◌, ℕ, [], ◌-◌, None, length}
-use Rattle.std.specs.Prelude.{chars}
-use Rattle.regex_lite_engine.specs.LazyDfa.Automaton.{Remembers}
-use Rattle.regex_lite_engine.specs.LazyDfa.Running.{Stands}
-use Rattle.regex_lite_engine.specs.Pikevm.Turns.{best_of}
+use Rattle.regex_lite_engine.proofs.Common.{◌≡◌, ℕ, ◌-◌, [], length, None, chars, Remembers, Stands}
+use Rattle.regex_lite_engine.proofs.Common.{best_of}
 use Rattle.regex_lite_engine.proofs.lazy_dfa.automaton.LazyDfa.find_shortest_from.Given as goal
 
 abbrev pub invariant-positions : goal.invariant-positions

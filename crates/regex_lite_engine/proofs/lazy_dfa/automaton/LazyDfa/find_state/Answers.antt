@@ -1,7 +1,5 @@
-use Rattle.std.proofs.Common.{rules, ◌≡◌, ap, sym, ◌∙◌, map, slice_get, slice_index_or, refl}
-use Rattle.regex_lite_engine.specs.declared.lazy_dfa.state.StoredState.{StoredState}
-use Rattle.regex_lite_engine.specs.LazyDfa.Automaton.{Automaton}
-use Rattle.regex_lite_engine.specs.LazyDfa.Stored.{hit_in, state_in, way_in}
+use Rattle.regex_lite_engine.proofs.Common.{◌≡◌, map, slice_get, slice_index_or, sym, refl, ap, ◌∙◌}
+use Rattle.regex_lite_engine.proofs.Common.{rules, Automaton, way_in, hit_in, state_in, StoredState}
 use Rattle.regex_lite_engine.proofs.lazy_dfa.StoredStateLemmas.{state_at}
 use Rattle.regex_lite_engine.proofs.lazy_dfa.automaton.LazyDfa.find_state.Goals as goal
 

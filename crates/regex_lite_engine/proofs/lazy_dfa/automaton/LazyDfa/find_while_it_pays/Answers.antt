@@ -1,10 +1,6 @@
-use Rattle.std.proofs.Common.{rules, ◌+◌, length, ap, sym, subst, ◌∙◌, arith}
-use Rattle.std.specs.Prelude.{chars}
-use Rattle.std.proofs.lemmas.List.{nil_from_length}
-use Rattle.regex_lite_engine.specs.Graph.Renumbered.{arrows_of}
-use Rattle.regex_lite_engine.specs.Search.Bounds.{IsBoundedBy}
-use Rattle.regex_lite_engine.specs.Search.NumberedOutcomes.{IsBestOutcomeOf, best_kept}
-use Rattle.regex_lite_engine.specs.Pikevm.Turns.{best_of}
+use Rattle.regex_lite_engine.proofs.Common.{◌+◌, length, chars, sym, ap, ◌∙◌, subst, arith, rules}
+use Rattle.regex_lite_engine.proofs.Common.{nil_from_length, arrows_of, best_of, IsBoundedBy}
+use Rattle.regex_lite_engine.proofs.Common.{best_kept, IsBestOutcomeOf}
 use Rattle.regex_lite_engine.proofs.lazy_dfa.RunLemmas.{bounded_on, match_counted, turned_from}
 use Rattle.regex_lite_engine.proofs.pikevm.EndLemmas.{ended_all}
 use Rattle.regex_lite_engine.proofs.search.here.HereLemmas.{over_at, at_most}

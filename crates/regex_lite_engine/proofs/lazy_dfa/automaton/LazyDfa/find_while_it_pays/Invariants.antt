@@ -1,7 +1,4 @@
-use Rattle.std.proofs.Common.{◌≡◌, ℕ, [], ◌-◌, length}
-use Rattle.std.specs.Prelude.{chars}
-use Rattle.regex_lite_engine.specs.LazyDfa.Automaton.{Remembers}
-use Rattle.regex_lite_engine.specs.LazyDfa.Running.{Stands}
+use Rattle.regex_lite_engine.proofs.Common.{◌≡◌, ℕ, ◌-◌, [], length, chars, Remembers, Stands}
 use Rattle.regex_lite_engine.proofs.lazy_dfa.automaton.LazyDfa.find_while_it_pays.Given as goal
 
 abbrev pub invariant-positions : goal.invariant-positions

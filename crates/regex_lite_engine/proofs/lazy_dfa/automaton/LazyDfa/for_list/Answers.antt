@@ -1,5 +1,4 @@
-use Rattle.std.proofs.Common.{IfSome, subst}
-use Rattle.regex_lite_engine.specs.Graph.Stored.{StoredTable, places_of}
+use Rattle.regex_lite_engine.proofs.Common.{IfSome, subst, StoredTable, places_of}
 use Rattle.regex_lite_engine.specs.LazyDfa.Remembering.{RemembersFor}
 use Rattle.regex_lite_engine.proofs.lazy_dfa.automaton.LazyDfa.for_list.Goals as goal
 

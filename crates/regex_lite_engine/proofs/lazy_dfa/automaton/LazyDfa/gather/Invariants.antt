@@ -1,5 +1,4 @@
-use Rattle.std.proofs.Common.{◌≡◌, ◌++◌, take}
-use Rattle.regex_lite_engine.specs.LazyDfa.Automaton.{ways_of}
+use Rattle.regex_lite_engine.proofs.Common.{◌≡◌, ◌++◌, take, ways_of}
 use Rattle.regex_lite_engine.proofs.lazy_dfa.automaton.LazyDfa.gather.Given as goal
 
 -- the threads before this one are gathered

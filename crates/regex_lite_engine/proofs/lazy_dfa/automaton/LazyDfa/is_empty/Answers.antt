@@ -1,6 +1,4 @@
-use Rattle.std.proofs.Common.{rules, slice_get, ap, ◌∙◌}
-use Rattle.regex_lite_engine.specs.declared.lazy_dfa.state.StoredState.{StoredState}
-use Rattle.regex_lite_engine.specs.LazyDfa.Automaton.{Automaton}
+use Rattle.regex_lite_engine.proofs.Common.{slice_get, ap, ◌∙◌, rules, Automaton, StoredState}
 use Rattle.regex_lite_engine.proofs.lazy_dfa.StoredStateLemmas.{empty_by_len, len_by_empty}
 use Rattle.regex_lite_engine.proofs.lazy_dfa.automaton.LazyDfa.is_empty.Goals as goal
 

@@ -1,6 +1,4 @@
-use Rattle.std.proofs.Common.{rules, ◌≡◌, true}
-use Rattle.std.specs.Prelude.{chars}
-use Rattle.std.proofs.lemmas.Option.{slice_get_within}
+use Rattle.regex_lite_engine.proofs.Common.{◌≡◌, true, chars, rules, slice_get_within}
 use Rattle.regex_lite_engine.proofs.lazy_dfa.LeapLemmas.{leapt, leapt_since}
 use Rattle.regex_lite_engine.proofs.lazy_dfa.automaton.LazyDfa.leap.Goals as goal
 

@@ -1,12 +1,9 @@
-use Rattle.std.proofs.Common.{rules, ◌≡◌, true, false, ◌≤◌, ℕ, inl, sym, subst, arith}
-use Rattle.std.specs.Prelude.{chars}
-use Rattle.regex_lite_engine.specs.declared.lazy_dfa.scan.Standing.{Standing}
-use Rattle.regex_lite_engine.specs.LazyDfa.Scanning.{IsScanning, IsSince}
+use Rattle.regex_lite_engine.proofs.Common.{◌≡◌, ℕ, ◌≤◌, true, false, chars, sym, refl, subst, inl}
+use Rattle.regex_lite_engine.proofs.Common.{arith, rules, IsSince, IsScanning, Standing}
 use Rattle.regex_lite_engine.proofs.lazy_dfa.RunLemmas.{at_later}
 use Rattle.regex_lite_engine.proofs.lazy_dfa.SpotLemmas.{since_on}
 use Rattle.regex_lite_engine.proofs.search.here.HereLemmas.{at_most}
 use Rattle.regex_lite_engine.proofs.lazy_dfa.automaton.LazyDfa.leap_on.Goals as goal
-use Rattle.std.proofs.Common.{refl}
 
 pub leaps-init : goal.leaps-init
 leaps-init g c = λ low p from. (p, omega arith, from, inl refl)

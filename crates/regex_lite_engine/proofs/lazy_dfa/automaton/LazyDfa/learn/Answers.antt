@@ -1,10 +1,6 @@
-use Rattle.std.proofs.Common.{◌≡◌, true, Some, refl, slice_get, ap, sym, subst, ◌∙◌}
-use Rattle.std.proofs.lemmas.Option.{slice_get_within}
-use Rattle.regex_lite_engine.specs.LazyDfa.Automaton.{Automaton, Remembers}
-use Rattle.regex_lite_engine.specs.LazyDfa.Automaton.{Suits, searching_after, ways_of}
-use Rattle.regex_lite_engine.specs.LazyDfa.Intervals.{class_of, side_of}
-use Rattle.regex_lite_engine.specs.LazyDfa.Learning.{IsIn}
-use Rattle.regex_lite_engine.specs.Pikevm.Turns.{best_of}
+use Rattle.regex_lite_engine.proofs.Common.{◌≡◌, true, slice_get, Some, sym, refl, ap, ◌∙◌, subst}
+use Rattle.regex_lite_engine.proofs.Common.{slice_get_within, Automaton, ways_of, searching_after}
+use Rattle.regex_lite_engine.proofs.Common.{Suits, Remembers, class_of, side_of, IsIn, best_of}
 use Rattle.regex_lite_engine.proofs.lazy_dfa.LearnLemmas.{learned, remembers_settled}
 use Rattle.regex_lite_engine.proofs.lazy_dfa.LearnLemmas.{still_in, suits_after}
 use Rattle.regex_lite_engine.proofs.lazy_dfa.RememberedLemmas.{remembers_more}

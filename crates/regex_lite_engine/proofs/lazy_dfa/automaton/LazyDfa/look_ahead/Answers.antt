@@ -1,9 +1,5 @@
-use Rattle.std.proofs.Common.{MatchOption, ap, subst, ◌∙◌}
-use Rattle.std.specs.Prelude.{chars}
-use Rattle.std.proofs.lemmas.List.{nil_from_length}
-use Rattle.std.proofs.lemmas.Option.{slice_get_within}
-use Rattle.regex_lite_engine.specs.LazyDfa.Learning.{IsIn}
-use Rattle.regex_lite_engine.specs.Search.NumberedOutcomes.{best_kept}
+use Rattle.regex_lite_engine.proofs.Common.{MatchOption, chars, ap, ◌∙◌, subst, nil_from_length}
+use Rattle.regex_lite_engine.proofs.Common.{slice_get_within, IsIn, best_kept}
 use Rattle.regex_lite_engine.proofs.lazy_dfa.ResumeLemmas.{scanning_from}
 use Rattle.regex_lite_engine.proofs.lazy_dfa.automaton.LazyDfa.look_ahead.Goals as goal
 

@@ -1,9 +1,5 @@
-use Rattle.std.proofs.Common.{ℕ, None, MatchOption, subst}
-use Rattle.std.specs.Prelude.{chars}
-use Rattle.std.proofs.lemmas.Option.{slice_get_within}
-use Rattle.regex_lite_engine.specs.LazyDfa.Learning.{IsIn}
-use Rattle.regex_lite_engine.specs.LazyDfa.Running.{Stands}
-use Rattle.regex_lite_engine.specs.LazyDfa.Scanning.{IsScanning}
+use Rattle.regex_lite_engine.proofs.Common.{ℕ, None, MatchOption, chars, subst, slice_get_within}
+use Rattle.regex_lite_engine.proofs.Common.{IsIn, Stands, IsScanning}
 use Rattle.regex_lite_engine.proofs.lazy_dfa.ResumeLemmas.{scanning_from}
 use Rattle.regex_lite_engine.proofs.lazy_dfa.automaton.LazyDfa.look_for_end.Given as given
 use Rattle.regex_lite_engine.proofs.lazy_dfa.automaton.LazyDfa.look_for_end.Goals as goal

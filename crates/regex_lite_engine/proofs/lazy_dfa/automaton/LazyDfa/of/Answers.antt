@@ -1,5 +1,4 @@
-use Rattle.std.proofs.Common.{rules, subst, sym}
-use Rattle.regex_lite_engine.specs.LazyDfa.Intervals.{AreIntervalsOf}
+use Rattle.regex_lite_engine.proofs.Common.{sym, subst, rules, AreIntervalsOf}
 use Rattle.regex_lite_engine.proofs.lazy_dfa.NoLookLemmas.{remembers_none}
 use Rattle.regex_lite_engine.proofs.lazy_dfa.automaton.LazyDfa.of.Goals as goal
 

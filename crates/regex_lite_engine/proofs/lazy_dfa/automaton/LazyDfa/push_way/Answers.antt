@@ -1,7 +1,5 @@
-use Rattle.std.proofs.Common.{◌∷◌, [], ◌++◌, drop, map, ap, sym, ◌∙◌, true≢false}
-use Rattle.regex_lite_engine.specs.declared.lazy_dfa.state.StoredWay.{StoredWay}
-use Rattle.regex_lite_engine.specs.LazyDfa.Automaton.{Automaton}
-use Rattle.regex_lite_engine.specs.LazyDfa.Stored.{way_in}
+use Rattle.regex_lite_engine.proofs.Common.{[], ◌∷◌, ◌++◌, map, drop, sym, ap, ◌∙◌, true≢false}
+use Rattle.regex_lite_engine.proofs.Common.{Automaton, way_in, StoredWay}
 use Rattle.regex_lite_engine.proofs.lazy_dfa.StoredChangeLemmas.{seen_pushed}
 use Rattle.regex_lite_engine.proofs.lazy_dfa.StoredStateLemmas.{seen}
 use Rattle.regex_lite_engine.proofs.lazy_dfa.automaton.LazyDfa.push_way.Goals as goal

@@ -1,7 +1,5 @@
-use Rattle.std.proofs.Common.{◌∙◌, ap, drop, map, slice_get, slice_set}
-use Rattle.regex_lite_engine.specs.declared.lazy_dfa.state.StoredState.{StoredState}
-use Rattle.regex_lite_engine.specs.LazyDfa.Automaton.{Automaton}
-use Rattle.regex_lite_engine.specs.LazyDfa.Stored.{way_in}
+use Rattle.regex_lite_engine.proofs.Common.{map, drop, slice_get, slice_set, ap, ◌∙◌, Automaton}
+use Rattle.regex_lite_engine.proofs.Common.{way_in, StoredState}
 use Rattle.regex_lite_engine.proofs.lazy_dfa.StoredChangeLemmas.{seen_set}
 use Rattle.regex_lite_engine.proofs.lazy_dfa.StoredStateLemmas.{slice_get_within_map}
 use Rattle.regex_lite_engine.proofs.lazy_dfa.automaton.LazyDfa.remember.Goals as goal

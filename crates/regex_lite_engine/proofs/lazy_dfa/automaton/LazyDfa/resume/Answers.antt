@@ -1,7 +1,5 @@
-use Rattle.std.proofs.Common.{IfSome, length, refl, ap, subst, arith}
-use Rattle.std.proofs.lemmas.List.{length-map}
-use Rattle.regex_lite_engine.specs.LazyDfa.Scanning.{IsIdleAt}
-use Rattle.regex_lite_engine.specs.LazyDfa.Stored.{way_in}
+use Rattle.regex_lite_engine.proofs.Common.{length, IfSome, refl, ap, subst, arith, length-map}
+use Rattle.regex_lite_engine.proofs.Common.{IsIdleAt, way_in}
 use Rattle.regex_lite_engine.proofs.lazy_dfa.RunLemmas.{at_later, maybe_in_empty}
 use Rattle.regex_lite_engine.proofs.lazy_dfa.RunLemmas.{other_at, own_first}
 use Rattle.regex_lite_engine.proofs.lazy_dfa.ResumeLemmas.{first_stuck, is_in_stuck}

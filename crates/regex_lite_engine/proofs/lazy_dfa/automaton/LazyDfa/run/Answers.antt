@@ -1,7 +1,5 @@
-use Rattle.std.proofs.Common.{◌≡◌, ◌+◌, ◌^◌, ◌<◌, inl, length, refl, ap, ◌∙◌, arith}
-use Rattle.std.specs.Prelude.{chars}
-use Rattle.std.proofs.lemmas.Option.{slice_get_within}
-use Rattle.regex_lite_engine.specs.declared.lazy_dfa.scan.Standing.{Standing}
+use Rattle.regex_lite_engine.proofs.Common.{◌≡◌, ◌+◌, ◌^◌, ◌<◌, length, chars, refl, ap, ◌∙◌, inl}
+use Rattle.regex_lite_engine.proofs.Common.{arith, slice_get_within, Standing}
 use Rattle.regex_lite_engine.proofs.lazy_dfa.SpotLemmas.{ran, since_on, spot_edge, spot_of}
 use Rattle.regex_lite_engine.proofs.lazy_dfa.SpotLemmas.{spot_on, spot_over, spot_since}
 use Rattle.regex_lite_engine.proofs.lazy_dfa.automaton.LazyDfa.run.Given as given

@@ -1,8 +1,6 @@
-use Rattle.std.proofs.Common.{◌≤◌, ◌-◌, ℕ, length}
-use Rattle.std.specs.Prelude.{chars}
+use Rattle.regex_lite_engine.proofs.Common.{ℕ, ◌-◌, ◌≤◌, length, chars, IsSince, IsScanning}
+use Rattle.regex_lite_engine.proofs.Common.{IsSpotAt}
 use Rattle.regex_lite_engine.specs.LazyDfa.Intervals.{IsInterval}
-use Rattle.regex_lite_engine.specs.LazyDfa.Scanning.{IsScanning, IsSince}
-use Rattle.regex_lite_engine.specs.LazyDfa.Spots.{IsSpotAt}
 use Rattle.regex_lite_engine.proofs.lazy_dfa.automaton.LazyDfa.run.Given as goal
 
 abbrev pub invariant-turns : goal.invariant-turns

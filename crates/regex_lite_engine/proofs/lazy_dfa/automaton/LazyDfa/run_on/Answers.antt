@@ -1,5 +1,4 @@
-use Rattle.std.proofs.Common.{arith}
-use Rattle.std.specs.Prelude.{chars}
+use Rattle.regex_lite_engine.proofs.Common.{chars, arith}
 use Rattle.regex_lite_engine.proofs.lazy_dfa.SpotLemmas.{since_on}
 use Rattle.regex_lite_engine.proofs.lazy_dfa.automaton.LazyDfa.run_on.Goals as goal
 

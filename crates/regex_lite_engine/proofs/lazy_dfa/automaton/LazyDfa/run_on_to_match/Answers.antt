@@ -1,8 +1,5 @@
-use Rattle.std.proofs.Common.{rules, ◌≡◌, true, false, ◌≤◌, ℕ, inl, refl, sym, subst}
-use Rattle.std.proofs.Common.{◌∙◌, arith}
-use Rattle.std.specs.Prelude.{chars}
-use Rattle.regex_lite_engine.specs.declared.lazy_dfa.scan.Standing.{Standing}
-use Rattle.regex_lite_engine.specs.LazyDfa.Scanning.{IsScanning, IsSince}
+use Rattle.regex_lite_engine.proofs.Common.{◌≡◌, ℕ, ◌≤◌, true, false, chars, sym, refl, ◌∙◌, subst}
+use Rattle.regex_lite_engine.proofs.Common.{inl, arith, rules, IsSince, IsScanning, Standing}
 use Rattle.regex_lite_engine.proofs.lazy_dfa.RunLemmas.{at_later}
 use Rattle.regex_lite_engine.proofs.lazy_dfa.SpotLemmas.{since_on}
 use Rattle.regex_lite_engine.proofs.search.here.HereLemmas.{at_most}

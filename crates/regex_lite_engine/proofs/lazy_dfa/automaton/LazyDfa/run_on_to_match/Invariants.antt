@@ -1,6 +1,4 @@
-use Rattle.std.proofs.Common.{◌≡◌, ◌≤◌, ◌-◌, ℕ, length}
-use Rattle.std.specs.Prelude.{chars}
-use Rattle.regex_lite_engine.specs.LazyDfa.Scanning.{IsScanning, IsSince}
+use Rattle.regex_lite_engine.proofs.Common.{◌≡◌, ℕ, ◌-◌, ◌≤◌, length, chars, IsSince, IsScanning}
 use Rattle.regex_lite_engine.proofs.lazy_dfa.automaton.LazyDfa.run_on_to_match.Given as goal
 
 abbrev pub invariant-leaps : goal.invariant-leaps

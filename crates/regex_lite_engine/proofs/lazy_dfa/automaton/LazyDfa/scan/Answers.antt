@@ -1,7 +1,5 @@
-use Rattle.std.proofs.Common.{rules, ◌+◌, ◌^◌, ◌<◌, length, sym, subst, arith}
-use Rattle.std.specs.Prelude.{chars}
-use Rattle.std.proofs.lemmas.Option.{slice_get_within}
-use Rattle.regex_lite_engine.specs.LazyDfa.Scanning.{IsScanning}
+use Rattle.regex_lite_engine.proofs.Common.{◌+◌, ◌^◌, ◌<◌, length, chars, sym, subst, arith, rules}
+use Rattle.regex_lite_engine.proofs.Common.{slice_get_within, IsScanning}
 use Rattle.regex_lite_engine.proofs.lazy_dfa.SpotLemmas.{since_edge, since_idle, since_led}
 use Rattle.regex_lite_engine.proofs.lazy_dfa.SpotLemmas.{since_on}
 use Rattle.regex_lite_engine.proofs.lazy_dfa.ScanLemmas.{scan_over, scanned_on}

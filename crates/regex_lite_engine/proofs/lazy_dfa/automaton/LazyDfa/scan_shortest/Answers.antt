@@ -1,9 +1,7 @@
-use Rattle.std.proofs.Common.{◌+◌, ◌^◌, ◌<◌, inl, None, length, refl, ap, sym, subst, ◌∙◌}
-use Rattle.std.proofs.Common.{arith}
-use Rattle.std.specs.Prelude.{chars}
-use Rattle.std.proofs.lemmas.Option.{slice_get_within}
-use Rattle.regex_lite_engine.specs.declared.lazy_dfa.scan.Standing.{Standing}
-use Rattle.regex_lite_engine.specs.LazyDfa.Scanning.{EndsOrLeads, IsScanning}
+use Rattle.regex_lite_engine.proofs.Common.{◌+◌, ◌^◌, ◌<◌, length, None, chars, sym, refl, ap, ◌∙◌}
+use Rattle.regex_lite_engine.proofs.Common.{subst, inl, arith, slice_get_within, IsScanning}
+use Rattle.regex_lite_engine.proofs.Common.{Standing}
+use Rattle.regex_lite_engine.specs.LazyDfa.Scanning.{EndsOrLeads}
 use Rattle.regex_lite_engine.proofs.lazy_dfa.SpotLemmas.{since_edge, since_idle, since_led}
 use Rattle.regex_lite_engine.proofs.lazy_dfa.SpotLemmas.{since_on}
 use Rattle.regex_lite_engine.proofs.lazy_dfa.ResumeLemmas.{none_by, some_by}

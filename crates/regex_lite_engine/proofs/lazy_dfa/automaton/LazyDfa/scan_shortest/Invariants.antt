@@ -1,6 +1,5 @@
-use Rattle.std.proofs.Common.{◌≡◌, ◌≤◌, ◌-◌, ℕ, None, length}
-use Rattle.std.specs.Prelude.{chars}
-use Rattle.regex_lite_engine.specs.LazyDfa.Scanning.{IsScanning, IsSince}
+use Rattle.regex_lite_engine.proofs.Common.{◌≡◌, ℕ, ◌-◌, ◌≤◌, length, None, chars, IsSince}
+use Rattle.regex_lite_engine.proofs.Common.{IsScanning}
 use Rattle.regex_lite_engine.proofs.lazy_dfa.automaton.LazyDfa.scan_shortest.Given as goal
 
 abbrev pub invariant-positions : goal.invariant-positions

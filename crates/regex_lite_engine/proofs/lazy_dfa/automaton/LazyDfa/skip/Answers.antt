@@ -1,4 +1,4 @@
-use Rattle.std.proofs.Common.{rules}
+use Rattle.regex_lite_engine.proofs.Common.{rules}
 use Rattle.regex_lite_engine.proofs.lazy_dfa.ScanLemmas.{best_none}
 use Rattle.regex_lite_engine.proofs.lazy_dfa.automaton.LazyDfa.skip.Goals as goal
 

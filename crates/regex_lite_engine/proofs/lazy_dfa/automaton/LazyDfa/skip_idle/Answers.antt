@@ -1,5 +1,4 @@
-use Rattle.std.proofs.Common.{inr, refl}
-use Rattle.std.specs.Prelude.{chars}
+use Rattle.regex_lite_engine.proofs.Common.{chars, refl, inr}
 use Rattle.regex_lite_engine.proofs.lazy_dfa.ScanLemmas.{is_idle, skipped}
 use Rattle.regex_lite_engine.proofs.lazy_dfa.automaton.LazyDfa.skip_idle.Goals as goal
 

@@ -1,4 +1,4 @@
-use Rattle.std.proofs.Common.{refl}
+use Rattle.regex_lite_engine.proofs.Common.{refl}
 use Rattle.regex_lite_engine.proofs.lazy_dfa.LearnLemmas.{remembers_settled}
 use Rattle.regex_lite_engine.proofs.lazy_dfa.automaton.LazyDfa.state_at.Goals as goal
 

@@ -1,10 +1,7 @@
-use Rattle.std.proofs.Common.{rules, Some, slice_index, ap, sym, ◌∙◌}
-use Rattle.std.proofs.lemmas.Option.{slice_get_within}
-use Rattle.regex_lite_engine.specs.declared.lazy_dfa.state.StoredState.{StoredState}
-use Rattle.regex_lite_engine.specs.LazyDfa.Automaton.{Automaton, State, best_left}
-use Rattle.regex_lite_engine.specs.LazyDfa.Intervals.{class_of}
-use Rattle.regex_lite_engine.specs.LazyDfa.Scanning.{best_told}
-use Rattle.regex_lite_engine.specs.LazyDfa.Stored.{hit_in, state_in}
+use Rattle.regex_lite_engine.proofs.Common.{slice_index, Some, sym, ap, ◌∙◌, rules}
+use Rattle.regex_lite_engine.proofs.Common.{slice_get_within, Automaton, best_left, class_of}
+use Rattle.regex_lite_engine.proofs.Common.{best_told, hit_in, state_in, StoredState}
+use Rattle.regex_lite_engine.specs.LazyDfa.Automaton.{State}
 use Rattle.regex_lite_engine.proofs.lazy_dfa.StoredStateLemmas.{is_stored, known_turn}
 use Rattle.regex_lite_engine.proofs.lazy_dfa.StoredStateLemmas.{stored_within}
 use Rattle.regex_lite_engine.proofs.lazy_dfa.ScanLemmas.{led_step}

@@ -1,14 +1,9 @@
-use Rattle.std.proofs.Common.{rules, ◌≡◌, ℕ, None, inr, slice_index, refl, ap, sym, ◌∙◌}
-use Rattle.std.proofs.lemmas.Option.{slice_get_within}
+use Rattle.regex_lite_engine.proofs.Common.{◌≡◌, ℕ, slice_index, None, sym, refl, ap, ◌∙◌, inr}
+use Rattle.regex_lite_engine.proofs.Common.{rules, slice_get_within, Text, Automaton, best_left}
+use Rattle.regex_lite_engine.proofs.Common.{class_of, best_told, IsScanning, hit_in, state_in}
+use Rattle.regex_lite_engine.proofs.Common.{IsNumberedEndOf, StoredState}
 use Rattle.regex_lite_engine.specs.declared.lazy_dfa.state.Hit.{Hit}
 use Rattle.regex_lite_engine.specs.declared.lazy_dfa.state.Hit.TheVariants as stored
-use Rattle.regex_lite_engine.specs.declared.lazy_dfa.state.StoredState.{StoredState}
-use Rattle.regex_lite_syntax.specs.Text.{Text}
-use Rattle.regex_lite_engine.specs.LazyDfa.Automaton.{Automaton, best_left}
-use Rattle.regex_lite_engine.specs.LazyDfa.Intervals.{class_of}
-use Rattle.regex_lite_engine.specs.LazyDfa.Scanning.{IsScanning, best_told}
-use Rattle.regex_lite_engine.specs.LazyDfa.Stored.{hit_in, state_in}
-use Rattle.regex_lite_engine.specs.Search.NumberedOutcomes.{IsNumberedEndOf}
 use Rattle.regex_lite_engine.proofs.lazy_dfa.StoredStateLemmas.{known_turn, stored_turn}
 use Rattle.regex_lite_engine.proofs.lazy_dfa.StoredStateLemmas.{stored_within}
 use Rattle.regex_lite_engine.proofs.lazy_dfa.ScanLemmas.{end_led, led_step}

@@ -1,8 +1,5 @@
-use Rattle.std.proofs.Common.{subst}
-use Rattle.regex_lite_engine.specs.declared.lazy_dfa.state.StoredState.{StoredState}
-use Rattle.regex_lite_engine.specs.LazyDfa.Automaton.{Automaton}
+use Rattle.regex_lite_engine.proofs.Common.{subst, Automaton, state_in, StoredState}
 use Rattle.regex_lite_engine.specs.LazyDfa.Intervals.{IsAhead}
-use Rattle.regex_lite_engine.specs.LazyDfa.Stored.{state_in}
 use Rattle.regex_lite_engine.proofs.lazy_dfa.StoredStateLemmas.{is_stored, known_turn}
 use Rattle.regex_lite_engine.proofs.lazy_dfa.automaton.LazyDfa.turn.Goals as goal
 

@@ -1,4 +1,4 @@
-use Rattle.regex_lite_engine.specs.LazyDfa.Intervals.{look_bounds}
+use Rattle.regex_lite_engine.proofs.Common.{look_bounds}
 use Rattle.regex_lite_engine.proofs.lazy_dfa.BoundaryLemmas.{grown_on, next_there}
 use Rattle.regex_lite_engine.proofs.lazy_dfa.boundaries.Boundaries.add_looks.Goals as goal
 

@@ -1,5 +1,4 @@
-use Rattle.regex_lite_engine.specs.LazyDfa.Boundaries.{Grows}
-use Rattle.regex_lite_engine.specs.LazyDfa.Intervals.{look_bounds}
+use Rattle.regex_lite_engine.proofs.Common.{Grows, look_bounds}
 use Rattle.regex_lite_engine.proofs.lazy_dfa.BoundaryLemmas.{AreFirst}
 use Rattle.regex_lite_engine.proofs.lazy_dfa.boundaries.Boundaries.add_looks.Given as goal
 

@@ -1,5 +1,4 @@
-use Rattle.std.proofs.Common.{rules, ◌≡◌, ◌-◌, suc, drop, subst, arith}
-use Rattle.regex_lite_engine.specs.LazyDfa.Intervals.{AreBounded}
+use Rattle.regex_lite_engine.proofs.Common.{◌≡◌, suc, ◌-◌, drop, subst, arith, rules, AreBounded}
 use Rattle.regex_lite_engine.proofs.lazy_dfa.BoundaryLemmas.{grown_on, one_more_bounded}
 use Rattle.regex_lite_engine.proofs.lazy_dfa.boundaries.Boundaries.add_ranges.Goals as goal
 

@@ -1,6 +1,4 @@
-use Rattle.std.proofs.Common.{drop}
-use Rattle.regex_lite_engine.specs.LazyDfa.Boundaries.{Grows}
-use Rattle.regex_lite_engine.specs.LazyDfa.Intervals.{AreBounded}
+use Rattle.regex_lite_engine.proofs.Common.{drop, Grows, AreBounded}
 use Rattle.regex_lite_engine.proofs.lazy_dfa.boundaries.Boundaries.add_ranges.Given as goal
 
 -- those from this one on are bounded

@@ -1,6 +1,6 @@
-use Rattle.std.proofs.Common.{◌∷◌, [], length, slice_index, sym, ap, subst, ◌∙◌, arith}
+use Rattle.regex_lite_engine.proofs.Common.{[], ◌∷◌, length, slice_index, sym, ap, ◌∙◌, subst}
+use Rattle.regex_lite_engine.proofs.Common.{arith, IsBoundary, character_bounds}
 use Rattle.std.proofs.lemmas.List.{length-append}
-use Rattle.regex_lite_engine.specs.LazyDfa.Intervals.{IsBoundary, character_bounds}
 use Rattle.regex_lite_engine.proofs.lazy_dfa.BoundaryLemmas.{added_boundary, next_there}
 use Rattle.regex_lite_engine.proofs.lazy_dfa.BoundaryLemmas.{still_boundary}
 use Rattle.regex_lite_engine.proofs.lazy_dfa.boundaries.Boundaries.new.Goals as goal

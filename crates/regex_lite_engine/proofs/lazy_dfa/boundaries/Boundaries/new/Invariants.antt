@@ -1,5 +1,4 @@
-use Rattle.std.proofs.Common.{◌≡◌, length}
-use Rattle.regex_lite_engine.specs.LazyDfa.Intervals.{character_bounds}
+use Rattle.regex_lite_engine.proofs.Common.{◌≡◌, length, character_bounds}
 use Rattle.regex_lite_engine.proofs.lazy_dfa.BoundaryLemmas.{AreFirst}
 use Rattle.regex_lite_engine.proofs.lazy_dfa.boundaries.Boundaries.new.Given as goal
 

@@ -1,6 +1,6 @@
-use Rattle.std.proofs.Common.{sym, ap, subst, slice_index, ◌≡◌, ◌+◌, ◌<◌, ◌∙◌, arith}
+use Rattle.regex_lite_engine.proofs.Common.{◌≡◌, ◌+◌, ◌<◌, slice_index, sym, ap, ◌∙◌, subst, arith}
+use Rattle.regex_lite_engine.proofs.Common.{Intervals, interval_of}
 use Rattle.std.proofs.lemmas.Str.{len_utf8_ascii}
-use Rattle.regex_lite_engine.specs.LazyDfa.Intervals.{Intervals, interval_of}
 use Rattle.regex_lite_engine.proofs.lazy_dfa.AheadLemmas.{ascii_begins}
 use Rattle.regex_lite_engine.proofs.lazy_dfa.classes.Classes.ahead.Goals as goal
 

@@ -1,6 +1,7 @@
-use Rattle.std.proofs.Common.{rules, ◌≡◌, ◌<◌, ℕ, Some, slice_get, slice_index_or, sym, subst}
+use Rattle.regex_lite_engine.proofs.Common.{◌≡◌, ℕ, ◌<◌, slice_get, slice_index_or, Some, sym}
+use Rattle.regex_lite_engine.proofs.Common.{subst, rules, IsBoundary, IsBoundedPlace}
+use Rattle.regex_lite_engine.proofs.Common.{character_bounds}
 use Rattle.regex_lite_engine.specs.declared.nfa.place.Place.{Place}
-use Rattle.regex_lite_engine.specs.LazyDfa.Intervals.{IsBoundary, IsBoundedPlace, character_bounds}
 use Rattle.regex_lite_engine.proofs.lazy_dfa.BoundaryLemmas.{all_still, each_more, each_of_all}
 use Rattle.regex_lite_engine.proofs.lazy_dfa.classes.Classes.of.Goals as goal
 

@@ -1,6 +1,6 @@
-use Rattle.std.proofs.Common.{◌≡◌, ◌<◌, ℕ, All, Some, slice_get}
+use Rattle.regex_lite_engine.proofs.Common.{◌≡◌, ℕ, ◌<◌, slice_get, Some, All, IsBoundary}
+use Rattle.regex_lite_engine.proofs.Common.{IsBoundedPlace, character_bounds}
 use Rattle.regex_lite_engine.specs.declared.nfa.place.Place.{Place}
-use Rattle.regex_lite_engine.specs.LazyDfa.Intervals.{IsBoundary, IsBoundedPlace, character_bounds}
 use Rattle.regex_lite_engine.proofs.lazy_dfa.classes.Classes.of.Given as goal
 
 abbrev pub invariant-places : goal.invariant-places

@@ -1,4 +1,4 @@
-use Rattle.std.proofs.Common.{sym, ap, ◌+◌, ◌∙◌}
+use Rattle.regex_lite_engine.proofs.Common.{◌+◌, sym, ap, ◌∙◌}
 use Rattle.regex_lite_engine.proofs.lazy_dfa.classes.Classes.wide_ahead.Goals as goal
 
 pub returns-clause-ahead : goal.returns-clause-ahead

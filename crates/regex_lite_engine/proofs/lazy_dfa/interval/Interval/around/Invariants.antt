@@ -1,5 +1,4 @@
-use Rattle.std.proofs.Common.{◌≡◌, ◌+◌, ◌≤◌, ◌<◌, ℕ, drop, length}
-use Rattle.regex_lite_engine.specs.LazyDfa.Intervals.{interval_of}
+use Rattle.regex_lite_engine.proofs.Common.{◌≡◌, ℕ, ◌+◌, ◌<◌, ◌≤◌, length, drop, interval_of}
 use Rattle.regex_lite_engine.proofs.lazy_dfa.interval.Interval.around.Given as goal
 
 -- those from this one on are counted, and divide no two numbers of the interval

@@ -1,6 +1,4 @@
-use Rattle.std.proofs.Common.{◌+◌, length, sym, ◌∙◌, arith}
-use Rattle.std.specs.Prelude.{chars}
-use Rattle.regex_lite_engine.specs.Graph.Renumbered.{arrows_of}
+use Rattle.regex_lite_engine.proofs.Common.{◌+◌, length, chars, sym, ◌∙◌, arith, arrows_of}
 use Rattle.regex_lite_engine.proofs.pikevm.PassLemmas.{bound_on}
 use Rattle.regex_lite_engine.proofs.lazy_dfa.run.Cache+Origin.go_over.Goals as goal
 

@@ -1,6 +1,5 @@
-use Rattle.std.proofs.Common.{◌+◌, inl, inr, refl, sym, ◌∙◌, arith}
-use Rattle.std.specs.Prelude.{chars}
-use Rattle.std.proofs.lemmas.List.{nil_from_length}
+use Rattle.regex_lite_engine.proofs.Common.{◌+◌, chars, sym, refl, ◌∙◌, inl, inr, arith}
+use Rattle.regex_lite_engine.proofs.Common.{nil_from_length}
 use Rattle.regex_lite_engine.proofs.lazy_dfa.RunLemmas.{other_first, own_first, state_from}
 use Rattle.regex_lite_engine.proofs.lazy_dfa.ScanLemmas.{next_before}
 use Rattle.regex_lite_engine.proofs.OffsetLemmas.{offset_less}

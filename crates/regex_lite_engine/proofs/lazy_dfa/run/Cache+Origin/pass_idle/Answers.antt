@@ -1,7 +1,5 @@
-use Rattle.std.proofs.Common.{rules, ◌≡◌, None, arith}
-use Rattle.std.specs.Prelude.{chars}
-use Rattle.std.proofs.lemmas.List.{nil_from_length}
-use Rattle.regex_lite_engine.specs.Pikevm.Turns.{best_of}
+use Rattle.regex_lite_engine.proofs.Common.{◌≡◌, None, chars, arith, rules, nil_from_length}
+use Rattle.regex_lite_engine.proofs.Common.{best_of}
 use Rattle.regex_lite_engine.proofs.lazy_dfa.RunLemmas.{at_later, own_first, passed_over}
 use Rattle.regex_lite_engine.proofs.lazy_dfa.run.Cache+Origin.pass_idle.Goals as goal
 

@@ -1,6 +1,5 @@
-use Rattle.std.proofs.Common.{◌≡◌, [], None, map, take}
+use Rattle.regex_lite_engine.proofs.Common.{◌≡◌, [], map, take, None, best_of}
 use Rattle.regex_lite_engine.specs.LazyDfa.Running.{GoesOnWith, thread_from}
-use Rattle.regex_lite_engine.specs.Pikevm.Turns.{best_of}
 use Rattle.regex_lite_engine.proofs.lazy_dfa.run.Cache+Origin.take_up_ways.Given as goal
 
 abbrev pub invariant-loop-way : goal.invariant-loop-way

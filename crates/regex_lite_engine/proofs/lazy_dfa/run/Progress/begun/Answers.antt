@@ -1,6 +1,4 @@
-use Rattle.std.proofs.Common.{arith}
-use Rattle.std.specs.Prelude.{chars}
-use Rattle.regex_lite_engine.specs.Search.Offsets.{position_at}
+use Rattle.regex_lite_engine.proofs.Common.{chars, arith, position_at}
 use Rattle.regex_lite_engine.proofs.lazy_dfa.RunLemmas.{begun_on, own_first}
 use Rattle.regex_lite_engine.proofs.lazy_dfa.run.Progress.begun.Goals as goal
 

@@ -1,8 +1,8 @@
-use Rattle.std.proofs.Common.{◌≡◌, ◌==◌, ℕ, Bool, true, false, not, None, Some, refl, ap, sym, ◌∙◌}
+use Rattle.regex_lite_engine.proofs.Common.{◌≡◌, ℕ, Bool, true, false, not, ◌==◌, Some, None, sym}
+use Rattle.regex_lite_engine.proofs.Common.{refl, ap, ◌∙◌, side_of}
 use Rattle.regex_lite_syntax.specs.declared.hir.look.Look.TheVariants.{WordEndHalf}
 use Rattle.regex_lite_syntax.specs.Tree.Looks.{is_word}
 use Rattle.regex_lite_engine.specs.declared.lazy_dfa.side.Side.{Side}
-use Rattle.regex_lite_engine.specs.LazyDfa.Intervals.{side_of}
 use Rattle.regex_lite_engine.proofs.lazy_dfa.AlikeLemmas.{by_sides}
 use Rattle.regex_lite_engine.proofs.lazy_dfa.side.Side.of.Goals as goal
 

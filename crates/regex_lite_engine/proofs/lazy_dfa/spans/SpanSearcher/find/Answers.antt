@@ -1,9 +1,6 @@
-use Rattle.std.proofs.Common.{rules, ◌∷◌, [], length, ◌<◌, ◌^◌, sym, subst, arith}
-use Rattle.std.specs.Prelude.{chars}
-use Rattle.regex_lite_engine.specs.Graph.Stored.{table_of}
-use Rattle.regex_lite_engine.specs.Search.Offsets.{position_at}
-use Rattle.regex_lite_engine.specs.LazyDfa.Scanning.{span_told}
-use Rattle.regex_lite_engine.specs.Search.NumberedOutcomes.{IsBestOutcomeOf}
+use Rattle.regex_lite_engine.proofs.Common.{◌^◌, ◌<◌, [], ◌∷◌, length, chars, sym, subst, arith}
+use Rattle.regex_lite_engine.proofs.Common.{rules, table_of, span_told, IsBestOutcomeOf}
+use Rattle.regex_lite_engine.proofs.Common.{position_at}
 use Rattle.regex_lite_engine.proofs.lazy_dfa.OnceLemmas.{spanned}
 use Rattle.regex_lite_engine.proofs.lazy_dfa.RunLemmas.{all_of_one}
 use Rattle.regex_lite_engine.proofs.search.OutcomeLemmas.{can_count}

@@ -1,7 +1,4 @@
-use Rattle.std.proofs.Common.{◌≡◌, ◌-◌, ℕ, None, length}
-use Rattle.std.specs.Prelude.{chars}
-use Rattle.regex_lite_engine.specs.LazyDfa.Automaton.{Automaton}
-use Rattle.regex_lite_engine.specs.LazyDfa.Running.{Stands}
+use Rattle.regex_lite_engine.proofs.Common.{◌≡◌, ℕ, ◌-◌, length, None, chars, Automaton, Stands}
 use Rattle.regex_lite_engine.proofs.lazy_dfa.turns.Cache+Origin.take_turns.Given as goal
 
 abbrev pub invariant-positions : goal.invariant-positions

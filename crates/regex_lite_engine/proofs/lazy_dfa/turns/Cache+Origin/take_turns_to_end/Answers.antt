@@ -1,6 +1,4 @@
-use Rattle.std.proofs.Common.{rules, ◌+◌, arith}
-use Rattle.std.specs.Prelude.{chars}
-use Rattle.regex_lite_engine.specs.Pikevm.Turns.{best_of}
+use Rattle.regex_lite_engine.proofs.Common.{◌+◌, chars, arith, rules, best_of}
 use Rattle.regex_lite_engine.proofs.search.here.HereLemmas.{over_at, at_most}
 use Rattle.regex_lite_engine.proofs.pikevm.ShortestLemmas.{shortest_known}
 use Rattle.regex_lite_engine.proofs.lazy_dfa.turns.Cache+Origin.take_turns_to_end.Goals as goal

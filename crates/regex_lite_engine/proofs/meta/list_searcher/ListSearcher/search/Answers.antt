@@ -1,14 +1,9 @@
-use Rattle.std.proofs.Common.{rules, length, List, [], ℕ, ◌<◌, ◌^◌, sym, subst, arith}
-use Rattle.std.specs.Prelude.{chars}
-use Rattle.std.proofs.lemmas.List.{nil_from_length}
-use Rattle.regex_lite_engine.specs.Graph.StoredList.{IsGraphOfList, table_of_list}
-use Rattle.regex_lite_engine.specs.Search.Bounds.{characters_left}
-use Rattle.regex_lite_engine.specs.Search.Offsets.{position_at}
+use Rattle.regex_lite_engine.proofs.Common.{ℕ, ◌^◌, ◌<◌, List, [], length, chars, sym, subst, arith}
+use Rattle.regex_lite_engine.proofs.Common.{rules, nil_from_length, table_of_list, IsGraphOfList}
+use Rattle.regex_lite_engine.proofs.Common.{best_of, characters_left, CanCount, IsBestOutcomeOf}
+use Rattle.regex_lite_engine.proofs.Common.{position_at}
 use Rattle.regex_lite_engine.specs.Search.Outcomes.{IsSpanOutcomeOfList}
 use Rattle.regex_lite_engine.specs.Search.Searching.{ListSearching}
-use Rattle.regex_lite_engine.specs.Search.Counting.{CanCount}
-use Rattle.regex_lite_engine.specs.Search.NumberedOutcomes.{IsBestOutcomeOf}
-use Rattle.regex_lite_engine.specs.Pikevm.Turns.{best_of}
 use Rattle.regex_lite_engine.proofs.search.ListOutcomeLemmas.{list_span_told}
 use Rattle.regex_lite_engine.proofs.search.OutcomeLemmas.{can_count}
 use Rattle.regex_lite_engine.proofs.meta.list_searcher.ListSearcher.search.Goals as goal

@@ -1,17 +1,12 @@
-use Rattle.std.proofs.Common.{rules, ℕ, List, [], ◌∷◌, None, Some, length}
-use Rattle.std.proofs.Common.{◌<◌, ◌^◌, refl, sym, subst, ◌∙◌, arith}
-use Rattle.std.specs.Prelude.{chars}
-use Rattle.std.proofs.lemmas.List.{nil_from_length}
-use Rattle.regex_lite_syntax.specs.Text.{Text}
+use Rattle.regex_lite_engine.proofs.Common.{ℕ, ◌^◌, ◌<◌, List, [], ◌∷◌, length, Some, None, chars}
+use Rattle.regex_lite_engine.proofs.Common.{sym, refl, ◌∙◌, subst, arith, rules, nil_from_length}
+use Rattle.regex_lite_engine.proofs.Common.{Text, table_of, Best, best_at, with_start_kept, span_of}
+use Rattle.regex_lite_engine.proofs.Common.{IsBestOutcome, IsBestOutcomeOf, position_at}
 use Rattle.regex_lite_engine.specs.Graph.Places.{Place}
 use Rattle.regex_lite_engine.specs.Graph.Renumbered.{IsGraphOf}
-use Rattle.regex_lite_engine.specs.Graph.Stored.{table_of}
-use Rattle.regex_lite_engine.specs.Search.Offsets.{position_at}
 use Rattle.regex_lite_engine.specs.LazyDfa.Remembering.{NoneStartsBefore}
 use Rattle.regex_lite_engine.specs.Search.Outcomes.{IsSpanOutcome}
 use Rattle.regex_lite_engine.specs.Search.Searching.{Searching}
-use Rattle.regex_lite_engine.specs.Search.NumberedOutcomes.{Best, IsBestOutcome, IsBestOutcomeOf}
-use Rattle.regex_lite_engine.specs.Search.NumberedOutcomes.{best_at, span_of, with_start_kept}
 use Rattle.regex_lite_engine.proofs.lazy_dfa.OnceLemmas.{spanned}
 use Rattle.regex_lite_engine.proofs.lazy_dfa.RunLemmas.{all_of_one}
 use Rattle.regex_lite_engine.proofs.pikevm.EndLemmas.{one_best}

@@ -1,6 +1,5 @@
-use Rattle.std.proofs.Common.{◌≡◌, map, ap, ◌∙◌, get_or, arith}
-use Rattle.regex_lite_engine.specs.Graph.Places.{kept_back_with}
-use Rattle.regex_lite_engine.specs.Graph.Stored.{place_of}
+use Rattle.regex_lite_engine.proofs.Common.{◌≡◌, map, get_or, ap, ◌∙◌, arith, kept_back_with}
+use Rattle.regex_lite_engine.proofs.Common.{place_of}
 use Rattle.regex_lite_engine.proofs.nfa.kept_back.SumLemmas.{few_without_slots, next_left}
 use Rattle.regex_lite_engine.proofs.nfa.kept_back.KeptBack.of.Goals as goal
 

@@ -1,6 +1,5 @@
-use Rattle.std.proofs.Common.{◌≡◌, ◌+◌, drop, map, sum_by}
-use Rattle.regex_lite_engine.specs.Graph.Places.{kept_back, kept_back_with}
-use Rattle.regex_lite_engine.specs.Graph.Stored.{place_of}
+use Rattle.regex_lite_engine.proofs.Common.{◌≡◌, ◌+◌, map, drop, sum_by, kept_back, kept_back_with}
+use Rattle.regex_lite_engine.proofs.Common.{place_of}
 use Rattle.regex_lite_engine.proofs.nfa.kept_back.KeptBack.of.Given as goal
 
 -- with what is kept back at the places that are left it is that of all

@@ -1,5 +1,4 @@
-use Rattle.std.proofs.Common.{rules, length, ◌<◌, subst}
-use Rattle.regex_lite_engine.specs.Graph.StoredList.{StoredList}
+use Rattle.regex_lite_engine.proofs.Common.{◌<◌, length, subst, rules, StoredList}
 use Rattle.regex_lite_engine.proofs.search.ListOutcomeLemmas.{has_place}
 use Rattle.regex_lite_engine.proofs.nfa.list.GraphList.len.Goals as goal
 

@@ -1,9 +1,6 @@
-use Rattle.std.proofs.Common.{◌≡◌, ◌<◌, ◌^◌, ◌∙◌, ap, sym, arith, length, map}
-use Rattle.regex_lite_syntax.specs.Tree.Views.{tree_of}
-use Rattle.regex_lite_engine.specs.Graph.Renumbered.{arrows_of}
-use Rattle.regex_lite_engine.specs.Graph.SideBySide.{places_of_all}
-use Rattle.regex_lite_engine.specs.Graph.Stored.{StoredTable, places_of}
-use Rattle.regex_lite_engine.specs.Nfa.Layout.{patterns_table}
+use Rattle.regex_lite_engine.proofs.Common.{◌≡◌, ◌^◌, ◌<◌, map, length, sym, ap, ◌∙◌, arith}
+use Rattle.regex_lite_engine.proofs.Common.{tree_of, arrows_of, places_of_all, StoredTable}
+use Rattle.regex_lite_engine.proofs.Common.{places_of, patterns_table}
 use Rattle.regex_lite_engine.proofs.nfa.list.TableLemmas.{closed, name, written, entered}
 use Rattle.regex_lite_engine.proofs.nfa.list.TableLemmas.{entries_inside, parted}
 use Rattle.regex_lite_engine.proofs.nfa.list.TableLemmas.{entry_for_each, few_entries}

@@ -1,14 +1,8 @@
-use Rattle.std.proofs.Common.{rules, length, ◌<◌, ◌^◌, ◌+◌, ap, subst, sym, arith}
-use Rattle.std.specs.Prelude.{chars}
-use Rattle.regex_lite_engine.specs.Graph.Renumbered.{arrows_of}
-use Rattle.regex_lite_engine.specs.Graph.Stored.{places_of}
-use Rattle.regex_lite_engine.specs.Graph.StoredList.{StoredList, table_of_list}
-use Rattle.regex_lite_engine.specs.Search.Bounds.{IsBoundedBy, characters_left}
-use Rattle.regex_lite_engine.specs.Search.Offsets.{position_at}
-use Rattle.regex_lite_engine.specs.Search.NumberedOutcomes.{IsBestOutcomeOf}
-use Rattle.regex_lite_engine.specs.Search.Counting.{IsCountable, CanCount}
+use Rattle.regex_lite_engine.proofs.Common.{◌+◌, ◌^◌, ◌<◌, length, chars, sym, ap, subst, arith}
+use Rattle.regex_lite_engine.proofs.Common.{rules, arrows_of, places_of, StoredList, table_of_list}
+use Rattle.regex_lite_engine.proofs.Common.{best_of, characters_left, IsBoundedBy, IsCountable}
+use Rattle.regex_lite_engine.proofs.Common.{CanCount, IsBestOutcomeOf, position_at}
 use Rattle.regex_lite_engine.specs.Pikevm.Searching.{IsFresh}
-use Rattle.regex_lite_engine.specs.Pikevm.Turns.{best_of}
 use Rattle.regex_lite_engine.proofs.search.ListOutcomeLemmas.{cost_of_list, outcome_told}
 use Rattle.regex_lite_engine.proofs.search.OutcomeLemmas.{can_count}
 use Rattle.regex_lite_engine.proofs.nfa.list.GraphList.search.Goals as goal

@@ -1,20 +1,15 @@
-use Rattle.std.proofs.Common.{◌≡◌, ◌<◌, ◌≤◌, ◌+◌, ◌-◌, ◌^◌, ◌∷◌, [], ◌↔◌, inl, inr, ℕ, zero}
-use Rattle.std.proofs.Common.{suc, refl, List, Bool, IsTrue, false, length, take, get_or}
-use Rattle.std.proofs.Common.{slice_get, slice_index_or, slice_set, ap, sym, subst, ◌∙◌, arith}
-use Rattle.std.specs.Prelude.{chars, min}
+use Rattle.regex_lite_engine.proofs.Common.{◌≡◌, ℕ, zero, suc, ◌+◌, ◌-◌, ◌^◌, ◌<◌, ◌≤◌, min, Bool}
+use Rattle.regex_lite_engine.proofs.Common.{false, ◌↔◌, List, [], ◌∷◌, length, get_or, take, IsTrue}
+use Rattle.regex_lite_engine.proofs.Common.{slice_get, slice_index_or, slice_set, chars, sym, refl}
+use Rattle.regex_lite_engine.proofs.Common.{ap, ◌∙◌, subst, inl, inr, arith, cases_lt}
+use Rattle.regex_lite_engine.proofs.Common.{get_or-set_other, get_or-set_same, slice_get-get_or}
+use Rattle.regex_lite_engine.proofs.Common.{slice_get_within, empty, whole_places, whole_arrows}
+use Rattle.regex_lite_engine.proofs.Common.{HasTree, places_of_all, tries_of_all, HasMatchFrom}
+use Rattle.regex_lite_engine.proofs.Common.{IsBoundedBy, position_at}
 use Rattle.std.proofs.Math.Nat.{le-min}
 use Rattle.std.proofs.Math.Seq.{take-length}
-use Rattle.std.proofs.lemmas.Bool.{cases_lt}
-use Rattle.std.proofs.lemmas.List.{get_or-set_same, get_or-set_other, length-set}
+use Rattle.std.proofs.lemmas.List.{length-set}
 use Rattle.std.proofs.lemmas.List.Sums.{sum_by_more}
-use Rattle.std.proofs.lemmas.Option.{slice_get-get_or, slice_get_within}
-use Rattle.regex_lite_syntax.specs.Tree.{empty}
-use Rattle.regex_lite_engine.specs.Graph.PlaceCounts.{whole_arrows, whole_places}
-use Rattle.regex_lite_engine.specs.Graph.SideBySide.{places_of_all, tries_of_all}
-use Rattle.regex_lite_engine.specs.Search.Answer.{HasMatchFrom}
-use Rattle.regex_lite_engine.specs.Graph.SideBySide.{HasTree}
-use Rattle.regex_lite_engine.specs.Search.Bounds.{IsBoundedBy}
-use Rattle.regex_lite_engine.specs.Search.Offsets.{position_at}
 use Rattle.regex_lite_engine.proofs.pikevm.BoundLemmas.{bounded_both}
 use Rattle.regex_lite_engine.proofs.nfa.list.GraphList.search_all.Goals as goal
 

@@ -1,14 +1,9 @@
-use Rattle.std.proofs.Common.{◌≡◌, ◌<◌, ◌≤◌, ◌↔◌, ℕ, List, IsTrue}
-use Rattle.std.proofs.Common.{false, length, take, slice_index_or}
-use Rattle.std.specs.Prelude.{chars}
-use Rattle.regex_lite_syntax.specs.Tree.{Tree}
-use Rattle.regex_lite_engine.specs.Graph.SideBySide.{AreRegular, places_of_all, tries_of_all}
-use Rattle.regex_lite_engine.specs.Graph.StoredList.{IsGraphOfList, table_of_list}
-use Rattle.regex_lite_engine.specs.Search.Answer.{HasMatchFrom}
-use Rattle.regex_lite_engine.specs.Graph.SideBySide.{HasTree}
-use Rattle.regex_lite_engine.specs.Search.Bounds.{IsBoundedBy}
-use Rattle.regex_lite_engine.specs.Search.Offsets.{position_at}
-use Rattle.regex_lite_engine.specs.Pikevm.Searching.{IsBetween}
+use Rattle.regex_lite_engine.proofs.Common.{◌≡◌, ℕ, ◌<◌, ◌≤◌, false, ◌↔◌, List, length, take}
+use Rattle.regex_lite_engine.proofs.Common.{IsTrue, slice_index_or, chars, Tree, HasTree}
+use Rattle.regex_lite_engine.proofs.Common.{places_of_all, tries_of_all, table_of_list}
+use Rattle.regex_lite_engine.proofs.Common.{IsGraphOfList, IsBetween, HasMatchFrom, IsBoundedBy}
+use Rattle.regex_lite_engine.proofs.Common.{position_at}
+use Rattle.regex_lite_engine.specs.Graph.SideBySide.{AreRegular}
 use Rattle.regex_lite_engine.proofs.nfa.list.GraphList.search_all.Given as goal
 
 abbrev pub invariant-loop-number : goal.invariant-loop-number

@@ -1,15 +1,9 @@
-use Rattle.std.proofs.Common.{rules, length, IsTrue, ◌<◌, ◌^◌, ◌+◌, ◌↔◌, ◌∙◌, ap, subst, sym, arith}
-use Rattle.std.specs.Prelude.{chars, is_some}
-use Rattle.regex_lite_engine.specs.Graph.Renumbered.{arrows_of}
-use Rattle.regex_lite_engine.specs.Graph.Stored.{places_of}
-use Rattle.regex_lite_engine.specs.Graph.StoredList.{StoredList, table_of_list}
-use Rattle.regex_lite_engine.specs.Search.Bounds.{IsBoundedBy, characters_left}
-use Rattle.regex_lite_engine.specs.Search.AnswerOfList.{AnyMatchesFrom}
-use Rattle.regex_lite_engine.specs.Search.Offsets.{position_at, search_start}
-use Rattle.regex_lite_engine.specs.Search.NumberedOutcomes.{IsNumberedEndOf}
-use Rattle.regex_lite_engine.specs.Search.Counting.{IsCountable, CanCount}
+use Rattle.regex_lite_engine.proofs.Common.{◌+◌, ◌^◌, ◌<◌, ◌↔◌, length, is_some, IsTrue, chars, sym}
+use Rattle.regex_lite_engine.proofs.Common.{ap, ◌∙◌, subst, arith, rules, arrows_of, places_of}
+use Rattle.regex_lite_engine.proofs.Common.{StoredList, table_of_list, best_of, AnyMatchesFrom}
+use Rattle.regex_lite_engine.proofs.Common.{characters_left, IsBoundedBy, IsCountable, CanCount}
+use Rattle.regex_lite_engine.proofs.Common.{IsNumberedEndOf, position_at, search_start}
 use Rattle.regex_lite_engine.specs.Pikevm.Searching.{IsFresh}
-use Rattle.regex_lite_engine.specs.Pikevm.Turns.{best_of}
 use Rattle.regex_lite_engine.proofs.search.ListOutcomeLemmas.{cost_of_list, any_told}
 use Rattle.regex_lite_engine.proofs.search.OutcomeLemmas.{can_count}
 use Rattle.regex_lite_engine.proofs.nfa.list.GraphList.search_any.Goals as goal

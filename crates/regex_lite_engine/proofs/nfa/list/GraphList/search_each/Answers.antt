@@ -1,10 +1,8 @@
-use Rattle.std.proofs.Common.{◌≡◌, ◌++◌, length, take, drop, ap, sym, subst, ◌∙◌, arith}
-use Rattle.std.specs.Prelude.{chars, false, IsTrue, slice_index_or}
-use Rattle.std.proofs.Math.Seq.{take-append_seam}
+use Rattle.regex_lite_engine.proofs.Common.{◌≡◌, false, ◌++◌, length, take, drop, IsTrue}
+use Rattle.regex_lite_engine.proofs.Common.{slice_index_or, chars, sym, ap, ◌∙◌, subst, arith}
+use Rattle.regex_lite_engine.proofs.Common.{take-append_seam, places_of_all, tries_of_all}
+use Rattle.regex_lite_engine.proofs.Common.{IsBoundedBy, search_start}
 use Rattle.regex_lite_engine.specs.Search.AnswerOfList.{TellsWhich}
-use Rattle.regex_lite_engine.specs.Search.Offsets.{search_start}
-use Rattle.regex_lite_engine.specs.Graph.SideBySide.{places_of_all, tries_of_all}
-use Rattle.regex_lite_engine.specs.Search.Bounds.{IsBoundedBy}
 use Rattle.regex_lite_engine.proofs.search.ListOutcomeLemmas.{at_position}
 use Rattle.regex_lite_engine.proofs.nfa.list.GraphList.search_each.Goals as goal
 

@@ -1,17 +1,9 @@
-use Rattle.std.proofs.Common.{rules, ◌<◌, ◌^◌, ◌+◌, ◌↔◌, ◌∷◌, [], IsTrue}
-use Rattle.std.proofs.Common.{length, slice_index, ap, sym, subst, ◌∙◌, arith}
-use Rattle.std.specs.Prelude.{chars, false, is_some, option_map}
-use Rattle.std.proofs.lemmas.Option.{slice_get-get_or}
-use Rattle.regex_lite_engine.specs.Graph.Parts.{IsOwnPart, row_of}
-use Rattle.regex_lite_engine.specs.Graph.PlaceCounts.{whole_places}
-use Rattle.regex_lite_engine.specs.Graph.Renumbered.{arrows_of}
-use Rattle.regex_lite_engine.specs.Graph.StoredList.{StoredList, table_of_list}
-use Rattle.regex_lite_engine.specs.Search.Answer.{HasMatchFrom}
-use Rattle.regex_lite_engine.specs.Search.Bounds.{IsBoundedBy, characters_left}
-use Rattle.regex_lite_engine.specs.Search.Offsets.{position_at}
-use Rattle.regex_lite_engine.specs.Search.Counting.{CanCount}
-use Rattle.regex_lite_engine.specs.Search.NumberedOutcomes.{IsNumberedEndOf}
-use Rattle.regex_lite_engine.specs.Pikevm.Turns.{best_of}
+use Rattle.regex_lite_engine.proofs.Common.{◌+◌, ◌^◌, ◌<◌, false, ◌↔◌, [], ◌∷◌, length, is_some}
+use Rattle.regex_lite_engine.proofs.Common.{IsTrue, slice_index, option_map, chars, sym, ap, ◌∙◌}
+use Rattle.regex_lite_engine.proofs.Common.{subst, arith, rules, slice_get-get_or, row_of}
+use Rattle.regex_lite_engine.proofs.Common.{IsOwnPart, whole_places, arrows_of, StoredList}
+use Rattle.regex_lite_engine.proofs.Common.{table_of_list, best_of, HasMatchFrom, characters_left}
+use Rattle.regex_lite_engine.proofs.Common.{IsBoundedBy, CanCount, IsNumberedEndOf, position_at}
 use Rattle.regex_lite_engine.proofs.search.ListOutcomeLemmas.{one_told}
 use Rattle.regex_lite_engine.proofs.search.OutcomeLemmas.{can_count}
 use Rattle.regex_lite_engine.proofs.nfa.list.GraphList.search_one.Goals as goal

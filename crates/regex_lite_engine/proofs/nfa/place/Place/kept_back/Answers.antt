@@ -1,6 +1,4 @@
-use Rattle.std.proofs.Common.{◌≡◌, sym, subst, arith}
-use Rattle.regex_lite_engine.specs.Graph.Places.{kept_back}
-use Rattle.regex_lite_engine.specs.Graph.Stored.{place_of}
+use Rattle.regex_lite_engine.proofs.Common.{◌≡◌, sym, subst, arith, kept_back, place_of}
 use Rattle.regex_lite_engine.proofs.nfa.kept_back.SumLemmas.{kept_at_branches}
 use Rattle.regex_lite_engine.proofs.nfa.place.Place.kept_back.Goals as goal
 

@@ -1,19 +1,14 @@
-use Rattle.std.proofs.Common.{arith, rules, ◌+◌, ◌*◌, ◌≡◌, ◌∙◌, sym, ap, subst, map, length, set}
-use Rattle.std.proofs.Common.{IfOk, length-append}
-use Rattle.std.proofs.lemmas.List.{length-map, map-append, map-set}
+use Rattle.regex_lite_engine.proofs.Common.{◌≡◌, ◌+◌, ◌*◌, map, length, set, sym, ap, ◌∙◌, subst}
+use Rattle.regex_lite_engine.proofs.Common.{arith, length-append, rules, length-map, map-append}
+use Rattle.regex_lite_engine.proofs.Common.{map-set, Tree, repetition, concat, alternation, trees}
+use Rattle.regex_lite_engine.proofs.Common.{nullable, greatest_index, tree_of, copies, own_places}
+use Rattle.regex_lite_engine.proofs.Common.{places, place_of, IsAdded, layout}
+use Rattle.std.proofs.Common.{IfOk}
 use Rattle.std.proofs.lemmas.Grind.{common_steps}
-use Rattle.regex_lite_syntax.specs.Tree.{Tree, repetition}
-use Rattle.regex_lite_syntax.specs.Tree.Views.{tree_of}
-use Rattle.regex_lite_engine.specs.Graph.Stored.{place_of}
-use Rattle.regex_lite_engine.specs.Graph.PlaceCounts.{copies, own_places, places}
-use Rattle.regex_lite_engine.specs.Nfa.Layout.{IsAdded, layout}
-use Rattle.regex_lite_syntax.specs.Tree.Properties.{nullable}
 use Rattle.regex_lite_syntax.proofs.TreeLemmas.{tree_of-Repetition}
 use Rattle.regex_lite_engine.proofs.nfa.write.RoomLemmas.{loop_room}
 use Rattle.regex_lite_engine.proofs.nfa.write.WrittenOverLemmas.{loop_written}
 use Rattle.regex_lite_syntax.proofs.TreeLemmas.{tree_of-Concat, tree_of-Alternation}
-use Rattle.regex_lite_syntax.specs.Tree.{trees, concat, alternation}
-use Rattle.regex_lite_syntax.specs.Tree.Properties.{greatest_index}
 use Rattle.regex_lite_engine.specs.declared.nfa.place.Place.TheVariants as stored
 use Rattle.regex_lite_engine.proofs.nfa.write.OnePlaceLemmas.{tree_of-Empty, tree_of-Char}
 use Rattle.regex_lite_engine.proofs.nfa.write.OnePlaceLemmas.{tree_of-Look, tree_of-Capture}

@@ -1,11 +1,7 @@
-use Rattle.std.proofs.Common.{◌≡◌, ◌++◌, ◌<◌, ◌*◌, ◌^◌, ◌+◌, map, length, drop}
-use Rattle.regex_lite_syntax.specs.Tree.{trees}
-use Rattle.regex_lite_syntax.specs.Tree.Views.{tree_of}
-use Rattle.regex_lite_syntax.specs.Tree.Properties.{greatest_index_in}
-use Rattle.regex_lite_engine.specs.Graph.Stored.{place_of}
-use Rattle.regex_lite_engine.specs.Graph.PlaceCounts.{places, places_in}
-use Rattle.regex_lite_engine.specs.Nfa.Layout.{IsAdded, layout, chain_layout, branches_layout}
-use Rattle.regex_lite_engine.specs.Nfa.Layout.{copies_layout, choices_layout}
+use Rattle.regex_lite_engine.proofs.Common.{◌≡◌, ◌+◌, ◌*◌, ◌^◌, ◌<◌, ◌++◌, map, length, drop, trees}
+use Rattle.regex_lite_engine.proofs.Common.{greatest_index_in, tree_of, places, places_in, place_of}
+use Rattle.regex_lite_engine.proofs.Common.{IsAdded, copies_layout, choices_layout, layout}
+use Rattle.regex_lite_engine.proofs.Common.{chain_layout, branches_layout}
 use Rattle.regex_lite_engine.proofs.nfa.write.Writer.+write.Given as goal
 
 -- the parts from i on are written

@@ -1,18 +1,14 @@
-use Rattle.std.proofs.Common.{◌≡◌, ℕ, ◌+◌, ◌<◌, ◌≤◌, List, length, replicate, [], ◌∷◌, ◌++◌}
-use Rattle.std.proofs.Common.{None, if◌then◌else◌, Some, true, drop, suc, sym, ap, subst, ◌∙◌}
-use Rattle.std.proofs.Common.{arith}
+use Rattle.regex_lite_engine.proofs.Common.{◌≡◌, ℕ, suc, ◌+◌, ◌<◌, ◌≤◌, true, List, [], ◌∷◌, ◌++◌}
+use Rattle.regex_lite_engine.proofs.Common.{length, drop, replicate, if◌then◌else◌, Some, None, sym}
+use Rattle.regex_lite_engine.proofs.Common.{ap, ◌∙◌, subst, arith, drop-cons, retold, all_retold}
+use Rattle.regex_lite_engine.proofs.Common.{state_retold, best_again, Thread, thread_at, BestState}
+use Rattle.regex_lite_engine.proofs.Common.{KeepsPosition, best_of, Between, StepsTo, begun}
+use Rattle.regex_lite_engine.proofs.Common.{with_starts, Told, untold, StaysCounted, Best, Row}
+use Rattle.regex_lite_engine.proofs.Common.{Start}
 use Rattle.std.proofs.Math.ListN.{drop_of_length-le}
-use Rattle.std.proofs.Math.Seq.{drop-cons}
-use Rattle.regex_lite_engine.specs.declared.search.patterns.Start.{Start}
-use Rattle.regex_lite_engine.specs.Search.Bounds.{StaysCounted}
-use Rattle.regex_lite_engine.specs.Pikevm.Again.{all_retold, best_again, retold, state_retold}
-use Rattle.regex_lite_engine.specs.Search.Beginnings.{Told, untold}
-use Rattle.regex_lite_engine.specs.Pikevm.Machine.{State, BestState, Thread, thread_at}
-use Rattle.regex_lite_engine.specs.Search.Rows.{Row}
-use Rattle.regex_lite_engine.specs.Pikevm.Room.{explores, KeepsPosition}
+use Rattle.regex_lite_engine.specs.Pikevm.Machine.{State}
+use Rattle.regex_lite_engine.specs.Pikevm.Room.{explores}
 use Rattle.regex_lite_engine.specs.Pikevm.Searching.{ways_at}
-use Rattle.regex_lite_engine.specs.Pikevm.Turns.{begun, best_of, with_starts, Between, StepsTo}
-use Rattle.regex_lite_engine.specs.Search.NumberedOutcomes.{Best}
 use Rattle.regex_lite_engine.proofs.search.CountLemmas.{still_counted}
 use Rattle.regex_lite_engine.proofs.pikevm.StateLemmas.{takes_up}
 use Rattle.regex_lite_engine.proofs.pikevm.StepLemmas.{goes_up, room_pushed, stepped}

@@ -1,12 +1,8 @@
-use Rattle.std.proofs.Common.{◌≡◌, ◌+◌, ◌≤◌, [], drop}
-use Rattle.regex_lite_engine.specs.declared.search.here.Here.{Here}
-use Rattle.regex_lite_engine.specs.Search.Bounds.{StaysCounted}
-use Rattle.regex_lite_engine.specs.Pikevm.Again.{AreAlike, all_retold, state_retold}
-use Rattle.regex_lite_engine.specs.Search.Beginnings.{Told}
-use Rattle.regex_lite_engine.specs.Pikevm.Room.{HasRoom, KeepsPosition, due_tries, due_entries}
+use Rattle.regex_lite_engine.proofs.Common.{◌≡◌, ◌+◌, ◌≤◌, [], drop, AreAlike, all_retold}
+use Rattle.regex_lite_engine.proofs.Common.{state_retold, KeepsPosition, best_of, StepsTo, Told}
+use Rattle.regex_lite_engine.proofs.Common.{StaysCounted, Best, Here}
+use Rattle.regex_lite_engine.specs.Pikevm.Room.{HasRoom, due_tries, due_entries}
 use Rattle.regex_lite_engine.specs.Pikevm.Searching.{ways_at}
-use Rattle.regex_lite_engine.specs.Pikevm.Turns.{best_of, StepsTo}
-use Rattle.regex_lite_engine.specs.Search.NumberedOutcomes.{Best}
 use Rattle.regex_lite_engine.proofs.pikevm.cache.Cache.follow_ways.Given as goal
 
 abbrev pub invariant-ways : goal.invariant-ways

@@ -1,5 +1,4 @@
-use Rattle.std.proofs.Common.{inr, refl, sym, subst, IsTrue, arith}
-use Rattle.std.proofs.lemmas.List.{nil_from_length}
+use Rattle.regex_lite_engine.proofs.Common.{IsTrue, sym, refl, subst, inr, arith, nil_from_length}
 use Rattle.regex_lite_engine.proofs.pikevm.cache.Cache.next_start.Goals as goal
 
 pub returns : goal.returns

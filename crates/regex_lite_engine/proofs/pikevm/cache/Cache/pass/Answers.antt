@@ -1,10 +1,7 @@
-use Rattle.std.proofs.Common.{◌+◌, ◌≤◌, length, sym, subst, arith}
-use Rattle.std.specs.Prelude.{chars}
-use Rattle.regex_lite_engine.specs.Graph.Parts.{row_of}
-use Rattle.regex_lite_engine.specs.Graph.Renumbered.{arrows_of}
+use Rattle.regex_lite_engine.proofs.Common.{◌+◌, ◌≤◌, length, chars, sym, subst, arith, row_of}
+use Rattle.regex_lite_engine.proofs.Common.{arrows_of, best_of}
 use Rattle.regex_lite_engine.specs.Pikevm.Passing.{IsUnderWay}
 use Rattle.regex_lite_engine.specs.Pikevm.Passing.{GoesOnAt}
-use Rattle.regex_lite_engine.specs.Pikevm.Turns.{best_of}
 use Rattle.regex_lite_engine.proofs.pikevm.PassLemmas.{bound_on}
 use Rattle.regex_lite_engine.proofs.pikevm.PassLemmas.{onward}
 use Rattle.regex_lite_engine.proofs.pikevm.cache.Cache.pass.Goals as goal

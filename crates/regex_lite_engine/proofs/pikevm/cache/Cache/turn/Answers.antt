@@ -1,13 +1,8 @@
-use Rattle.std.proofs.Common.{◌≡◌, ℕ, List, ◌+◌, length, sym, ap, subst, ◌∙◌, arith}
-use Rattle.regex_lite_engine.specs.Graph.Parts.{row_of}
-use Rattle.regex_lite_engine.specs.Graph.Renumbered.{arrow_count}
-use Rattle.regex_lite_engine.specs.Pikevm.Again.{all_retold, best_again, state_retold}
-use Rattle.regex_lite_engine.specs.Search.Beginnings.{Told}
-use Rattle.regex_lite_engine.specs.Pikevm.Room.{explores, ThreadsBelow}
-use Rattle.regex_lite_engine.specs.Search.Counting.{lone}
-use Rattle.regex_lite_engine.specs.Pikevm.Turns.{best_of, with_starts, Begun, IsComing}
-use Rattle.regex_lite_engine.specs.Pikevm.Walking.{SearchAt}
-use Rattle.regex_lite_syntax.specs.Text.{Text}
+use Rattle.regex_lite_engine.proofs.Common.{◌≡◌, ℕ, ◌+◌, List, length, sym, ap, ◌∙◌, subst, arith}
+use Rattle.regex_lite_engine.proofs.Common.{Text, row_of, arrow_count, all_retold, state_retold}
+use Rattle.regex_lite_engine.proofs.Common.{best_again, ThreadsBelow, best_of, IsComing, Begun}
+use Rattle.regex_lite_engine.proofs.Common.{with_starts, SearchAt, Told, lone}
+use Rattle.regex_lite_engine.specs.Pikevm.Room.{explores}
 use Rattle.regex_lite_engine.proofs.pikevm.AgainLemmas.{best_kept, start_retold}
 use Rattle.regex_lite_engine.proofs.pikevm.OwnPartLemmas.{left_outside, length_row}
 use Rattle.regex_lite_engine.proofs.pikevm.RoomLemmas.{left_most}

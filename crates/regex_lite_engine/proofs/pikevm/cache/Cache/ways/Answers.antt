@@ -1,6 +1,5 @@
-use Rattle.std.proofs.Common.{◌≡◌, None, length, replicate, ap, length-append, arith}
-use Rattle.regex_lite_engine.specs.Search.Rows.{Row}
-use Rattle.regex_lite_engine.specs.Pikevm.Turns.{begun, best_of, with_starts}
+use Rattle.regex_lite_engine.proofs.Common.{◌≡◌, length, replicate, None, ap, arith, length-append}
+use Rattle.regex_lite_engine.proofs.Common.{best_of, begun, with_starts, Row}
 use Rattle.regex_lite_engine.proofs.pikevm.ThreadLemmas.{begun_length}
 use Rattle.regex_lite_engine.proofs.pikevm.cache.Cache.ways.Goals as goal
 

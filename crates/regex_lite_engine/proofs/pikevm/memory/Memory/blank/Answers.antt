@@ -1,4 +1,4 @@
-use Rattle.std.proofs.Common.{◌-◌}
+use Rattle.regex_lite_engine.proofs.Common.{◌-◌}
 use Rattle.regex_lite_engine.proofs.pikevm.memory.ReadyLemmas.{none_entered}
 use Rattle.regex_lite_engine.proofs.pikevm.memory.Memory.blank.Goals as goal
 

@@ -1,8 +1,6 @@
-use Rattle.std.proofs.Common.{◌<◌, [], None, length, replicate, ap, ◌∙◌, arith}
-use Rattle.std.proofs.lemmas.List.{get_or-set_same}
-use Rattle.regex_lite_engine.specs.Pikevm.Cells.{nth_row, threads_on, other}
+use Rattle.regex_lite_engine.proofs.Common.{◌<◌, [], length, replicate, None, ap, ◌∙◌, arith}
+use Rattle.regex_lite_engine.proofs.Common.{get_or-set_same, nth_row, other, threads_on, Row}
 use Rattle.regex_lite_engine.specs.Pikevm.Machine.{State}
-use Rattle.regex_lite_engine.specs.Search.Rows.{Row}
 use Rattle.regex_lite_engine.proofs.pikevm.memory.CellLemmas.{state_is}
 use Rattle.regex_lite_engine.proofs.pikevm.memory.ListLemmas.{first_row_alone}
 use Rattle.regex_lite_engine.proofs.pikevm.memory.Memory.clear_row.Goals as goal

@@ -1,8 +1,5 @@
-use Rattle.std.proofs.Common.{◌≡◌, ◌+◌, ◌<◌, length, take, reverse}
-use Rattle.std.proofs.Common.{slice_index, refl, ap, ◌∙◌, arith}
-use Rattle.std.proofs.lemmas.Bool.Decides.{nat_tests}
-use Rattle.regex_lite_engine.specs.declared.pikevm.cell.Cell.{Cell}
-use Rattle.regex_lite_engine.specs.Pikevm.Cells.{frame_in, other}
+use Rattle.regex_lite_engine.proofs.Common.{◌≡◌, ◌+◌, ◌<◌, reverse, length, take, slice_index, refl}
+use Rattle.regex_lite_engine.proofs.Common.{ap, ◌∙◌, arith, nat_tests, frame_in, other, Cell}
 use Rattle.regex_lite_engine.specs.Pikevm.Machine.{State}
 use Rattle.regex_lite_engine.proofs.pikevm.memory.CellLemmas.{not_told, state_is, with_round}
 use Rattle.regex_lite_engine.proofs.pikevm.memory.ListLemmas.{threads_kept}

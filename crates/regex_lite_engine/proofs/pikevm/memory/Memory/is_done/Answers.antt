@@ -1,6 +1,4 @@
-use Rattle.std.proofs.Common.{length, ap, arith}
-use Rattle.std.proofs.lemmas.Bool.Decides.{nat_tests}
-use Rattle.std.proofs.lemmas.List.{nil_from_length}
+use Rattle.regex_lite_engine.proofs.Common.{length, ap, arith, nat_tests, nil_from_length}
 use Rattle.regex_lite_engine.specs.Pikevm.Machine.{State}
 use Rattle.regex_lite_engine.proofs.pikevm.memory.CellLemmas.{frames_long}
 use Rattle.regex_lite_engine.proofs.pikevm.memory.Memory.is_done.Goals as goal

@@ -1,9 +1,8 @@
-use Rattle.std.proofs.Common.{◌≡◌, ◌<◌, length, map, slice_index}
-use Rattle.std.proofs.Common.{slice_index_or, refl, ap, sym, ◌∙◌, arith, length-set}
-use Rattle.regex_lite_engine.specs.Search.Beginnings.{untold}
-use Rattle.regex_lite_engine.specs.Pikevm.Cells.{nth_row, other, row_on}
-use Rattle.regex_lite_engine.specs.Pikevm.Cells.{place_on, start_on, start_told}
-use Rattle.regex_lite_engine.specs.Pikevm.Machine.{State, thread_at}
+use Rattle.regex_lite_engine.proofs.Common.{◌≡◌, ◌<◌, map, length, slice_index, slice_index_or, sym}
+use Rattle.regex_lite_engine.proofs.Common.{refl, ap, ◌∙◌, arith, length-set, nth_row, other}
+use Rattle.regex_lite_engine.proofs.Common.{place_on, start_on, row_on, start_told, thread_at}
+use Rattle.regex_lite_engine.proofs.Common.{untold}
+use Rattle.regex_lite_engine.specs.Pikevm.Machine.{State}
 use Rattle.regex_lite_engine.proofs.pikevm.memory.CellLemmas.{row_fits, told_at, state_is}
 use Rattle.regex_lite_engine.proofs.pikevm.memory.ListLemmas.{first_put, list_kept, thread_is}
 use Rattle.regex_lite_engine.proofs.pikevm.memory.ListLemmas.{thread_told, threads_long}

@@ -1,4 +1,4 @@
-use Rattle.std.proofs.Common.{◌≡◌, ℕ, length}
+use Rattle.regex_lite_engine.proofs.Common.{◌≡◌, ℕ, length}
 use Rattle.regex_lite_engine.specs.Pikevm.Machine.{unwound}
 use Rattle.regex_lite_engine.specs.Pikevm.Room.{FramesBelow}
 use Rattle.regex_lite_engine.proofs.pikevm.memory.Memory.next_place.Given as goal

@@ -1,4 +1,4 @@
-use Rattle.std.proofs.Common.{◌<◌, refl, ap, sym, ◌∙◌, arith}
+use Rattle.regex_lite_engine.proofs.Common.{◌<◌, sym, refl, ap, ◌∙◌, arith}
 use Rattle.regex_lite_engine.specs.Pikevm.Machine.{State}
 use Rattle.regex_lite_engine.proofs.pikevm.memory.CellLemmas.{frame_taken, state_is}
 use Rattle.regex_lite_engine.proofs.pikevm.memory.Memory.pop.Goals as goal

@@ -1,6 +1,6 @@
-use Rattle.std.proofs.Common.{◌∷◌, length, set, refl, ap, ◌∙◌, arith, length-set}
-use Rattle.regex_lite_engine.specs.declared.pikevm.cell.Cell.{Cell}
-use Rattle.regex_lite_engine.specs.Pikevm.Cells.{round_in, frame_of, other}
+use Rattle.regex_lite_engine.proofs.Common.{◌∷◌, length, set, refl, ap, ◌∙◌, arith, length-set}
+use Rattle.regex_lite_engine.proofs.Common.{round_in, other, Cell}
+use Rattle.regex_lite_engine.specs.Pikevm.Cells.{frame_of}
 use Rattle.regex_lite_engine.specs.Pikevm.Machine.{State}
 use Rattle.regex_lite_engine.proofs.pikevm.memory.CellLemmas.{not_told, frame_put, frames_long}
 use Rattle.regex_lite_engine.proofs.pikevm.memory.CellLemmas.{state_is, with_frame}

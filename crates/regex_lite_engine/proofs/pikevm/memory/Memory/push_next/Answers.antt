@@ -1,8 +1,7 @@
-use Rattle.std.proofs.Common.{◌≡◌, ◌<◌, ◌+◌, ◌++◌, ◌∷◌, [], length, take, reverse}
-use Rattle.std.proofs.Common.{set, ap, subst, sym, ◌∙◌, arith, length-set}
-use Rattle.regex_lite_engine.specs.Pikevm.Cells.{nth_row, threads_on, other, row_on}
+use Rattle.regex_lite_engine.proofs.Common.{◌≡◌, ◌+◌, ◌<◌, [], ◌∷◌, ◌++◌, reverse, length, take}
+use Rattle.regex_lite_engine.proofs.Common.{set, sym, ap, ◌∙◌, subst, arith, length-set, nth_row}
+use Rattle.regex_lite_engine.proofs.Common.{other, row_on, threads_on, Row}
 use Rattle.regex_lite_engine.specs.Pikevm.Machine.{State}
-use Rattle.regex_lite_engine.specs.Search.Rows.{Row}
 use Rattle.regex_lite_engine.proofs.pikevm.memory.CellLemmas.{back, row_fits, state_is}
 use Rattle.regex_lite_engine.proofs.pikevm.memory.ListLemmas.{threads_long, rounds_stay}
 use Rattle.regex_lite_engine.proofs.pikevm.memory.ListLemmas.{frames_stay, row_stays}

@@ -1,5 +1,4 @@
-use Rattle.std.proofs.Common.{◌<◌, length, set, ap, ◌∙◌, arith}
-use Rattle.regex_lite_engine.specs.Pikevm.Cells.{nth_row, other}
+use Rattle.regex_lite_engine.proofs.Common.{◌<◌, length, set, ap, ◌∙◌, arith, nth_row, other}
 use Rattle.regex_lite_engine.specs.Pikevm.Machine.{State}
 use Rattle.regex_lite_engine.proofs.pikevm.memory.CellLemmas.{state_is}
 use Rattle.regex_lite_engine.proofs.pikevm.memory.ListLemmas.{first_put, list_kept}

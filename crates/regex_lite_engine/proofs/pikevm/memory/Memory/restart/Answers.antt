@@ -1,5 +1,4 @@
-use Rattle.std.proofs.Common.{◌≤◌, slice_index, refl, sym, subst}
-use Rattle.std.specs.Prelude.{vec_capacity}
+use Rattle.regex_lite_engine.proofs.Common.{◌≤◌, slice_index, vec_capacity, sym, refl, subst}
 use Rattle.regex_lite_engine.specs.declared.pikevm.memory.Memory.TheInside.{Inside}
 use Rattle.regex_lite_engine.specs.Pikevm.Cells.{rounds_in, HoldTogether}
 use Rattle.regex_lite_engine.specs.Pikevm.Machine.{State}

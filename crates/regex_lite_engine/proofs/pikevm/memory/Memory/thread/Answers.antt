@@ -1,4 +1,4 @@
-use Rattle.std.proofs.Common.{◌<◌, length, ap, arith}
+use Rattle.regex_lite_engine.proofs.Common.{◌<◌, length, ap, arith}
 use Rattle.regex_lite_engine.specs.Pikevm.Machine.{State}
 use Rattle.regex_lite_engine.proofs.pikevm.memory.ListLemmas.{place_read, start_read, threads_long}
 use Rattle.regex_lite_engine.proofs.pikevm.memory.Memory.thread.Goals as goal

@@ -1,4 +1,4 @@
-use Rattle.std.proofs.Common.{length, ap, sym, ◌∙◌, arith}
+use Rattle.regex_lite_engine.proofs.Common.{length, sym, ap, ◌∙◌, arith}
 use Rattle.regex_lite_engine.specs.Pikevm.Machine.{State}
 use Rattle.regex_lite_engine.proofs.pikevm.memory.ListLemmas.{threads_long}
 use Rattle.regex_lite_engine.proofs.pikevm.memory.Memory.threads.Goals as goal

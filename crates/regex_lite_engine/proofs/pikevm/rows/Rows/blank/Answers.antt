@@ -1,4 +1,4 @@
-use Rattle.std.proofs.Common.{rules, ◌*◌, ◌≤◌, length}
+use Rattle.regex_lite_engine.proofs.Common.{◌*◌, ◌≤◌, length, rules}
 use Rattle.regex_lite_engine.proofs.pikevm.rows.RowLemmas.{count_is}
 use Rattle.regex_lite_engine.proofs.pikevm.rows.BlankLemmas.{blank_wide}
 use Rattle.regex_lite_engine.proofs.pikevm.rows.Rows.blank.Goals as goal

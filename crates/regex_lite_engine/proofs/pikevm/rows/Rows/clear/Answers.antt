@@ -1,7 +1,6 @@
-use Rattle.std.proofs.Common.{◌≡◌, ℕ, ◌*◌, ◌+◌, ◌<◌, None, length, replicate}
-use Rattle.std.proofs.Common.{set, vec_capacity, ap, sym, ◌∙◌, arith}
-use Rattle.std.proofs.lemmas.List.{length-replicate}
-use Rattle.regex_lite_engine.specs.Search.Rows.{Row}
+use Rattle.regex_lite_engine.proofs.Common.{◌≡◌, ℕ, ◌+◌, ◌*◌, ◌<◌, length, set, replicate, None}
+use Rattle.regex_lite_engine.proofs.Common.{vec_capacity, sym, ap, ◌∙◌, arith, length-replicate}
+use Rattle.regex_lite_engine.proofs.Common.{Row}
 use Rattle.regex_lite_engine.proofs.pikevm.rows.BlankLemmas.{filled, over_long, row_within}
 use Rattle.regex_lite_engine.proofs.pikevm.rows.BlankLemmas.{row_wide, row_put_over}
 use Rattle.regex_lite_engine.proofs.pikevm.rows.Rows.clear.Goals as goal

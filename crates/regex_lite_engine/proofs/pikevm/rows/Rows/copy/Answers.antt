@@ -1,7 +1,6 @@
-use Rattle.std.proofs.Common.{rules, ◌≡◌, ℕ, [], ◌∷◌, length, set, slice_index_or}
-use Rattle.std.proofs.Common.{vec_capacity, refl, ap, sym, ◌∙◌, arith}
-use Rattle.std.proofs.lemmas.List.{set-get_or}
-use Rattle.regex_lite_engine.specs.Search.Rows.{Row}
+use Rattle.regex_lite_engine.proofs.Common.{◌≡◌, ℕ, [], ◌∷◌, length, set, slice_index_or}
+use Rattle.regex_lite_engine.proofs.Common.{vec_capacity, sym, refl, ap, ◌∙◌, arith, rules}
+use Rattle.regex_lite_engine.proofs.Common.{set-get_or, Row}
 use Rattle.regex_lite_engine.proofs.pikevm.rows.BlankLemmas.{row_wide}
 use Rattle.regex_lite_engine.proofs.pikevm.rows.Rows.copy.Goals as goal
 

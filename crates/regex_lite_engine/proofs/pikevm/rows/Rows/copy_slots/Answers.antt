@@ -1,5 +1,5 @@
-use Rattle.std.proofs.Common.{ℕ, ◌*◌, ◌+◌, vec_capacity, refl, sym, ◌∙◌, arith}
-use Rattle.regex_lite_engine.specs.Pikevm.Cells.{padded}
+use Rattle.regex_lite_engine.proofs.Common.{ℕ, ◌+◌, ◌*◌, vec_capacity, sym, refl, ◌∙◌, arith}
+use Rattle.regex_lite_engine.proofs.Common.{padded}
 use Rattle.regex_lite_engine.proofs.pikevm.rows.RowLemmas.{rows_apart}
 use Rattle.regex_lite_engine.proofs.pikevm.rows.BlankLemmas.{filled, row_within}
 use Rattle.regex_lite_engine.proofs.pikevm.rows.BlankLemmas.{row_wide, row_copied}

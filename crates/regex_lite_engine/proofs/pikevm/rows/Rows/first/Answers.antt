@@ -1,4 +1,4 @@
-use Rattle.std.proofs.Common.{take, vec_capacity, ap, ◌∙◌}
+use Rattle.regex_lite_engine.proofs.Common.{take, vec_capacity, ap, ◌∙◌}
 use Rattle.regex_lite_engine.proofs.pikevm.rows.BlankLemmas.{first_row}
 use Rattle.regex_lite_engine.proofs.pikevm.rows.Rows.first.Goals as goal
 

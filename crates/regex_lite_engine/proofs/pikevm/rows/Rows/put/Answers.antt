@@ -1,4 +1,4 @@
-use Rattle.std.proofs.Common.{vec_capacity}
+use Rattle.regex_lite_engine.proofs.Common.{vec_capacity}
 use Rattle.regex_lite_engine.proofs.pikevm.rows.BlankLemmas.{slot_put_over}
 use Rattle.regex_lite_engine.proofs.pikevm.rows.Rows.put.Goals as goal
 

@@ -1,8 +1,6 @@
-use Rattle.std.proofs.Common.{rules, ◌≡◌, ◌+◌, [], ◌∷◌, length, map, if◌then◌else◌}
-use Rattle.std.proofs.Common.{true, subst, sym, ap, arith}
-use Rattle.std.proofs.lemmas.List.{length-map}
-use Rattle.regex_lite_engine.specs.Graph.Places.{kept_back}
-use Rattle.regex_lite_engine.specs.Graph.Stored.{LeadsBelow, places_of, place_of}
+use Rattle.regex_lite_engine.proofs.Common.{◌≡◌, ◌+◌, true, [], ◌∷◌, map, length, if◌then◌else◌}
+use Rattle.regex_lite_engine.proofs.Common.{sym, ap, subst, arith, rules, length-map, kept_back}
+use Rattle.regex_lite_engine.proofs.Common.{place_of, places_of, LeadsBelow}
 use Rattle.regex_lite_engine.specs.declared.pikevm.enter.Onward as code
 use Rattle.regex_lite_engine.specs.Pikevm.Entering.{completes, onto, Enters}
 use Rattle.regex_lite_engine.specs.Pikevm.Machine.{explore, State}

@@ -1,4 +1,4 @@
-use Rattle.std.proofs.Common.{[], ◌∷◌, sym, subst}
+use Rattle.regex_lite_engine.proofs.Common.{[], ◌∷◌, sym, subst}
 use Rattle.regex_lite_engine.specs.Pikevm.Machine.{explore}
 use Rattle.regex_lite_engine.specs.Pikevm.Room.{HasRoom, Explores}
 use Rattle.regex_lite_engine.proofs.pikevm.walk.Walk.explore.Goals as goal

@@ -1,5 +1,5 @@
-use Rattle.std.proofs.Common.{List, [], ◌∷◌, false, true, refl, subst, ◌∙◌, arith}
-use Rattle.regex_lite_engine.specs.Graph.Stored.{places_of}
+use Rattle.regex_lite_engine.proofs.Common.{true, false, List, [], ◌∷◌, refl, ◌∙◌, subst, arith}
+use Rattle.regex_lite_engine.proofs.Common.{places_of}
 use Rattle.regex_lite_engine.specs.Pikevm.Machine.{explore, Frame}
 use Rattle.regex_lite_engine.specs.Pikevm.Room.{with_frames, GoesOn}
 use Rattle.regex_lite_engine.proofs.search.CountLemmas.{still_counted}

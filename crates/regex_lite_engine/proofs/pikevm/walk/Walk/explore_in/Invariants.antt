@@ -1,8 +1,6 @@
-use Rattle.std.proofs.Common.{◌≡◌, ◌∷◌, false}
-use Rattle.regex_lite_engine.specs.Graph.Stored.{places_of}
-use Rattle.regex_lite_engine.specs.Search.Bounds.{StaysCounted}
+use Rattle.regex_lite_engine.proofs.Common.{◌≡◌, false, ◌∷◌, places_of, KeepsPosition, StaysCounted}
 use Rattle.regex_lite_engine.specs.Pikevm.Machine.{explore}
-use Rattle.regex_lite_engine.specs.Pikevm.Room.{with_frames, GoesOn, HasRoom, KeepsPosition, work}
+use Rattle.regex_lite_engine.specs.Pikevm.Room.{with_frames, GoesOn, HasRoom, work}
 use Rattle.regex_lite_engine.proofs.pikevm.walk.Walk.explore_in.Given as goal
 
 abbrev pub invariant-places : goal.invariant-places

@@ -1,4 +1,4 @@
-use Rattle.std.proofs.Common.{◌≡◌, ◌-◌, ◌≤◌, Some, length, slice_get, ap, ◌∙◌, arith}
+use Rattle.regex_lite_engine.proofs.Common.{◌≡◌, ◌-◌, ◌≤◌, length, slice_get, Some, ap, ◌∙◌, arith}
 use Rattle.regex_lite_engine.proofs.pikevm.ThreadLemmas.{begun_taken}
 use Rattle.regex_lite_engine.proofs.pikevm.walk.Walk.take_up.Goals as goal
 

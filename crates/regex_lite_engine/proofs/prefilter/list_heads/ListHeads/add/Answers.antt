@@ -1,11 +1,9 @@
-use Rattle.std.proofs.Common.{◌==◌, ◌<◌, ◌*◌, ◌&&◌, ◌||◌, ◌∷◌, []}
-use Rattle.std.proofs.Common.{map, length, ap, sym, subst, ◌∙◌, arith}
-use Rattle.std.proofs.lemmas.List.{map-append}
-use Rattle.regex_lite_engine.specs.Prefilter.Pairs.{begins_with_pair, has_pair}
-use Rattle.regex_lite_engine.specs.Prefilter.Rows.{belongs, has, IsSized}
-use Rattle.regex_lite_engine.specs.Prefilter.Starts.{IsUnion, IsUnionOf}
-use Rattle.regex_lite_engine.specs.declared.prefilter.heads.Heads.{Heads}
-use Rattle.regex_lite_engine.specs.declared.prefilter.list_heads.ListHeads.{ListHeads}
+use Rattle.regex_lite_engine.proofs.Common.{◌*◌, ◌<◌, ◌&&◌, ◌||◌, [], ◌∷◌, map, length, ◌==◌, sym}
+use Rattle.regex_lite_engine.proofs.Common.{ap, ◌∙◌, subst, arith, map-append, has_pair}
+use Rattle.regex_lite_engine.proofs.Common.{begins_with_pair, has, belongs, IsUnionOf, Heads}
+use Rattle.regex_lite_engine.proofs.Common.{ListHeads}
+use Rattle.regex_lite_engine.specs.Prefilter.Rows.{IsSized}
+use Rattle.regex_lite_engine.specs.Prefilter.Starts.{IsUnion}
 use Rattle.regex_lite_engine.specs.declared.prefilter.list_heads.rows.Rows.{Rows}
 use Rattle.regex_lite_engine.proofs.prefilter.heads.UnionLemmas.{any_with, union_with}
 use Rattle.regex_lite_engine.proofs.prefilter.list_heads.IndexLemmas.{belongs_with}

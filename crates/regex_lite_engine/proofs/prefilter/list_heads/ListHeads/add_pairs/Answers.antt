@@ -1,10 +1,7 @@
-use Rattle.std.proofs.Common.{◌≡◌, ◌<◌, ◌&&◌, ◌||◌, ◌∙◌, ℕ, false, refl}
-use Rattle.std.proofs.Common.{ap, sym, length, slice_get, Some, arith}
-use Rattle.std.proofs.lemmas.Option.{slice_get-get_or}
+use Rattle.regex_lite_engine.proofs.Common.{◌≡◌, ℕ, ◌<◌, false, ◌&&◌, ◌||◌, length, slice_get, Some}
+use Rattle.regex_lite_engine.proofs.Common.{sym, refl, ap, ◌∙◌, arith, slice_get-get_or, in_set}
+use Rattle.regex_lite_engine.proofs.Common.{has_pair, begins_with_pair, goes_on_with, ListHeads}
 use Rattle.std.proofs.lemmas.List.{length-set}
-use Rattle.regex_lite_engine.specs.declared.prefilter.list_heads.ListHeads.{ListHeads}
-use Rattle.regex_lite_engine.specs.Prefilter.Pairs.{begins_with_pair, has_pair, in_set}
-use Rattle.regex_lite_engine.specs.Prefilter.Rows.{goes_on_with}
 use Rattle.regex_lite_engine.proofs.prefilter.list_heads.PairLemmas.{none_more, one_more}
 use Rattle.regex_lite_engine.proofs.prefilter.list_heads.PairLemmas.{row_passed}
 use Rattle.regex_lite_engine.proofs.prefilter.list_heads.ListHeads.add_pairs.Goals as goal

@@ -1,6 +1,5 @@
-use Rattle.std.proofs.Common.{◌≡◌, ◌<◌, ◌-◌, ◌&&◌, ◌||◌, ℕ, length, nat_lt}
-use Rattle.regex_lite_engine.specs.Prefilter.Pairs.{begins_with_pair, has_pair, in_set}
-use Rattle.regex_lite_engine.specs.Prefilter.Rows.{goes_on_with}
+use Rattle.regex_lite_engine.proofs.Common.{◌≡◌, ℕ, ◌-◌, ◌<◌, ◌&&◌, ◌||◌, length, nat_lt, in_set}
+use Rattle.regex_lite_engine.proofs.Common.{has_pair, begins_with_pair, goes_on_with}
 use Rattle.regex_lite_engine.proofs.prefilter.list_heads.ListHeads.add_pairs.Given as goal
 
 -- those with a first character below this one are added

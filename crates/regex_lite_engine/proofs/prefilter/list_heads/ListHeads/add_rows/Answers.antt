@@ -1,5 +1,5 @@
-use Rattle.std.proofs.Common.{◌≡◌, ◌==◌, ◌&&◌, ◌||◌, Bool, true, ap, sym, ◌∙◌, arith}
-use Rattle.regex_lite_engine.specs.Prefilter.Rows.{goes_on_with, has, is_in_column, start_row}
+use Rattle.regex_lite_engine.proofs.Common.{◌≡◌, Bool, true, ◌&&◌, ◌||◌, ◌==◌, sym, ap, ◌∙◌, arith}
+use Rattle.regex_lite_engine.proofs.Common.{start_row, is_in_column, has, goes_on_with}
 use Rattle.regex_lite_engine.proofs.prefilter.list_heads.ColumnLemmas.{belongs_now, no_more_bit}
 use Rattle.regex_lite_engine.proofs.prefilter.list_heads.ListHeads.add_rows.Goals.{in-None, in-Some}
 use Rattle.regex_lite_engine.proofs.prefilter.list_heads.ListHeads.add_rows.Goals as goal

@@ -1,7 +1,6 @@
-use Rattle.std.proofs.Common.{◌≡◌, ◌*◌, ◌++◌, Some, not, ap, refl, sym, length, ◌∙◌, arith}
-use Rattle.std.specs.List.{filter, range_with_len}
-use Rattle.regex_lite_engine.specs.Prefilter.ListHeads.{may_start}
-use Rattle.regex_lite_engine.specs.Prefilter.Rows.{set_from}
+use Rattle.regex_lite_engine.proofs.Common.{◌≡◌, ◌*◌, not, ◌++◌, length, Some, sym, refl, ap, ◌∙◌}
+use Rattle.regex_lite_engine.proofs.Common.{arith, range_with_len, may_start, set_from}
+use Rattle.std.specs.List.{filter}
 use Rattle.regex_lite_engine.proofs.prefilter.list_heads.WalkLemmas.{all_words, fits_word}
 use Rattle.regex_lite_engine.proofs.prefilter.list_heads.WalkLemmas.{none_listed}
 use Rattle.regex_lite_engine.proofs.prefilter.list_heads.WalkLemmas.{none_starts_behind}

@@ -1,7 +1,5 @@
-use Rattle.std.proofs.Common.{◌≡◌, ◌≤◌, ◌*◌, Some}
-use Rattle.std.specs.Prelude.{filter, vec_capacity}
-use Rattle.std.specs.List.{range_with_len}
-use Rattle.regex_lite_engine.specs.Prefilter.ListHeads.{may_start}
+use Rattle.regex_lite_engine.proofs.Common.{◌≡◌, ◌*◌, ◌≤◌, Some, vec_capacity, filter}
+use Rattle.regex_lite_engine.proofs.Common.{range_with_len, may_start}
 use Rattle.regex_lite_engine.proofs.prefilter.list_heads.ListHeads.list.Given as goal
 
 abbrev pub invariant-loop-k : goal.invariant-loop-k

@@ -1,5 +1,5 @@
-use Rattle.std.proofs.Common.{◌≡◌, ◌+◌, ◌++◌, ◌∷◌, [], ap, refl, sym, length, ◌∙◌, arith}
-use Rattle.std.specs.List.{range_with_len}
+use Rattle.regex_lite_engine.proofs.Common.{◌≡◌, ◌+◌, [], ◌∷◌, ◌++◌, length, sym, refl, ap, ◌∙◌}
+use Rattle.regex_lite_engine.proofs.Common.{arith, range_with_len}
 use Rattle.std.proofs.lemmas.List.FromFn.{length-range_with_len}
 use Rattle.regex_lite_engine.proofs.prefilter.list_heads.NumberLemmas.{range_parts}
 use Rattle.regex_lite_engine.proofs.prefilter.list_heads.ListHeads.list_all.Goals as goal

@@ -1,6 +1,4 @@
-use Rattle.std.proofs.Common.{◌≡◌, ◌≤◌}
-use Rattle.std.specs.Prelude.{vec_capacity}
-use Rattle.std.specs.List.{range_with_len}
+use Rattle.regex_lite_engine.proofs.Common.{◌≡◌, ◌≤◌, vec_capacity, range_with_len}
 use Rattle.regex_lite_engine.proofs.prefilter.list_heads.ListHeads.list_all.Given as goal
 
 abbrev pub invariant-loop-number : goal.invariant-loop-number

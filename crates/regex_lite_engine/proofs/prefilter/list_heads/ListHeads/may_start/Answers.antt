@@ -1,11 +1,9 @@
-use Rattle.std.proofs.Common.{◌≡◌, ◌==◌, ◌-◌, ◌*◌, ◌/◌, ◌%◌, ◌&&◌, ◌||◌, ℕ}
-use Rattle.std.proofs.Common.{Option, Some, None, ap, ◌∙◌, arith}
-use Rattle.std.specs.Int.{bit_at}
-use Rattle.std.specs.Prelude.{is_none, option_map, unwrap_or}
-use Rattle.std.proofs.lemmas.Nat.Bits.{shr_and_one}
+use Rattle.regex_lite_engine.proofs.Common.{◌≡◌, ℕ, ◌-◌, ◌*◌, ◌/◌, ◌%◌, ◌&&◌, ◌||◌, is_none, ◌==◌}
+use Rattle.regex_lite_engine.proofs.Common.{Some, None, Option, option_map, ap, ◌∙◌, arith}
+use Rattle.regex_lite_engine.proofs.Common.{shr_and_one, bit_at, may_start, first_row, second_row}
+use Rattle.regex_lite_engine.proofs.Common.{start_row, has}
+use Rattle.std.specs.Prelude.{unwrap_or}
 use Rattle.std.proofs.Math.Bool.{and_self}
-use Rattle.regex_lite_engine.specs.Prefilter.ListHeads.{may_start}
-use Rattle.regex_lite_engine.specs.Prefilter.Rows.{first_row, has, second_row, start_row}
 use Rattle.regex_lite_engine.proofs.prefilter.list_heads.ListHeads.may_start.Goals as goal
 
 pub returns : goal.returns

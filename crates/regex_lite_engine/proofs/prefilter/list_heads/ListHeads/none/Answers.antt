@@ -1,5 +1,4 @@
-use Rattle.std.proofs.Common.{ap, ◌∙◌, length, slice_get}
-use Rattle.std.proofs.lemmas.List.{length-replicate}
+use Rattle.regex_lite_engine.proofs.Common.{length, slice_get, ap, ◌∙◌, length-replicate}
 use Rattle.regex_lite_engine.specs.Prefilter.Pairs.{in_some_set}
 use Rattle.regex_lite_engine.proofs.prefilter.list_heads.PairLemmas.{no_pair}
 use Rattle.regex_lite_engine.proofs.prefilter.list_heads.ListHeads.none.Goals as goal

@@ -1,7 +1,8 @@
-use Rattle.std.proofs.Common.{◌≡◌, ◌+◌, ◌++◌, ◌∷◌, [], map, take, ap, refl, sym, subst, ◌∙◌, arith}
-use Rattle.std.proofs.lemmas.List.{length-map, length-take, map-append, take_more, take_all}
-use Rattle.regex_lite_syntax.specs.Tree.Views.{tree_of}
-use Rattle.regex_lite_engine.specs.Prefilter.ListHeads.{AreEachHeadsOf, AreHeadsOfTrees}
+use Rattle.regex_lite_engine.proofs.Common.{◌≡◌, ◌+◌, [], ◌∷◌, ◌++◌, map, take, sym, refl, ap, ◌∙◌}
+use Rattle.regex_lite_engine.proofs.Common.{subst, arith, length-map, length-take, map-append}
+use Rattle.regex_lite_engine.proofs.Common.{take_all, tree_of, AreEachHeadsOf}
+use Rattle.std.proofs.lemmas.List.{take_more}
+use Rattle.regex_lite_engine.specs.Prefilter.ListHeads.{AreHeadsOfTrees}
 use Rattle.regex_lite_engine.proofs.prefilter.list_heads.IndexLemmas.{heads_of_more}
 use Rattle.regex_lite_engine.proofs.prefilter.list_heads.ListHeads.of.Goals as goal
 

@@ -1,7 +1,5 @@
-use Rattle.std.proofs.Common.{◌≡◌, List, length, map, take}
-use Rattle.regex_lite_syntax.specs.Tree.Views.{tree_of}
-use Rattle.regex_lite_engine.specs.declared.prefilter.heads.Heads.{Heads}
-use Rattle.regex_lite_engine.specs.Prefilter.ListHeads.{AreEachHeadsOf, IsIndexOf}
+use Rattle.regex_lite_engine.proofs.Common.{◌≡◌, List, map, length, take, tree_of, IsIndexOf}
+use Rattle.regex_lite_engine.proofs.Common.{AreEachHeadsOf, Heads}
 use Rattle.regex_lite_engine.proofs.prefilter.list_heads.ListHeads.of.Given as goal
 
 abbrev pub invariant-loop-number : goal.invariant-loop-number

@@ -1,7 +1,6 @@
-use Rattle.std.proofs.Common.{◌≡◌, ◌%◌, inl, inr, true, ap, sym, subst, ◌∙◌, arith}
-use Rattle.std.proofs.lemmas.Bool.{cases_lt, both_ways}
-use Rattle.regex_lite_engine.specs.Prefilter.Starts.{begins_with}
-use Rattle.regex_lite_engine.specs.Prefilter.Thirds.{in_mask}
+use Rattle.regex_lite_engine.proofs.Common.{◌≡◌, ◌%◌, true, sym, ap, ◌∙◌, subst, inl, inr, arith}
+use Rattle.regex_lite_engine.proofs.Common.{cases_lt, begins_with, in_mask}
+use Rattle.std.proofs.lemmas.Bool.{both_ways}
 use Rattle.regex_lite_engine.proofs.prefilter.list_heads.ThirdLemmas.{added, all_in_mask}
 use Rattle.regex_lite_engine.proofs.prefilter.list_heads.ThirdLemmas.{begins_by_character, kept}
 use Rattle.regex_lite_engine.proofs.prefilter.starts.StartLemmas.{begins_as_one}

@@ -1,6 +1,4 @@
-use Rattle.std.proofs.Common.{◌≡◌, ◌<◌, ℕ, true}
-use Rattle.regex_lite_engine.specs.Prefilter.Starts.{begins_with}
-use Rattle.regex_lite_engine.specs.Prefilter.Thirds.{in_mask}
+use Rattle.regex_lite_engine.proofs.Common.{◌≡◌, ℕ, ◌<◌, true, begins_with, in_mask}
 use Rattle.regex_lite_engine.proofs.prefilter.list_heads.thirds.mask_of.Given as goal
 
 -- those below this one are in the mask

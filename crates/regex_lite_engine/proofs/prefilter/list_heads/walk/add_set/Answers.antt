@@ -1,7 +1,6 @@
-use Rattle.std.proofs.Common.{◌<◌, ◌+◌, ◌++◌, ◌∷◌, [], length}
-use Rattle.std.proofs.Common.{append_assoc, refl, sym, ap, ◌∙◌, arith}
+use Rattle.regex_lite_engine.proofs.Common.{◌+◌, ◌<◌, [], ◌∷◌, ◌++◌, length, sym, refl, ap, ◌∙◌}
+use Rattle.regex_lite_engine.proofs.Common.{append_assoc, arith, set_from}
 use Rattle.std.proofs.lemmas.List.{append-nil, length-append}
-use Rattle.regex_lite_engine.specs.Prefilter.Rows.{set_from}
 use Rattle.regex_lite_engine.proofs.prefilter.list_heads.NumberLemmas.{lowest_comes_first}
 use Rattle.regex_lite_engine.proofs.prefilter.list_heads.NumberLemmas.{lowest_bit, less_without}
 use Rattle.regex_lite_engine.proofs.prefilter.list_heads.NumberLemmas.{none_of_zero, without_lowest}

@@ -1,6 +1,4 @@
-use Rattle.std.proofs.Common.{◌≡◌, ◌<◌, ◌≤◌, ◌++◌, ◌^◌}
-use Rattle.std.specs.Prelude.{vec_capacity}
-use Rattle.regex_lite_engine.specs.Prefilter.Rows.{set_from}
+use Rattle.regex_lite_engine.proofs.Common.{◌≡◌, ◌^◌, ◌<◌, ◌≤◌, ◌++◌, vec_capacity, set_from}
 use Rattle.regex_lite_engine.proofs.prefilter.list_heads.walk.add_set.Given as goal
 
 -- what is listed, and what is left, are together what there was at first

@@ -1,11 +1,9 @@
-use Rattle.std.proofs.Common.{◌≡◌, ◌⊎◌, inl, inr, IsTrue, sym, ap}
-use Rattle.std.proofs.Common.{◌∙◌, subst, refl, nat_eq, drop, ◌+◌}
-use Rattle.regex_lite_syntax.specs.Tree.{Tree, Trees, repetition, concat, alternation}
-use Rattle.regex_lite_syntax.specs.Tree.Matches.{Chain, SomeBranch}
-use Rattle.regex_lite_syntax.specs.Tree.Views.{tree_of}
+use Rattle.regex_lite_engine.proofs.Common.{◌≡◌, ◌+◌, ◌⊎◌, drop, IsTrue, sym, refl, ap, ◌∙◌, subst}
+use Rattle.regex_lite_engine.proofs.Common.{inl, inr, Tree, repetition, concat, alternation, Trees}
+use Rattle.regex_lite_engine.proofs.Common.{Chain, SomeBranch, tree_of, MayBegin, BeginsOrPasses}
+use Rattle.std.proofs.Common.{nat_eq}
 use Rattle.regex_lite_syntax.proofs.TreeLemmas.{tree_of-Repetition, tree_of-Concat}
 use Rattle.regex_lite_syntax.proofs.TreeLemmas.{tree_of-Alternation, trees_of, trees_more}
-use Rattle.regex_lite_engine.specs.Prefilter.Starts.{MayBegin, BeginsOrPasses}
 use Rattle.regex_lite_engine.proofs.prefilter.starts.StartLemmas.{grown_on, repetition_begins}
 use Rattle.regex_lite_engine.proofs.prefilter.starts.StartLemmas.{part_more, branch_more}
 use Rattle.regex_lite_engine.proofs.prefilter.starts.Starts.+add.Goals as goal

@@ -1,9 +1,5 @@
-use Rattle.std.proofs.Common.{◌≡◌, ◌⊎◌, ℕ, IsTrue, map, drop}
-use Rattle.regex_lite_syntax.specs.Text.{Text}
-use Rattle.regex_lite_syntax.specs.Tree.{trees}
-use Rattle.regex_lite_syntax.specs.Tree.Views.{tree_of}
-use Rattle.regex_lite_syntax.specs.Tree.Matches.{Chain, SomeBranch}
-use Rattle.regex_lite_engine.specs.Prefilter.Starts.{IsWider, MayBegin}
+use Rattle.regex_lite_engine.proofs.Common.{◌≡◌, ℕ, ◌⊎◌, map, drop, IsTrue, Text, trees, Chain}
+use Rattle.regex_lite_engine.proofs.Common.{SomeBranch, tree_of, MayBegin, IsWider}
 use Rattle.regex_lite_engine.proofs.prefilter.starts.Starts.+add.Given as goal
 
 -- the parts before may read nothing

@@ -1,14 +1,9 @@
-use Rattle.std.proofs.Common.{◌≡◌, ◌⊎◌, inl, ℕ, sym, ◌∙◌, subst, drop, ◌+◌}
-use Rattle.regex_lite_syntax.specs.Text.{Text}
-use Rattle.regex_lite_syntax.specs.Tree.{Trees}
-use Rattle.regex_lite_syntax.specs.Tree.Matches.{Chain, SomeBranch}
-use Rattle.regex_lite_syntax.specs.Tree.Views.{tree_of}
+use Rattle.regex_lite_engine.proofs.Common.{◌≡◌, ℕ, ◌+◌, ◌⊎◌, drop, sym, ◌∙◌, subst, inl, Text}
+use Rattle.regex_lite_engine.proofs.Common.{Trees, Chain, SomeBranch, tree_of, Reads, ReadsEach}
+use Rattle.regex_lite_engine.proofs.Common.{IsWider, Starts}
 use Rattle.regex_lite_syntax.proofs.TreeLemmas.{trees_of, trees_more}
 use Rattle.regex_lite_engine.specs.declared.prefilter.heads.Head.TheVariants.{One, More}
 use Rattle.regex_lite_engine.specs.declared.prefilter.heads.Head.{Head}
-use Rattle.regex_lite_engine.specs.declared.prefilter.starts.Starts.{Starts}
-use Rattle.regex_lite_engine.specs.Prefilter.Heads.{Reads, ReadsEach}
-use Rattle.regex_lite_engine.specs.Prefilter.Starts.{IsWider}
 use Rattle.regex_lite_engine.proofs.prefilter.starts.StartLemmas.{grown_on}
 use Rattle.regex_lite_engine.proofs.prefilter.heads.HeadLemmas.{as_one, branch_read, of_more}
 use Rattle.regex_lite_engine.proofs.prefilter.heads.HeadLemmas.{part_read, reads_grown}

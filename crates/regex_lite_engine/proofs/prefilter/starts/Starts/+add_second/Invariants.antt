@@ -1,11 +1,6 @@
-use Rattle.std.proofs.Common.{◌≡◌, ◌⊎◌, ℕ, map, drop}
-use Rattle.regex_lite_syntax.specs.Text.{Text}
-use Rattle.regex_lite_syntax.specs.Tree.{trees}
-use Rattle.regex_lite_syntax.specs.Tree.Views.{tree_of}
-use Rattle.regex_lite_syntax.specs.Tree.Matches.{Chain, SomeBranch}
+use Rattle.regex_lite_engine.proofs.Common.{◌≡◌, ℕ, ◌⊎◌, map, drop, Text, trees, Chain, SomeBranch}
+use Rattle.regex_lite_engine.proofs.Common.{tree_of, Reads, IsWider}
 use Rattle.regex_lite_engine.specs.declared.prefilter.heads.Head.TheVariants.{One, More}
-use Rattle.regex_lite_engine.specs.Prefilter.Heads.{Reads}
-use Rattle.regex_lite_engine.specs.Prefilter.Starts.{IsWider}
 use Rattle.regex_lite_engine.proofs.prefilter.starts.Starts.+add_second.Given as goal
 
 -- the parts before read what is given

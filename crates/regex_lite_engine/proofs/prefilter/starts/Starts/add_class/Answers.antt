@@ -1,9 +1,6 @@
-use Rattle.std.proofs.Common.{◌≡◌, ◌<◌, inl, inr, ◌∙◌, sym, subst}
-use Rattle.std.proofs.Common.{true, get_or, length, take, arith}
-use Rattle.std.proofs.lemmas.Bool.Decides.{nat_tests}
-use Rattle.regex_lite_syntax.specs.declared.class.ClassRange.{ClassRange}
-use Rattle.regex_lite_syntax.specs.Ranges.{in_ranges}
-use Rattle.regex_lite_syntax.specs.Sets.{just, span}
+use Rattle.regex_lite_engine.proofs.Common.{◌≡◌, ◌<◌, true, length, get_or, take, sym, ◌∙◌, subst}
+use Rattle.regex_lite_engine.proofs.Common.{inl, inr, arith, nat_tests, in_ranges, just, ClassRange}
+use Rattle.regex_lite_syntax.specs.Sets.{span}
 use Rattle.regex_lite_syntax.proofs.RangeLemmas.{in_ranges_more}
 use Rattle.regex_lite_engine.proofs.prefilter.starts.StartLemmas.{grown_on, one_is_true}
 use Rattle.regex_lite_engine.proofs.prefilter.starts.StartLemmas.{past_ascii_begin}

@@ -1,6 +1,5 @@
-use Rattle.std.proofs.Common.{take}
-use Rattle.regex_lite_syntax.specs.Ranges.{in_ranges}
-use Rattle.regex_lite_engine.specs.Prefilter.Starts.{IsWider, HasAll}
+use Rattle.regex_lite_engine.proofs.Common.{take, in_ranges, IsWider}
+use Rattle.regex_lite_engine.specs.Prefilter.Starts.{HasAll}
 use Rattle.regex_lite_engine.proofs.prefilter.starts.Starts.add_class.Given as goal
 
 abbrev pub invariant-loop-range : goal.invariant-loop-range

@@ -1,7 +1,6 @@
-use Rattle.std.proofs.Common.{inl, refl, subst, IsTrue, true}
-use Rattle.regex_lite_syntax.specs.Text.{before, after}
+use Rattle.regex_lite_engine.proofs.Common.{true, IsTrue, refl, subst, inl, after, Starts}
+use Rattle.regex_lite_syntax.specs.Text.{before}
 use Rattle.regex_lite_syntax.specs.Tree.Looks.{holds_between}
-use Rattle.regex_lite_engine.specs.declared.prefilter.starts.Starts.{Starts}
 use Rattle.regex_lite_engine.proofs.prefilter.starts.StartLemmas.{may_at_start}
 use Rattle.regex_lite_engine.proofs.prefilter.starts.Starts.add_look.Goals as goal
 

@@ -1,6 +1,4 @@
-use Rattle.std.proofs.Common.{subst}
-use Rattle.regex_lite_syntax.specs.Tree.Views.{tree_of}
-use Rattle.regex_lite_engine.specs.Prefilter.Heads.{ReadsEach}
+use Rattle.regex_lite_engine.proofs.Common.{subst, tree_of, ReadsEach}
 use Rattle.regex_lite_engine.proofs.prefilter.heads.HeadLemmas.{passes_read}
 use Rattle.regex_lite_engine.proofs.prefilter.starts.Starts.add_passes.Goals as goal
 

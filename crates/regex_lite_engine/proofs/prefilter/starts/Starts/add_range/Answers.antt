@@ -1,4 +1,4 @@
-use Rattle.std.proofs.Common.{arith}
+use Rattle.regex_lite_engine.proofs.Common.{arith}
 use Rattle.regex_lite_engine.proofs.prefilter.starts.StartLemmas.{in_span}
 use Rattle.regex_lite_engine.proofs.prefilter.starts.Starts.add_range.Goals as goal
 

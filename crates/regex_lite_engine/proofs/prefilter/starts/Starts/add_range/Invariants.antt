@@ -1,6 +1,5 @@
-use Rattle.std.proofs.Common.{◌≡◌, ◌≤◌, ◌<◌, ℕ, true, false, slice_index_or}
+use Rattle.regex_lite_engine.proofs.Common.{◌≡◌, ℕ, ◌<◌, ◌≤◌, true, false, slice_index_or, IsWider}
 use Rattle.std.specs.Char.{is_ascii}
-use Rattle.regex_lite_engine.specs.Prefilter.Starts.{IsWider}
 use Rattle.regex_lite_engine.proofs.prefilter.starts.Starts.add_range.Given as goal
 
 abbrev pub invariant-loop-code : goal.invariant-loop-code

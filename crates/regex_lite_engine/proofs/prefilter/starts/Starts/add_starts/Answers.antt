@@ -1,9 +1,6 @@
-use Rattle.std.proofs.Common.{◌≡◌, ◌<◌, inl, inr, Bool, true, ◌||◌, length}
-use Rattle.std.proofs.Common.{set, slice_index_or, ap, sym, ◌∙◌, refl, arith, rules}
-use Rattle.std.proofs.lemmas.Bool.{cases_eq}
-use Rattle.std.proofs.lemmas.List.{get_or-set_same, get_or-set_other}
-use Rattle.regex_lite_engine.specs.Prefilter.Starts.{begins_with}
-use Rattle.regex_lite_engine.specs.declared.prefilter.starts.Starts.{Starts}
+use Rattle.regex_lite_engine.proofs.Common.{◌≡◌, ◌<◌, Bool, true, ◌||◌, length, set, slice_index_or}
+use Rattle.regex_lite_engine.proofs.Common.{sym, refl, ap, ◌∙◌, inl, inr, arith, rules, cases_eq}
+use Rattle.regex_lite_engine.proofs.Common.{get_or-set_other, get_or-set_same, begins_with, Starts}
 use Rattle.regex_lite_engine.proofs.prefilter.starts.StartLemmas.{begins_alike, union_at}
 use Rattle.regex_lite_engine.proofs.prefilter.starts.Starts.add_starts.Goals as goal
 

@@ -1,5 +1,5 @@
-use Rattle.std.proofs.Common.{◌≡◌, ◌≤◌, ◌<◌, ◌||◌, ℕ, true, slice_index_or}
-use Rattle.regex_lite_engine.specs.Prefilter.Starts.{begins_with}
+use Rattle.regex_lite_engine.proofs.Common.{◌≡◌, ℕ, ◌<◌, ◌≤◌, true, ◌||◌, slice_index_or}
+use Rattle.regex_lite_engine.proofs.Common.{begins_with}
 use Rattle.regex_lite_engine.proofs.prefilter.starts.Starts.add_starts.Given as goal
 
 abbrev pub invariant-loop-code : goal.invariant-loop-code

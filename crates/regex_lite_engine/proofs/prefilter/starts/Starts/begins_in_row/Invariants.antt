@@ -1,4 +1,4 @@
-use Rattle.std.proofs.Common.{◌≡◌, ◌≤◌, ◌<◌, ◌*◌, ℕ, true, false, slice_index_or}
+use Rattle.regex_lite_engine.proofs.Common.{◌≡◌, ℕ, ◌*◌, ◌<◌, ◌≤◌, true, false, slice_index_or}
 use Rattle.regex_lite_engine.proofs.prefilter.starts.Starts.begins_in_row.Given as goal
 
 abbrev pub invariant-loop-code : goal.invariant-loop-code

@@ -1,5 +1,4 @@
-use Rattle.std.proofs.Common.{true, refl}
-use Rattle.std.specs.Prelude.{replicate}
+use Rattle.regex_lite_engine.proofs.Common.{true, replicate, refl}
 use Rattle.regex_lite_engine.proofs.prefilter.starts.StartLemmas.{everywhere_begins}
 use Rattle.regex_lite_engine.proofs.prefilter.starts.Starts.everywhere.Goals as goal
 

@@ -1,4 +1,4 @@
-use Rattle.std.proofs.Common.{◌≤◌}
+use Rattle.regex_lite_engine.proofs.Common.{◌≤◌}
 use Rattle.regex_lite_engine.proofs.prefilter.starts.Starts.len.Given as goal
 
 abbrev pub invariant-loop-k : goal.invariant-loop-k

@@ -1,4 +1,4 @@
-use Rattle.std.specs.Prelude.{chars}
+use Rattle.regex_lite_engine.proofs.Common.{chars}
 use Rattle.regex_lite_engine.proofs.search.list_patterns.ListStartLemmas.{all_of_entries}
 use Rattle.regex_lite_engine.proofs.search.all_of_list.AllOfListPatterns.come_to.Goals as goal
 

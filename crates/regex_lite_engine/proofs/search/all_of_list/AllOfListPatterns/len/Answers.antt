@@ -1,6 +1,5 @@
-use Rattle.std.proofs.Common.{length, ap, sym, ◌∙◌}
-use Rattle.std.proofs.lemmas.List.FromFn.{length-map-range_with_len}
-use Rattle.regex_lite_engine.specs.Search.Starts.{start_numbered}
+use Rattle.regex_lite_engine.proofs.Common.{length, sym, ap, ◌∙◌, length-map-range_with_len}
+use Rattle.regex_lite_engine.proofs.Common.{start_numbered}
 use Rattle.regex_lite_engine.proofs.search.all_of_list.AllOfListPatterns.len.Goals as goal
 
 pub returns : goal.returns

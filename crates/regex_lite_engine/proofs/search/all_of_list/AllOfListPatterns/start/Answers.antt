@@ -1,8 +1,6 @@
-use Rattle.std.proofs.Common.{◌<◌, get_or, length, map, Some, ap, sym, ◌∙◌, arith}
-use Rattle.std.specs.List.{range_with_len}
-use Rattle.std.proofs.lemmas.List.FromFn.{get_or-map-range_with_len, length-map-range_with_len}
-use Rattle.std.proofs.lemmas.Option.{slice_get-get_or}
-use Rattle.regex_lite_engine.specs.Search.Starts.{start_numbered}
+use Rattle.regex_lite_engine.proofs.Common.{◌<◌, map, length, get_or, Some, sym, ap, ◌∙◌, arith}
+use Rattle.regex_lite_engine.proofs.Common.{get_or-map-range_with_len, length-map-range_with_len}
+use Rattle.regex_lite_engine.proofs.Common.{slice_get-get_or, range_with_len, start_numbered}
 use Rattle.regex_lite_engine.proofs.search.all_of_list.AllOfListPatterns.start.Goals as goal
 use Rattle.regex_lite_engine.proofs.search.all_of_list.AllOfListPatterns.start.Goals.{After-entries-entries}
 

@@ -1,4 +1,4 @@
-use Rattle.std.proofs.Common.{refl}
+use Rattle.regex_lite_engine.proofs.Common.{refl}
 use Rattle.regex_lite_engine.proofs.search.here.HereLemmas.{here_begins}
 use Rattle.regex_lite_engine.proofs.search.here.Here.at.Goals as goal
 

@@ -1,5 +1,4 @@
-use Rattle.std.proofs.Common.{rules, ◌+◌, chars, suc, refl, sym, ap, subst}
-use Rattle.regex_lite_engine.specs.Search.Offsets.{IsOffset}
+use Rattle.regex_lite_engine.proofs.Common.{suc, ◌+◌, chars, sym, refl, ap, subst, rules, IsOffset}
 use Rattle.regex_lite_engine.proofs.search.here.HereLemmas.{moved, here_next}
 use Rattle.regex_lite_engine.proofs.OffsetLemmas.{boundary_at}
 use Rattle.regex_lite_engine.proofs.search.here.Here.next.Goals as goal

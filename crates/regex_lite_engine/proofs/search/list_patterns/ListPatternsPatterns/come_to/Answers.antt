@@ -1,10 +1,7 @@
-use Rattle.std.proofs.Common.{◌<◌, length, sym, subst, ap, ◌∙◌, arith}
-use Rattle.std.specs.Prelude.{chars}
-use Rattle.std.specs.List.{All, filter, range_with_len}
-use Rattle.std.proofs.lemmas.List.{length-map}
-use Rattle.regex_lite_engine.specs.Graph.StoredList.{table_of_list}
-use Rattle.regex_lite_engine.specs.Prefilter.ListHeads.{is_candidate_at}
-use Rattle.regex_lite_engine.specs.Search.Starts.{start_numbered}
+use Rattle.regex_lite_engine.proofs.Common.{◌<◌, length, chars, sym, ap, ◌∙◌, subst, arith}
+use Rattle.regex_lite_engine.proofs.Common.{length-map, range_with_len, table_of_list}
+use Rattle.regex_lite_engine.proofs.Common.{is_candidate_at, start_numbered}
+use Rattle.std.specs.List.{All, filter}
 use Rattle.regex_lite_engine.proofs.prefilter.list_heads.WalkLemmas.{filter_at_most}
 use Rattle.regex_lite_engine.proofs.search.list_patterns.ListStartLemmas.{all_below, listed_start}
 use Rattle.regex_lite_engine.proofs.search.list_patterns.ListStartLemmas.{places_inside}

@@ -1,6 +1,4 @@
-use Rattle.std.proofs.Common.{length, slice_index}
-use Rattle.std.specs.Prelude.{chars}
-use Rattle.regex_lite_engine.specs.Graph.StoredList.{table_of_list}
+use Rattle.regex_lite_engine.proofs.Common.{length, slice_index, chars, table_of_list}
 use Rattle.regex_lite_engine.proofs.search.OneStartLemmas.{one_inside, one_at_most}
 use Rattle.regex_lite_engine.proofs.search.OneStartLemmas.{one_starts}
 use Rattle.regex_lite_engine.proofs.search.one_of_list.OneOfListPatterns.come_to.Goals as goal

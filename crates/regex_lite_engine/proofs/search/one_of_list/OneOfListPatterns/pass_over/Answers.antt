@@ -1,7 +1,5 @@
-use Rattle.std.proofs.Common.{◌∷◌, [], slice_index}
-use Rattle.std.specs.Prelude.{chars}
-use Rattle.regex_lite_engine.specs.Graph.StoredList.{table_of_list}
-use Rattle.regex_lite_engine.specs.Search.Starts.{AreDeadAt, IsDeadAt}
+use Rattle.regex_lite_engine.proofs.Common.{[], ◌∷◌, slice_index, chars, table_of_list, IsDeadAt}
+use Rattle.regex_lite_engine.proofs.Common.{AreDeadAt}
 use Rattle.regex_lite_engine.proofs.search.SkipLemmas.{passes_as}
 use Rattle.regex_lite_engine.proofs.search.OneStartLemmas.{one_dead}
 use Rattle.regex_lite_engine.proofs.search.one_of_list.OneOfListPatterns.pass_over.Goals as goal

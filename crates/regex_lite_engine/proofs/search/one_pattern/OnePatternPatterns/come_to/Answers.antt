@@ -1,8 +1,5 @@
-use Rattle.std.proofs.Common.{inl, sym, subst, ◌∙◌, length, arith}
-use Rattle.std.proofs.lemmas.List.{length-map}
-use Rattle.std.specs.Prelude.{chars}
-use Rattle.regex_lite_engine.specs.Graph.Stored.{place_of, table_of}
-use Rattle.regex_lite_engine.specs.Prefilter.Heads.{NeverBegins}
+use Rattle.regex_lite_engine.proofs.Common.{length, chars, sym, ◌∙◌, subst, inl, arith, length-map}
+use Rattle.regex_lite_engine.proofs.Common.{place_of, table_of, NeverBegins}
 use Rattle.regex_lite_engine.proofs.search.OneStartLemmas.{one_inside, one_at_most}
 use Rattle.regex_lite_engine.proofs.search.OneStartLemmas.{one_starts}
 use Rattle.regex_lite_engine.proofs.search.FirstByteLemmas.{never_at}

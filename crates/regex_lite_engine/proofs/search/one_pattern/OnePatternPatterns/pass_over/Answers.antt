@@ -1,8 +1,4 @@
-use Rattle.std.proofs.Common.{◌∷◌, []}
-use Rattle.std.specs.Prelude.{chars}
-use Rattle.regex_lite_engine.specs.Graph.Stored.{table_of}
-use Rattle.regex_lite_engine.specs.Prefilter.Heads.{NeverBegins}
-use Rattle.regex_lite_engine.specs.Search.Starts.{AreDeadAt}
+use Rattle.regex_lite_engine.proofs.Common.{[], ◌∷◌, chars, table_of, NeverBegins, AreDeadAt}
 use Rattle.regex_lite_engine.proofs.search.SkipLemmas.{passes_as}
 use Rattle.regex_lite_engine.proofs.search.OneStartLemmas.{one_dead}
 use Rattle.regex_lite_engine.proofs.search.one_pattern.OnePatternPatterns.pass_over.Goals as goal

@@ -1,4 +1,4 @@
-use Rattle.std.proofs.Common.{Some, arith, refl}
+use Rattle.regex_lite_syntax.proofs.Common.{Some, refl, arith}
 use Rattle.regex_lite_syntax.specs.Tree.Properties.{static_groups}
 use Rattle.regex_lite_syntax.proofs.hir.properties.Properties.captured.Goals as goal
 

@@ -1,6 +1,5 @@
-use Rattle.std.proofs.Common.{inl, inr, refl, sym, ◌∙◌, subst, ◌+◌, drop, arith}
-use Rattle.regex_lite_syntax.specs.Grammar.Gaps.{WholeGap}
-use Rattle.regex_lite_syntax.specs.Parser.ClassReadings.{EndsOpen, past_dash}
+use Rattle.regex_lite_syntax.proofs.Common.{◌+◌, drop, sym, refl, ◌∙◌, subst, inl, inr, arith}
+use Rattle.regex_lite_syntax.proofs.Common.{WholeGap, EndsOpen, past_dash}
 use Rattle.regex_lite_syntax.proofs.ListLemmas.{same_head}
 use Rattle.regex_lite_syntax.proofs.parse.IndexLemmas.{drop_char, left_at_end, some_at}
 use Rattle.regex_lite_syntax.proofs.parse.bracket.ClassItemLemmas.{no_dash, no_end}

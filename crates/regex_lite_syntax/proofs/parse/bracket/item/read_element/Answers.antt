@@ -1,12 +1,10 @@
-use Rattle.std.proofs.Common.{◌≡◌, sym, ◌∙◌, ap, subst, ◌≤◌, ℕ, ◌+◌, ◌∷◌, ◌++◌, drop}
-use Rattle.std.proofs.Common.{Result, Ok, Err, MatchResult, IfOk, is_ok}
-use Rattle.std.proofs.lemmas.Bool.{false≢true}
-use Rattle.std.proofs.lemmas.Result.{IfOk-weaker, IfErr-weaker}
-use Rattle.regex_lite_syntax.specs.Text.{Text, the}
-use Rattle.regex_lite_syntax.specs.Grammar.Escapes.{Primitive, one, Escape}
-use Rattle.regex_lite_syntax.specs.Grammar.Classes.{ClassElement, escaped}
-use Rattle.regex_lite_syntax.specs.Parser.Readings.{ReachesTo}
-use Rattle.regex_lite_syntax.specs.Parser.ClassReadings.{IsElement}
+use Rattle.regex_lite_syntax.proofs.Common.{◌≡◌, ℕ, ◌+◌, ◌≤◌, ◌∷◌, ◌++◌, drop, Ok, Err, Result, sym}
+use Rattle.regex_lite_syntax.proofs.Common.{ap, ◌∙◌, subst, false≢true, IfErr-weaker, IfOk-weaker}
+use Rattle.regex_lite_syntax.proofs.Common.{ClassElement, one, Escape, IsElement, ReachesTo, Text}
+use Rattle.regex_lite_syntax.proofs.Common.{the}
+use Rattle.std.proofs.Common.{MatchResult, IfOk, is_ok}
+use Rattle.regex_lite_syntax.specs.Grammar.Escapes.{Primitive}
+use Rattle.regex_lite_syntax.specs.Grammar.Classes.{escaped}
 use Rattle.regex_lite_syntax.proofs.parse.DenialLemmas.{none_of_part}
 use Rattle.regex_lite_syntax.proofs.parse.IndexLemmas.{drop_char}
 use Rattle.regex_lite_syntax.proofs.parse.bracket.ClassItemLemmas.{part_literal, escape_of_part}

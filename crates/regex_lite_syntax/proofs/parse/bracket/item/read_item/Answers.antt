@@ -1,13 +1,10 @@
-use Rattle.std.proofs.Common.{◌≢◌, refl, sym, ap, subst, arith, ◌++◌, drop, []}
-use Rattle.std.proofs.lemmas.Bool.{both_ways}
-use Rattle.std.proofs.lemmas.Result.{IfOk-weaker, IfErr-weaker}
-use Rattle.regex_lite_syntax.specs.Text.{Text, Begins, the}
-use Rattle.regex_lite_syntax.specs.Sets.{Set}
-use Rattle.regex_lite_syntax.specs.Grammar.Classes.{BeginsItem, ClassElement, ClassItem}
-use Rattle.regex_lite_syntax.specs.Grammar.Escapes.{Primitive, one, some_of, look_at}
-use Rattle.regex_lite_syntax.specs.Parser.Readings.{primitive_of, ReachesTo}
-use Rattle.regex_lite_syntax.specs.Parser.ClassReadings.{element_set}
-use Rattle.regex_lite_syntax.specs.Parser.ClassReadings.{RangeTo, HasItems}
+use Rattle.regex_lite_syntax.proofs.Common.{◌≢◌, [], ◌++◌, drop, sym, refl, ap, subst, arith}
+use Rattle.regex_lite_syntax.proofs.Common.{both_ways, IfErr-weaker, IfOk-weaker, ClassElement}
+use Rattle.regex_lite_syntax.proofs.Common.{BeginsItem, ClassItem, one, some_of, look_at}
+use Rattle.regex_lite_syntax.proofs.Common.{element_set, RangeTo, ReachesTo, Set, Text, Begins, the}
+use Rattle.regex_lite_syntax.specs.Grammar.Escapes.{Primitive}
+use Rattle.regex_lite_syntax.specs.Parser.Readings.{primitive_of}
+use Rattle.regex_lite_syntax.specs.Parser.ClassReadings.{HasItems}
 use Rattle.regex_lite_syntax.proofs.ExitLemmas.{at_exit}
 use Rattle.regex_lite_syntax.proofs.grammar.ClassLemmas.{begins}
 use Rattle.regex_lite_syntax.proofs.grammar.LongerGapLemmas.{begins_longer}

@@ -1,11 +1,8 @@
-use Rattle.std.proofs.Common.{◌≡◌, refl, ℕ, ◌≤◌, sym, ◌∙◌, ap, subst, ◌++◌, drop, arith}
+use Rattle.regex_lite_syntax.proofs.Common.{◌≡◌, ℕ, ◌≤◌, ◌++◌, drop, sym, refl, ap, ◌∙◌, subst}
+use Rattle.regex_lite_syntax.proofs.Common.{arith, ClassElement, one, RangeTo, Set, span}
 use Rattle.regex_lite_syntax.specs.declared.parse.escape.Primitive.{Primitive}
 use Rattle.regex_lite_syntax.specs.declared.parse.escape.Primitive.TheVariants as primitives
-use Rattle.regex_lite_syntax.specs.Sets.{Set, span}
-use Rattle.regex_lite_syntax.specs.Grammar.Escapes.{one}
-use Rattle.regex_lite_syntax.specs.Grammar.Classes.{ClassElement}
 use Rattle.regex_lite_syntax.specs.Parser.Readings.{primitive_of}
-use Rattle.regex_lite_syntax.specs.Parser.ClassReadings.{RangeTo}
 use Rattle.regex_lite_syntax.proofs.ExitLemmas.{at_exit}
 use Rattle.regex_lite_syntax.proofs.grammar.ClassLemmas.{one_same, part_once}
 use Rattle.regex_lite_syntax.proofs.parse.CompletionLemmas.{completes_part}

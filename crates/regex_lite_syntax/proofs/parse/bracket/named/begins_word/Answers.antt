@@ -1,6 +1,5 @@
-use Rattle.std.proofs.Common.{◌≡◌, ◌<◌, refl, false, length, [], ◌∷◌, arith}
-use Rattle.regex_lite_syntax.specs.Text.{Text}
-use Rattle.regex_lite_syntax.specs.Parser.ClassReadings.{is_beginning}
+use Rattle.regex_lite_syntax.proofs.Common.{◌≡◌, ◌<◌, false, [], ◌∷◌, length, refl, arith}
+use Rattle.regex_lite_syntax.proofs.Common.{is_beginning, Text}
 use Rattle.regex_lite_syntax.proofs.parse.bracket.named.begins_word.Goals as goal
 
 -- no text begins with a longer one

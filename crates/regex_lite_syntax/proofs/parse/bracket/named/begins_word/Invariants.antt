@@ -1,5 +1,4 @@
-use Rattle.std.proofs.Common.{◌≡◌, drop}
-use Rattle.regex_lite_syntax.specs.Parser.ClassReadings.{is_beginning}
+use Rattle.regex_lite_syntax.proofs.Common.{◌≡◌, drop, is_beginning}
 use Rattle.regex_lite_syntax.proofs.parse.bracket.named.begins_word.Given as goal
 
 abbrev pub invariant-loop-i : goal.invariant-loop-i

@@ -1,5 +1,4 @@
-use Rattle.std.proofs.Common.{◌≡◌, refl, false, length, [], ◌∷◌, arith}
-use Rattle.regex_lite_syntax.specs.Text.{Text, is_text}
+use Rattle.regex_lite_syntax.proofs.Common.{◌≡◌, false, [], ◌∷◌, length, refl, arith, Text, is_text}
 use Rattle.regex_lite_syntax.proofs.parse.bracket.named.is_word.Goals as goal
 
 -- texts of two lengths are two

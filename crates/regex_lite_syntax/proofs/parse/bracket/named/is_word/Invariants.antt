@@ -1,5 +1,4 @@
-use Rattle.std.proofs.Common.{◌≡◌, drop}
-use Rattle.regex_lite_syntax.specs.Text.{is_text}
+use Rattle.regex_lite_syntax.proofs.Common.{◌≡◌, drop, is_text}
 use Rattle.regex_lite_syntax.proofs.parse.bracket.named.is_word.Given as goal
 
 abbrev pub invariant-loop-i : goal.invariant-loop-i

@@ -1,18 +1,13 @@
-use Rattle.std.proofs.Common.{◌≡◌, refl, sym, ◌∙◌, ap, subst, ◌+◌, ◌-◌, ◌≤◌, ◌∷◌, drop, take}
-use Rattle.std.proofs.Common.{length, arith, ℕ, Bool, true, false, ◌==◌, if◌then◌else◌, Some, None}
-use Rattle.std.proofs.Common.{codes, ◌++◌, append_assoc}
-use Rattle.std.specs.Prelude.{option_map, is_some, Option, []}
-use Rattle.std.specs.List.{list_any}
-use Rattle.std.proofs.lemmas.Bool.{and_from}
-use Rattle.std.proofs.lemmas.List.{append-nil}
-use Rattle.std.proofs.lemmas.List.Sums.{list_all-from_AllPass}
+use Rattle.regex_lite_syntax.proofs.Common.{◌≡◌, ℕ, ◌+◌, ◌-◌, ◌≤◌, Bool, true, false, [], ◌∷◌, ◌++◌}
+use Rattle.regex_lite_syntax.proofs.Common.{length, take, drop, if◌then◌else◌, ◌==◌, Some, None}
+use Rattle.regex_lite_syntax.proofs.Common.{codes, Option, option_map, sym, refl, ap, ◌∙◌, subst}
+use Rattle.regex_lite_syntax.proofs.Common.{append_assoc, arith, and_from, append-nil}
+use Rattle.regex_lite_syntax.proofs.Common.{list_all-from_AllPass, list_any, is_lower, set_named}
+use Rattle.regex_lite_syntax.proofs.Common.{is_beginning, name_of, Text, the}
+use Rattle.std.specs.Prelude.{is_some}
 use Rattle.regex_lite_syntax.specs.declared.class.named.NamedSet.{NamedSet}
 use Rattle.regex_lite_syntax.specs.declared.parse.bracket.named.TheConstants.{ALL}
-use Rattle.regex_lite_syntax.specs.Text.{Text, the}
-use Rattle.regex_lite_syntax.specs.Characters.{is_lower}
-use Rattle.regex_lite_syntax.specs.NamedSets.{set_named}
-use Rattle.regex_lite_syntax.specs.Parser.SetNames.{name_of}
-use Rattle.regex_lite_syntax.specs.Parser.ClassReadings.{set_name, is_beginning, HasNamedSet}
+use Rattle.regex_lite_syntax.specs.Parser.ClassReadings.{set_name, HasNamedSet}
 use Rattle.regex_lite_syntax.proofs.ExitLemmas.{at_exit}
 use Rattle.regex_lite_syntax.proofs.ListLemmas.{same_tail}
 use Rattle.regex_lite_syntax.proofs.grammar.ClassLemmas.{begins}

@@ -1,7 +1,6 @@
-use Rattle.std.proofs.Common.{sym, subst, ◌≡◌, ◌<◌, ◌+◌, ◌++◌, drop, length, arith, IsTrue}
+use Rattle.regex_lite_syntax.proofs.Common.{◌≡◌, ◌+◌, ◌<◌, ◌++◌, length, drop, IsTrue, sym, subst}
+use Rattle.regex_lite_syntax.proofs.Common.{arith, AllPass, is_lower}
 use Rattle.std.proofs.lemmas.List.{get_or_read}
-use Rattle.std.specs.List.{AllPass}
-use Rattle.regex_lite_syntax.specs.Characters.{is_lower}
 use Rattle.regex_lite_syntax.proofs.grammar.WordLemmas.{pass_push, spelled_push, take_push}
 use Rattle.regex_lite_syntax.proofs.parse.IndexLemmas.{drop_char}
 use Rattle.regex_lite_syntax.proofs.parse.bracket.named.skip_lower.Goals as goal

@@ -1,6 +1,5 @@
-use Rattle.std.proofs.Common.{◌≡◌, ◌≤◌, ◌-◌, ◌++◌, drop, take, length}
-use Rattle.std.specs.List.{AllPass}
-use Rattle.regex_lite_syntax.specs.Characters.{is_lower}
+use Rattle.regex_lite_syntax.proofs.Common.{◌≡◌, ◌-◌, ◌≤◌, ◌++◌, length, take, drop, AllPass}
+use Rattle.regex_lite_syntax.proofs.Common.{is_lower}
 use Rattle.regex_lite_syntax.proofs.parse.bracket.named.skip_lower.Given as goal
 
 abbrev pub invariant-loop-end : goal.invariant-loop-end

@@ -1,4 +1,4 @@
-use Rattle.std.proofs.Common.{◌+◌, drop}
+use Rattle.regex_lite_syntax.proofs.Common.{◌+◌, drop}
 use Rattle.regex_lite_syntax.proofs.parse.bracket.opening.read_opening.Goals as goal
 
 pub returns-clause-opens : goal.returns-clause-opens

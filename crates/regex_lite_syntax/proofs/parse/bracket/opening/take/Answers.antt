@@ -1,5 +1,4 @@
-use Rattle.std.proofs.Common.{refl, ◌+◌, drop}
-use Rattle.regex_lite_syntax.specs.Grammar.Classes.{takes}
+use Rattle.regex_lite_syntax.proofs.Common.{◌+◌, drop, refl, takes}
 use Rattle.regex_lite_syntax.proofs.parse.bracket.opening.take.Goals as goal
 
 pub returns-then-is_at-clause-takes : goal.returns-then-is_at-clause-takes

@@ -1,5 +1,4 @@
-use Rattle.std.proofs.Common.{sym, ◌∙◌}
-use Rattle.std.proofs.lemmas.Bool.{false≢true}
+use Rattle.regex_lite_syntax.proofs.Common.{sym, ◌∙◌, false≢true}
 use Rattle.regex_lite_syntax.proofs.parse.bracket.ClassOpeningLemmas.{bracket_past}
 use Rattle.regex_lite_syntax.proofs.parse.bracket.opening.take_bracket.Goals as goal
 

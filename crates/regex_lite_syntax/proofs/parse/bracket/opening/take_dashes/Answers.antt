@@ -1,4 +1,4 @@
-use Rattle.std.proofs.Common.{refl, ◌+◌, arith}
+use Rattle.regex_lite_syntax.proofs.Common.{◌+◌, refl, arith}
 use Rattle.regex_lite_syntax.proofs.parse.bracket.ClassOpeningLemmas.{dashes_push, dashes_stop}
 use Rattle.regex_lite_syntax.proofs.parse.bracket.ClassOpeningLemmas.{some_dashes}
 use Rattle.regex_lite_syntax.proofs.parse.bracket.opening.take_dashes.Goals as goal

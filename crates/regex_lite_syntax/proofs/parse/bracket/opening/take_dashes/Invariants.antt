@@ -1,7 +1,5 @@
-use Rattle.std.proofs.Common.{◌≡◌, ◌≤◌, ◌-◌, ◌+◌, drop, length, ℕ, nat_lt}
-use Rattle.regex_lite_syntax.specs.Text.{Text}
-use Rattle.regex_lite_syntax.specs.Grammar.Gaps.{EndsGap}
-use Rattle.regex_lite_syntax.specs.Grammar.Classes.{Dashes}
+use Rattle.regex_lite_syntax.proofs.Common.{◌≡◌, ℕ, ◌+◌, ◌-◌, ◌≤◌, length, drop, nat_lt, Dashes}
+use Rattle.regex_lite_syntax.proofs.Common.{EndsGap, Text}
 use Rattle.regex_lite_syntax.proofs.parse.bracket.opening.take_dashes.Given as goal
 
 abbrev pub invariant-loop-found : goal.invariant-loop-found

@@ -1,6 +1,4 @@
-use Rattle.std.proofs.Common.{IsTrue, rules}
-use Rattle.regex_lite_syntax.specs.Characters.{is_character}
-use Rattle.regex_lite_syntax.specs.Sets.{just}
+use Rattle.regex_lite_syntax.proofs.Common.{IsTrue, rules, is_character, just}
 use Rattle.regex_lite_syntax.proofs.parse.bracket.ClassSetLemmas.{in_more, span_one}
 use Rattle.regex_lite_syntax.proofs.parse.bracket.set.push_char.Goals as goal
 

@@ -1,4 +1,4 @@
-use Rattle.std.proofs.Common.{◌≡◌, sym, ◌∙◌, ap, rules}
+use Rattle.regex_lite_syntax.proofs.Common.{◌≡◌, sym, ap, ◌∙◌, rules}
 use Rattle.regex_lite_syntax.specs.declared.parse.bracket.item.Element.TheVariants.{Set}
 use Rattle.regex_lite_syntax.specs.declared.parse.bracket.item.Item.{Item}
 use Rattle.regex_lite_syntax.specs.declared.parse.bracket.item.Item.TheVariants.{Alone}

@@ -1,7 +1,6 @@
-use Rattle.std.proofs.Common.{◌≡◌, refl, subst, Bool, codes, [], ◌++◌}
+use Rattle.regex_lite_syntax.proofs.Common.{◌≡◌, Bool, [], ◌++◌, codes, refl, subst, EndsInName}
+use Rattle.regex_lite_syntax.proofs.Common.{Text}
 use Rattle.regex_lite_syntax.specs.declared.hir.look.Look.TheVariants as looks
-use Rattle.regex_lite_syntax.specs.Text.{Text}
-use Rattle.regex_lite_syntax.specs.Parser.BoundaryNames.{EndsInName}
 use Rattle.regex_lite_syntax.proofs.parse.escape.BoundaryNameLemmas.{one_of_four}
 use Rattle.regex_lite_syntax.proofs.parse.escape.NameEndLemmas.{ends_in_longer_name}
 use Rattle.regex_lite_syntax.proofs.parse.escape.NameEndLemmas.{name_completable}

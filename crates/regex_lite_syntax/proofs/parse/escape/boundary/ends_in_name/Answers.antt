@@ -1,10 +1,6 @@
-use Rattle.std.proofs.Common.{◌≡◌, refl, sym, subst, ℕ, Bool, ◌∷◌, IsTrue, arith}
-use Rattle.std.specs.List.{list_all}
-use Rattle.std.proofs.lemmas.Bool.{and_parts, eqb-true, eqb-false}
-use Rattle.std.proofs.lemmas.List.{drop_all, drop_more}
-use Rattle.regex_lite_syntax.specs.Text.{Text}
-use Rattle.regex_lite_syntax.specs.Grammar.Escapes.{is_boundary_character}
-use Rattle.regex_lite_syntax.specs.Parser.BoundaryNames.{EndsInName}
+use Rattle.regex_lite_syntax.proofs.Common.{◌≡◌, ℕ, Bool, ◌∷◌, IsTrue, sym, refl, subst, arith}
+use Rattle.regex_lite_syntax.proofs.Common.{and_parts, eqb-false, eqb-true, drop_all, drop_more}
+use Rattle.regex_lite_syntax.proofs.Common.{list_all, is_boundary_character, EndsInName, Text}
 use Rattle.regex_lite_syntax.proofs.grammar.GapLemmas.{gap_to_end}
 use Rattle.regex_lite_syntax.proofs.parse.IndexLemmas.{some_at, gap_at_end}
 use Rattle.regex_lite_syntax.proofs.parse.escape.NameEndLemmas.{ends_at_start, ends_past_all}

@@ -1,7 +1,5 @@
-use Rattle.std.proofs.Common.{◌≤◌, drop, length, IsTrue}
-use Rattle.std.specs.List.{list_all}
-use Rattle.regex_lite_syntax.specs.Grammar.Escapes.{is_boundary_character}
-use Rattle.regex_lite_syntax.specs.Parser.BoundaryNames.{EndsInName}
+use Rattle.regex_lite_syntax.proofs.Common.{◌≤◌, length, drop, IsTrue, list_all}
+use Rattle.regex_lite_syntax.proofs.Common.{is_boundary_character, EndsInName}
 use Rattle.regex_lite_syntax.proofs.parse.escape.boundary.ends_in_name.Given as goal
 
 abbrev pub invariant-loop-letter : goal.invariant-loop-letter

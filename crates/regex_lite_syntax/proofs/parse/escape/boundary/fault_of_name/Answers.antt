@@ -1,11 +1,7 @@
-use Rattle.std.proofs.Common.{inl, inr, ◌≡◌, ◌≢◌, refl, sym, ◌∙◌, ap, subst, ℕ, Bool, false}
-use Rattle.std.proofs.Common.{[], ◌∷◌, ◌++◌}
-use Rattle.std.proofs.Common.{◌+◌, drop, arith}
-use Rattle.regex_lite_syntax.specs.declared.hir.look.Look.{Look}
-use Rattle.regex_lite_syntax.specs.Text.{Text, the}
-use Rattle.regex_lite_syntax.specs.Grammar.Gaps.{Gap, WholeGap, Spaced}
-use Rattle.regex_lite_syntax.specs.Grammar.Escapes.{is_boundary_character}
-use Rattle.regex_lite_syntax.specs.Grammar.Escapes.{boundary_named, BoundaryName}
+use Rattle.regex_lite_syntax.proofs.Common.{◌≡◌, ℕ, ◌+◌, Bool, false, ◌≢◌, [], ◌∷◌, ◌++◌, drop, sym}
+use Rattle.regex_lite_syntax.proofs.Common.{refl, ap, ◌∙◌, subst, inl, inr, arith}
+use Rattle.regex_lite_syntax.proofs.Common.{is_boundary_character, boundary_named, BoundaryName}
+use Rattle.regex_lite_syntax.proofs.Common.{Gap, WholeGap, Spaced, Text, the, Look}
 use Rattle.regex_lite_syntax.proofs.ListLemmas.{same_head, same_tail}
 use Rattle.regex_lite_syntax.proofs.grammar.GapLemmas.{gap_once}
 use Rattle.regex_lite_syntax.proofs.grammar.LongerGapLemmas.{gap_before, spaced_longer}

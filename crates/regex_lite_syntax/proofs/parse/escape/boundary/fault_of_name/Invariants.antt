@@ -1,7 +1,5 @@
-use Rattle.std.proofs.Common.{◌≤◌, ◌-◌, drop, length}
-use Rattle.regex_lite_syntax.specs.Text.{Text}
-use Rattle.regex_lite_syntax.specs.Grammar.Gaps.{Spaced}
-use Rattle.regex_lite_syntax.specs.Grammar.Escapes.{is_boundary_character}
+use Rattle.regex_lite_syntax.proofs.Common.{◌-◌, ◌≤◌, length, drop, is_boundary_character, Spaced}
+use Rattle.regex_lite_syntax.proofs.Common.{Text}
 use Rattle.regex_lite_syntax.proofs.parse.escape.boundary.fault_of_name.Given as goal
 
 abbrev pub invariant-loop-c : goal.invariant-loop-c

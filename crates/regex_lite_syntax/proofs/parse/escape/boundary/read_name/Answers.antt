@@ -1,11 +1,6 @@
-use Rattle.std.proofs.Common.{◌≡◌, refl, subst, Bool}
-use Rattle.std.proofs.Common.{◌∷◌, codes, Some}
-use Rattle.regex_lite_syntax.specs.declared.hir.look.Look.{Look}
-use Rattle.regex_lite_syntax.specs.Text.{Text, the}
-use Rattle.regex_lite_syntax.specs.Grammar.Gaps.{Gap, Spaced}
-use Rattle.regex_lite_syntax.specs.Grammar.Escapes.{is_boundary_character}
-use Rattle.regex_lite_syntax.specs.Grammar.Escapes.{BoundaryName}
-use Rattle.regex_lite_syntax.specs.Grammar.Escapes.{boundary_named}
+use Rattle.regex_lite_syntax.proofs.Common.{◌≡◌, Bool, ◌∷◌, Some, codes, refl, subst}
+use Rattle.regex_lite_syntax.proofs.Common.{is_boundary_character, boundary_named, BoundaryName}
+use Rattle.regex_lite_syntax.proofs.Common.{Gap, Spaced, Text, the, Look}
 use Rattle.regex_lite_syntax.proofs.parse.escape.BoundaryNameLemmas.{one_of_four}
 use Rattle.regex_lite_syntax.proofs.parse.escape.boundary.read_name.Goals as goal
 

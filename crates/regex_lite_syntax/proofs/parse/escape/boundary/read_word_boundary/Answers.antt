@@ -1,13 +1,10 @@
-use Rattle.std.proofs.Common.{◌≡◌, refl, sym, ap, subst, ◌∷◌, ◌++◌, ◌+◌, Bool, drop, codes}
-use Rattle.std.proofs.lemmas.Result.{IfOk-weaker}
+use Rattle.regex_lite_syntax.proofs.Common.{◌≡◌, ◌+◌, Bool, ◌∷◌, ◌++◌, drop, codes, sym, refl, ap}
+use Rattle.regex_lite_syntax.proofs.Common.{subst, IfOk-weaker, BoundaryName, WordBoundary}
+use Rattle.regex_lite_syntax.proofs.Common.{before_count, Gap, Text, the, Look}
 use Rattle.regex_lite_syntax.specs.declared.error.syntax.SyntaxFault.TheVariants as fault
 use Rattle.regex_lite_syntax.specs.declared.error.unexpected_eof.UnexpectedEof.TheVariants as part
-use Rattle.regex_lite_syntax.specs.declared.hir.look.Look.{Look}
 use Rattle.regex_lite_syntax.specs.declared.hir.look.Look.TheVariants as looks
-use Rattle.regex_lite_syntax.specs.Text.{Text, the}
-use Rattle.regex_lite_syntax.specs.Grammar.Gaps.{Gap}
-use Rattle.regex_lite_syntax.specs.Grammar.Escapes.{BoundaryName, WordBoundary}
-use Rattle.regex_lite_syntax.specs.Grammar.Escapes.{before_count, named}
+use Rattle.regex_lite_syntax.specs.Grammar.Escapes.{named}
 use Rattle.regex_lite_syntax.proofs.grammar.LongerGapLemmas.{whole_before}
 use Rattle.regex_lite_syntax.proofs.grammar.EscapeLemmas.{no_boundary, name_in_braces, begins_count}
 use Rattle.regex_lite_syntax.proofs.parse.DenialLemmas.{none_at_end, none_of_part}

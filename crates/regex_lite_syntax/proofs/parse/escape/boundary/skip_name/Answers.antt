@@ -1,10 +1,7 @@
-use Rattle.std.proofs.Common.{refl, sym, subst, ◌≡◌, ℕ, Bool, [], ◌∷◌, IsTrue, arith}
-use Rattle.std.specs.List.{list_all}
-use Rattle.std.proofs.lemmas.Bool.{and_parts}
-use Rattle.std.proofs.lemmas.List.{drop_all, drop_more}
-use Rattle.regex_lite_syntax.specs.Text.{Text, Begins, the}
-use Rattle.regex_lite_syntax.specs.Grammar.Gaps.{Gap, WholeGap, Spaced}
-use Rattle.regex_lite_syntax.specs.Grammar.Escapes.{is_boundary_character}
+use Rattle.regex_lite_syntax.proofs.Common.{◌≡◌, ℕ, Bool, [], ◌∷◌, IsTrue, sym, refl, subst, arith}
+use Rattle.regex_lite_syntax.proofs.Common.{and_parts, drop_all, drop_more, list_all}
+use Rattle.regex_lite_syntax.proofs.Common.{is_boundary_character, Gap, WholeGap, Spaced, Text}
+use Rattle.regex_lite_syntax.proofs.Common.{Begins, the}
 use Rattle.regex_lite_syntax.proofs.grammar.SpacedLemmas.{boundary_characters_end, brace_past}
 use Rattle.regex_lite_syntax.proofs.grammar.SpacedLemmas.{next_spaced, spaced_before, spaced_begins}
 use Rattle.regex_lite_syntax.proofs.parse.escape.boundary.skip_name.Goals as goal

@@ -1,8 +1,5 @@
-use Rattle.std.proofs.Common.{◌≤◌, drop, length, IsTrue}
-use Rattle.std.specs.List.{list_all}
-use Rattle.regex_lite_syntax.specs.Text.{Text}
-use Rattle.regex_lite_syntax.specs.Grammar.Gaps.{Spaced}
-use Rattle.regex_lite_syntax.specs.Grammar.Escapes.{is_boundary_character}
+use Rattle.regex_lite_syntax.proofs.Common.{◌≤◌, length, drop, IsTrue, list_all}
+use Rattle.regex_lite_syntax.proofs.Common.{is_boundary_character, Spaced, Text}
 use Rattle.regex_lite_syntax.proofs.parse.escape.boundary.skip_name.Given as goal
 
 abbrev pub invariant-loop-letter : goal.invariant-loop-letter

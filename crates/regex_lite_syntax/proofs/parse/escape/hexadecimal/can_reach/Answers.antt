@@ -1,5 +1,5 @@
-use Rattle.std.proofs.Common.{arith}
-use Rattle.std.proofs.lemmas.Bool.{leb-true, leb-false}
+use Rattle.regex_lite_syntax.proofs.Common.{arith, leb-true}
+use Rattle.std.proofs.lemmas.Bool.{leb-false}
 use Rattle.regex_lite_syntax.proofs.parse.escape.ReachLemmas.{reached, unreached}
 use Rattle.regex_lite_syntax.proofs.parse.escape.hexadecimal.can_reach.Goals as goal
 

@@ -1,4 +1,4 @@
-use Rattle.std.proofs.Common.{◌≡◌, min}
+use Rattle.regex_lite_syntax.proofs.Common.{◌≡◌, min}
 use Rattle.regex_lite_syntax.proofs.parse.escape.ReachLemmas.{lowest, highest}
 use Rattle.regex_lite_syntax.proofs.parse.escape.hexadecimal.can_reach.Given as goal
 

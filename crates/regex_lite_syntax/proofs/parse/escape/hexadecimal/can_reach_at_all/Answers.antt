@@ -1,4 +1,4 @@
-use Rattle.std.proofs.Common.{◌<◌, length, arith}
+use Rattle.regex_lite_syntax.proofs.Common.{◌<◌, length, arith}
 use Rattle.regex_lite_syntax.proofs.parse.escape.ReachLemmas.{six_too_many, last_reached}
 use Rattle.regex_lite_syntax.proofs.parse.escape.hexadecimal.can_reach_at_all.Goals as goal
 

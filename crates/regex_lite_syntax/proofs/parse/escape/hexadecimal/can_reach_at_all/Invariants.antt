@@ -1,6 +1,4 @@
-use Rattle.std.proofs.Common.{◌<◌, length}
-use Rattle.regex_lite_syntax.specs.Text.{Text}
-use Rattle.regex_lite_syntax.specs.Parser.FurtherDigits.{Reaches}
+use Rattle.regex_lite_syntax.proofs.Common.{◌<◌, length, Reaches, Text}
 use Rattle.regex_lite_syntax.proofs.parse.escape.hexadecimal.can_reach_at_all.Given as goal
 
 abbrev pub invariant-loop-digits : goal.invariant-loop-digits

@@ -1,6 +1,5 @@
-use Rattle.std.proofs.Common.{[], refl, sym, ◌∙◌, ap, subst, drop, arith}
-use Rattle.regex_lite_syntax.specs.Grammar.Gaps.{Gap}
-use Rattle.regex_lite_syntax.specs.Characters.{is_hex_digit}
+use Rattle.regex_lite_syntax.proofs.Common.{[], drop, sym, refl, ap, ◌∙◌, subst, arith}
+use Rattle.regex_lite_syntax.proofs.Common.{is_hex_digit, Gap}
 use Rattle.regex_lite_syntax.proofs.grammar.LongerGapLemmas.{whole_before, whole_to_end}
 use Rattle.regex_lite_syntax.proofs.parse.escape.DigitLemmas.{digit_at, still_digit_at}
 use Rattle.regex_lite_syntax.proofs.parse.escape.DigitLemmas.{braced_after, braced_before}

@@ -1,6 +1,5 @@
-use Rattle.std.proofs.Common.{ℕ, ◌<◌, ◌≤◌, ◌-◌, drop, length, ◌++◌}
-use Rattle.regex_lite_syntax.specs.Text.{Text}
-use Rattle.regex_lite_syntax.specs.Grammar.Escapes.{BracedDigits}
+use Rattle.regex_lite_syntax.proofs.Common.{ℕ, ◌-◌, ◌<◌, ◌≤◌, ◌++◌, length, drop, BracedDigits}
+use Rattle.regex_lite_syntax.proofs.Common.{Text}
 use Rattle.regex_lite_syntax.proofs.parse.escape.DigitLemmas.{BracedFrom}
 use Rattle.regex_lite_syntax.proofs.parse.escape.hexadecimal.read_braced.Given as goal
 

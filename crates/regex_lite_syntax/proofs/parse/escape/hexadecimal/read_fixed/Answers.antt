@@ -1,5 +1,4 @@
-use Rattle.std.proofs.Common.{[], sym, ◌∙◌, ◌-◌, subst, drop, arith}
-use Rattle.regex_lite_syntax.specs.Grammar.Gaps.{Gap}
+use Rattle.regex_lite_syntax.proofs.Common.{◌-◌, [], drop, sym, ◌∙◌, subst, arith, Gap}
 use Rattle.regex_lite_syntax.proofs.grammar.LongerGapLemmas.{whole_before, whole_to_end}
 use Rattle.regex_lite_syntax.proofs.parse.escape.DigitLemmas.{digit_at, still_digit_at}
 use Rattle.regex_lite_syntax.proofs.parse.escape.DigitLemmas.{fixed_after, fixed_before}

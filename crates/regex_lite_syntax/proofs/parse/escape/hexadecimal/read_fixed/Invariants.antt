@@ -1,6 +1,4 @@
-use Rattle.std.proofs.Common.{ℕ, ◌≤◌, drop, length, ◌++◌}
-use Rattle.regex_lite_syntax.specs.Text.{Text}
-use Rattle.regex_lite_syntax.specs.Grammar.Escapes.{FixedDigits}
+use Rattle.regex_lite_syntax.proofs.Common.{ℕ, ◌≤◌, ◌++◌, length, drop, FixedDigits, Text}
 use Rattle.regex_lite_syntax.proofs.parse.escape.DigitLemmas.{FixedFrom}
 use Rattle.regex_lite_syntax.proofs.parse.escape.hexadecimal.read_fixed.Given as goal
 

@@ -1,8 +1,6 @@
-use Rattle.std.proofs.Common.{refl, ℕ, ◌≤◌, Bool, [], subst, drop, arith}
-use Rattle.std.proofs.lemmas.Result.{IfOk-weaker}
-use Rattle.regex_lite_syntax.specs.Text.{Text}
-use Rattle.regex_lite_syntax.specs.Grammar.Gaps.{Gap}
-use Rattle.regex_lite_syntax.specs.Grammar.Escapes.{FixedDigits, BracedDigits, Hexadecimal, fixed}
+use Rattle.regex_lite_syntax.proofs.Common.{ℕ, ◌≤◌, Bool, [], drop, refl, subst, arith, IfOk-weaker}
+use Rattle.regex_lite_syntax.proofs.Common.{FixedDigits, BracedDigits, Hexadecimal, fixed, Gap}
+use Rattle.regex_lite_syntax.proofs.Common.{Text}
 use Rattle.regex_lite_syntax.proofs.grammar.LongerGapLemmas.{whole_before, whole_to_end}
 use Rattle.regex_lite_syntax.proofs.parse.escape.DigitLemmas.{no_fixed}
 use Rattle.regex_lite_syntax.proofs.parse.escape.CompletedDigitLemmas.{number_completable}

@@ -1,6 +1,7 @@
-use Rattle.std.proofs.Common.{◌≡◌, sym, ◌∙◌, ap, false, ◌∷◌, ◌++◌, [], chars}
+use Rattle.regex_lite_syntax.proofs.Common.{◌≡◌, false, [], ◌∷◌, ◌++◌, chars, sym, ap, ◌∙◌}
+use Rattle.regex_lite_syntax.proofs.Common.{text_of_name}
 use Rattle.std.specs.Rc.{rc_str_bytes}
-use Rattle.regex_lite_syntax.specs.Tree.Views.{text_of_name, names_of}
+use Rattle.regex_lite_syntax.specs.Tree.Views.{names_of}
 use Rattle.regex_lite_syntax.specs.Parser.KnownNames.{has_name}
 use Rattle.regex_lite_syntax.proofs.machine.StateLemmas.{map_pushed}
 use Rattle.regex_lite_syntax.proofs.parse.group_names.KnownNameLemmas.{name_given, name_not_given}

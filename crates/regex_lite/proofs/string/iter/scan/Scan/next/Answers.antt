@@ -1,7 +1,5 @@
-use Rattle.std.proofs.Common.{◌≢◌, ◌<◌, ◌≤◌, Some, length, subst, rules}
-use Rattle.regex_lite.specs.Ahead.{most_ahead}
-use Rattle.regex_lite.specs.MatchViews.{span_of_match}
-use Rattle.regex_lite.specs.Scanning.{Scanning}
+use Rattle.regex_lite.proofs.Common.{◌<◌, ◌≤◌, ◌≢◌, length, Some, subst, rules, most_ahead}
+use Rattle.regex_lite.proofs.Common.{span_of_match, Scanning}
 use Rattle.regex_lite.proofs.string.AheadLemmas.{fewer_ahead}
 use Rattle.regex_lite.proofs.string.iter.scan.Scan.next.Goals as goal
 

@@ -1,6 +1,5 @@
-use Rattle.std.proofs.Common.{◌≡◌, ℕ, false, Option, [], ◌∷◌, drop, slice_range}
-use Rattle.std.proofs.Common.{unwrap_or, sym, ap, ◌∙◌, subst, rules}
-use Rattle.regex_lite.specs.Ahead.{ahead_of}
+use Rattle.regex_lite.proofs.Common.{◌≡◌, ℕ, false, [], ◌∷◌, drop, slice_range, Option, unwrap_or}
+use Rattle.regex_lite.proofs.Common.{sym, ap, ◌∙◌, subst, rules, ahead_of}
 use Rattle.regex_lite.specs.Pieces.{IsCut}
 use Rattle.regex_lite.proofs.string.PieceLemmas.{chosen, chose, cut_cons, cut_nil}
 use Rattle.regex_lite.proofs.string.iter.split.SplitIterator.next.Goals as goal

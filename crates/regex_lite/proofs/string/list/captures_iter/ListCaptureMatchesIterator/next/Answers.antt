@@ -1,12 +1,10 @@
-use Rattle.std.proofs.Common.{ℕ, List, Option, Some, None, Result, Ok, Err, sym, subst}
-use Rattle.regex_lite_syntax.specs.declared.error.Error.{Error}
-use Rattle.regex_lite.specs.Expression.{Expression}
-use Rattle.regex_lite.specs.Groups.{Groups}
+use Rattle.regex_lite.proofs.Common.{ℕ, List, Some, None, Ok, Err, Option, Result, sym, subst}
+use Rattle.regex_lite.proofs.Common.{Error, Expression, Groups, AreGroupsFoundInList}
+use Rattle.regex_lite.proofs.Common.{IsAnswerOfPatterns, Scanning}
 use Rattle.regex_lite.specs.Items.{GivesNextGroups}
-use Rattle.regex_lite.specs.ListAhead.{AreGroupsFoundInList, GivesListGroups, ListPasses}
+use Rattle.regex_lite.specs.ListAhead.{GivesListGroups, ListPasses}
 use Rattle.regex_lite.specs.ListAhead.{list_ahead_of}
-use Rattle.regex_lite.specs.MatchList.{IsAnswerOfPatterns}
-use Rattle.regex_lite.specs.Scanning.{ListSearching, Scanning, seen_by}
+use Rattle.regex_lite.specs.Scanning.{ListSearching, seen_by}
 use Rattle.regex_lite.proofs.string.list.captures_iter.ListCaptureMatchesIterator.next.Goals as goal
 
 abbrev seen : Scanning ListSearching → Scanning (List Expression)

@@ -1,10 +1,8 @@
-use Rattle.std.proofs.Common.{ℕ, List, Option, Some, None, sym, subst}
-use Rattle.regex_lite.specs.declared.string.matches.Match.{Match}
-use Rattle.regex_lite.specs.Expression.{Expression}
+use Rattle.regex_lite.proofs.Common.{ℕ, List, Some, None, Option, sym, subst, Expression}
+use Rattle.regex_lite.proofs.Common.{IsAnswerOfPatterns, Scanning, Match}
 use Rattle.regex_lite.specs.Items.{GivesNext}
 use Rattle.regex_lite.specs.ListAhead.{GivesListMatch, ListPasses, list_ahead_of}
-use Rattle.regex_lite.specs.MatchList.{IsAnswerOfPatterns}
-use Rattle.regex_lite.specs.Scanning.{ListSearching, Scanning, seen_by}
+use Rattle.regex_lite.specs.Scanning.{ListSearching, seen_by}
 use Rattle.regex_lite.proofs.string.list.find_iter.ListMatchesIterator.next.Goals as goal
 
 abbrev seen : Scanning ListSearching → Scanning (List Expression)

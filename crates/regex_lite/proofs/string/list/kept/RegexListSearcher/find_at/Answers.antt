@@ -1,6 +1,4 @@
-use Rattle.std.proofs.Common.{subst, List}
-use Rattle.regex_lite.specs.Expression.{Expression}
-use Rattle.regex_lite.specs.RegexListSearches.{TellsMatchOfList}
+use Rattle.regex_lite.proofs.Common.{List, subst, Expression, TellsMatchOfList}
 use Rattle.regex_lite.proofs.string.ListKeptLemmas.{list_match}
 use Rattle.regex_lite.proofs.string.list.kept.RegexListSearcher.find_at.Goals as goal
 

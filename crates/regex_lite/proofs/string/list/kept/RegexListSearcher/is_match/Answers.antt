@@ -1,6 +1,4 @@
-use Rattle.std.proofs.Common.{◌↔◌, IsTrue, sym, subst}
-use Rattle.regex_lite.specs.RegexListSearches.{AnyMatches}
-use Rattle.regex_lite.specs.Searches.{IsMatchOf}
+use Rattle.regex_lite.proofs.Common.{◌↔◌, IsTrue, sym, subst, AnyMatches, IsMatchOf}
 use Rattle.regex_lite.proofs.string.ListToldLemmas.{list_answer_told}
 use Rattle.regex_lite.proofs.string.list.kept.RegexListSearcher.is_match.Goals as goal
 

@@ -1,10 +1,7 @@
-use Rattle.std.proofs.Common.{◌≡◌, ◌∙◌, ap, arith, length, refl, subst, sym, take}
-use Rattle.std.proofs.lemmas.List.{length-take-le}
-use Rattle.regex_lite.specs.Groups.{resized, spans_of}
-use Rattle.regex_lite.specs.MatchViews.{span_of_match}
-use Rattle.regex_lite.specs.RegexList.{AreTrees}
-use Rattle.regex_lite.specs.Scanning.{AreSlotsForAllGroups, ListSearching}
-use Rattle.regex_lite.specs.Slots.{all_slots}
+use Rattle.regex_lite.proofs.Common.{◌≡◌, length, take, sym, refl, ap, ◌∙◌, subst, arith}
+use Rattle.regex_lite.proofs.Common.{length-take-le, spans_of, resized, span_of_match, AreTrees}
+use Rattle.regex_lite.proofs.Common.{AreSlotsForAllGroups, all_slots}
+use Rattle.regex_lite.specs.Scanning.{ListSearching}
 use Rattle.regex_lite.proofs.string.ListKeptLemmas.{list_locations, number_within, own_within}
 use Rattle.regex_lite.proofs.string.list.searcher.ListSearcher.read_at.Goals as goal
 

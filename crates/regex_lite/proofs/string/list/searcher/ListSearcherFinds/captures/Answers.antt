@@ -1,13 +1,7 @@
-use Rattle.std.proofs.Common.{◌≡◌, ◌∙◌, ◌*◌, ◌<◌, ap, sym, subst, length, take, rules}
-use Rattle.regex_lite_engine.specs.Graph.StoredList.{StoredGroups}
-use Rattle.regex_lite.specs.declared.string.list.compiled.CompiledList.{CompiledList}
-use Rattle.regex_lite.specs.Compiled.{groups_of}
-use Rattle.regex_lite.specs.CompiledList.{groups_at}
-use Rattle.regex_lite.specs.Groups.{AreGroups}
+use Rattle.regex_lite.proofs.Common.{◌≡◌, ◌*◌, ◌<◌, length, take, sym, ap, ◌∙◌, subst, rules}
+use Rattle.regex_lite.proofs.Common.{StoredGroups, groups_of, groups_at, AreGroups, span_of_match}
+use Rattle.regex_lite.proofs.Common.{AreTrees, all_slots, CompiledList}
 use Rattle.regex_lite.specs.Scanning.{ListSearching}
-use Rattle.regex_lite.specs.MatchViews.{span_of_match}
-use Rattle.regex_lite.specs.RegexList.{AreTrees}
-use Rattle.regex_lite.specs.Slots.{all_slots}
 use Rattle.regex_lite.proofs.string.ListScanLemmas.{last_groups, last_groups_are, last_there}
 use Rattle.regex_lite.proofs.string.ListScanLemmas.{span_of_last_in_list}
 use Rattle.regex_lite.proofs.string.list.searcher.ListSearcherFinds.captures.Goals as goal

@@ -1,4 +1,4 @@
-use Rattle.std.proofs.Common.{chars, subst}
+use Rattle.regex_lite.proofs.Common.{chars, subst}
 use Rattle.regex_lite.specs.Scanning.{ListSearching, TellsListSpan}
 use Rattle.regex_lite.proofs.string.LawfulLemmas.{patterns_lawful}
 use Rattle.regex_lite.proofs.string.ListToldLemmas.{list_span_told, span_of_list}

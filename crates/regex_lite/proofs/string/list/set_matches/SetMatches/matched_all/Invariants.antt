@@ -1,4 +1,4 @@
-use Rattle.std.proofs.Common.{◌≡◌, ◌<◌, ℕ, Some, slice_get, true}
+use Rattle.regex_lite.proofs.Common.{◌≡◌, ℕ, ◌<◌, true, slice_get, Some}
 use Rattle.regex_lite.proofs.string.list.set_matches.SetMatches.matched_all.Given as goal
 
 abbrev pub invariant-loop-matched : goal.invariant-loop-matched

@@ -1,6 +1,5 @@
-use Rattle.std.proofs.Common.{◌≡◌, ◌==◌, ◌/◌, ◌%◌, ◌∷◌, [], inl, inr, slice_index, ap, ◌∙◌, arith}
-use Rattle.std.specs.Int.{bit_at}
-use Rattle.std.proofs.lemmas.Bool.{cases_lt}
+use Rattle.regex_lite_engine.proofs.Common.{◌≡◌, ◌/◌, ◌%◌, [], ◌∷◌, ◌==◌, slice_index, ap, ◌∙◌, inl}
+use Rattle.regex_lite_engine.proofs.Common.{inr, arith, cases_lt, bit_at}
 use Rattle.std.proofs.lemmas.Nat.Bits.{bit_at_ones}
 use Rattle.regex_lite_engine.proofs.prefilter.list_heads.ascii_set.AsciiSet.all.Goals as goal
 

@@ -1,6 +1,4 @@
-use Rattle.std.proofs.Common.{◌≡◌, ◌<◌, ◌-◌, ◌&&◌, ℕ, nat_lt}
-use Rattle.regex_lite_engine.specs.Prefilter.Pairs.{in_set}
-use Rattle.regex_lite_engine.specs.Prefilter.Starts.{begins_with}
+use Rattle.regex_lite_engine.proofs.Common.{◌≡◌, ℕ, ◌-◌, ◌<◌, ◌&&◌, nat_lt, in_set, begins_with}
 use Rattle.regex_lite_engine.proofs.prefilter.list_heads.ascii_set.AsciiSet.of.Given as goal
 
 -- those below this one are in it

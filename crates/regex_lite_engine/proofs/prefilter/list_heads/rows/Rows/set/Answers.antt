@@ -1,8 +1,7 @@
-use Rattle.std.proofs.Common.{◌==◌, ◌||◌, ◌&&◌, ◌≡◌, ◌*◌, ◌+◌, ◌/◌, ◌%◌, ◌^◌, ◌<◌, bit_or}
-use Rattle.std.proofs.Common.{length, slice_index, slice_set, sym, subst, ◌∙◌, arith}
-use Rattle.std.proofs.lemmas.List.{get_or_default}
+use Rattle.regex_lite_engine.proofs.Common.{◌≡◌, ◌+◌, ◌*◌, ◌/◌, ◌%◌, ◌^◌, ◌<◌, ◌&&◌, ◌||◌, length}
+use Rattle.regex_lite_engine.proofs.Common.{◌==◌, slice_index, slice_set, bit_or, sym, ◌∙◌, subst}
+use Rattle.regex_lite_engine.proofs.Common.{arith, get_or_default, bit_of_words}
 use Rattle.std.proofs.lemmas.Nat.{mul-add-lt}
-use Rattle.regex_lite_syntax.specs.AsciiMaps.{bit_of_words}
 use Rattle.regex_lite_engine.proofs.prefilter.list_heads.RowBitLemmas.{bit_is_set}
 use Rattle.regex_lite_engine.proofs.prefilter.list_heads.rows.Rows.set.Goals as goal
 

@@ -1,4 +1,4 @@
-use Rattle.std.proofs.Common.{◌==◌, ◌∙◌, refl, true, arith}
+use Rattle.regex_lite_engine.proofs.Common.{true, ◌==◌, refl, ◌∙◌, arith}
 use Rattle.regex_lite_engine.proofs.prefilter.list_heads.ColumnLemmas.{one_more_row, one_more_bit}
 use Rattle.regex_lite_engine.proofs.prefilter.list_heads.rows.Rows.set_all.Goals as goal
 

@@ -1,5 +1,5 @@
-use Rattle.std.proofs.Common.{◌≡◌, ◌==◌, ◌<◌, ◌*◌, ◌&&◌, ◌||◌, ℕ, true, length}
-use Rattle.regex_lite_engine.specs.Prefilter.Rows.{has, is_in_column}
+use Rattle.regex_lite_engine.proofs.Common.{◌≡◌, ℕ, ◌*◌, ◌<◌, true, ◌&&◌, ◌||◌, length, ◌==◌}
+use Rattle.regex_lite_engine.proofs.Common.{is_in_column, has}
 use Rattle.regex_lite_engine.proofs.prefilter.list_heads.rows.Rows.set_all.Given as goal
 
 -- the rows of the characters before this one are done

@@ -1,6 +1,5 @@
-use Rattle.std.proofs.Common.{◌≡◌, ◌==◌, ◌&&◌, ◌||◌, ◌+◌, ap, sym, ◌∙◌, refl, arith}
-use Rattle.regex_lite_engine.specs.Prefilter.Rows.{has, is_in_column}
-use Rattle.regex_lite_engine.specs.Prefilter.Starts.{begins_with}
+use Rattle.regex_lite_engine.proofs.Common.{◌≡◌, ◌+◌, ◌&&◌, ◌||◌, ◌==◌, sym, refl, ap, ◌∙◌, arith}
+use Rattle.regex_lite_engine.proofs.Common.{is_in_column, has, begins_with}
 use Rattle.regex_lite_engine.proofs.prefilter.list_heads.ColumnLemmas.{one_more_row, one_more_bit}
 use Rattle.regex_lite_engine.proofs.prefilter.list_heads.ColumnLemmas.{no_more_rows}
 use Rattle.regex_lite_engine.proofs.prefilter.list_heads.rows.Rows.set_each.Goals.{then-begins_in}

@@ -1,4 +1,4 @@
-use Rattle.std.proofs.Common.{rules}
+use Rattle.regex_lite_engine.proofs.Common.{rules}
 use Rattle.std.proofs.lemmas.Fn.{filter_same}
 use Rattle.regex_lite_engine.proofs.prefilter.list_heads.thirds.Thirds.keep.Goals as goal
 

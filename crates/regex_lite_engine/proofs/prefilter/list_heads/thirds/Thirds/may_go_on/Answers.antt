@@ -1,6 +1,5 @@
-use Rattle.std.proofs.Common.{◌≡◌, ◌==◌, ◌%◌, Some, slice_get, ap, sym, subst, ◌∙◌}
-use Rattle.std.proofs.lemmas.Nat.Bits.{shr_and_one}
-use Rattle.std.proofs.lemmas.Option.{slice_get-get_or}
+use Rattle.regex_lite_engine.proofs.Common.{◌≡◌, ◌%◌, ◌==◌, slice_get, Some, sym, ap, ◌∙◌, subst}
+use Rattle.regex_lite_engine.proofs.Common.{shr_and_one, slice_get-get_or}
 use Rattle.regex_lite_engine.specs.Prefilter.Thirds.{in_some_mask}
 use Rattle.regex_lite_engine.proofs.prefilter.list_heads.thirds.Thirds.may_go_on.Goals as goal
 

@@ -1,7 +1,6 @@
-use Rattle.std.proofs.Common.{◌≡◌, [], ◌∷◌, ◌∙◌, ap, sym, subst, arith, map}
-use Rattle.std.proofs.Common.{length, length-append, slice_get, List, Some, ℕ}
-use Rattle.regex_lite_syntax.specs.Tree.Views.{tree_of}
-use Rattle.regex_lite_engine.specs.Prefilter.Thirds.{AreMasksOf}
+use Rattle.regex_lite_engine.proofs.Common.{◌≡◌, ℕ, List, [], ◌∷◌, map, length, slice_get, Some}
+use Rattle.regex_lite_engine.proofs.Common.{sym, ap, ◌∙◌, subst, arith, length-append, tree_of}
+use Rattle.regex_lite_engine.proofs.Common.{AreMasksOf}
 use Rattle.regex_lite_engine.proofs.count.TotalLemmas.{tree_there}
 use Rattle.regex_lite_engine.proofs.prefilter.list_heads.ThirdLemmas.{masks_more}
 use Rattle.regex_lite_engine.proofs.prefilter.list_heads.thirds.Thirds.of.Goals as goal

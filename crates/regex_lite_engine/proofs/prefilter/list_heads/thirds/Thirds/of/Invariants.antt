@@ -1,6 +1,4 @@
-use Rattle.std.proofs.Common.{◌≡◌, length, map}
-use Rattle.regex_lite_syntax.specs.Tree.Views.{tree_of}
-use Rattle.regex_lite_engine.specs.Prefilter.Thirds.{AreMasksOf}
+use Rattle.regex_lite_engine.proofs.Common.{◌≡◌, map, length, tree_of, AreMasksOf}
 use Rattle.regex_lite_engine.proofs.prefilter.list_heads.thirds.Thirds.of.Given as goal
 
 abbrev pub invariant-loop-hir : goal.invariant-loop-hir

@@ -1,0 +1,177 @@
+-- The definitions that most proofs cite, passed on from one place. Declares nothing.
+pub use Rattle.std.proofs.Common.{◌≡◌, ℕ, zero, suc, ◌+◌, ◌-◌, ◌*◌, ◌/◌, ◌%◌, ◌^◌, ◌<◌, ◌≤◌, min}
+pub use Rattle.std.proofs.Common.{Bool, true, false, cond, not, ◌&&◌, ◌||◌, ◌≢◌, ◌⊎◌, ◌↔◌, List, []}
+pub use Rattle.std.proofs.Common.{◌∷◌, ◌++◌, map, reverse, length, get_or, take, drop, set}
+pub use Rattle.std.proofs.Common.{replicate, is_some, is_none, IfSome, if◌then◌else◌, IsSome}
+pub use Rattle.std.proofs.Common.{IsTrue, nat_lt, ◌==◌, slice_get, slice_index, slice_index_or}
+pub use Rattle.std.proofs.Common.{slice_set, bit_and, bit_or, Some, None, vec_capacity, IsUtf8, All}
+pub use Rattle.std.proofs.Common.{sum_by, filter, Option, MatchOption, option_map, chars}
+pub use Rattle.std.proofs.Common.{IsCharBoundary, unwrap_or, sym, refl, ap, ◌∙◌, subst, inl, inr}
+pub use Rattle.std.proofs.Common.{⊎_elim, true≢false, append_assoc, append-nil, arith}
+pub use Rattle.std.proofs.Common.{length-append, length-drop, length-set, rules}
+pub use Rattle.std.proofs.Math.Bool.{or-false}
+pub use Rattle.std.proofs.Math.Nat.{mul-le-mul_left, mul-le-mul_right, mul-suc, suc-mul}
+pub use Rattle.std.proofs.Math.Seq.{drop-cons, get_or-append_seam, take-append_seam}
+pub use Rattle.std.proofs.lemmas.Bool.{cases_eq, cases_lt, cases_order}
+pub use Rattle.std.proofs.lemmas.Bool.Decides.{nat_tests}
+pub use Rattle.std.proofs.lemmas.List.{drop-append-le, get_or-replicate, get_or-set_other}
+pub use Rattle.std.proofs.lemmas.List.{get_or-set_same, get_or-take, get_or_default, get_or_past}
+pub use Rattle.std.proofs.lemmas.List.{length-map, length-replicate, length-take, length-take-le}
+pub use Rattle.std.proofs.lemmas.List.{map-append, map-set, nil_from_length, set-get_or}
+pub use Rattle.std.proofs.lemmas.List.{take-append-drop, take-append-le, take-take, take_all}
+pub use Rattle.std.proofs.lemmas.List.FromFn.{get_or-map-range_with_len, length-map-range_with_len}
+pub use Rattle.std.proofs.lemmas.List.Sums.{sum_by-cons}
+pub use Rattle.std.proofs.lemmas.Nat.Bits.{shr_and_one}
+pub use Rattle.std.proofs.lemmas.Option.{get_or_from_slice_get, slice_get-get_or, slice_get-map}
+pub use Rattle.std.proofs.lemmas.Option.{slice_get_past, slice_get_within}
+pub use Rattle.std.proofs.lemmas.Str.{IsUtf8-take, encodes-chars}
+pub use Rattle.std.proofs.lemmas.Str.Pattern.{strip_prefix_char}
+pub use Rattle.std.specs.Char.{len_utf8}
+pub use Rattle.std.specs.Int.{bit_at}
+pub use Rattle.std.specs.List.{range_with_len}
+pub use Rattle.std.specs.Option.{option_or}
+pub use Rattle.regex_lite_syntax.specs.AsciiMaps.{bit_of_words}
+pub use Rattle.regex_lite_syntax.specs.Characters.{is_digit, number_of}
+pub use Rattle.regex_lite_syntax.specs.Ranges.{in_ranges}
+pub use Rattle.regex_lite_syntax.specs.Sets.{Set, just}
+pub use Rattle.regex_lite_syntax.specs.Text.{Text, after}
+pub use Rattle.regex_lite_syntax.specs.Tree.{Tree, empty, character, class, look, repetition}
+pub use Rattle.regex_lite_syntax.specs.Tree.{capture, concat, alternation, Trees, none, more, trees}
+pub use Rattle.regex_lite_syntax.specs.Tree.Looks.{holds_between}
+pub use Rattle.regex_lite_syntax.specs.Tree.Matches.{AtMost, Matches, Chain, SomeBranch}
+pub use Rattle.regex_lite_syntax.specs.Tree.Properties.{nullable, greatest_index, greatest_index_in}
+pub use Rattle.regex_lite_syntax.specs.Tree.Properties.{sum}
+pub use Rattle.regex_lite_syntax.specs.Tree.Regular.{IsRegular}
+pub use Rattle.regex_lite_syntax.specs.Tree.Views.{text_of_name, tree_of}
+pub use Rattle.regex_lite_syntax.specs.declared.class.ClassRange.{ClassRange}
+pub use Rattle.regex_lite_syntax.specs.declared.hir.Hir.{Hir}
+pub use Rattle.regex_lite_syntax.specs.declared.hir.look.Look.{Look}
+pub use Rattle.regex_lite_engine.specs.Backtrack.Bits.{bits_of}
+pub use Rattle.regex_lite_engine.specs.Backtrack.Machine.{Pairs, pair_number, was_entered, Held}
+pub use Rattle.regex_lite_engine.specs.Backtrack.Room.{searching}
+pub use Rattle.regex_lite_engine.specs.Backtrack.Searching.{Unwinds, taken_up}
+pub use Rattle.regex_lite_engine.specs.Backtrack.Walking.{WayHolds, SearchFrom}
+pub use Rattle.regex_lite_engine.specs.Graph.Addresses.{Address, part, own, entry, branch_entries}
+pub use Rattle.regex_lite_engine.specs.Graph.NoLooks.{RequiresNoLook, HasNoLooks}
+pub use Rattle.regex_lite_engine.specs.Graph.Parts.{IsWithin, row_of, IsOwnPart}
+pub use Rattle.regex_lite_engine.specs.Graph.PlaceCounts.{copies, own_places, class_arrows, places}
+pub use Rattle.regex_lite_engine.specs.Graph.PlaceCounts.{places_in, arrows, count, reading_places}
+pub use Rattle.regex_lite_engine.specs.Graph.PlaceCounts.{whole_places, whole_arrows}
+pub use Rattle.regex_lite_engine.specs.Graph.Places.{Condition, free, holding, reading, Arrow}
+pub use Rattle.regex_lite_engine.specs.Graph.Places.{complete, with_arrows, renamed_arrow, renamed}
+pub use Rattle.regex_lite_engine.specs.Graph.Places.{behind, taken, go, go_marking, go_holding}
+pub use Rattle.regex_lite_engine.specs.Graph.Places.{go_reading, choice, one_of, reading_count}
+pub use Rattle.regex_lite_engine.specs.Graph.Places.{reading_of, kept_back, kept_back_with}
+pub use Rattle.regex_lite_engine.specs.Graph.Places.{kept_back_of, arrived, arrow_taken, step_from}
+pub use Rattle.regex_lite_engine.specs.Graph.Places.{step}
+pub use Rattle.regex_lite_engine.specs.Graph.Renumbered.{arrow_count, arrows_of, IsRenumbered}
+pub use Rattle.regex_lite_engine.specs.Graph.Renumbered.{IsNumberOf}
+pub use Rattle.regex_lite_engine.specs.Graph.Repetitions.{Content, next_copy, in_copies, no_place}
+pub use Rattle.regex_lite_engine.specs.Graph.Repetitions.{exactly_row, choice_at, in_choices}
+pub use Rattle.regex_lite_engine.specs.Graph.Repetitions.{between_row, bounded_row, repetition_row}
+pub use Rattle.regex_lite_engine.specs.Graph.SideBySide.{in_pattern, side_by_side, HasTree}
+pub use Rattle.regex_lite_engine.specs.Graph.SideBySide.{start_of, places_of_all, arrows_of_all}
+pub use Rattle.regex_lite_engine.specs.Graph.SideBySide.{tries_of_all, AreEntries}
+pub use Rattle.regex_lite_engine.specs.Graph.Stored.{StoredTable, StoredGraph, place_of, places_of}
+pub use Rattle.regex_lite_engine.specs.Graph.Stored.{table_of, LeadBelow, LeadsBelow, LeadInto}
+pub use Rattle.regex_lite_engine.specs.Graph.Stored.{LeadsInto}
+pub use Rattle.regex_lite_engine.specs.Graph.StoredList.{StoredList, table_of_list, IsGraphOfList}
+pub use Rattle.regex_lite_engine.specs.Graph.StoredList.{TellGroupsOf}
+pub use Rattle.regex_lite_engine.specs.Graph.Ways.{Leads, NoneTwice, IsWay}
+pub use Rattle.regex_lite_engine.specs.Graph.WrittenOut.{place_at, place_in_chain, place_in_branch}
+pub use Rattle.regex_lite_engine.specs.Graph.WrittenOut.{whole, end_address, start_address}
+pub use Rattle.regex_lite_engine.specs.Graph.WrittenOut.{written_out, place_of_pattern}
+pub use Rattle.regex_lite_engine.specs.Graph.WrittenOut.{IsWayThrough}
+pub use Rattle.regex_lite_engine.specs.Interpolation.{plain, is_name_character, BeginsWith}
+pub use Rattle.regex_lite_engine.specs.Interpolation.{no_dollar, reference, one_dollar}
+pub use Rattle.regex_lite_engine.specs.LazyDfa.Automaton.{Way, Automaton, most_classes, unknown}
+pub use Rattle.regex_lite_engine.specs.LazyDfa.Automaton.{told_by, threads_of, ways_of, best_left}
+pub use Rattle.regex_lite_engine.specs.LazyDfa.Automaton.{searching_after, Suits, LeadsOn}
+pub use Rattle.regex_lite_engine.specs.LazyDfa.Automaton.{FitsTable, Remembers}
+pub use Rattle.regex_lite_engine.specs.LazyDfa.Boundaries.{Grows}
+pub use Rattle.regex_lite_engine.specs.LazyDfa.Extending.{Extends}
+pub use Rattle.regex_lite_engine.specs.LazyDfa.Intervals.{Intervals, interval_of, class_of}
+pub use Rattle.regex_lite_engine.specs.LazyDfa.Intervals.{IsBoundary, AreBounded, IsBoundedPlace}
+pub use Rattle.regex_lite_engine.specs.LazyDfa.Intervals.{character_bounds, look_bounds}
+pub use Rattle.regex_lite_engine.specs.LazyDfa.Intervals.{AreIntervalsOf, side_of}
+pub use Rattle.regex_lite_engine.specs.LazyDfa.Learning.{IsFirstStart, IsIn}
+pub use Rattle.regex_lite_engine.specs.LazyDfa.Running.{IsOnItsWay, Stands}
+pub use Rattle.regex_lite_engine.specs.LazyDfa.Scanning.{best_told, span_told, end_told, IsIdleAt}
+pub use Rattle.regex_lite_engine.specs.LazyDfa.Scanning.{IsSince, IsScanning}
+pub use Rattle.regex_lite_engine.specs.LazyDfa.Spots.{IsSpotAt}
+pub use Rattle.regex_lite_engine.specs.LazyDfa.Stored.{way_in, hit_in, state_in}
+pub use Rattle.regex_lite_engine.specs.Nfa.Layout.{Fragment, IsAdded, copies_layout, choices_layout}
+pub use Rattle.regex_lite_engine.specs.Nfa.Layout.{star_layout, layout, chain_layout}
+pub use Rattle.regex_lite_engine.specs.Nfa.Layout.{branches_layout, pattern_layout, pattern_table}
+pub use Rattle.regex_lite_engine.specs.Nfa.Layout.{patterns_table, patterns_entries, whole_layout}
+pub use Rattle.regex_lite_engine.specs.Nfa.Layout.{whole_table}
+pub use Rattle.regex_lite_engine.specs.Nfa.Totals.{reading_of_all}
+pub use Rattle.regex_lite_engine.specs.Pikevm.Again.{AreAlike, retold, all_retold, state_retold}
+pub use Rattle.regex_lite_engine.specs.Pikevm.Again.{best_again}
+pub use Rattle.regex_lite_engine.specs.Pikevm.Cells.{padded, nth_row, frame_in, round_in, other}
+pub use Rattle.regex_lite_engine.specs.Pikevm.Cells.{place_on, start_on, row_on, start_told}
+pub use Rattle.regex_lite_engine.specs.Pikevm.Cells.{threads_on, without_round}
+pub use Rattle.regex_lite_engine.specs.Pikevm.Entering.{reads, pushing, reading_on}
+pub use Rattle.regex_lite_engine.specs.Pikevm.Machine.{Thread, thread_at, BestState}
+pub use Rattle.regex_lite_engine.specs.Pikevm.Room.{ThreadsBelow, KeepsPosition}
+pub use Rattle.regex_lite_engine.specs.Pikevm.Searching.{IsBetween}
+pub use Rattle.regex_lite_engine.specs.Pikevm.Turns.{best_of, Between, StepsTo, IsComing, begun}
+pub use Rattle.regex_lite_engine.specs.Pikevm.Turns.{Begun, with_starts}
+pub use Rattle.regex_lite_engine.specs.Pikevm.Walking.{WayTold, ThreadsHold, InStep, SearchAt}
+pub use Rattle.regex_lite_engine.specs.Prefilter.Bytes.{is_among, suits, StandsBelow}
+pub use Rattle.regex_lite_engine.specs.Prefilter.Heads.{Reads, ReadsEach, AreHeadsOfTree}
+pub use Rattle.regex_lite_engine.specs.Prefilter.Heads.{NeverBegins, IsPassed}
+pub use Rattle.regex_lite_engine.specs.Prefilter.ListHeads.{may_start, may_start_at}
+pub use Rattle.regex_lite_engine.specs.Prefilter.ListHeads.{is_candidate_at, IsPassedByAll}
+pub use Rattle.regex_lite_engine.specs.Prefilter.ListHeads.{IsIndexOf, AreEachHeadsOf}
+pub use Rattle.regex_lite_engine.specs.Prefilter.Pairs.{in_set, has_pair, begins_with_pair}
+pub use Rattle.regex_lite_engine.specs.Prefilter.Rows.{column, first_row, second_row, start_row}
+pub use Rattle.regex_lite_engine.specs.Prefilter.Rows.{is_in_column, has, goes_on_with, belongs}
+pub use Rattle.regex_lite_engine.specs.Prefilter.Rows.{set_from}
+pub use Rattle.regex_lite_engine.specs.Prefilter.Starts.{begins_with, stops_at, may_begin, MayBegin}
+pub use Rattle.regex_lite_engine.specs.Prefilter.Starts.{IsWider, BeginsOrPasses, IsUnionOf}
+pub use Rattle.regex_lite_engine.specs.Prefilter.Thirds.{in_mask, may_go_on, AreMasksOf}
+pub use Rattle.regex_lite_engine.specs.Search.Answer.{IsMatchFrom, HasMatchFrom, Found, IsFound}
+pub use Rattle.regex_lite_engine.specs.Search.Answer.{IsAnswer}
+pub use Rattle.regex_lite_engine.specs.Search.AnswerOfList.{AnyMatchesFrom, IsAnswerOfList}
+pub use Rattle.regex_lite_engine.specs.Search.Beginnings.{Told, untold}
+pub use Rattle.regex_lite_engine.specs.Search.Bounds.{StepCounts, StaysCounted, characters_left}
+pub use Rattle.regex_lite_engine.specs.Search.Bounds.{IsBoundedBy}
+pub use Rattle.regex_lite_engine.specs.Search.Counting.{lone, IsCountable, CanCount}
+pub use Rattle.regex_lite_engine.specs.Search.Explored.{Before, NotAfter, IsDead, StartsDiffer}
+pub use Rattle.regex_lite_engine.specs.Search.Explored.{IsWhole, IsFirst, IsAnswered, IsGrown}
+pub use Rattle.regex_lite_engine.specs.Search.Explored.{StartsAt}
+pub use Rattle.regex_lite_engine.specs.Search.Marks.{Marks, no_marks, marked, over, mark_of_arrow}
+pub use Rattle.regex_lite_engine.specs.Search.Marks.{mark_of, marks_along, marks_of_way}
+pub use Rattle.regex_lite_engine.specs.Search.NumberedAnswer.{place_with, is_complete}
+pub use Rattle.regex_lite_engine.specs.Search.NumberedAnswer.{numbered_step, is_end, IsNumberedWay}
+pub use Rattle.regex_lite_engine.specs.Search.NumberedAnswer.{IsNumberedMatch, IsNumberedFound}
+pub use Rattle.regex_lite_engine.specs.Search.NumberedList.{IsEntry, StartsOf, IsMatchOfAny}
+pub use Rattle.regex_lite_engine.specs.Search.NumberedList.{IsNumberedAnswerOf}
+pub use Rattle.regex_lite_engine.specs.Search.NumberedOutcomes.{Best, best_at, with_start_kept}
+pub use Rattle.regex_lite_engine.specs.Search.NumberedOutcomes.{best_kept, span_of, IsBestOutcome}
+pub use Rattle.regex_lite_engine.specs.Search.NumberedOutcomes.{IsBestOutcomeOf, IsNumberedOutcome}
+pub use Rattle.regex_lite_engine.specs.Search.NumberedOutcomes.{IsNumberedEndOf}
+pub use Rattle.regex_lite_engine.specs.Search.Offers.{Node, Offer, StartsBelow}
+pub use Rattle.regex_lite_engine.specs.Search.Offsets.{offset, IsOffset, position_at, search_start}
+pub use Rattle.regex_lite_engine.specs.Search.Offsets.{HasSlots}
+pub use Rattle.regex_lite_engine.specs.Search.Outcomes.{IsEndOutcome}
+pub use Rattle.regex_lite_engine.specs.Search.Preference.{IsPreferred}
+pub use Rattle.regex_lite_engine.specs.Search.PreferenceList.{Entry, behind_marks, onward, stop}
+pub use Rattle.regex_lite_engine.specs.Search.PreferenceList.{preference_list, HasReadingLoops}
+pub use Rattle.regex_lite_engine.specs.Search.Rows.{Row, IsBlank}
+pub use Rattle.regex_lite_engine.specs.Search.Standing.{IsHere}
+pub use Rattle.regex_lite_engine.specs.Search.Starts.{IsDeadAt, AreDeadAt, IsAmong, AreStartsAt}
+pub use Rattle.regex_lite_engine.specs.Search.Starts.{PassesTo, AreListHeadsOf, start_numbered}
+pub use Rattle.regex_lite_engine.specs.SearchLaws.{IsBefore}
+pub use Rattle.regex_lite_engine.specs.declared.lazy_dfa.scan.Standing.{Standing}
+pub use Rattle.regex_lite_engine.specs.declared.lazy_dfa.state.StoredState.{StoredState}
+pub use Rattle.regex_lite_engine.specs.declared.lazy_dfa.state.StoredWay.{StoredWay}
+pub use Rattle.regex_lite_engine.specs.declared.pikevm.beginning.Origin.{Origin}
+pub use Rattle.regex_lite_engine.specs.declared.pikevm.cache.Cache.{Cache}
+pub use Rattle.regex_lite_engine.specs.declared.pikevm.cell.Cell.{Cell}
+pub use Rattle.regex_lite_engine.specs.declared.prefilter.heads.Heads.{Heads}
+pub use Rattle.regex_lite_engine.specs.declared.prefilter.list_heads.ListHeads.{ListHeads}
+pub use Rattle.regex_lite_engine.specs.declared.prefilter.starts.Starts.{Starts}
+pub use Rattle.regex_lite_engine.specs.declared.search.here.Here.{Here}
+pub use Rattle.regex_lite_engine.specs.declared.search.patterns.Start.{Start}
