@@ -5,7 +5,8 @@ use Rattle.regex_lite_engine.proofs.Common.{HasNoLooks, place_of, Automaton, Int
 use Rattle.regex_lite_engine.proofs.Common.{IsBoundedPlace, AreIntervalsOf}
 use Rattle.regex_lite_engine.specs.declared.nfa.place.Place as code
 use Rattle.regex_lite_engine.specs.declared.nfa.place.Place.TheVariants as stored
-use Rattle.regex_lite_engine.specs.LazyDfa.Automaton.{AreIntervalsFor, State}
+use Rattle.regex_lite_engine.specs.LazyDfa.Automaton.{State}
+use Rattle.regex_lite_engine.specs.LazyDfa.Intervals.{AreIntervalsFor}
 use Rattle.regex_lite_engine.specs.LazyDfa.Remembering.{RemembersFor}
 use Rattle.regex_lite_engine.proofs.lazy_dfa.AlikeLemmas.{alike_at}
 use Rattle.regex_lite_engine.proofs.OptionLemmas.{not_there, same_some}

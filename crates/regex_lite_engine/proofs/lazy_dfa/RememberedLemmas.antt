@@ -10,7 +10,7 @@ use Rattle.regex_lite_engine.proofs.Common.{side_of, IsFirstStart, AreAlike, ret
 use Rattle.regex_lite_engine.proofs.Common.{best_again, Thread, best_of, IsComing, Told, Best}
 use Rattle.regex_lite_engine.proofs.Common.{IsHere, AreStartsAt, Cache, Here, Start}
 use Rattle.regex_lite_engine.specs.Graph.Places.{Place}
-use Rattle.regex_lite_engine.specs.LazyDfa.Automaton.{AreIntervalsFor}
+use Rattle.regex_lite_engine.specs.LazyDfa.Intervals.{AreIntervalsFor}
 use Rattle.regex_lite_engine.specs.LazyDfa.Automaton.{Sees, State, began}
 use Rattle.regex_lite_engine.specs.LazyDfa.Automaton.{hit_of, origin_of}
 use Rattle.regex_lite_engine.specs.LazyDfa.Automaton.{told_if}

@@ -77,7 +77,8 @@ module _ (first : ℕ) where
 
 -- a search whose state is known may go by remembered turns
 pub scanning_from : (table : List (Place ℕ)) (h : Text) (entries : List ℕ) (s p : ℕ) {S : Type 0}
-    (automaton : Automaton) (x first : ℕ) (here : Here) (cache : Cache S) (best : Option (Origin × ℕ))
+    (automaton : Automaton) (x first : ℕ) (here : Here) (cache : Cache S) (best : Option (Origin ×
+    ℕ))
     → IsHere h p here →
     IsOnItsWay table h entries s p cache → IsIn automaton x first here.before cache
     → IsFirstStart first here.at cache.walk.memory.threads → best_of cache.best ≡ best_told best →
@@ -111,7 +112,11 @@ module _ (first : ℕ) where
     told_by first (record { first = b; number = Some w.number }),
     [],
   ) (thread_from first w)) w.is_first
-  told_first w e = ap (λ b. (w.place, told_by first (record { first = b; number = Some w.number }), [])) e
+  told_first w e = ap (λ b. (
+    w.place,
+    told_by first (record { first = b; number = Some w.number }),
+    [],
+  )) e
 
   pub threads_first : (ws : List StoredWay) → All (λ way. way.is_first ≡ true) ws
       → threads_of first (map way_in ws) ≡ map (thread_from first) ws
@@ -127,7 +132,10 @@ module _ (first : ℕ) where
 
   way_first : (w : StoredWay) → w.is_first ≡ true
       → ◌≡◌ {A = Way}
-      (record { place = w.place; origin = record { first = first == first; number = Some w.number } })
+      (record {
+        place = w.place;
+        origin = record { first = first == first; number = Some w.number };
+      })
       (way_in w)
   way_first w e =
       ap (λ b. record { place = w.place; origin = record { first = b; number = Some w.number } })

@@ -106,7 +106,8 @@ module _ (table : List (Place ℕ)) (entries : List ℕ) (h : Text) (low p : ℕ
       suits : Suits scanning.state.searching None
       suits = subst (λ b. Suits scanning.state.searching (best_told b)) none scanning.suits
 
-      ends : (hit : Option KeptOrigin) → EndsAt at.here.at None (best_left hit at.first at.here.at None)
+      ends : (hit : Option KeptOrigin) → EndsAt at.here.at None (best_left hit at.first at.here.at
+          None)
       ends None = inl refl
       ends (Some origin) = inr (told_by at.first origin, [], refl)
 

@@ -1,14 +1,12 @@
 -- The states of the lazy automaton, and the turns that lead from one to another.
-use Rattle.std.specs.Prelude.{◌≡◌, ◌+◌, ◌<◌, ◌≤◌, ◌==◌, ℕ, Bool, true, false, All, List, []}
+use Rattle.std.specs.Prelude.{◌≡◌, ◌+◌, ◌<◌, ◌≤◌, ◌==◌, ℕ, Bool, true, false, List, []}
 use Rattle.std.specs.Prelude.{map, length, slice_get, slice_index, Option, Some, None}
 use Rattle.regex_lite_syntax.specs.Text.{Text}
 use Rattle.regex_lite_engine.specs.declared.lazy_dfa.side.Side.{Side}
 use Rattle.regex_lite_engine.specs.declared.search.here.Here.{Here}
 use Rattle.regex_lite_engine.specs.Graph.Places.{Place, reading_of}
-use Rattle.regex_lite_engine.specs.Graph.NoLooks.{HasNoLooks}
-use Rattle.regex_lite_engine.specs.LazyDfa.Intervals.{Intervals, IsBoundary, LooksAlike}
-use Rattle.regex_lite_engine.specs.LazyDfa.Intervals.{class_of, look_bounds, side_of}
-use Rattle.regex_lite_engine.specs.Pikevm.Again.{AreAlike}
+use Rattle.regex_lite_engine.specs.LazyDfa.Intervals.{AreIntervalsFor, Intervals, class_of}
+use Rattle.regex_lite_engine.specs.LazyDfa.Intervals.{side_of}
 use Rattle.regex_lite_engine.specs.Search.Beginnings.{Told}
 use Rattle.regex_lite_engine.specs.Pikevm.Machine.{Thread}
 use Rattle.regex_lite_engine.specs.Search.Standing.{IsHere}
@@ -133,13 +131,6 @@ pub record IsEmptyState (automaton : Automaton) (x : ℕ) (last : Option ℕ) : 
 pub record FitsTable (table : List (Place ℕ)) (ways : List Way) : Type 0 where
   pub below : (k : ℕ) (way : Way) → slice_get ways k ≡ Some way → way.place < length table
   pub few : length ways ≤ reading_of table
-
--- the table doesn't distinguish characters between the same boundaries, and it has no looks unless
--- that is known
-pub record AreIntervalsFor (table : List (Place ℕ)) (intervals : Intervals) : Type 0 where
-  pub alike : (here there : Here) → LooksAlike intervals here there → AreAlike table here there
-  pub sides : intervals.looks ≡ true → All (IsBoundary intervals.boundaries) look_bounds
-  pub no_looks : intervals.looks ≡ false → HasNoLooks table
 
 -- all turns that are remembered are those of searches in this table
 pub record Remembers (table : List (Place ℕ)) (entries : List ℕ) (automaton : Automaton)

@@ -1,12 +1,11 @@
 //! A whole search that remembers its turns, and goes by those that it remembers.
-ghost use Rattle.std.specs.Prelude.{◌≡◌, ◌+◌, ◌<◌, ◌≤◌, ◌⊎◌, [], ℕ, List};
+ghost use Rattle.std.specs.Prelude.{◌≡◌, ◌+◌, ◌<◌, ◌≤◌, ◌⊎◌, [], ℕ};
 ghost use Rattle.std.specs.Prelude.{All, IfErr, IfOk, IfSome, IsCharBoundary};
 ghost use Rattle.std.specs.Prelude.{MatchOption, None, Some, chars, length, true};
 ghost use Rattle.regex_lite_syntax.specs.Text.{Text};
 ghost use Rattle.regex_lite_engine.specs.declared.lazy_dfa.scan.Scanned.TheVariants.{Stuck};
-ghost use Rattle.regex_lite_engine.specs.Graph.Places.{Place};
 ghost use Rattle.regex_lite_engine.specs.Graph.Renumbered.{arrows_of};
-ghost use Rattle.regex_lite_engine.specs.LazyDfa.Automaton.{IsEmptyState, Remembers};
+ghost use Rattle.regex_lite_engine.specs.LazyDfa.Automaton.{Remembers};
 ghost use Rattle.regex_lite_engine.specs.LazyDfa.Learning.{HasTurned, IsIn};
 ghost use Rattle.regex_lite_engine.specs.LazyDfa.Running.{Stands};
 ghost use Rattle.regex_lite_engine.specs.LazyDfa.Scanning.{best_told, ScansTo};
@@ -22,7 +21,7 @@ use crate::lazy_dfa::automaton::LazyDfa;
 use crate::lazy_dfa::learn::Taken;
 use crate::lazy_dfa::run::Progress;
 use crate::lazy_dfa::scan::{Scanned, Standing};
-use crate::lazy_dfa::state::{Hit, StoredWay};
+use crate::lazy_dfa::state::StoredWay;
 use crate::pikevm::beginning::Origin;
 use crate::pikevm::cache::Cache;
 use crate::pikevm::run::is_over;
@@ -56,8 +55,8 @@ impl LazyDfa {
         ensures found { IsBestOutcomeOf (P.table patterns.now) (chars haystack.now)
             (P.entries patterns.now) (position_at haystack.now start) (best_told result) }
         ensures bounded { IsBoundedBy (length (P.table patterns.now))
-            (arrows_of (P.table patterns.now) + length (P.entries patterns.now)) (chars haystack.now)
-            (position_at haystack.now start) cache.new.walk.steps.tried
+            (arrows_of (P.table patterns.now) + length (P.entries patterns.now))
+            (chars haystack.now) (position_at haystack.now start) cache.new.walk.steps.tried
             cache.new.walk.steps.entered cache.new.walk.steps.looked }
         ensures entered { IfSome result (λ _. least ≤ cache.new.walk.steps.entered) }
         ensures remembers { Remembers (P.table patterns.now) (P.entries patterns.now) self.new }
@@ -83,7 +82,8 @@ impl LazyDfa {
         requires remembers { Remembers (P.table patterns.now) (P.entries patterns.now) self.old }
         requires none_pending { self.old.pending ≡ [] }
         requires stands { (s : ℕ)
-            × CanCount (P.table patterns.now) (length (P.entries patterns.now)) (characters_left (chars haystack.now) s)
+            × CanCount (P.table patterns.now) (length (P.entries patterns.now))
+            (characters_left (chars haystack.now) s)
             × Stands (P.table patterns.now) (chars haystack.now) (P.entries patterns.now) s self.old
             from cache.old }
         requires least { least ≤ 1 }
@@ -93,7 +93,8 @@ impl LazyDfa {
             (best_told result) }
         ensures bounded { (s : ℕ) → Stands (P.table patterns.now) (chars haystack.now)
             (P.entries patterns.now) s self.old from cache.old
-            → IsBoundedBy (length (P.table patterns.now)) (arrows_of (P.table patterns.now) + length (P.entries patterns.now))
+            → IsBoundedBy (length (P.table patterns.now))
+            (arrows_of (P.table patterns.now) + length (P.entries patterns.now))
             (chars haystack.now) s cache.new.walk.steps.tried cache.new.walk.steps.entered
             cache.new.walk.steps.looked }
         ensures entered { IfSome result (λ _. least ≤ cache.new.walk.steps.entered) }
@@ -125,7 +126,8 @@ impl LazyDfa {
         requires remembers { Remembers (P.table patterns.now) (P.entries patterns.now) self.old }
         requires none_pending { self.old.pending ≡ [] }
         requires stands { (s : ℕ)
-            × CanCount (P.table patterns.now) (length (P.entries patterns.now)) (characters_left (chars haystack.now) s)
+            × CanCount (P.table patterns.now) (length (P.entries patterns.now))
+            (characters_left (chars haystack.now) s)
             × Stands (P.table patterns.now) (chars haystack.now) (P.entries patterns.now) s self.old
             from cache.old }
         requires least { least ≤ 1 }
@@ -196,56 +198,6 @@ impl LazyDfa {
         self.learn(patterns, taken, cache)
     }
 
-    /// Where there is neither a thread nor a match, passes over positions at which no match can
-    /// begin, unless turns are faster.
-    pub(super) fn at_idle<P: Patterns>(
-        &mut self,
-        patterns: &P,
-        cache: &Cache<Origin>,
-        haystack: &str,
-        at: Progress,
-    ) -> Progress
-        requires remembers { Remembers (P.table patterns.now) (P.entries patterns.now) self.old }
-        requires none_pending { self.old.pending ≡ [] }
-        requires stands { (s : ℕ) × Stands (P.table patterns.now) (chars haystack.now)
-            (P.entries patterns.now) s self.old at cache.now }
-        ensures remembers { Remembers (P.table patterns.now) (P.entries patterns.now) self.new }
-        ensures none_pending { self.new.pending ≡ [] }
-        ensures stands { (s : ℕ) → Stands (P.table patterns.now) (chars haystack.now)
-            (P.entries patterns.now) s self.old at cache.now
-            → Stands (P.table patterns.now) (chars haystack.now) (P.entries patterns.now) s self.new
-            result cache.now }
-        ensures later { at.here.at ≤ result.here.at }
-    {
-        if cache.walk.memory.threads() > 0 || !cache.best.is_none() {
-            return at;
-        }
-        if let Some(idle) = self.stay_idle(patterns, at) {
-            return idle;
-        }
-        let here = self.leave_idle(patterns, haystack, at.here);
-        let state = self.idle_state(here.before);
-        Progress {
-            here,
-            state,
-            first: here.at,
-            until: at.until,
-        }
-    }
-
-    /// The state without ways in which a match is searched for after this character, if there is
-    /// room for it.
-    fn idle_state(&mut self, before: Option<char>) -> Option<u16>
-        requires none_pending { self.old.pending ≡ [] }
-        ensures remembers { (table : List (Place ℕ)) (entries : List ℕ)
-            → Remembers table entries self.old → Remembers table entries self.new }
-        ensures none_pending { self.new.pending ≡ [] }
-        ensures state { MatchOption result (Unit {0}) (λ y. IsEmptyState self.new y before) }
-    {
-        let side = self.side(before);
-        self.settle(true, side, Hit::Nowhere)
-    }
-
     /// Goes by turns that are remembered, if the search has entered this many places. Returns the
     /// answer where they lead to it. Else the search goes on where they end, or where it was.
     fn look_ahead<P: Patterns>(
@@ -309,8 +261,8 @@ impl LazyDfa {
             at.old cache.old)
             × ScansTo (P.table patterns.now) (P.entries patterns.now) haystack s stands.p self.now
             (Stuck stuck idle) }
-        ensures stands { (haystack : Text) (s : ℕ) → (stands : Stands (P.table patterns.now) haystack
-            (P.entries patterns.now) s self.now at.old cache.old)
+        ensures stands { (haystack : Text) (s : ℕ) → (stands : Stands (P.table patterns.now)
+            haystack (P.entries patterns.now) s self.now at.old cache.old)
             → ScansTo (P.table patterns.now) (P.entries patterns.now) haystack s stands.p self.now
             (Stuck stuck idle)
             → Stands (P.table patterns.now) haystack (P.entries patterns.now) s self.now at.new

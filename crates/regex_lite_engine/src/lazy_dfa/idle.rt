@@ -1,9 +1,10 @@
 //! Positions at which there is nothing to go on from, and no match: a search goes on by turns, if
 //! they are known, or else passes over those at which no match can begin.
-ghost use Rattle.std.specs.Prelude.{◌≡◌, ◌<◌, ◌≤◌, [], ℕ, IfSome, None, Some, chars};
-ghost use Rattle.std.specs.Prelude.{false, length, slice_get, true};
-ghost use Rattle.regex_lite_engine.specs.LazyDfa.Automaton.{Remembers, State};
-ghost use Rattle.regex_lite_engine.specs.LazyDfa.Running.{StandsIdle};
+ghost use Rattle.std.specs.Prelude.{◌≡◌, ◌<◌, ◌≤◌, [], ℕ, List, IfSome, MatchOption, None, Some};
+ghost use Rattle.std.specs.Prelude.{chars, false, length, slice_get, true};
+ghost use Rattle.regex_lite_engine.specs.Graph.Places.{Place};
+ghost use Rattle.regex_lite_engine.specs.LazyDfa.Automaton.{IsEmptyState, Remembers, State};
+ghost use Rattle.regex_lite_engine.specs.LazyDfa.Running.{Stands, StandsIdle};
 ghost use Rattle.regex_lite_engine.specs.LazyDfa.Scanning.{best_told, IsScanning, IsSince};
 ghost use Rattle.regex_lite_engine.specs.Search.NumberedOutcomes.{IsBestOutcomeOf};
 ghost use Rattle.regex_lite_engine.specs.Search.Standing.{IsHere};
@@ -13,6 +14,9 @@ ghost use Rattle.regex_lite_engine.specs.Search.Starts.{AreDeadAt};
 use crate::lazy_dfa::automaton::{LazyDfa, MOST_STATES, UNKNOWN};
 use crate::lazy_dfa::run::Progress;
 use crate::lazy_dfa::scan::Standing;
+use crate::lazy_dfa::state::Hit;
+use crate::pikevm::beginning::Origin;
+use crate::pikevm::cache::Cache;
 use crate::search::here::Here;
 use crate::search::patterns::Patterns;
 
@@ -20,6 +24,56 @@ use crate::search::patterns::Patterns;
 const NEAR: usize = 4;
 
 impl LazyDfa {
+    /// Where there is neither a thread nor a match, passes over positions at which no match can
+    /// begin, unless turns are faster.
+    pub(super) fn at_idle<P: Patterns>(
+        &mut self,
+        patterns: &P,
+        cache: &Cache<Origin>,
+        haystack: &str,
+        at: Progress,
+    ) -> Progress
+        requires remembers { Remembers (P.table patterns.now) (P.entries patterns.now) self.old }
+        requires none_pending { self.old.pending ≡ [] }
+        requires stands { (s : ℕ) × Stands (P.table patterns.now) (chars haystack.now)
+            (P.entries patterns.now) s self.old at cache.now }
+        ensures remembers { Remembers (P.table patterns.now) (P.entries patterns.now) self.new }
+        ensures none_pending { self.new.pending ≡ [] }
+        ensures stands { (s : ℕ) → Stands (P.table patterns.now) (chars haystack.now)
+            (P.entries patterns.now) s self.old at cache.now
+            → Stands (P.table patterns.now) (chars haystack.now) (P.entries patterns.now) s self.new
+            result cache.now }
+        ensures later { at.here.at ≤ result.here.at }
+    {
+        if cache.walk.memory.threads() > 0 || !cache.best.is_none() {
+            return at;
+        }
+        if let Some(idle) = self.stay_idle(patterns, at) {
+            return idle;
+        }
+        let here = self.leave_idle(patterns, haystack, at.here);
+        let state = self.idle_state(here.before);
+        Progress {
+            here,
+            state,
+            first: here.at,
+            until: at.until,
+        }
+    }
+
+    /// The state without ways in which a match is searched for after this character, if there is
+    /// room for it.
+    fn idle_state(&mut self, before: Option<char>) -> Option<u16>
+        requires none_pending { self.old.pending ≡ [] }
+        ensures remembers { (table : List (Place ℕ)) (entries : List ℕ)
+            → Remembers table entries self.old → Remembers table entries self.new }
+        ensures none_pending { self.new.pending ≡ [] }
+        ensures state { MatchOption result (Unit {0}) (λ y. IsEmptyState self.new y before) }
+    {
+        let side = self.side(before);
+        self.settle(true, side, Hit::Nowhere)
+    }
+
     /// The same position in the state without ways, if a turn from there is remembered.
     pub(super) fn stay_idle<P: Patterns>(&self, patterns: &P, at: Progress) -> Option<Progress>
         ensures { IfSome result (StandsIdle self.now at.here) }
@@ -67,8 +121,8 @@ impl LazyDfa {
             (chars haystack.now) low p self.now at.old }
         ensures over { result ≡ true → (low p : ℕ) → IsScanning (P.table patterns.now)
             (P.entries patterns.now) (chars haystack.now) low p self.now at.old
-            → IsBestOutcomeOf (P.table patterns.now) (chars haystack.now) (P.entries patterns.now) low
-            (best_told at.new.best) }
+            → IsBestOutcomeOf (P.table patterns.now) (chars haystack.now) (P.entries patterns.now)
+            low (best_told at.new.best) }
         ensures on { result ≡ false → (low p : ℕ) → IsScanning (P.table patterns.now)
             (P.entries patterns.now) (chars haystack.now) low p self.now at.old
             → (q : ℕ) × (p ≤ q) × IsScanning (P.table patterns.now) (P.entries patterns.now)
@@ -91,8 +145,8 @@ impl LazyDfa {
             (chars haystack.now) low p self.now at.old }
         ensures over { result ≡ true → (low p : ℕ) → IsScanning (P.table patterns.now)
             (P.entries patterns.now) (chars haystack.now) low p self.now at.old
-            → IsBestOutcomeOf (P.table patterns.now) (chars haystack.now) (P.entries patterns.now) low
-            (best_told at.new.best) }
+            → IsBestOutcomeOf (P.table patterns.now) (chars haystack.now) (P.entries patterns.now)
+            low (best_told at.new.best) }
         ensures on { result ≡ false → (low p : ℕ) → IsScanning (P.table patterns.now)
             (P.entries patterns.now) (chars haystack.now) low p self.now at.old
             → (q : ℕ) × (p ≤ q) × IsScanning (P.table patterns.now) (P.entries patterns.now)

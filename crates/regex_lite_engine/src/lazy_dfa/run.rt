@@ -104,8 +104,8 @@ impl Cache<Origin> {
             (chars haystack.now) (P.entries patterns.now) s automaton at self.now }
         ensures stands { (s : ℕ) (automaton : Automaton) → Stands (P.table patterns.now)
             (chars haystack.now) (P.entries patterns.now) s automaton at self.now
-            → Stands (P.table patterns.now) (chars haystack.now) (P.entries patterns.now) s automaton
-            result self.now }
+            → Stands (P.table patterns.now) (chars haystack.now) (P.entries patterns.now) s
+            automaton result self.now }
         ensures unknown { result.state ≡ None }
         ensures later { at.here.at ≤ result.here.at }
     {
@@ -139,8 +139,8 @@ impl Cache<Origin> {
         ensures on { (s p : ℕ) → IsHere (chars haystack.now) p here
             → IsOnItsWay (P.table patterns.now) (chars haystack.now) (P.entries patterns.now) s p
             self.old
-            → IsOnItsWay (P.table patterns.now) (chars haystack.now) (P.entries patterns.now) s (p + 1)
-            self.new }
+            → IsOnItsWay (P.table patterns.now) (chars haystack.now) (P.entries patterns.now) s
+            (p + 1) self.new }
         ensures again { TurnsAgain (P.table patterns.now)
             (P.starts patterns.now) here (started_at here.at) self.old self.new result }
         ensures hit { IsHit result (best_of self.old.best) (best_of self.new.best) }

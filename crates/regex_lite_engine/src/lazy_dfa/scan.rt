@@ -173,8 +173,8 @@ impl LazyDfa {
         requires state { at.state < length self.now.states }
         ensures { (haystack : Text) (low p : ℕ) → IsScanning (P.table patterns.now)
             (P.entries patterns.now) haystack low p self.now at
-            → IfSome result (λ told. LedTo (P.table patterns.now) (P.entries patterns.now) haystack low
-            p self.now at told.0 told.1) }
+            → IfSome result (λ told. LedTo (P.table patterns.now) (P.entries patterns.now) haystack
+            low p self.now at told.0 told.1) }
     {
         let class = self.classes.class(at.here.after);
         let to = self.states[at.state as usize].next[class];

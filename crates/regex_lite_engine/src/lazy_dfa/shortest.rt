@@ -57,8 +57,8 @@ impl LazyDfa {
         ensures found { IsNumberedEndOf (P.table patterns.now) (chars haystack.now)
             (P.entries patterns.now) (position_at haystack.now start) (end_told result) }
         ensures bounded { IsBoundedBy (length (P.table patterns.now))
-            (arrows_of (P.table patterns.now) + length (P.entries patterns.now)) (chars haystack.now)
-            (position_at haystack.now start) cache.new.walk.steps.tried
+            (arrows_of (P.table patterns.now) + length (P.entries patterns.now))
+            (chars haystack.now) (position_at haystack.now start) cache.new.walk.steps.tried
             cache.new.walk.steps.entered cache.new.walk.steps.looked }
         ensures entered { IfSome result (λ _. 0 < cache.new.walk.steps.entered) }
     {
@@ -80,7 +80,8 @@ impl LazyDfa {
         requires none_pending { self.old.pending ≡ [] }
         requires none { best_of cache.old.best ≡ None }
         requires stands { (s : ℕ)
-            × CanCount (P.table patterns.now) (length (P.entries patterns.now)) (characters_left (chars haystack.now) s)
+            × CanCount (P.table patterns.now) (length (P.entries patterns.now))
+            (characters_left (chars haystack.now) s)
             × Stands (P.table patterns.now) (chars haystack.now) (P.entries patterns.now) s self.old
             from cache.old }
         ensures found { (s : ℕ) → Stands (P.table patterns.now) (chars haystack.now)
@@ -89,7 +90,8 @@ impl LazyDfa {
             (end_told result) }
         ensures bounded { (s : ℕ) → Stands (P.table patterns.now) (chars haystack.now)
             (P.entries patterns.now) s self.old from cache.old
-            → IsBoundedBy (length (P.table patterns.now)) (arrows_of (P.table patterns.now) + length (P.entries patterns.now))
+            → IsBoundedBy (length (P.table patterns.now))
+            (arrows_of (P.table patterns.now) + length (P.entries patterns.now))
             (chars haystack.now) s cache.new.walk.steps.tried cache.new.walk.steps.entered
             cache.new.walk.steps.looked }
         ensures entered { IfSome result (λ _. 0 < cache.new.walk.steps.entered) }

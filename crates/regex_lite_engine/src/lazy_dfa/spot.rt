@@ -62,8 +62,8 @@ impl LazyDfa {
             (chars haystack.now) low p self.now at.old }
         ensures over { result ≡ true → (low p : ℕ) → IsScanning (P.table patterns.now)
             (P.entries patterns.now) (chars haystack.now) low p self.now at.old
-            → IsBestOutcomeOf (P.table patterns.now) (chars haystack.now) (P.entries patterns.now) low
-            (best_told at.new.best) }
+            → IsBestOutcomeOf (P.table patterns.now) (chars haystack.now) (P.entries patterns.now)
+            low (best_told at.new.best) }
         ensures on { result ≡ false → (low p : ℕ) → IsScanning (P.table patterns.now)
             (P.entries patterns.now) (chars haystack.now) low p self.now at.old
             → (q : ℕ) × (p ≤ q) × IsScanning (P.table patterns.now) (P.entries patterns.now)
@@ -126,8 +126,8 @@ impl LazyDfa {
         requires boundary { IsCharBoundary haystack.now spot.at }
         requires state { spot.state < length self.now.states }
         requires near { IsInterval self.now.intervals.boundaries near.old }
-        ensures turn { IfSome result (IsTurn (P.table patterns.now) (P.entries patterns.now) self.now
-            haystack.now spot.at spot.state) }
+        ensures turn { IfSome result (IsTurn (P.table patterns.now) (P.entries patterns.now)
+            self.now haystack.now spot.at spot.state) }
         ensures near { IsInterval self.now.intervals.boundaries near.new }
     {
         let Some(Ahead { class, end }) = self.classes.ahead(haystack, spot.at, near) else {

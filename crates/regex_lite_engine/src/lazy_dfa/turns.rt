@@ -28,9 +28,10 @@ impl Cache<Origin> {
         requires all { AreAllStarts (P.table patterns.now) (P.entries patterns.now)
             (P.starts patterns.now) }
         requires stands { (s : ℕ) × (automaton : Automaton)
-            × CanCount (P.table patterns.now) (length (P.entries patterns.now)) (characters_left (chars haystack.now) s)
-            × Stands (P.table patterns.now) (chars haystack.now) (P.entries patterns.now) s automaton
-            from self.old }
+            × CanCount (P.table patterns.now) (length (P.entries patterns.now))
+            (characters_left (chars haystack.now) s)
+            × Stands (P.table patterns.now) (chars haystack.now) (P.entries patterns.now) s
+            automaton from self.old }
         ensures on { (s : ℕ) (automaton : Automaton) → Stands (P.table patterns.now)
             (chars haystack.now) (P.entries patterns.now) s automaton from self.old → (p : ℕ)
             × (p ≤ length (chars haystack.now) + 1)
@@ -73,9 +74,10 @@ impl Cache<Origin> {
         requires all { AreAllStarts (P.table patterns.now) (P.entries patterns.now)
             (P.starts patterns.now) }
         requires stands { (s : ℕ) × (automaton : Automaton)
-            × CanCount (P.table patterns.now) (length (P.entries patterns.now)) (characters_left (chars haystack.now) s)
-            × Stands (P.table patterns.now) (chars haystack.now) (P.entries patterns.now) s automaton
-            from self.old }
+            × CanCount (P.table patterns.now) (length (P.entries patterns.now))
+            (characters_left (chars haystack.now) s)
+            × Stands (P.table patterns.now) (chars haystack.now) (P.entries patterns.now) s
+            automaton from self.old }
         requires none { best_of self.old.best ≡ None }
         ensures on { (s : ℕ) (automaton : Automaton) → Stands (P.table patterns.now)
             (chars haystack.now) (P.entries patterns.now) s automaton from self.old → (p : ℕ)

@@ -44,7 +44,8 @@ returns-clause-stands g c = λ s stands.
       is = passes.is;
       on =
           passed_over (g.P.Patterns.table c.args.patterns.now) (chars c.args.haystack.now)
-          (g.P.Patterns.entries c.args.patterns.now) s stands.p a.cache.now c.leave_idle-here.result stands.on
+          (g.P.Patterns.entries c.args.patterns.now) s stands.p a.cache.now c.leave_idle-here.result
+          stands.on
           none no_match passes;
       first = omega arith;
       own = own_first c.leave_idle-here.result.at a.cache.now.walk.memory.threads none;

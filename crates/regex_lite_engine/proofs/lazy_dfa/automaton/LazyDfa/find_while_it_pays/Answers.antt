@@ -30,7 +30,8 @@ returns-then-is_over-clause-found g c = λ s begun.
     let best = c.found.ensures ∙ ap (λ row. best_kept c.found.result row) row in
     subst (IsBestOutcomeOf (g.P.Patterns.table c.args.patterns.now) (chars c.args.haystack.now)
     (g.P.Patterns.entries c.args.patterns.now) s) best
-    (ended_all (g.P.Patterns.table c.args.patterns.now) (chars c.args.haystack.now) (g.P.Patterns.entries c.args.patterns.now)
+    (ended_all (g.P.Patterns.table c.args.patterns.now) (chars c.args.haystack.now)
+    (g.P.Patterns.entries c.args.patterns.now)
     s stands.p cache.walk.memory.threads (best_of cache.best) stands.on.low stands.is.inside
     (over_at (chars c.args.haystack.now) stands.p c.look_ahead.new.at.here stands.is
     (c.is_over.ensures.over (search rules))) on.coming)
@@ -89,7 +90,8 @@ positions-smaller g c =
     let idle = c.at_idle-at.ensures.stands s (c.positions.invariant.stands s c.requires.stands.2) in
     let stands = c.in_default.ensures.stands s idle in
     let on = c.go_over-hit.ensures.on s stands.p stands.is stands.on in
-    let next = c.on-at.ensures.stands (g.P.Patterns.table c.args.patterns.now) (g.P.Patterns.entries c.args.patterns.now)
+    let next = c.on-at.ensures.stands (g.P.Patterns.table c.args.patterns.now) (g.P.Patterns.entries
+    c.args.patterns.now)
     c.learn_at-at.new.self s stands.p stands.is on c.learn_at-at.ensures.state in
     let most = at_most c.args.haystack.now next.p c.on-at.result.here c.utf8.haystack next.is in
     let later = c.on-at.ensures.later in
@@ -105,7 +107,8 @@ positions-preserved g c = record {
       let idle = c.at_idle-at.ensures.stands s (c.positions.invariant.stands s begun) in
       let stands = c.in_default.ensures.stands s idle in
       let on = c.go_over-hit.ensures.on s stands.p stands.is stands.on in
-      c.on-at.ensures.stands (g.P.Patterns.table c.args.patterns.now) (g.P.Patterns.entries c.args.patterns.now)
+      c.on-at.ensures.stands (g.P.Patterns.table c.args.patterns.now) (g.P.Patterns.entries
+      c.args.patterns.now)
       c.learn_at-at.new.self s stands.p stands.is on c.learn_at-at.ensures.state;
 }
 
@@ -116,7 +119,8 @@ returns-in-Some-clause-bounded g c = λ s begun.
     let idle = c.at_idle-at.ensures.stands s (c.positions.invariant.stands s begun) in
     let low = idle.on.low in
     let inside = idle.is.inside in
-    subst (λ z. IsBoundedBy (length table) (arrows_of table + length (g.P.Patterns.entries c.args.patterns.now)) h s z.walk.steps.tried
+    subst (λ z. IsBoundedBy (length table) (arrows_of table + length (g.P.Patterns.entries
+    c.args.patterns.now)) h s z.walk.steps.tried
     z.walk.steps.entered z.walk.steps.looked) (sym c.in-Some.ensures.same)
     (bounded_on table h (g.P.Patterns.entries c.args.patterns.now) s idle.p c.positions.cache
     (omega (arith, low, inside)) (omega (arith, inside)) idle.on)
@@ -138,7 +142,8 @@ returns-then-is_over-clause-bounded g c = λ s begun.
     let on = c.go_over-hit.ensures.on s stands.p stands.is stands.on in
     let low = stands.on.low in
     let inside = stands.is.inside in
-    bounded_on (g.P.Patterns.table c.args.patterns.now) (chars c.args.haystack.now) (g.P.Patterns.entries c.args.patterns.now)
+    bounded_on (g.P.Patterns.table c.args.patterns.now) (chars c.args.haystack.now)
+    (g.P.Patterns.entries c.args.patterns.now)
     s (stands.p + 1) c.go_over-hit.new.self (omega (arith, low, inside)) (omega (arith, inside)) on
 
 pub returns-in-Some-clause-found : goal.returns-in-Some-clause-found

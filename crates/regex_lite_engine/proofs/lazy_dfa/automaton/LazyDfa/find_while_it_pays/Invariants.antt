@@ -6,9 +6,11 @@ invariant-positions g l = record {
   remembers : Remembers (g.P.Patterns.table l.patterns) (g.P.Patterns.entries l.patterns) l.self;
   none_pending : l.self.pending ≡ [];
   stands : (s : ℕ)
-      → Stands (g.P.Patterns.table l.patterns) (chars l.haystack) (g.P.Patterns.entries l.patterns) s l.initial.self l.fn.from
+      → Stands (g.P.Patterns.table l.patterns) (chars l.haystack) (g.P.Patterns.entries l.patterns)
+      s l.initial.self l.fn.from
       l.initial.cache
-      → Stands (g.P.Patterns.table l.patterns) (chars l.haystack) (g.P.Patterns.entries l.patterns) s l.self l.at l.cache;
+      → Stands (g.P.Patterns.table l.patterns) (chars l.haystack) (g.P.Patterns.entries l.patterns)
+      s l.self l.at l.cache;
 }
 
 abbrev pub decreases-positions : goal.decreases-positions

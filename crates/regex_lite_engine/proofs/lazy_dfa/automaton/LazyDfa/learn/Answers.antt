@@ -20,12 +20,14 @@ own_state g c =
 -- what is remembered once the state that is come to has its place
 settled : (g : given.Over) (c : After-settle g) →
     (c.gather.new.self.pending ≡ ways_of c.args.taken.first c.args.cache.now.walk.memory.threads)
-    × Remembers (g.P.Patterns.table c.args.patterns.now) (g.P.Patterns.entries c.args.patterns.now) c.settle.new.self
+    × Remembers (g.P.Patterns.table c.args.patterns.now) (g.P.Patterns.entries c.args.patterns.now)
+    c.settle.new.self
 settled g c =
     let a = c.args in
     let patterns = a.patterns.now in
     let between = c.requires.between in
-    remembers_settled (g.P.Patterns.table patterns) (g.P.Patterns.entries patterns) a.self.now c.gather.new.self
+    remembers_settled (g.P.Patterns.table patterns) (g.P.Patterns.entries patterns) a.self.now
+    c.gather.new.self
     c.settle.new.self a.taken.first a.cache.now.walk.memory.threads
     (c.if-not-gather.ensures.gathered refl) c.requires.none_pending c.requires.remembers
     between.below between.few c.settle.ensures.extends
@@ -76,9 +78,11 @@ returns g c =
     record {
       remembers =
           subst (Remembers (g.P.Patterns.table a.patterns.now) entries) (sym kept)
-          (remembers_more (g.P.Patterns.table a.patterns.now) entries now whole.1 x from class c.in_ok-y.y to.state
+          (remembers_more (g.P.Patterns.table a.patterns.now) entries now whole.1 x from class
+          c.in_ok-y.y to.state
           at to.is
-          (learned (g.P.Patterns.table a.patterns.now) entries a.self.now now same whole.1 x a.taken.first
+          (learned (g.P.Patterns.table a.patterns.now) entries a.self.now now same whole.1 x
+          a.taken.first
           a.taken.here a.taken.hit a.cache.now turned class is_class to.state
           (to.ways ∙ whole.0) is_hit searching before));
       state =

@@ -13,8 +13,10 @@ scan-requires-clause-scanning g c =
     let is_in = subst (λ o. MatchOption o (Unit {0})
     (λ x. IsIn c.args.self.now x c.args.at.now.first c.args.at.now.here.before c.args.cache.now))
     c.in-Some.is stands.state in
-    let scanning = scanning_from (g.P.Patterns.table c.args.patterns.now) (chars c.args.haystack.now)
-    (g.P.Patterns.entries c.args.patterns.now) s stands.p c.args.self.now c.in-Some.state c.args.at.now.first
+    let scanning = scanning_from (g.P.Patterns.table c.args.patterns.now) (chars
+    c.args.haystack.now)
+    (g.P.Patterns.entries c.args.patterns.now) s stands.p c.args.self.now c.in-Some.state
+    c.args.at.now.first
     c.args.at.now.here c.args.cache.now c.found.result stands.is stands.on is_in stands.own best in
     (s, stands.p, scanning)
 
@@ -28,8 +30,10 @@ resume-requires-clause-state g c =
     let is_in = subst (λ o. MatchOption o (Unit {0})
     (λ x. IsIn c.args.self.now x c.args.at.now.first c.args.at.now.here.before c.args.cache.now))
     c.in-Some.is stands.state in
-    let scanning = scanning_from (g.P.Patterns.table c.args.patterns.now) (chars c.args.haystack.now)
-    (g.P.Patterns.entries c.args.patterns.now) s stands.p c.args.self.now c.in-Some.state c.args.at.now.first
+    let scanning = scanning_from (g.P.Patterns.table c.args.patterns.now) (chars
+    c.args.haystack.now)
+    (g.P.Patterns.entries c.args.patterns.now) s stands.p c.args.self.now c.in-Some.state
+    c.args.at.now.first
     c.args.at.now.here c.args.cache.now c.found.result stands.is stands.on is_in stands.own best in
     let scanned = c.in-Stuck.ensures s stands.p scanning in
     slice_get_within c.args.self.now.states c.in-Stuck.stuck.state scanned.0.2.state
@@ -45,8 +49,10 @@ resume-requires-clause-stands g c =
     let is_in = subst (λ o. MatchOption o (Unit {0})
     (λ x. IsIn c.args.self.now x c.args.at.now.first c.args.at.now.here.before c.args.cache.now))
     c.in-Some.is stands.state in
-    let scanning = scanning_from (g.P.Patterns.table c.args.patterns.now) (chars c.args.haystack.now)
-    (g.P.Patterns.entries c.args.patterns.now) s stands.p c.args.self.now c.in-Some.state c.args.at.now.first
+    let scanning = scanning_from (g.P.Patterns.table c.args.patterns.now) (chars
+    c.args.haystack.now)
+    (g.P.Patterns.entries c.args.patterns.now) s stands.p c.args.self.now c.in-Some.state
+    c.args.at.now.first
     c.args.at.now.here c.args.cache.now c.found.result stands.is stands.on is_in stands.own best in
     (chars c.args.haystack.now, s, stands, c.in-Stuck.ensures s stands.p scanning)
 
@@ -58,8 +64,10 @@ returns-in-Found-clause-stands g c = λ s stands.
     let is_in = subst (λ o. MatchOption o (Unit {0})
     (λ x. IsIn c.args.self.now x c.args.at.now.first c.args.at.now.here.before c.args.cache.now))
     c.in-Some.is stands.state in
-    let scanning = scanning_from (g.P.Patterns.table c.args.patterns.now) (chars c.args.haystack.now)
-    (g.P.Patterns.entries c.args.patterns.now) s stands.p c.args.self.now c.in-Some.state c.args.at.now.first
+    let scanning = scanning_from (g.P.Patterns.table c.args.patterns.now) (chars
+    c.args.haystack.now)
+    (g.P.Patterns.entries c.args.patterns.now) s stands.p c.args.self.now c.in-Some.state
+    c.args.at.now.first
     c.args.at.now.here c.args.cache.now c.found.result stands.is stands.on is_in stands.own best in
     c.in-Found.ensures s stands.p scanning
 
@@ -71,8 +79,10 @@ returns-in-Stuck-clause-stands g c = λ s stands.
     let is_in = subst (λ o. MatchOption o (Unit {0})
     (λ x. IsIn c.args.self.now x c.args.at.now.first c.args.at.now.here.before c.args.cache.now))
     c.in-Some.is stands.state in
-    let scanning = scanning_from (g.P.Patterns.table c.args.patterns.now) (chars c.args.haystack.now)
-    (g.P.Patterns.entries c.args.patterns.now) s stands.p c.args.self.now c.in-Some.state c.args.at.now.first
+    let scanning = scanning_from (g.P.Patterns.table c.args.patterns.now) (chars
+    c.args.haystack.now)
+    (g.P.Patterns.entries c.args.patterns.now) s stands.p c.args.self.now c.in-Some.state
+    c.args.at.now.first
     c.args.at.now.here c.args.cache.now c.found.result stands.is stands.on is_in stands.own best in
     c.resume.ensures.stands (chars c.args.haystack.now) s stands
     (c.in-Stuck.ensures s stands.p scanning)
@@ -87,8 +97,10 @@ returns-in-Stuck-clause-between g c =
     let is_in = subst (λ o. MatchOption o (Unit {0})
     (λ x. IsIn c.args.self.now x c.args.at.now.first c.args.at.now.here.before c.args.cache.now))
     c.in-Some.is stands.state in
-    let scanning = scanning_from (g.P.Patterns.table c.args.patterns.now) (chars c.args.haystack.now)
-    (g.P.Patterns.entries c.args.patterns.now) s stands.p c.args.self.now c.in-Some.state c.args.at.now.first
+    let scanning = scanning_from (g.P.Patterns.table c.args.patterns.now) (chars
+    c.args.haystack.now)
+    (g.P.Patterns.entries c.args.patterns.now) s stands.p c.args.self.now c.in-Some.state
+    c.args.at.now.first
     c.args.at.now.here c.args.cache.now c.found.result stands.is stands.on is_in stands.own best in
     (c.resume.ensures.stands (chars c.args.haystack.now) s stands
     (c.in-Stuck.ensures s stands.p scanning)).on.ready
@@ -103,8 +115,10 @@ returns-in-Stuck-clause-width g c =
     let is_in = subst (λ o. MatchOption o (Unit {0})
     (λ x. IsIn c.args.self.now x c.args.at.now.first c.args.at.now.here.before c.args.cache.now))
     c.in-Some.is stands.state in
-    let scanning = scanning_from (g.P.Patterns.table c.args.patterns.now) (chars c.args.haystack.now)
-    (g.P.Patterns.entries c.args.patterns.now) s stands.p c.args.self.now c.in-Some.state c.args.at.now.first
+    let scanning = scanning_from (g.P.Patterns.table c.args.patterns.now) (chars
+    c.args.haystack.now)
+    (g.P.Patterns.entries c.args.patterns.now) s stands.p c.args.self.now c.in-Some.state
+    c.args.at.now.first
     c.args.at.now.here c.args.cache.now c.found.result stands.is stands.on is_in stands.own best in
     (c.resume.ensures.stands (chars c.args.haystack.now) s stands
     (c.in-Stuck.ensures s stands.p scanning)).on.width

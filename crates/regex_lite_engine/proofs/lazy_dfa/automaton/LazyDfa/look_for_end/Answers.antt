@@ -6,8 +6,10 @@ use Rattle.regex_lite_engine.proofs.lazy_dfa.automaton.LazyDfa.look_for_end.Goal
 use Rattle.regex_lite_engine.proofs.lazy_dfa.automaton.LazyDfa.look_for_end.Goals.{In-Some}
 
 -- from where the search stands, remembered turns are gone by
-scanning : (g : given.Over) (c : In-Some g) (s : ℕ) (stands : Stands (g.P.Patterns.table c.args.patterns.now)
-    (chars c.args.haystack.now) (g.P.Patterns.entries c.args.patterns.now) s c.args.self.now c.args.at.now
+scanning : (g : given.Over) (c : In-Some g) (s : ℕ) (stands : Stands (g.P.Patterns.table
+    c.args.patterns.now)
+    (chars c.args.haystack.now) (g.P.Patterns.entries c.args.patterns.now) s c.args.self.now
+    c.args.at.now
     c.args.cache.now)
     → IsScanning (g.P.Patterns.table c.args.patterns.now) (g.P.Patterns.entries c.args.patterns.now)
     (chars c.args.haystack.now) s stands.p c.args.self.now (record {
@@ -21,7 +23,8 @@ scanning g c s stands =
     (λ x. IsIn c.args.self.now x c.args.at.now.first c.args.at.now.here.before c.args.cache.now))
     c.in-Some.is stands.state in
     scanning_from (g.P.Patterns.table c.args.patterns.now) (chars c.args.haystack.now)
-    (g.P.Patterns.entries c.args.patterns.now) s stands.p c.args.self.now c.in-Some.state c.args.at.now.first
+    (g.P.Patterns.entries c.args.patterns.now) s stands.p c.args.self.now c.in-Some.state
+    c.args.at.now.first
     c.args.at.now.here c.args.cache.now None stands.is stands.on is_in stands.own c.requires.none
 
 pub scan_shortest-requires-clause-scanning : goal.scan_shortest-requires-clause-scanning

@@ -31,7 +31,8 @@ returns-then-may_take_up-clause-stands g c = λ haystack s stands scanned.
     let all = c.if-may_take_up.ensures.all refl in
     let fits = c.requires.remembers.fit stuck.state scanning.state scanning.is_state in
     let no_best = none_by stuck.best c.is_none.result c.is_none.ensures c.if-is_none.true in
-    let first = first_stuck (g.P.Patterns.table c.args.patterns.now) haystack (g.P.Patterns.entries c.args.patterns.now) s
+    let first = first_stuck (g.P.Patterns.table c.args.patterns.now) haystack (g.P.Patterns.entries
+    c.args.patterns.now) s
     stands.p c.args.self.now c.args.cache.now new stands.on kept none q stuck scanning later
     c.ways-ways.result.now ways all fits no_best threads (c.if-may_take_up.ensures.before refl) in
     record {
@@ -39,13 +40,15 @@ returns-then-may_take_up-clause-stands g c = λ haystack s stands scanned.
       is = scanning.is;
       on =
           taken_up (g.P.Patterns.table c.args.patterns.now) haystack
-          (g.P.Patterns.entries c.args.patterns.now) s stands.p c.args.self.now c.args.cache.now new stands.on
+          (g.P.Patterns.entries c.args.patterns.now) s stands.p c.args.self.now c.args.cache.now new
+          stands.on
           kept none q stuck scanning later c.ways-ways.result.now ways all fits no_best threads;
       first = first.0;
       own = first.1;
       state =
           is_in_stuck (g.P.Patterns.table c.args.patterns.now) haystack
-          (g.P.Patterns.entries c.args.patterns.now) s stands.p c.args.self.now c.args.cache.now new stands.on
+          (g.P.Patterns.entries c.args.patterns.now) s stands.p c.args.self.now c.args.cache.now new
+          stands.on
           kept none q stuck scanning later c.ways-ways.result.now ways all fits no_best threads;
     }
 
@@ -62,7 +65,8 @@ returns-then-here-at-clause-stands g c = λ haystack s stands scanned.
     let here = c.in-Some.here in
     let new = c.let_go.new.self in
     let idle = subst (λ o. IfSome o
-    (IsIdleAt (g.P.Patterns.table c.args.patterns.now) (g.P.Patterns.entries c.args.patterns.now) haystack s stands.p))
+    (IsIdleAt (g.P.Patterns.table c.args.patterns.now) (g.P.Patterns.entries c.args.patterns.now)
+    haystack s stands.p))
     c.in-Some.is scanned.1 in
     let more = c.if-here-at.true in
     let later =
@@ -73,7 +77,8 @@ returns-then-here-at-clause-stands g c = λ haystack s stands scanned.
       is = idle.is;
       on =
           let_gone (g.P.Patterns.table c.args.patterns.now) haystack
-          (g.P.Patterns.entries c.args.patterns.now) s stands.p c.args.self.now c.args.cache.now new stands.on
+          (g.P.Patterns.entries c.args.patterns.now) s stands.p c.args.self.now c.args.cache.now new
+          stands.on
           c.let_go.ensures.kept c.let_go.ensures.none here idle later c.let_go.ensures.threads;
       first = omega arith;
       own = own_first here.at new.walk.memory.threads c.let_go.ensures.threads;

@@ -13,7 +13,8 @@ turns-init g c = record {
   on = λ low p from. (
     p,
     omega arith,
-    spot_of (g.P.Patterns.table c.args.patterns.now) (g.P.Patterns.entries c.args.patterns.now) (chars c.args.haystack.now)
+    spot_of (g.P.Patterns.table c.args.patterns.now) (g.P.Patterns.entries c.args.patterns.now)
+        (chars c.args.haystack.now)
         low p c.args.self.now c.args.at.now c.of-spot.result from c.of-spot.ensures,
     inl refl,
   );
@@ -25,7 +26,8 @@ turn-requires-clause-boundary g c =
     let fits : length bs + 1 < 2 ^ 64 = omega arith in
     let from = c.requires.scanning in
     let v = c.turns.invariant.on from.0 from.1 from.2 in
-    spot_edge (g.P.Patterns.table c.args.patterns.now) (g.P.Patterns.entries c.args.patterns.now) bs c.utf8.haystack fits
+    spot_edge (g.P.Patterns.table c.args.patterns.now) (g.P.Patterns.entries c.args.patterns.now) bs
+    c.utf8.haystack fits
     from.0 v.0 c.args.self.now c.turns.spot c.turns.at v.2
 
 pub turn-requires-clause-state : goal.turn-requires-clause-state
@@ -82,7 +84,8 @@ returns-in-Over-clause-over g c = λ _ low p from.
     let fits : length bs + 1 < 2 ^ 64 = omega arith in
     let turn = c.in-Some.ensures.turn in
     let v = c.turns.invariant.on low p from in
-    spot_over (g.P.Patterns.table c.args.patterns.now) (g.P.Patterns.entries c.args.patterns.now) bs c.utf8.haystack fits
+    spot_over (g.P.Patterns.table c.args.patterns.now) (g.P.Patterns.entries c.args.patterns.now) bs
+    c.utf8.haystack fits
     low v.0 c.args.self.now c.turns.spot c.turns.at v.2 c.in-Some.turn turn c.take.new.at
     (c.in-Over.ensures.taken turn.to turn.is_to)
 
@@ -92,7 +95,8 @@ settle-requires g c =
     let fits : length bs + 1 < 2 ^ 64 = omega arith in
     let from = c.requires.scanning in
     let v = c.turns.invariant.on from.0 from.1 from.2 in
-    spot_edge (g.P.Patterns.table c.args.patterns.now) (g.P.Patterns.entries c.args.patterns.now) bs c.utf8.haystack fits
+    spot_edge (g.P.Patterns.table c.args.patterns.now) (g.P.Patterns.entries c.args.patterns.now) bs
+    c.utf8.haystack fits
     from.0 v.0 c.args.self.now c.turns.spot c.turns.at v.2
 
 stays : (g : given.Over) (c : goal.After-settle g) → c.match-turn.at ≡ c.turns.at
@@ -107,7 +111,8 @@ pub returns-clause-on : goal.returns-clause-on
 returns-clause-on g c = λ _ low p from.
     let bs = c.args.haystack.now in
     let fits : length bs + 1 < 2 ^ 64 = omega arith in
-    ran (g.P.Patterns.table c.args.patterns.now) (g.P.Patterns.entries c.args.patterns.now) bs c.utf8.haystack fits low p
+    ran (g.P.Patterns.table c.args.patterns.now) (g.P.Patterns.entries c.args.patterns.now) bs
+    c.utf8.haystack fits low p
     c.args.at.now.first c.args.self.now c.turns.spot c.turns.at c.settle.new.self
     (c.turns.invariant.on low p from) c.settle.ensures.here
     (c.settle.ensures.same

@@ -7,11 +7,14 @@ abbrev pub invariant-turns : goal.invariant-turns
 invariant-turns g l = record {
   near : IsInterval l.self.intervals.boundaries l.near;
   on : (low p : ℕ)
-      → IsScanning (g.P.Patterns.table l.patterns) (g.P.Patterns.entries l.patterns) (chars l.haystack) low p l.self
+      → IsScanning (g.P.Patterns.table l.patterns) (g.P.Patterns.entries l.patterns) (chars
+      l.haystack) low p l.self
       l.initial.at
       → (q : ℕ) × (p ≤ q)
-      × IsSpotAt (g.P.Patterns.table l.patterns) (g.P.Patterns.entries l.patterns) (chars l.haystack) low q l.self l.spot l.at
-      × IsSince (g.P.Patterns.table l.patterns) (g.P.Patterns.entries l.patterns) (chars l.haystack) low p
+      × IsSpotAt (g.P.Patterns.table l.patterns) (g.P.Patterns.entries l.patterns) (chars
+      l.haystack) low q l.self l.spot l.at
+      × IsSince (g.P.Patterns.table l.patterns) (g.P.Patterns.entries l.patterns) (chars l.haystack)
+      low p
       l.initial.at.first l.at.first;
 }
 

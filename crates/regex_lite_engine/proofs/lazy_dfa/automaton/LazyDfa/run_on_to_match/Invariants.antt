@@ -5,11 +5,14 @@ abbrev pub invariant-leaps : goal.invariant-leaps
 invariant-leaps g l = record {
   none : l.at.best ≡ l.initial.at.best;
   on : (low p : ℕ)
-      → IsScanning (g.P.Patterns.table l.patterns) (g.P.Patterns.entries l.patterns) (chars l.haystack) low p l.self
+      → IsScanning (g.P.Patterns.table l.patterns) (g.P.Patterns.entries l.patterns) (chars
+      l.haystack) low p l.self
       l.initial.at
       → (q : ℕ) × (p ≤ q)
-      × IsScanning (g.P.Patterns.table l.patterns) (g.P.Patterns.entries l.patterns) (chars l.haystack) low q l.self l.at
-      × IsSince (g.P.Patterns.table l.patterns) (g.P.Patterns.entries l.patterns) (chars l.haystack) low p
+      × IsScanning (g.P.Patterns.table l.patterns) (g.P.Patterns.entries l.patterns) (chars
+      l.haystack) low q l.self l.at
+      × IsSince (g.P.Patterns.table l.patterns) (g.P.Patterns.entries l.patterns) (chars l.haystack)
+      low p
       l.initial.at.first l.at.first;
 }
 

@@ -114,7 +114,8 @@ returns-then-is_over g c = λ low p from.
     let r = c.run_on.ensures.on c.if-run_on.false low v.0 v.2 in
     let on = c.in-Some.ensures.on low r.0 r.2 in
     let led = c.in-Some-step.ensures (chars c.args.haystack.now) low on.0 on.2 in
-    scan_over (g.P.Patterns.table c.args.patterns.now) (g.P.Patterns.entries c.args.patterns.now) (chars c.args.haystack.now)
+    scan_over (g.P.Patterns.table c.args.patterns.now) (g.P.Patterns.entries c.args.patterns.now)
+    (chars c.args.haystack.now)
     low on.0 c.args.self.now c.in-Some.on on.2 c.in-Some-step.to c.in-Some-step.best led
     (c.if-is_over.ensures.over led.state led.is_state (search rules))
 

@@ -6,11 +6,14 @@ abbrev pub invariant-positions : goal.invariant-positions
 invariant-positions g l = record {
   none : l.at.best ≡ None;
   on : (low p : ℕ)
-      → IsScanning (g.P.Patterns.table l.patterns) (g.P.Patterns.entries l.patterns) (chars l.haystack) low p l.self
+      → IsScanning (g.P.Patterns.table l.patterns) (g.P.Patterns.entries l.patterns) (chars
+      l.haystack) low p l.self
       l.fn.from
       → (q : ℕ) × (p ≤ q)
-      × IsScanning (g.P.Patterns.table l.patterns) (g.P.Patterns.entries l.patterns) (chars l.haystack) low q l.self l.at
-      × IsSince (g.P.Patterns.table l.patterns) (g.P.Patterns.entries l.patterns) (chars l.haystack) low p l.fn.from.first
+      × IsScanning (g.P.Patterns.table l.patterns) (g.P.Patterns.entries l.patterns) (chars
+      l.haystack) low q l.self l.at
+      × IsSince (g.P.Patterns.table l.patterns) (g.P.Patterns.entries l.patterns) (chars l.haystack)
+      low p l.fn.from.first
       l.at.first;
 }
 

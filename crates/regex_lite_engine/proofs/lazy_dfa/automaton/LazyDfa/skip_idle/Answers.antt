@@ -10,7 +10,8 @@ returns-clause-on g c = λ low p scanning.
     let found = c.in_ok-state.ensures in (
       passes.q,
       passes.later,
-      skipped (g.P.Patterns.table c.args.patterns.now) (g.P.Patterns.entries c.args.patterns.now) (chars c.args.haystack.now)
+      skipped (g.P.Patterns.table c.args.patterns.now) (g.P.Patterns.entries c.args.patterns.now)
+          (chars c.args.haystack.now)
           low p c.args.self.now c.args.at scanning c.pass_over-here.result passes idle none
           c.in_ok-state.state found.state found.is_state found.none found.searching found.sees,
     )

@@ -7,7 +7,8 @@ returns-clause-remembers g c =
     let a = c.args in
     let patterns = a.patterns.now in
     let between = c.requires.between in
-    (remembers_settled (g.P.Patterns.table patterns) (g.P.Patterns.entries patterns) a.self.now c.gather.new.self
+    (remembers_settled (g.P.Patterns.table patterns) (g.P.Patterns.entries patterns) a.self.now
+    c.gather.new.self
     c.settle.new.self a.at.first a.cache.now.walk.memory.threads
     (c.if-not-gather.ensures.gathered refl) c.requires.none_pending c.requires.remembers
     between.below between.few c.settle.ensures.extends).1

@@ -16,7 +16,8 @@ index-requires-2 g c =
     let class = c.class-class.result in
     let found : StoredState = c.index.result.now in
     let turn = known_turn i.classes i.states.items i.used i.ways.items now c.self.view_is
-    (g.P.Patterns.table c.args.patterns.now) (g.P.Patterns.entries c.args.patterns.now) c.requires.remembers x found
+    (g.P.Patterns.table c.args.patterns.now) (g.P.Patterns.entries c.args.patterns.now)
+    c.requires.remembers x found
     c.index.ensures c.requires.state class c.class-class.ensures.few c.if-to.false in
     let inside = stored_within i.classes i.states.items i.used i.ways.items now c.self.view_is
     (slice_index found.next class)
@@ -31,13 +32,15 @@ returns-in-Nowhere g c = λ haystack low p scanning.
     let class = c.class-class.result in
     let found : StoredState = c.index.result.now in
     let turn = known_turn i.classes i.states.items i.used i.ways.items now c.self.view_is
-    (g.P.Patterns.table c.args.patterns.now) (g.P.Patterns.entries c.args.patterns.now) c.requires.remembers x found
+    (g.P.Patterns.table c.args.patterns.now) (g.P.Patterns.entries c.args.patterns.now)
+    c.requires.remembers x found
     c.index.ensures c.requires.state class c.class-class.ensures.few c.if-to.false in
     let y = slice_index found.next class in
     let there : StoredState = c.index-2.result.now in
     let own = is_stored i.classes i.states.items i.used i.ways.items now c.self.view_is y there
     c.index-2.ensures (slice_get_within now.states y turn.0 turn.1) in
-    led_step (g.P.Patterns.table c.args.patterns.now) (g.P.Patterns.entries c.args.patterns.now) haystack low p now c.args.at
+    led_step (g.P.Patterns.table c.args.patterns.now) (g.P.Patterns.entries c.args.patterns.now)
+    haystack low p now c.args.at
     scanning class y (state_in i.ways.items found) turn.0
     (is_stored i.classes i.states.items i.used i.ways.items now c.self.view_is x found
     c.index.ensures c.requires.state) turn.1 turn.2 (sym
@@ -55,13 +58,15 @@ returns-in-AtFirst g c = λ haystack low p scanning.
     let class = c.class-class.result in
     let found : StoredState = c.index.result.now in
     let turn = known_turn i.classes i.states.items i.used i.ways.items now c.self.view_is
-    (g.P.Patterns.table c.args.patterns.now) (g.P.Patterns.entries c.args.patterns.now) c.requires.remembers x found
+    (g.P.Patterns.table c.args.patterns.now) (g.P.Patterns.entries c.args.patterns.now)
+    c.requires.remembers x found
     c.index.ensures c.requires.state class c.class-class.ensures.few c.if-to.false in
     let y = slice_index found.next class in
     let there : StoredState = c.index-2.result.now in
     let own = is_stored i.classes i.states.items i.used i.ways.items now c.self.view_is y there
     c.index-2.ensures (slice_get_within now.states y turn.0 turn.1) in
-    led_step (g.P.Patterns.table c.args.patterns.now) (g.P.Patterns.entries c.args.patterns.now) haystack low p now c.args.at
+    led_step (g.P.Patterns.table c.args.patterns.now) (g.P.Patterns.entries c.args.patterns.now)
+    haystack low p now c.args.at
     scanning class y (state_in i.ways.items found) turn.0
     (is_stored i.classes i.states.items i.used i.ways.items now c.self.view_is x found
     c.index.ensures c.requires.state) turn.1 turn.2 (sym

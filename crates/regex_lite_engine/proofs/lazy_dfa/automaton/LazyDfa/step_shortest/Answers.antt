@@ -20,7 +20,8 @@ index-requires-2 g c =
     let class = c.class-class.result in
     let found : StoredState = c.index.result.now in
     let turn = known_turn i.classes i.states.items i.used i.ways.items now c.self.view_is
-    (g.P.Patterns.table c.args.patterns.now) (g.P.Patterns.entries c.args.patterns.now) c.requires.remembers x found
+    (g.P.Patterns.table c.args.patterns.now) (g.P.Patterns.entries c.args.patterns.now)
+    c.requires.remembers x found
     c.index.ensures c.requires.state class c.class-class.ensures.few c.if-to.false in
     let inside = stored_within i.classes i.states.items i.used i.ways.items now c.self.view_is
     (slice_index found.next class)
@@ -44,11 +45,14 @@ returns-in-Nowhere g c = λ haystack low p scanning.
     let found : StoredState = c.index.result.now in
     let there : StoredState = c.index-2.result.now in
     let turn = stored_turn i.classes i.states.items i.used i.ways.items now c.self.view_is
-    (g.P.Patterns.table c.args.patterns.now) entries c.requires.remembers c.args.at.state found c.index.ensures
+    (g.P.Patterns.table c.args.patterns.now) entries c.requires.remembers c.args.at.state found
+    c.index.ensures
     c.requires.state class c.class-class.ensures.few c.if-to.false there c.index-2.ensures in
-    led_step (g.P.Patterns.table c.args.patterns.now) entries haystack low p now c.args.at scanning class
+    led_step (g.P.Patterns.table c.args.patterns.now) entries haystack low p now c.args.at scanning
+    class
     (slice_index found.next class) (state_in i.ways.items found) (state_in i.ways.items there)
-    turn.0 turn.1 turn.2 (class_is g (goal.at.returns-in-Nowhere g c).After-index-2) (hit_in there.hit)
+    turn.0 turn.1 turn.2 (class_is g (goal.at.returns-in-Nowhere g c).After-index-2) (hit_in
+    there.hit)
     refl None (ap best_told (sym c.requires.none) ∙ sym (ap (λ hit. best_left (hit_in hit)
     c.args.at.first c.args.at.here.at (best_told c.args.at.best)) c.in-Nowhere.is))
 
@@ -56,9 +60,11 @@ returns-in-Nowhere g c = λ haystack low p scanning.
 ends : (g : given.Over) (c : After-index-2 g) (hit : Hit) → c.index-2.result.now.hit ≡ hit →
     (best_left (hit_in hit) c.args.at.first c.args.at.here.at None ≡ None → ⊥) →
     (haystack : Text) (low p : ℕ)
-    → IsScanning (g.P.Patterns.table c.args.patterns.now) (g.P.Patterns.entries c.args.patterns.now) haystack low p
+    → IsScanning (g.P.Patterns.table c.args.patterns.now) (g.P.Patterns.entries c.args.patterns.now)
+    haystack low p
     c.args.self.now c.args.at →
-    IsNumberedEndOf (g.P.Patterns.table c.args.patterns.now) haystack (g.P.Patterns.entries c.args.patterns.now) low
+    IsNumberedEndOf (g.P.Patterns.table c.args.patterns.now) haystack (g.P.Patterns.entries
+    c.args.patterns.now) low
     (best_left (hit_in hit) c.args.at.first c.args.at.here.at None)
 ends g c hit is complete haystack low p scanning =
     let i = c.self.inside in
@@ -68,7 +74,8 @@ ends g c hit is complete haystack low p scanning =
     let found : StoredState = c.index.result.now in
     let there : StoredState = c.index-2.result.now in
     let turn = stored_turn i.classes i.states.items i.used i.ways.items now c.self.view_is
-    (g.P.Patterns.table c.args.patterns.now) entries c.requires.remembers c.args.at.state found c.index.ensures
+    (g.P.Patterns.table c.args.patterns.now) entries c.requires.remembers c.args.at.state found
+    c.index.ensures
     c.requires.state class c.class-class.ensures.few c.if-to.false there c.index-2.ensures in
     end_led (g.P.Patterns.table c.args.patterns.now) entries haystack low p now c.args.at scanning
     c.requires.none class (slice_index found.next class) (state_in i.ways.items found)

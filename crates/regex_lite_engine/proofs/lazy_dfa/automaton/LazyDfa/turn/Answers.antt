@@ -10,7 +10,8 @@ returns-clause-turn g c =
     let x = c.args.spot.state in
     let found : StoredState = c.index.result.now in
     let turn = known_turn i.classes i.states.items i.used i.ways.items now c.self.view_is
-    (g.P.Patterns.table c.args.patterns.now) (g.P.Patterns.entries c.args.patterns.now) c.requires.remembers x found
+    (g.P.Patterns.table c.args.patterns.now) (g.P.Patterns.entries c.args.patterns.now)
+    c.requires.remembers x found
     c.index.ensures c.requires.state c.in-Some.field-0.class c.in-Some.ensures.few c.if-to.false in
     record {
       class = c.in-Some.field-0.class;

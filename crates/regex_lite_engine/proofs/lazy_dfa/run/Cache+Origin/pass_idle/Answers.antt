@@ -16,7 +16,8 @@ returns-clause-stands g c = λ s automaton stands.
       is = passes.is;
       on =
           passed_over (g.P.Patterns.table c.args.patterns.now) (chars c.args.haystack.now)
-          (g.P.Patterns.entries c.args.patterns.now) s stands.p a.self.now c.pass_over-here.result stands.on none
+          (g.P.Patterns.entries c.args.patterns.now) s stands.p a.self.now c.pass_over-here.result
+          stands.on none
           no_match passes;
       first = omega arith;
       own = own_first c.pass_over-here.result.at a.self.now.walk.memory.threads none;

@@ -14,7 +14,8 @@ find-requires-clause-counts c =
     c.utf8.haystack short c.requires.finds.1.countable 1 (omega arith)
 
 pub find-requires-clause-all : goal.find-requires-clause-all
-find-requires-clause-all c = all_of_one c.args.graph.now c.start-start.result c.start-start.ensures.same
+find-requires-clause-all c = all_of_one c.args.graph.now c.start-start.result
+    c.start-start.ensures.same
     c.start-start.ensures.inside
 
 pub returns-clause-found : goal.returns-clause-found

@@ -4,9 +4,11 @@ use Rattle.regex_lite_engine.proofs.lazy_dfa.turns.Cache+Origin.take_turns.Given
 abbrev pub invariant-positions : goal.invariant-positions
 invariant-positions g l = record {
   stands : (s : ℕ) (automaton : Automaton)
-      → Stands (g.P.Patterns.table l.patterns) (chars l.haystack) (g.P.Patterns.entries l.patterns) s automaton l.fn.from
+      → Stands (g.P.Patterns.table l.patterns) (chars l.haystack) (g.P.Patterns.entries l.patterns)
+      s automaton l.fn.from
       l.initial.self
-      → Stands (g.P.Patterns.table l.patterns) (chars l.haystack) (g.P.Patterns.entries l.patterns) s automaton l.at l.self;
+      → Stands (g.P.Patterns.table l.patterns) (chars l.haystack) (g.P.Patterns.entries l.patterns)
+      s automaton l.at l.self;
   all : l.fn.most ≡ None → l.left ≡ None;
 }
 

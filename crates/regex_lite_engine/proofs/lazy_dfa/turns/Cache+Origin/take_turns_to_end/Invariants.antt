@@ -5,9 +5,11 @@ use Rattle.regex_lite_engine.proofs.lazy_dfa.turns.Cache+Origin.take_turns_to_en
 abbrev pub invariant-positions : goal.invariant-positions
 invariant-positions g l = record {
   stands : (s : ℕ) (automaton : Automaton)
-      → Stands (g.P.Patterns.table l.patterns) (chars l.haystack) (g.P.Patterns.entries l.patterns) s automaton l.fn.from
+      → Stands (g.P.Patterns.table l.patterns) (chars l.haystack) (g.P.Patterns.entries l.patterns)
+      s automaton l.fn.from
       l.initial.self
-      → Stands (g.P.Patterns.table l.patterns) (chars l.haystack) (g.P.Patterns.entries l.patterns) s automaton l.at l.self;
+      → Stands (g.P.Patterns.table l.patterns) (chars l.haystack) (g.P.Patterns.entries l.patterns)
+      s automaton l.at l.self;
   none : best_of l.self.best ≡ None;
   all : l.fn.most ≡ None → l.left ≡ None;
 }

@@ -115,5 +115,6 @@ returns-in-Some-find_slots-clause-found c = λ tree regular is.
     c.in_ok-passed.ensures.known)
 
 pub find-requires-clause-all : goal.find-requires-clause-all
-find-requires-clause-all c = all_of_one c.self.inside.graph.now c.start-start.result c.start-start.ensures.same
+find-requires-clause-all c = all_of_one c.self.inside.graph.now c.start-start.result
+    c.start-start.ensures.same
     c.start-start.ensures.inside

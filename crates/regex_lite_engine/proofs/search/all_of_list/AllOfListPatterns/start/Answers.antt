@@ -1,32 +1,37 @@
 use Rattle.regex_lite_engine.proofs.Common.{◌<◌, map, length, get_or, Some, sym, ap, ◌∙◌, arith}
 use Rattle.regex_lite_engine.proofs.Common.{get_or-map-range_with_len, length-map-range_with_len}
 use Rattle.regex_lite_engine.proofs.Common.{slice_get-get_or, range_with_len, start_numbered}
+use Rattle.regex_lite_engine.proofs.Common.{List, ℕ, ◌≡◌}
 use Rattle.regex_lite_engine.proofs.search.all_of_list.AllOfListPatterns.start.Goals as goal
-use Rattle.regex_lite_engine.proofs.search.all_of_list.AllOfListPatterns.start.Goals.{After-entries-entries}
 
 -- the number is that of an entry
-inside : (c : After-entries-entries) → c.args.k < length c.entries-entries.result.now
-inside c =
-    let entries = c.args.self.now.list.now.entries in
-    let all = length-map-range_with_len (start_numbered entries) 0 (length entries) in
-    let same = ap length c.entries-entries.ensures.same in
-    let lt = c.requires in
-    omega (arith, all, same, lt)
+inside : (entries all : List ℕ) (k : ℕ) → all ≡ entries
+    → k < length (map (start_numbered entries) (range_with_len 0 (length entries))) → k < length all
+inside entries all k is lt =
+    let mapped = length-map-range_with_len (start_numbered entries) 0 (length entries) in
+    let same = ap length is in
+    omega (arith, mapped, same, lt)
 
 pub overflow_cast-result : goal.overflow_cast-result
 overflow_cast-result c =
-    let lt = inside (goal.at.overflow_cast-result c).After-entries-entries in
-    let few = c.entries-entries.ensures.few in
+    let told = c.entries-entries in
+    let entries = c.args.self.now.list.now.entries in
+    let lt = inside entries told.result.now c.args.k told.ensures.same c.requires in
+    let few = told.ensures.few in
     omega (arith, lt, few)
 
 pub offset_bounds-entries-k : goal.offset_bounds-entries-k
 offset_bounds-entries-k c =
-    let lt = inside (goal.at.offset_bounds-entries-k c).After-entries-entries in
-    let few = c.entries-entries.ensures.few in
+    let told = c.entries-entries in
+    let entries = c.args.self.now.list.now.entries in
+    let lt = inside entries told.result.now c.args.k told.ensures.same c.requires in
+    let few = told.ensures.few in
     omega (arith, lt, few)
 
 pub bounds-entries-k : goal.bounds-entries-k
-bounds-entries-k c = inside (goal.at.bounds-entries-k c).After-entries-entries
+bounds-entries-k c =
+    let told = c.entries-entries in
+    inside c.args.self.now.list.now.entries told.result.now c.args.k told.ensures.same c.requires
 
 pub returns : goal.returns
 returns c =
