@@ -1,10 +1,10 @@
 -- The line of the groups of a match, group after group.
-use Rattle.rxl.proofs.Common.{◌≡◌, ℕ, List, [], ◌∷◌, ◌++◌, map, Some, None, codes, Option, sym}
-use Rattle.rxl.proofs.Common.{refl, ap, ◌∙◌, append_assoc, span_of_match, groups_line}
-use Rattle.std.proofs.Common.{option_map}
+use Rattle.std.proofs.Common.{◌≡◌, ◌++◌, ℕ, List, [], ◌∷◌, Option, Some, None}
+use Rattle.std.proofs.Common.{map, option_map, codes, refl, sym, ap, ◌∙◌}
+use Rattle.std.proofs.lemmas.List.{append_assoc}
 use Rattle.regex_lite.specs.declared.string.matches.Match.{Match}
-use Rattle.regex_lite.specs.MatchViews.{Coming, groups_to_come, match_with_haystack}
-use Rattle.rxl.specs.Printed.{group_text, spaced}
+use Rattle.regex_lite.specs.MatchViews.{Coming, groups_to_come, match_with_haystack, span_of_match}
+use Rattle.rxl.specs.Printed.{group_text, groups_line, spaced}
 
 -- the spans of groups, this before the first and a space before each other, and a line feed
 abbrev pub separated : (before : List ℕ) → List (Option (ℕ × ℕ)) → List ℕ

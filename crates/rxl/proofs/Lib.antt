@@ -1,5 +1,3 @@
--- the definitions that most proofs cite
-pub mod Common
 -- lemmas that several modules use
 pub mod OutputLemmas
 pub mod ListLemmas

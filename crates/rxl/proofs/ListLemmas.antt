@@ -1,18 +1,17 @@
 -- From the matches that an iterator gives, one after another, to the list of all.
-use Rattle.rxl.proofs.Common.{◌≡◌, ℕ, Bool, true, false, ◌⊎◌, List, [], ◌∷◌, ◌++◌, map, Some, None}
-use Rattle.rxl.proofs.Common.{Option, chars, sym, refl, ap, ◌∙◌, subst, inl, inr, append-nil}
-use Rattle.rxl.proofs.Common.{append_assoc, whole, Expression, groups_line}
-use Rattle.std.proofs.Common.{◌≢◌, suc, zero}
-use Rattle.std.proofs.Common.{flat_map}
-use Rattle.std.proofs.Common.{arith, ◌||◌}
+use Rattle.std.proofs.Common.{◌≡◌, ◌≢◌, ◌⊎◌, ℕ, suc, zero, Bool, true, false, Option}
+use Rattle.std.proofs.Common.{Some, None, List, [], ◌∷◌, ◌++◌, map, flat_map, chars}
+use Rattle.std.proofs.Common.{refl, sym, ap, ◌∙◌, subst, inl, inr, arith, ◌||◌}
+use Rattle.std.proofs.lemmas.List.{append_assoc, append-nil}
 use Rattle.regex_lite.specs.Search.Answer.{Found}
-use Rattle.regex_lite.specs.Ahead.{Ahead, Passes, AreAhead, IsOver}
+use Rattle.regex_lite.specs.Ahead.{Ahead, Passes, AreAhead, IsOver, whole}
+use Rattle.regex_lite.specs.Expression.{Expression}
 use Rattle.regex_lite.specs.Groups.{Groups}
 use Rattle.regex_lite.specs.Items.{AreGroupsFound}
 use Rattle.regex_lite.specs.MatchList.{IsNext, AreFirst, AreWithin, one_less}
 use Rattle.regex_lite.specs.Pieces.{found_span}
 use Rattle.regex_lite.specs.Replacements.{AreGroupsOfEach}
-use Rattle.rxl.specs.Printed.{PrintsMatches, PrintsGroups, has_some, span_line}
+use Rattle.rxl.specs.Printed.{PrintsMatches, PrintsGroups, groups_line, has_some, span_line}
 
 module _ (re : Expression) (haystack : List ℕ) where
   within_more : (limit ended : Option ℕ) (found : Found) (list : List Found)

@@ -1,13 +1,12 @@
 -- What is printed, buffered and written, step by step.
-use Rattle.rxl.proofs.Common.{◌≡◌, ℕ, Bool, true, false, List, [], ◌++◌, is_ok, Some, None, Ok, Err}
-use Rattle.rxl.proofs.Common.{Option, Result, sym, refl, ap, ◌∙◌, subst, append-nil, append_assoc}
-use Rattle.rxl.proofs.Common.{Appends, IsWritten, Puts, Output}
-use Rattle.std.proofs.Common.{not}
-use Rattle.std.proofs.Common.{MatchBool, IsErr, OnOk, is_err}
-use Rattle.std.proofs.Common.{take, drop, take-append-drop}
-use Rattle.std.specs.Io.KnownBytes.{Keeps}
+use Rattle.std.proofs.Common.{◌≡◌, ℕ, Bool, true, false, not, List, [], ◌++◌, Option, Some}
+use Rattle.std.proofs.Common.{None, MatchBool, Result, Ok, Err, IsErr, OnOk, is_ok, is_err}
+use Rattle.std.proofs.Common.{refl, sym, ap, ◌∙◌, subst, take, drop, take-append-drop}
+use Rattle.std.specs.Io.KnownBytes.{Appends, Keeps}
+use Rattle.std.proofs.lemmas.List.{append_assoc, append-nil}
 use Rattle.regex_lite.specs.Replacing.{Begins}
-use Rattle.rxl.specs.Output.{IsPrinted}
+use Rattle.rxl.specs.declared.output.Output.{Output}
+use Rattle.rxl.specs.Output.{IsPrinted, IsWritten, Puts}
 
 pub appends_nothing : (held : Option (List ℕ)) → Appends held held []
 appends_nothing None = tt
@@ -97,14 +96,6 @@ both_written held holds done first second false a b = record {
   );
 }
 
-pub part_written : (held holds : Option (List ℕ)) (first second : List ℕ)
-    → IsWritten held holds first false → IsWritten held holds (first ++ second) false
-part_written held holds first second a = record {
-  written = a.written;
-  appended = a.appended;
-  told = longer a.written first second a.told;
-}
-
 -- what waited and then a text were written, or a beginning of both
 pub sent : (old new : Output) (held holds : Option (List ℕ)) (text : List ℕ) (all : Bool)
     → old.has_failed ≡ false → new.has_failed ≡ not all → new.waiting.items ≡ []
@@ -131,16 +122,6 @@ sent old new held holds text false still now empty w before printed was = record
   );
 }
 
--- a write failed before
-pub finished_failed : (before held : Option (List ℕ)) (output : Output) (text : List ℕ)
-    → output.has_failed ≡ true → IsPrinted before held output text
-    → IsWritten before held text false
-finished_failed before held output text failed was = record {
-  written = was.written;
-  appended = was.appended;
-  told = from_true _ _ output.has_failed failed was.told;
-}
-
 -- what waited was written last, or a beginning of it
 pub finished : (before held holds : Option (List ℕ)) (output : Output) (text : List ℕ)
     (all : Bool) → output.has_failed ≡ false → IsWritten held holds output.waiting.items all
@@ -150,14 +131,6 @@ finished before held holds output text all still w was =
     (sym (from_false _ _ output.has_failed still was.told))
     (both_written before held holds was.written output.waiting.items all
     (record { written = was.written; appended = was.appended; told = refl }) w)
-
-pub flushed : (before holds done : Option (List ℕ)) (text : List ℕ) → Keeps holds done
-    → IsWritten before holds text true → IsWritten before done text true
-flushed before holds done text kept w = record {
-  written = w.written;
-  appended = appends_kept before holds done w.written w.appended kept;
-  told = w.told;
-}
 
 pub unflushed : (before holds done : Option (List ℕ)) (text : List ℕ) → Keeps holds done
     → IsWritten before holds text true → IsWritten before done text false

@@ -1,9 +1,11 @@
 -- From the pieces that come one after another to the list of all.
-use Rattle.rxl.proofs.Common.{◌≡◌, ℕ, Bool, true, false, List, [], ◌∷◌, ◌++◌, codes, Option, sym}
-use Rattle.rxl.proofs.Common.{refl, ◌∙◌, append-nil, append_assoc, Expression, Puts, Output}
-use Rattle.std.proofs.Common.{MatchBool}
-use Rattle.std.proofs.Common.{flat_map}
+use Rattle.std.proofs.Common.{◌≡◌, ℕ, Bool, true, false, MatchBool, List, []}
+use Rattle.std.proofs.Common.{◌∷◌, ◌++◌, Option, flat_map, codes, refl, sym, ◌∙◌}
+use Rattle.std.proofs.lemmas.List.{append_assoc, append-nil}
+use Rattle.regex_lite.specs.Expression.{Expression}
 use Rattle.regex_lite.specs.Pieces.{ArePieces, ArePiecesLeft, Cutting}
+use Rattle.rxl.specs.declared.output.Output.{Output}
+use Rattle.rxl.specs.Output.{Puts}
 use Rattle.rxl.specs.Printed.{PrintsPieces, piece_line}
 use Rattle.rxl.proofs.OutputLemmas.{puts_more}
 

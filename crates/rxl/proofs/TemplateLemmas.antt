@@ -1,10 +1,10 @@
 -- Why a template is refused.
-use Rattle.rxl.proofs.Common.{◌≡◌, ℕ, ◌⊎◌, List, [], ◌∷◌, Ok, Err, Option, Result, inl, inr, Bor}
-use Rattle.rxl.proofs.Common.{out_of_memory}
-use Rattle.std.proofs.Common.{IfErr}
+use Rattle.std.proofs.Common.{◌≡◌, ◌⊎◌, inl, inr, ℕ, List, [], ◌∷◌, Option, Result, Ok, Err, IfErr}
 use Rattle.std.specs.Result.{IsErrAnd}
+use Rattle.std.specs.Borrow.{Bor}
 use Rattle.regex_lite.specs.Ahead.{Ahead}
 use Rattle.regex_lite.specs.declared.Error.{Error}
+use Rattle.regex_lite.specs.Errors.{out_of_memory}
 use Rattle.regex_lite.specs.Groups.{Groups}
 use Rattle.regex_lite.specs.Replacements.{IsHandedOn, IsRefusedAt}
 use Rattle.regex_lite.specs.Replacing.{Answer, IsAppendedTemplate, IsFixedText}

@@ -82,8 +82,7 @@ one_searched re bytes lens at k old new span told so less room tells is =
 
 -- all were searched
 pub all_searched : (re : Expression) (bytes lens : List ℕ) (at k : ℕ) (old new : List Span)
-    → AreSearched re bytes lens at k old new → length lens ≤ k
-    → AreFoundEach re bytes lens old new
+    → AreSearched re bytes lens at k old new → length lens ≤ k → AreFoundEach re bytes lens old new
 all_searched re bytes lens at k old new so past = (
   so.told,
   subst (AreFirstOfEach re bytes 0 lens) (append-nil so.told)

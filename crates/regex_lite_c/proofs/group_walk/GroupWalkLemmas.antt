@@ -94,10 +94,8 @@ other_end now answer (inr (inr full)) = (
 )
 
 -- the answer is yes where there are some, and else says why the walk ends
-pub filled : (start now : Stage Expression) (answer otherwise : ℕ)
-    → AreSoFar of_regex start now
-    → (0 < now.count → answer ≡ YES) → (now.count ≡ 0 → answer ≡ otherwise)
-    → IsEnd now otherwise
+pub filled : (start now : Stage Expression) (answer otherwise : ℕ) → AreSoFar of_regex start now
+    → (0 < now.count → answer ≡ YES) → (now.count ≡ 0 → answer ≡ otherwise) → IsEnd now otherwise
     → IsAnswer start now answer
 filled start now answer otherwise so some none ends = elim (cases_lt 0 now.count) [
   | inl more ↦
@@ -140,8 +138,7 @@ end_of_span s span is some = end_of s.is_there s.start s.end span is some
   where
     -- so whether there is a part or not
     end_of : (b : Bool) (start end : ℕ) (span : Option (ℕ × ℕ))
-        → cond b (Some (start, end)) None ≡ span → IsSome span
-        → end ≡ (unwrap_or span (0, 0)).1
+        → cond b (Some (start, end)) None ≡ span → IsSome span → end ≡ (unwrap_or span (0, 0)).1
     end_of true start end span is some =
         let to : Option (ℕ × ℕ) → ℕ × ℕ = λ o. unwrap_or o (0, 0) in ap (λ o. (to o).1) is
     end_of false start end span is some = let wrong = subst IsSome (sym is) some in absurd cc

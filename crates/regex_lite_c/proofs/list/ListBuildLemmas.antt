@@ -140,22 +140,6 @@ first_other bytes patterns rest k sources own is less there not =
           ∙ subst (λ xs. slice_get xs j ≡ Some other) (sym all) is_there);
     }
 
--- all were
-pub cut_all : (bytes : List ℕ) (patterns : List ListPattern) (rest : List ℕ) (k : ℕ)
-    (sources : List Source) → IsCut bytes patterns rest k sources → length patterns ≤ k
-    → map settings_of_source sources ≡ settings_of_all bytes patterns
-cut_all bytes patterns rest k sources is past =
-    let f = settings_of_source in
-    sym (append-nil (map f sources))
-    ∙ ap (λ ps. map f sources ++ settings_of_all rest ps) (sym (drop-past patterns k past))
-    ∙ is.joined
-  where
-    drop-past : {X : Type 0} (xs : List X) (k : ℕ) → length xs ≤ k → drop k xs ≡ []
-    drop-past [] zero past = refl
-    drop-past [] (suc k) past = refl
-    drop-past (x ∷ xs) zero past = absurd (omega (arith, past))
-    drop-past (x ∷ xs) (suc k) past = drop-past xs k (omega (arith, past))
-
 -- there are as many settings as patterns
 pub length_all : (bytes : List ℕ) (patterns : List ListPattern)
     → length patterns ≡ length (settings_of_all bytes patterns)
@@ -206,8 +190,7 @@ memory_or_not refused_replacement = inr (λ wrong. absurd cc)
 pub refused_first : (all : List Settings) (k number : ℕ) (settings : Settings) (error : Refusal)
     → ((j : ℕ) (own : Settings) → j < k → slice_get all j ≡ Some own → IsAccepted own)
     → Builds settings (Err error) → slice_get all k ≡ Some settings
-    → (error ≡ out_of_memory → number ≡ length all)
-    → ((error ≡ out_of_memory → ⊥) → number ≡ k)
+    → (error ≡ out_of_memory → number ≡ length all) → ((error ≡ out_of_memory → ⊥) → number ≡ k)
     → IsDueAt all number error × (AreAccepted all → error ≡ out_of_memory)
 refused_first all k number settings error before builds there memory refused =
     elim (memory_or_not error) [

@@ -80,8 +80,7 @@ module _ {S A : Type 0} (found_of : A → Found)
   comes_none a limit (inr next) = next
 
   pub lists_to_end : (start a : AheadOf S) (room left : ℕ) (list : List A)
-      → ListsAnswers start a room left list
-      → NoneIsAhead found_of IsAnswerTo a
+      → ListsAnswers start a room left list → NoneIsAhead found_of IsAnswerTo a
       → AreFirstOf start.sought (chars start.haystack) room start.ended list
   lists_to_end start a room left list so over =
       let Next : S → List ℕ → Type 0 =

@@ -1,8 +1,10 @@
 -- From what went wrong to what the fault says.
-use Rattle.rxl.proofs.Common.{◌≡◌, ℕ, Bool, true, false, List, [], IfSome, Some, None, Ok, Err}
-use Rattle.rxl.proofs.Common.{IsUtf8, Option, Result, sym, refl, ◌∙◌, subst, inl, inr, append-nil}
-use Rattle.rxl.proofs.Common.{Bor, Appends, out_of_memory, IsWritten}
-use Rattle.std.proofs.Common.{IfErr, IsErrAnd}
+use Rattle.std.proofs.Common.{◌≡◌, inl, inr, ℕ, Bool, true, false, Result, Ok, Err, IfErr, IsErrAnd}
+use Rattle.std.proofs.Common.{List, [], Option, Some, None, IfSome, IsUtf8, refl, sym, ◌∙◌, subst}
+use Rattle.std.specs.Borrow.{Bor}
+use Rattle.std.specs.Io.KnownBytes.{Appends}
+use Rattle.std.proofs.lemmas.List.{append-nil}
+use Rattle.regex_lite.specs.Errors.{out_of_memory}
 use Rattle.regex_lite.specs.Replacing.{Begins}
 use Rattle.rxl.specs.declared.command.Command.{Command}
 use Rattle.rxl.specs.declared.command.Command.TheVariants.{Ask, Escape}
@@ -10,6 +12,7 @@ use Rattle.rxl.specs.declared.fault.Fault.{Fault}
 use Rattle.rxl.specs.declared.fault.Fault.TheVariants.{Usage, NotUtf8, Unreadable}
 use Rattle.rxl.specs.declared.fault.Fault.TheVariants.{Unwritten, Refused}
 use Rattle.rxl.specs.Faults.{Ends, IsCutShort, IsFaultOf, IsReported, IsReportedAs, line_of_fault}
+use Rattle.rxl.specs.Output.{IsWritten}
 
 -- what was read whole is no text, so the input is none
 pub no_text : (input : Option (List ℕ)) (bytes : List ℕ) → IfSome input (λ known. bytes ≡ known)

@@ -1,18 +1,20 @@
 -- From what is printed for a question to what a run reports.
-use Rattle.rxl.proofs.Common.{◌≡◌, ℕ, Bool, true, false, List, [], IfSome, Some, None, Ok, Err}
-use Rattle.rxl.proofs.Common.{IsUtf8, Option, Result, sym, refl, subst, Bor, Appends, Expression}
-use Rattle.rxl.proofs.Common.{IsWritten, Puts, Prints, Output}
-use Rattle.std.proofs.Common.{IfOk, IsTrue, ◌↔◌}
+use Rattle.std.proofs.Common.{◌≡◌, ℕ, Bool, true, false, List, [], Option, Some, None, Result}
+use Rattle.std.proofs.Common.{Ok, Err, IfOk, IfSome, IsTrue, IsUtf8, ◌↔◌, refl, sym, subst}
 use Rattle.std.specs.Prelude.{⊤}
+use Rattle.std.specs.Borrow.{Bor}
+use Rattle.std.specs.Io.KnownBytes.{Appends}
 use Rattle.regex_lite.specs.Searches.{MatchesFrom}
 use Rattle.regex_lite.specs.Settings.{default_settings}
-use Rattle.regex_lite.specs.Expression.{IsAccepted, expression_of}
+use Rattle.regex_lite.specs.Expression.{Expression, IsAccepted, expression_of}
 use Rattle.rxl.specs.declared.command.Command.{Command}
 use Rattle.rxl.specs.declared.command.Question.{Question}
 use Rattle.rxl.specs.declared.command.Question.TheVariants.{IsMatch}
+use Rattle.rxl.specs.declared.output.Output.{Output}
 use Rattle.rxl.specs.Commands.{Asks}
 use Rattle.rxl.specs.Faults.{IsCutShort}
-use Rattle.rxl.specs.Output.{IsPrinted, PutsSome}
+use Rattle.rxl.specs.Output.{IsPrinted, IsWritten, Puts, PutsSome}
+use Rattle.rxl.specs.Printed.{Prints}
 use Rattle.rxl.specs.Program.{IsCommandAnswered, IsDone, IsQuestionAnswered, status_of}
 use Rattle.rxl.proofs.OutputLemmas.{nothing_printed, puts_nothing}
 

@@ -244,8 +244,7 @@ over start now answer otherwise sofar some none ends = elim (cases_lt 0 now.stag
 pub full : (start now : ListStage) (count need answer : ℕ) → IsListSoFar start now
     → (0 < now.stage.count → (answer ≡ YES) × (count ≡ now.stage.count))
     → (now.stage.count ≡ 0 → (answer ≡ NO_ROOM) × (count ≡ need))
-    → (now.stage.count ≡ 0 → now.stage.used ≡ 0 → IsFull now need)
-    → IsAnswer start now count answer
+    → (now.stage.count ≡ 0 → now.stage.used ≡ 0 → IsFull now need) → IsAnswer start now count answer
 full start now count need answer sofar some none without = elim (cases_lt 0 now.stage.count) [
   | inl more ↦
       let told = some more in

@@ -9,8 +9,7 @@ use Rattle.regex_lite_c.proofs.split.CutLemmas.{one_piece_more}
 use Rattle.regex_lite_c.proofs.split.put_pieces.Goals as goal
 
 -- so whether it is there or not
-end_of : (b : Bool) (x y : ℕ) (span : ℕ × ℕ) → cond b (Some (x, y)) None ≡ Some span
-    → y ≡ span.1
+end_of : (b : Bool) (x y : ℕ) (span : ℕ × ℕ) → cond b (Some (x, y)) None ≡ Some span → y ≡ span.1
 end_of true x y span is = ap (λ (o : Option (ℕ × ℕ)). (unwrap_or o (0, 0)).1) is
 end_of false x y span is = absurd cc
 

@@ -1,5 +1,6 @@
-use Rattle.rxl.proofs.Common.{false, [], ◌++◌, None, sym, ap, ◌∙◌, subst, whole, ahead_of}
-use Rattle.rxl.proofs.Common.{groups_line}
+use Rattle.std.proofs.Common.{◌++◌, [], None, false, ap, sym, subst, ◌∙◌}
+use Rattle.regex_lite.specs.Ahead.{ahead_of, whole}
+use Rattle.rxl.specs.Printed.{groups_line}
 use Rattle.rxl.proofs.ListLemmas.{GroupsLeadOn, groups_end, groups_more}
 use Rattle.rxl.proofs.ListLemmas.{groups_start, same_haystack, same_regex}
 use Rattle.rxl.proofs.OutputLemmas.{puts_more, puts_nothing}

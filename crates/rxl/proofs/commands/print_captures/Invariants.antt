@@ -1,4 +1,6 @@
-use Rattle.rxl.proofs.Common.{◌≡◌, ℕ, List, None, whole, ahead_of, Puts}
+use Rattle.std.proofs.Common.{◌≡◌, ℕ, List, None}
+use Rattle.regex_lite.specs.Ahead.{ahead_of, whole}
+use Rattle.rxl.specs.Output.{Puts}
 use Rattle.rxl.proofs.ListLemmas.{GroupsLeadOn}
 use Rattle.rxl.proofs.commands.print_captures.Given as goal
 

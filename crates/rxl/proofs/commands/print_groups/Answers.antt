@@ -1,7 +1,7 @@
-use Rattle.rxl.proofs.Common.{[], ◌∷◌, ◌++◌, map, codes, ap, ◌∙◌, subst, span_of_match, Puts}
-use Rattle.rxl.proofs.Common.{groups_line}
-use Rattle.std.proofs.Common.{option_map, rules}
-use Rattle.rxl.specs.Printed.{group_text}
+use Rattle.std.proofs.Common.{◌++◌, ◌∷◌, [], codes, map, option_map, ap, rules, subst, ◌∙◌}
+use Rattle.regex_lite.specs.MatchViews.{span_of_match}
+use Rattle.rxl.specs.Output.{Puts}
+use Rattle.rxl.specs.Printed.{group_text, groups_line}
 use Rattle.rxl.proofs.GroupLineLemmas.{all_left, alone, group_alone, line_begins}
 use Rattle.rxl.proofs.GroupLineLemmas.{line_ends, line_goes_on, separated, spans_left}
 use Rattle.rxl.proofs.OutputLemmas.{puts_more, puts_nothing}

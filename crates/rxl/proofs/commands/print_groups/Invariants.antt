@@ -1,4 +1,6 @@
-use Rattle.rxl.proofs.Common.{◌≡◌, ℕ, List, ◌++◌, Puts, groups_line}
+use Rattle.std.proofs.Common.{◌≡◌, ◌++◌, ℕ, List}
+use Rattle.rxl.specs.Output.{Puts}
+use Rattle.rxl.specs.Printed.{groups_line}
 use Rattle.rxl.proofs.GroupLineLemmas.{separated, spans_left}
 use denote.Shadow.{shadow}
 use denote.Text.{Utf8}

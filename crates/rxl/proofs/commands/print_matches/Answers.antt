@@ -1,5 +1,6 @@
-use Rattle.rxl.proofs.Common.{false, [], ◌++◌, None, codes, chars, sym, ap, ◌∙◌, subst, whole}
-use Rattle.rxl.proofs.Common.{ahead_of, span_of_match}
+use Rattle.std.proofs.Common.{◌++◌, [], None, false, chars, codes, ap, sym, subst, ◌∙◌}
+use Rattle.regex_lite.specs.Ahead.{ahead_of, whole}
+use Rattle.regex_lite.specs.MatchViews.{span_of_match}
 use Rattle.regex_lite.specs.Pieces.{found_span}
 use Rattle.rxl.specs.Printed.{span_line, span_text}
 use Rattle.rxl.proofs.ListLemmas.{LeadsOn, leads_end, leads_more, leads_start, same_haystack}

@@ -1,4 +1,4 @@
-use Rattle.rxl.proofs.Common.{[], ◌++◌, sym, refl, subst}
+use Rattle.std.proofs.Common.{◌++◌, [], refl, subst, sym}
 use Rattle.rxl.specs.Printed.{piece_line}
 use Rattle.rxl.proofs.OutputLemmas.{puts_more, puts_nothing}
 use Rattle.rxl.proofs.PieceLemmas.{PiecesFollow, line_put, pieces_end, pieces_more, pieces_start}

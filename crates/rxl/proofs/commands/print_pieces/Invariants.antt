@@ -1,4 +1,5 @@
-use Rattle.rxl.proofs.Common.{ℕ, List, Puts}
+use Rattle.std.proofs.Common.{ℕ, List}
+use Rattle.rxl.specs.Output.{Puts}
 use Rattle.rxl.proofs.PieceLemmas.{PiecesFollow}
 use Rattle.rxl.proofs.commands.print_pieces.Given as goal
 

@@ -1,4 +1,6 @@
-use Rattle.rxl.proofs.Common.{None, sym, ◌∙◌, subst, whole, Prints}
+use Rattle.std.proofs.Common.{None, sym, ◌∙◌, subst}
+use Rattle.regex_lite.specs.Ahead.{whole}
+use Rattle.rxl.specs.Printed.{Prints}
 use Rattle.rxl.specs.declared.command.Question.TheVariants.{Replace}
 use Rattle.rxl.proofs.ReplacedLemmas.{replaced_prints}
 use Rattle.rxl.proofs.TemplateLemmas.{handed_on, template_refused}

@@ -1,6 +1,7 @@
-use Rattle.rxl.proofs.Common.{◌++◌, is_ok, codes, refl, ◌∙◌, subst, inl, inr, out_of_memory}
-use Rattle.rxl.proofs.Common.{IsWritten}
+use Rattle.std.proofs.Common.{◌++◌, ◌∙◌, inl, inr, codes, is_ok, refl, subst}
+use Rattle.regex_lite.specs.Errors.{out_of_memory}
 use Rattle.rxl.specs.declared.fault.Fault.TheVariants.{Refused}
+use Rattle.rxl.specs.Output.{IsWritten}
 use Rattle.rxl.proofs.fault.report_refusal.Goals as goal
 
 pub returns-in-Ok : goal.returns-in-Ok

@@ -1,5 +1,4 @@
-use Rattle.rxl.proofs.Common.{◌++◌, sym, ap, ◌∙◌}
-use Rattle.std.proofs.Common.{take}
+use Rattle.std.proofs.Common.{◌++◌, take, ap, sym, ◌∙◌}
 use Rattle.rxl.proofs.OutputLemmas.{appends_more, appends_kept, front_written}
 use Rattle.rxl.proofs.output.write_all.Goals as goal
 use Rattle.rxl.proofs.output.write_all.Goals.{in-Ok, in-Err}

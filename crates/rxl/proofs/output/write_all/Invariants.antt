@@ -1,4 +1,5 @@
-use Rattle.rxl.proofs.Common.{◌≡◌, ℕ, List, ◌++◌, Appends}
+use Rattle.std.proofs.Common.{◌≡◌, ◌++◌, ℕ, List}
+use Rattle.std.specs.Io.KnownBytes.{Appends}
 use Rattle.rxl.proofs.output.write_all.Given as goal
 
 abbrev pub invariant-loop : goal.invariant-loop

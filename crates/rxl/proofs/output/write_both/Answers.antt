@@ -1,4 +1,4 @@
-use Rattle.rxl.proofs.Common.{is_ok}
+use Rattle.std.proofs.Common.{is_ok}
 use Rattle.rxl.proofs.OutputLemmas.{both_written}
 use Rattle.rxl.proofs.output.write_both.Goals as goal
 

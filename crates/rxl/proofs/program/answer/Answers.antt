@@ -1,4 +1,4 @@
-use Rattle.rxl.proofs.Common.{refl}
+use Rattle.std.proofs.Common.{refl}
 use Rattle.regex_lite.specs.Escapes.{escaped_pattern}
 use Rattle.rxl.proofs.program.answer.Goals as goal
 

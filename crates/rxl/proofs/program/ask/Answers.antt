@@ -1,4 +1,4 @@
-use Rattle.rxl.proofs.Common.{◌≡◌, IfSome, IsUtf8, sym, ◌∙◌, subst}
+use Rattle.std.proofs.Common.{◌≡◌, ◌∙◌, IfSome, IsUtf8, sym, subst}
 use Rattle.rxl.specs.Faults.{IsQuestionFault}
 use Rattle.rxl.proofs.program.FaultLemmas.{handed_on, no_text}
 use Rattle.rxl.proofs.program.ToldLemmas.{answered_by_print}

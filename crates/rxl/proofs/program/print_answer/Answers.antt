@@ -1,4 +1,5 @@
-use Rattle.rxl.proofs.Common.{true, false, is_ok, ◌∙◌, IsWritten}
+use Rattle.std.proofs.Common.{◌∙◌, false, true, is_ok}
+use Rattle.rxl.specs.Output.{IsWritten}
 use Rattle.rxl.proofs.program.FaultLemmas.{ends_cut_short, handed_on}
 use Rattle.rxl.proofs.program.ToldLemmas.{all_written, cut_short, done, some_written}
 use Rattle.rxl.proofs.program.print_answer.Goals as goal

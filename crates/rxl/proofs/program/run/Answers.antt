@@ -1,4 +1,4 @@
-use Rattle.rxl.proofs.Common.{is_ok, refl, ap}
+use Rattle.std.proofs.Common.{is_ok, refl, ap}
 use Rattle.rxl.proofs.program.FaultLemmas.{fault_of, reported, usage_reported}
 use Rattle.rxl.proofs.program.run.Goals as goal
 

@@ -1,4 +1,5 @@
-use Rattle.rxl.proofs.Common.{true, false, sym, subst, IsWritten}
+use Rattle.std.proofs.Common.{false, true, sym, subst}
+use Rattle.rxl.specs.Output.{IsWritten}
 use Rattle.rxl.proofs.OutputLemmas.{failed_is_not_ok, finished, unflushed}
 use Rattle.rxl.proofs.output.Output.finish.Goals as goal
 

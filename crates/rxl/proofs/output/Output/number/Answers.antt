@@ -1,5 +1,7 @@
-use Rattle.rxl.proofs.Common.{[], sym, ◌∙◌, Puts, Output}
+use Rattle.std.proofs.Common.{[], sym, ◌∙◌}
 use Rattle.std.specs.Fmt.{decimal}
+use Rattle.rxl.specs.declared.output.Output.{Output}
+use Rattle.rxl.specs.Output.{Puts}
 use Rattle.rxl.proofs.OutputLemmas.{on_ok, puts_more, puts_nothing, waits_or_refused}
 use Rattle.rxl.proofs.output.Output.number.Goals as goal
 use Rattle.rxl.proofs.output.Output.number.Goals.{then-len, else-len}

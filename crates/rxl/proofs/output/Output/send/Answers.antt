@@ -1,4 +1,5 @@
-use Rattle.rxl.proofs.Common.{◌++◌, is_ok, ◌∙◌, subst, IsWritten}
+use Rattle.std.proofs.Common.{is_ok, subst, ◌++◌, ◌∙◌}
+use Rattle.rxl.specs.Output.{IsWritten}
 use Rattle.rxl.proofs.OutputLemmas.{error_is_not_ok, sent}
 use Rattle.rxl.proofs.output.Output.send.Goals as goal
 
