@@ -84,7 +84,7 @@ pub use Rattle.regex_lite_engine.specs.Graph.WrittenOut.{written_out, place_of_p
 pub use Rattle.regex_lite_engine.specs.Graph.WrittenOut.{IsWayThrough}
 pub use Rattle.regex_lite_engine.specs.Interpolation.{plain, is_name_character, BeginsWith}
 pub use Rattle.regex_lite_engine.specs.Interpolation.{no_dollar, reference, one_dollar}
-pub use Rattle.regex_lite_engine.specs.LazyDfa.Automaton.{Way, Automaton, most_classes, unknown}
+pub use Rattle.regex_lite_engine.specs.LazyDfa.Automaton.{Way, Automaton, unknown}
 pub use Rattle.regex_lite_engine.specs.LazyDfa.Automaton.{told_by, threads_of, ways_of, best_left}
 pub use Rattle.regex_lite_engine.specs.LazyDfa.Automaton.{searching_after, Suits, LeadsOn}
 pub use Rattle.regex_lite_engine.specs.LazyDfa.Automaton.{FitsTable, Remembers}
@@ -93,13 +93,13 @@ pub use Rattle.regex_lite_engine.specs.LazyDfa.Extending.{Extends}
 pub use Rattle.regex_lite_engine.specs.LazyDfa.Intervals.{Intervals, interval_of, class_of}
 pub use Rattle.regex_lite_engine.specs.LazyDfa.Intervals.{IsBoundary, AreBounded, IsBoundedPlace}
 pub use Rattle.regex_lite_engine.specs.LazyDfa.Intervals.{character_bounds, look_bounds}
-pub use Rattle.regex_lite_engine.specs.LazyDfa.Intervals.{AreIntervalsOf, side_of}
+pub use Rattle.regex_lite_engine.specs.LazyDfa.Intervals.{AreIntervalsOf, classes_in, side_of}
 pub use Rattle.regex_lite_engine.specs.LazyDfa.Learning.{IsFirstStart, IsIn}
 pub use Rattle.regex_lite_engine.specs.LazyDfa.Running.{IsOnItsWay, Stands}
 pub use Rattle.regex_lite_engine.specs.LazyDfa.Scanning.{best_told, span_told, end_told, IsIdleAt}
 pub use Rattle.regex_lite_engine.specs.LazyDfa.Scanning.{IsSince, IsScanning}
 pub use Rattle.regex_lite_engine.specs.LazyDfa.Spots.{IsSpotAt}
-pub use Rattle.regex_lite_engine.specs.LazyDfa.Stored.{way_in, hit_in, state_in}
+pub use Rattle.regex_lite_engine.specs.LazyDfa.Stored.{way_in, hit_in, state_in, states_in}
 pub use Rattle.regex_lite_engine.specs.Nfa.Layout.{Fragment, IsAdded, copies_layout, choices_layout}
 pub use Rattle.regex_lite_engine.specs.Nfa.Layout.{star_layout, layout, chain_layout}
 pub use Rattle.regex_lite_engine.specs.Nfa.Layout.{branches_layout, pattern_layout, pattern_table}
@@ -167,6 +167,7 @@ pub use Rattle.regex_lite_engine.specs.SearchLaws.{IsBefore}
 pub use Rattle.regex_lite_engine.specs.declared.lazy_dfa.scan.Standing.{Standing}
 pub use Rattle.regex_lite_engine.specs.declared.lazy_dfa.state.StoredState.{StoredState}
 pub use Rattle.regex_lite_engine.specs.declared.lazy_dfa.state.StoredWay.{StoredWay}
+pub use Rattle.regex_lite_engine.specs.declared.lazy_dfa.state.Target.{Target}
 pub use Rattle.regex_lite_engine.specs.declared.pikevm.beginning.Origin.{Origin}
 pub use Rattle.regex_lite_engine.specs.declared.pikevm.cache.Cache.{Cache}
 pub use Rattle.regex_lite_engine.specs.declared.pikevm.cell.Cell.{Cell}

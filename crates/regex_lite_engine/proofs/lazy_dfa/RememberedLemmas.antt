@@ -3,7 +3,7 @@ use Rattle.regex_lite_engine.proofs.Common.{◌≡◌, ℕ, zero, suc, ◌+◌, 
 use Rattle.regex_lite_engine.proofs.Common.{◌⊎◌, List, [], ◌∷◌, ◌==◌, slice_get, slice_index}
 use Rattle.regex_lite_engine.proofs.Common.{slice_set, Some, None, Option, sym, refl, ap, ◌∙◌}
 use Rattle.regex_lite_engine.proofs.Common.{subst, inl, inr, arith, cases_eq, nat_tests, Text}
-use Rattle.regex_lite_engine.proofs.Common.{Automaton, most_classes, unknown, told_by, threads_of}
+use Rattle.regex_lite_engine.proofs.Common.{Automaton, classes_in, unknown, told_by, threads_of}
 use Rattle.regex_lite_engine.proofs.Common.{ways_of, best_left, searching_after, Suits, LeadsOn}
 use Rattle.regex_lite_engine.proofs.Common.{FitsTable, Remembers, Extends, Intervals, class_of}
 use Rattle.regex_lite_engine.proofs.Common.{side_of, IsFirstStart, AreAlike, retold, all_retold}
@@ -178,14 +178,18 @@ module _ (table : List (Place ℕ)) (entries : List ℕ) where
     fit = λ x state at. fit_by_age x state at (slice_get old.states x) refl;
   }
     where
+      own : (class : ℕ) → class < classes_in new.intervals → class < classes_in old.intervals
+      own class inside = subst (λ z. class < classes_in z) extends.intervals inside
+
       by_age : (x : ℕ) (from : State) (class : ℕ) → slice_get new.states x ≡ Some from
-          → class < most_classes → (slice_index from.next class ≡ unknown → ⊥) → (o : Option State)
+          → class < classes_in new.intervals → (slice_index from.next class ≡ unknown → ⊥)
+          → (o : Option State)
           → slice_get old.states x ≡ o →
           (to : State) × (slice_get new.states (slice_index from.next class) ≡ Some to)
           × LeadsOn table entries new.intervals from class to
       by_age x from class at inside known (Some was) old_at =
           let same : was ≡ from = same_some (sym (extends.kept x was old_at) ∙ at) in
-          let led = remembers.leads x from class (old_at ∙ ap Some same) inside known in (
+          let led = remembers.leads x from class (old_at ∙ ap Some same) (own class inside) known in (
             led.0,
             extends.kept (slice_index from.next class) led.0 led.1,
             subst (λ z. LeadsOn table entries z from class led.0)
@@ -193,7 +197,8 @@ module _ (table : List (Place ℕ)) (entries : List ℕ) where
           )
       by_age x from class at inside known None old_at =
           absurd
-          (known ((extends.fresh x from at (λ e. not_there (sym old_at ∙ e))).1 class inside))
+          (known ((extends.fresh x from at (λ e. not_there (sym old_at ∙ e))).1 class
+          (own class inside)))
 
       fit_by_age : (x : ℕ) (state : State) → slice_get new.states x ≡ Some state
           → (o : Option State) → slice_get old.states x ≡ o
@@ -256,7 +261,8 @@ module _ (table : List (Place ℕ)) (entries : List ℕ) where
       ]
 
       led : (k : ℕ) (was : State) (c : ℕ)
-          → ((k ≡ x) × (was ≡ now)) ⊎ (slice_get old.states k ≡ Some was) → c < most_classes
+          → ((k ≡ x) × (was ≡ now)) ⊎ (slice_get old.states k ≡ Some was)
+          → c < classes_in old.intervals
           → (slice_index was.next c ≡ unknown → ⊥) → Led was c (slice_index was.next c)
       led k was c (inr at) inside known =
           let there = remembers.leads k was c at inside known in

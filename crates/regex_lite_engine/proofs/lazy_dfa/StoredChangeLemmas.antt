@@ -1,20 +1,22 @@
 -- How an automaton changes when a way, a state or a turn is stored, or pending ways are dropped.
-use Rattle.regex_lite_engine.proofs.Common.{◌≡◌, ℕ, zero, suc, ◌+◌, ◌-◌, ◌<◌, ◌≤◌, List, [], ◌∷◌}
-use Rattle.regex_lite_engine.proofs.Common.{◌++◌, map, length, take, drop, replicate, slice_get}
-use Rattle.regex_lite_engine.proofs.Common.{slice_index, slice_index_or, slice_set, Some, sym, refl}
+use Rattle.regex_lite_engine.proofs.Common.{◌≡◌, ℕ, zero, suc, ◌+◌, ◌-◌, ◌*◌, ◌<◌, ◌≤◌, List, []}
+use Rattle.regex_lite_engine.proofs.Common.{◌∷◌, ◌++◌, map, length, take, drop, replicate, slice_get}
+use Rattle.regex_lite_engine.proofs.Common.{slice_index, slice_set, Some, sym, refl}
 use Rattle.regex_lite_engine.proofs.Common.{ap, ◌∙◌, arith, drop-append-le, get_or-replicate}
-use Rattle.regex_lite_engine.proofs.Common.{length-take-le, map-append, map-set, take-append-drop}
-use Rattle.regex_lite_engine.proofs.Common.{take-append-le, Automaton, most_classes, unknown}
-use Rattle.regex_lite_engine.proofs.Common.{Extends, Intervals, way_in, state_in, StoredState}
-use Rattle.regex_lite_engine.proofs.Common.{StoredWay}
-use Rattle.std.proofs.lemmas.List.{take_rest, length-drop}
-use Rattle.std.proofs.Math.Seq.{drop-length}
+use Rattle.regex_lite_engine.proofs.Common.{length-drop, length-replicate, length-take-le, map-append}
+use Rattle.regex_lite_engine.proofs.Common.{map-set, nil_from_length, suc-mul, take-append-drop}
+use Rattle.regex_lite_engine.proofs.Common.{take-append-le, Automaton, Extends, Intervals}
+use Rattle.regex_lite_engine.proofs.Common.{StoredState, StoredWay, classes_in, state_in, states_in}
+use Rattle.regex_lite_engine.proofs.Common.{Target, true, false, true≢false, unknown, way_in}
+use Rattle.std.proofs.lemmas.List.{take_rest, drop-set-add, drop-set-lt, get_or-map, take-set-le}
+use Rattle.std.proofs.lemmas.List.Elements.{All-append, All-replicate}
+use Rattle.std.proofs.Math.Seq.{drop-length, take-length, take-set-lt}
 use Rattle.regex_lite_engine.specs.LazyDfa.Automaton.{State}
 use Rattle.regex_lite_engine.specs.LazyDfa.Extending.{IsState}
-use Rattle.regex_lite_engine.specs.LazyDfa.Stored.{LieWithin}
+use Rattle.regex_lite_engine.specs.LazyDfa.Stored.{ArePlain, IsPlain, LieWithin}
 use Rattle.regex_lite_engine.proofs.OptionLemmas.{not_there, same_some}
 use Rattle.regex_lite_engine.proofs.LookupLemmas.{still_there, get_last}
-use Rattle.regex_lite_engine.proofs.lazy_dfa.StoredStateLemmas.{seen, state_at}
+use Rattle.regex_lite_engine.proofs.lazy_dfa.StoredStateLemmas.{seen}
 
 -- what lies in a list lies there when more is added
 pub part_same : {A : Type 0} (from len : ℕ) (xs ys : List A) → from + len ≤ length xs
@@ -25,30 +27,95 @@ part_same from len xs ys fits =
 
 -- states stay what they are when ways are added
 pub states_same : (states : List StoredState) (used : ℕ) (ways more : List StoredWay)
-    → LieWithin used states → used ≤ length ways
-    → map (state_in (ways ++ more)) states ≡ map (state_in ways) states
-states_same [] used ways more within fits = refl
-states_same (s ∷ states) used ways more within fits =
+    (classes : ℕ) (targets : List Target)
+    → LieWithin used states → used ≤ length ways →
+    states_in (ways ++ more) classes targets states ≡ states_in ways classes targets states
+states_same [] used ways more classes targets within fits = refl
+states_same (s ∷ states) used ways more classes targets within fits =
     let own = within 0 s (omega arith) in
     ap (λ part. record {
       ways = map way_in part;
       searching = s.searching;
       before = s.before;
-      hit = (state_in ways s).hit;
-      next = s.next;
-    } ∷ map (state_in (ways ++ more)) states)
+      hit = (state_in ways [] s).hit;
+      next = map (λ (target : Target). target.state) (take classes targets);
+    } ∷ states_in (ways ++ more) classes (drop classes targets) states)
     (part_same s.from s.len ways more (omega (arith, own, fits)))
-    ∙ ap (λ rest. state_in ways s ∷ rest)
-    (states_same states used ways more (λ k d lt. within (suc k) d (omega (arith, lt))) fits)
+    ∙ ap (λ rest. state_in ways (take classes targets) s ∷ rest)
+    (states_same states used ways more classes (drop classes targets)
+    (λ k d lt. within (suc k) d (omega (arith, lt))) fits)
 
 -- nor do they need what is after those that they have
 pub states_cut : (states : List StoredState) (used : ℕ) (ways : List StoredWay)
-    → LieWithin used states → used ≤ length ways
-    → map (state_in (take used ways)) states ≡ map (state_in ways) states
-states_cut states used ways within fits =
-    sym (states_same states used (take used ways) (drop used ways) within
+    (classes : ℕ) (targets : List Target)
+    → LieWithin used states → used ≤ length ways →
+    states_in (take used ways) classes targets states ≡ states_in ways classes targets states
+states_cut states used ways classes targets within fits =
+    sym (states_same states used (take used ways) (drop used ways) classes targets within
     (let n = length-take-le used ways fits in omega (arith, n)))
-    ∙ ap (λ all. map (state_in all) states) (take-append-drop used ways)
+    ∙ ap (λ all. states_in all classes targets states) (take-append-drop used ways)
+
+-- one more state has the row of targets that is added
+pub states_added : (states : List StoredState) (ways : List StoredWay) (classes : ℕ)
+    (targets more : List Target) (s : StoredState)
+    → length targets ≡ length states * classes → length more ≡ classes →
+    states_in ways classes (targets ++ more) (states ++ s ∷ [])
+    ≡ states_in ways classes targets states ++ state_in ways more s ∷ []
+states_added [] ways classes targets more s full len =
+    let none : targets ≡ [] = nil_from_length targets (omega (arith, full)) in
+    ap (λ ts. state_in ways (take classes (ts ++ more)) s ∷ []) none
+    ∙ ap (λ n. state_in ways (take n more) s ∷ []) (sym len)
+    ∙ ap (λ ts. state_in ways ts s ∷ []) (take-length more)
+states_added (t ∷ states) ways classes targets more s full len =
+    let own = suc-mul (length states) classes in
+    let fits : classes ≤ length targets = omega (arith, full, own) in
+    ap (λ ts. state_in ways ts t
+    ∷ states_in ways classes (drop classes (targets ++ more)) (states ++ s ∷ []))
+    (take-append-le classes targets more fits)
+    ∙ ap (λ ts. state_in ways (take classes targets) t
+    ∷ states_in ways classes ts (states ++ s ∷ []))
+    (drop-append-le classes targets more fits)
+    ∙ ap (λ rest. state_in ways (take classes targets) t ∷ rest)
+    (states_added states ways classes (drop classes targets) more s
+    (let n = length-drop classes targets in omega (arith, n, full, own)) len)
+
+-- a turn is remembered
+pub states_set : (states : List StoredState) (ways : List StoredWay) (classes : ℕ)
+    (targets : List Target) (x class k : ℕ) (t : Target) (state : State)
+    → k ≡ x * classes + class → class < classes →
+    slice_get (states_in ways classes targets states) x ≡ Some state →
+    states_in ways classes (slice_set targets k t) states
+    ≡ slice_set (states_in ways classes targets states) x
+    (record state { next = slice_set state.next class t.state })
+states_set [] ways classes targets x class k t state e lt at = absurd (not_there at)
+states_set (s ∷ states) ways classes targets zero class k t state e lt at =
+    let here : k ≡ class = omega (arith, e) in
+    let inside : k < classes = omega (arith, here, lt) in
+    let own : state_in ways (take classes targets) s ≡ state = same_some at in
+    ap (λ ts. state_in ways ts s ∷ states_in ways classes (drop classes (slice_set targets k t))
+    states) (take-set-lt classes targets k t inside)
+    ∙ ap (λ ts. state_in ways (slice_set (take classes targets) k t) s
+    ∷ states_in ways classes ts states) (drop-set-lt classes targets k t inside)
+    ∙ ap (λ j. state_in ways (slice_set (take classes targets) j t) s
+    ∷ states_in ways classes (drop classes targets) states) here
+    ∙ ap (λ next. record (state_in ways (take classes targets) s) { next = next }
+    ∷ states_in ways classes (drop classes targets) states)
+    (map-set (λ (target : Target). target.state) (take classes targets) class t)
+    ∙ ap (λ (z : State). record z { next = slice_set z.next class t.state }
+    ∷ states_in ways classes (drop classes targets) states) own
+states_set (s ∷ states) ways classes targets (suc x) class k t state e lt at =
+    let own = suc-mul x classes in
+    let there : k ≡ classes + (x * classes + class) = omega (arith, e, own) in
+    let past : classes ≤ k = omega (arith, there) in
+    ap (λ ts. state_in ways ts s ∷ states_in ways classes (drop classes (slice_set targets k t))
+    states) (take-set-le classes targets k t past)
+    ∙ ap (λ j. state_in ways (take classes targets) s
+    ∷ states_in ways classes (drop classes (slice_set targets j t)) states) there
+    ∙ ap (λ ts. state_in ways (take classes targets) s ∷ states_in ways classes ts states)
+    (drop-set-add classes targets (x * classes + class) t)
+    ∙ ap (λ rest. state_in ways (take classes targets) s ∷ rest)
+    (states_set states ways classes (drop classes targets) x class (x * classes + class) t state
+    refl lt at)
 
 -- what is pending has one way more
 pub pending_more : (used : ℕ) (ways : List StoredWay) (way : StoredWay) → used ≤ length ways
@@ -57,42 +124,42 @@ pending_more used ways way fits =
     ap (map way_in) (drop-append-le used ways (way ∷ []) fits)
     ∙ map-append way_in (drop used ways) (way ∷ [])
 
-module _ (intervals : Intervals) (states : List StoredState) (used : ℕ) (ways : List StoredWay)
-    (within : LieWithin used states) (fits : used ≤ length ways) where
-  pub seen_pushed : (way : StoredWay) (now : List StoredWay) → now ≡ ways ++ way ∷ [] →
-      seen intervals states used now ≡ record {
+module _ (intervals : Intervals) (states : List StoredState) (targets : List Target) (used : ℕ)
+    (ways : List StoredWay) (within : LieWithin used states) (fits : used ≤ length ways) where
+  abbrev now : List State
+  now = states_in ways (classes_in intervals) targets states
+
+  pub seen_pushed : (way : StoredWay) (more : List StoredWay) → more ≡ ways ++ way ∷ [] →
+      seen intervals states targets used more ≡ record {
         intervals = intervals;
-        states = map (state_in ways) states;
+        states = states_in ways (classes_in intervals) targets states;
         pending = map way_in (drop used ways) ++ way_in way ∷ [];
       }
-  seen_pushed way now e =
-      ap (seen intervals states used) e
+  seen_pushed way more e =
+      ap (seen intervals states targets used) e
       ∙ ap (λ ss. record {
         intervals = intervals;
         states = ss;
         pending = map way_in (drop used (ways ++ way ∷ []));
-      }) (states_same states used ways (way ∷ []) within fits)
-      ∙ ap (λ more. record {
-        intervals = intervals;
-        states = map (state_in ways) states;
-        pending = more;
-      }) (pending_more used ways way fits)
+      }) (states_same states used ways (way ∷ []) (classes_in intervals) targets within fits)
+      ∙ ap (λ more. record { intervals = intervals; states = now; pending = more })
+      (pending_more used ways way fits)
 
-  pub seen_cut : (now : List StoredWay) → now ≡ take used ways
-      → seen intervals states used now
-      ≡ record { intervals = intervals; states = map (state_in ways) states; pending = [] }
-  seen_cut now e =
-      ap (seen intervals states used) e
+  pub seen_cut : (less : List StoredWay) → less ≡ take used ways →
+      seen intervals states targets used less ≡ record {
+        intervals = intervals;
+        states = states_in ways (classes_in intervals) targets states;
+        pending = [];
+      }
+  seen_cut less e =
+      ap (seen intervals states targets used) e
       ∙ ap (λ ss. record {
         intervals = intervals;
         states = ss;
         pending = map way_in (drop used (take used ways));
-      }) (states_cut states used ways within fits)
-      ∙ ap (λ none. record {
-        intervals = intervals;
-        states = map (state_in ways) states;
-        pending = map way_in none;
-      }) (none_left used ways)
+      }) (states_cut states used ways (classes_in intervals) targets within fits)
+      ∙ ap (λ none. record { intervals = intervals; states = now; pending = map way_in none })
+      (none_left used ways)
     where
       none_left : {A : Type 0} (n : ℕ) (xs : List A) → drop n (take n xs) ≡ []
       none_left zero xs = refl
@@ -101,37 +168,39 @@ module _ (intervals : Intervals) (states : List StoredState) (used : ℕ) (ways 
 
   -- a state has all that was pending
   pub seen_added : (s : StoredState) → s.from ≡ used → s.len ≡ length ways - used
-      → (now : List StoredState) → now ≡ states ++ s ∷ [] →
-      seen intervals now (length ways) ways ≡ record {
+      → (all : List StoredState) → all ≡ states ++ s ∷ []
+      → (rows more : List Target) → rows ≡ targets ++ more
+      → length targets ≡ length states * classes_in intervals
+      → length more ≡ classes_in intervals →
+      seen intervals all rows (length ways) ways ≡ record {
         intervals = intervals;
         states =
-            map (state_in ways) states
-            ++ record (state_in ways s) { ways = map way_in (drop used ways) } ∷ [];
+            states_in ways (classes_in intervals) targets states
+            ++ record (state_in ways more s) { ways = map way_in (drop used ways) } ∷ [];
         pending = [];
       }
-  seen_added s from len now e =
-      ap (λ ss. seen intervals ss (length ways) ways) e
+  seen_added s from len all e rows more f full row =
+      ap (λ ss. seen intervals ss rows (length ways) ways) e
+      ∙ ap (λ ts. seen intervals (states ++ s ∷ []) ts (length ways) ways) f
       ∙ ap (λ ss. record {
         intervals = intervals;
         states = ss;
         pending = map way_in (drop (length ways) ways);
-      }) (map-append (state_in ways) states (s ∷ []))
+      }) (states_added states ways (classes_in intervals) targets more s full row)
       ∙ ap (λ own. record {
         intervals = intervals;
-        states =
-            map (state_in ways) states ++ record (state_in ways s) { ways = map way_in own } ∷ [];
+        states = now ++ record (state_in ways more s) { ways = map way_in own } ∷ [];
         pending = map way_in (drop (length ways) ways);
-      }) all
+      }) own_ways
       ∙ ap (λ none. record {
         intervals = intervals;
         states =
-            map (state_in ways) states
-            ++ record (state_in ways s) { ways = map way_in (drop used ways) } ∷ [];
+            now ++ record (state_in ways more s) { ways = map way_in (drop used ways) } ∷ [];
         pending = map way_in none;
       }) (drop-length ways)
     where
-      all : take s.len (drop s.from ways) ≡ drop used ways
-      all =
+      own_ways : take s.len (drop s.from ways) ≡ drop used ways
+      own_ways =
           ap (λ n. take n (drop s.from ways)) len
           ∙ ap (λ n. take (length ways - used) (drop n ways)) from ∙ take_rest ways used
 
@@ -153,7 +222,7 @@ added_is old new state e = record {
 pub added_extends : (old new : Automaton) (state : State)
     → new ≡ record { intervals = old.intervals; states = old.states ++ state ∷ []; pending = [] } →
     state.ways ≡ old.pending
-    → ((class : ℕ) → class < most_classes → slice_index state.next class ≡ unknown)
+    → ((class : ℕ) → class < classes_in old.intervals → slice_index state.next class ≡ unknown)
     → Extends old new
 added_extends old new state e own none = record {
   intervals = ap (λ (z : Automaton). z.intervals) e;
@@ -166,7 +235,7 @@ added_extends old new state e own none = record {
     fresh_one : (states : List State) (x : ℕ) (s : State)
         → slice_get (states ++ state ∷ []) x ≡ Some s → (slice_get states x ≡ Some s → ⊥) →
         (s.ways ≡ old.pending)
-        × ((class : ℕ) → class < most_classes → slice_index s.next class ≡ unknown)
+        × ((class : ℕ) → class < classes_in old.intervals → slice_index s.next class ≡ unknown)
     fresh_one [] zero s at other = (
       ap (λ (z : State). z.ways) (sym (same_some at)) ∙ own,
       λ class lt. ap (λ (z : State). slice_index z.next class) (sym (same_some at)) ∙ none class lt,
@@ -175,23 +244,43 @@ added_extends old new state e own none = record {
     fresh_one (t ∷ states) zero s at other = absurd (other at)
     fresh_one (t ∷ states) (suc x) s at other = fresh_one states x s at other
 
--- no turn is known from a blank row
-pub blank_row : (class : ℕ) → class < most_classes
-    → slice_index (replicate most_classes unknown) class ≡ unknown
-blank_row class lt = get_or-replicate most_classes class unknown 0 lt
+-- a plain state is one still when states are added
+pub plain_more : (states more : List StoredState) (y : ℕ) → IsPlain states y
+    → IsPlain (states ++ more) y
+plain_more states more y plain = record {
+  state = plain.state;
+  is_state = still_there states more y plain.state plain.is_state;
+  some = plain.some;
+  none = plain.none;
+}
 
--- a turn is remembered
-pub seen_set : (states : List StoredState) (ways : List StoredWay) (x class y : ℕ)
-    (was : StoredState) (state : State)
-    → was ≡ slice_index_or states x was → x < length states →
-    slice_get (map (state_in ways) states) x ≡ Some state →
-    map (state_in ways) (slice_set states x (record was { next = slice_set was.next class y }))
-    ≡ slice_set (map (state_in ways) states) x
-    (record state { next = slice_set state.next class y })
-seen_set states ways x class y was state is inside at =
-    map-set (state_in ways) states x (record was { next = slice_set was.next class y })
-    ∙ ap (λ (s : State).
-    slice_set (map (state_in ways) states) x (record s { next = slice_set s.next class y })) same
-  where
-    same : state_in ways was ≡ state
-    same = ap (state_in ways) is ∙ same_some (sym (state_at states ways x was inside) ∙ at)
+-- and so are all that are marked as plain when a blank row is added
+pub plain_added : (states more : List StoredState) (targets : List Target) (n : ℕ)
+    (blank : Target)
+    → blank.is_plain ≡ false → ArePlain states targets
+    → ArePlain (states ++ more) (targets ++ replicate n blank)
+plain_added states more targets n blank none plain =
+    All-append (λ target. target.is_plain ≡ true → IsPlain (states ++ more) target.state) targets
+    (replicate n blank)
+    (λ k d lt told. plain_more states more _ (plain k d lt told))
+    (All-replicate (λ target. target.is_plain ≡ true → IsPlain (states ++ more) target.state) n
+    blank (λ told. absurd (true≢false (sym told ∙ none))))
+
+-- a state more lies within, if it has the ways that were pending
+pub within_added : (states : List StoredState) (used len : ℕ) (s : StoredState)
+    → LieWithin used states → used ≤ len → s.from ≡ used → s.len ≡ len - used
+    → LieWithin len (states ++ s ∷ [])
+within_added states used len s within fits from own =
+    All-append (λ (state : StoredState). state.from + state.len ≤ len) states (s ∷ [])
+    (λ k d lt. let below = within k d lt in omega (arith, below, fits))
+    (All-replicate (λ (state : StoredState). state.from + state.len ≤ len) 1 s
+    (omega (arith, from, own, fits)))
+
+-- no turn is known from a blank row
+pub blank_row : (classes class : ℕ) (blank : Target) → blank.state ≡ unknown → class < classes
+    → slice_index (map (λ (target : Target). target.state) (replicate classes blank)) class
+    ≡ unknown
+blank_row classes class blank none lt =
+    get_or-map (λ (target : Target). target.state) (replicate classes blank) class blank 0
+    (let n = length-replicate classes blank in omega (arith, n, lt))
+    ∙ ap (λ (target : Target). target.state) (get_or-replicate classes class blank blank lt) ∙ none

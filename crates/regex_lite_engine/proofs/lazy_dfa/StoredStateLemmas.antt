@@ -1,131 +1,215 @@
--- The automaton that stored states and ways stand for, and what is known of each stored state.
-use Rattle.regex_lite_engine.proofs.Common.{◌≡◌, ℕ, zero, suc, ◌<◌, ◌≤◌, true, List, [], ◌∷◌, map}
-use Rattle.regex_lite_engine.proofs.Common.{length, take, drop, slice_get, slice_index}
+-- The automaton that stored states, targets and ways stand for, and what is known of each state.
+use Rattle.regex_lite_engine.proofs.Common.{◌≡◌, ℕ, zero, suc, ◌+◌, ◌*◌, ◌<◌, ◌≤◌, List, []}
+use Rattle.regex_lite_engine.proofs.Common.{◌∷◌, map, length, take, drop, slice_get, slice_index}
 use Rattle.regex_lite_engine.proofs.Common.{slice_index_or, Some, None, sym, refl, ap, ◌∙◌, subst}
-use Rattle.regex_lite_engine.proofs.Common.{arith, length-map, length-take-le, nil_from_length}
-use Rattle.regex_lite_engine.proofs.Common.{slice_get_within, Automaton, most_classes, unknown}
-use Rattle.regex_lite_engine.proofs.Common.{LeadsOn, Remembers, Intervals, way_in, state_in}
-use Rattle.regex_lite_engine.proofs.Common.{StoredState, StoredWay}
-use Rattle.std.proofs.lemmas.List.{length-drop}
+use Rattle.regex_lite_engine.proofs.Common.{arith, get_or-take, length-drop, length-map}
+use Rattle.regex_lite_engine.proofs.Common.{length-take-le, mul-le-mul_right, nil_from_length}
+use Rattle.regex_lite_engine.proofs.Common.{slice_get_within, get_or_from_slice_get, suc-mul}
+use Rattle.regex_lite_engine.proofs.Common.{Automaton, Intervals, LeadsOn, Remembers, StoredState}
+use Rattle.regex_lite_engine.proofs.Common.{StoredWay, classes_in, state_in, states_in, unknown}
+use Rattle.regex_lite_engine.proofs.Common.{Target, way_in}
+use Rattle.std.proofs.lemmas.List.{get_or-drop, get_or-map}
 use Rattle.regex_lite_engine.specs.Graph.Places.{Place}
 use Rattle.regex_lite_engine.specs.LazyDfa.Automaton.{State}
-use Rattle.regex_lite_engine.specs.LazyDfa.Stored.{ArePlain, LieWithin}
+use Rattle.regex_lite_engine.specs.LazyDfa.Stored.{IsPlain, LieWithin}
+use Rattle.regex_lite_engine.proofs.LookupLemmas.{there_is}
 use Rattle.regex_lite_engine.proofs.OptionLemmas.{same_some}
 
+-- the targets of a state, one for each class
+abbrev pub row : (classes : ℕ) → List Target → (y : ℕ) → List Target
+row classes targets zero = take classes targets
+row classes targets (suc y) = row classes (drop classes targets) y
+
+-- the row of a state lies among those of all
+pub row_within : (n classes y : ℕ) → y < n → y * classes + classes ≤ n * classes
+row_within n classes y lt =
+    let next : suc y ≤ n = omega (arith, lt) in
+    let fits = mul-le-mul_right classes next in
+    let own = suc-mul y classes in omega (arith, fits, own)
+
+pub row_length : (classes : ℕ) (targets : List Target) (y : ℕ)
+    → y * classes + classes ≤ length targets → length (row classes targets y) ≡ classes
+row_length classes targets zero fits = length-take-le classes targets (omega (arith, fits))
+row_length classes targets (suc y) fits =
+    row_length classes (drop classes targets) y
+    (let n = length-drop classes targets in
+    let own = suc-mul y classes in omega (arith, n, own, fits))
+
+pub row_index : (classes : ℕ) (targets : List Target) (y class : ℕ) (d : Target) → class < classes
+    → slice_index_or (row classes targets y) class d
+    ≡ slice_index_or targets (y * classes + class) d
+row_index classes targets zero class d lt =
+    get_or-take classes targets class d lt
+    ∙ ap (λ k. slice_index_or targets k d) (omega arith)
+row_index classes targets (suc y) class d lt =
+    row_index classes (drop classes targets) y class d lt
+    ∙ get_or-drop classes targets (y * classes + class) d
+    ∙ ap (λ k. slice_index_or targets k d)
+    (let own = suc-mul y classes in omega (arith, own))
+
+-- the state that a target of a state is
+pub next_at : (classes : ℕ) (targets : List Target) (y class : ℕ) (d : Target) → class < classes
+    → y * classes + classes ≤ length targets
+    → slice_index (map (λ (target : Target). target.state) (row classes targets y)) class
+    ≡ (slice_index_or targets (y * classes + class) d).state
+next_at classes targets y class d lt fits =
+    get_or-map (λ (target : Target). target.state) (row classes targets y) class d 0
+    (let n = row_length classes targets y fits in omega (arith, n, lt))
+    ∙ ap (λ (target : Target). target.state) (row_index classes targets y class d lt)
+
 -- a state that stands in the list
-pub state_at : (states : List StoredState) (ways : List StoredWay) (y : ℕ) (d : StoredState)
-    → y < length states
-    → slice_get (map (state_in ways) states) y ≡ Some (state_in ways (slice_index_or states y d))
-state_at [] ways y d lt = absurd (omega (arith, lt))
-state_at (s ∷ states) ways zero d lt = refl
-state_at (s ∷ states) ways (suc y) d lt = state_at states ways y d (omega (arith, lt))
+pub state_at : (states : List StoredState) (ways : List StoredWay) (classes : ℕ)
+    (targets : List Target) (y : ℕ) (d : StoredState)
+    → y < length states →
+    slice_get (states_in ways classes targets states) y
+    ≡ Some (state_in ways (row classes targets y) (slice_index_or states y d))
+state_at [] ways classes targets y d lt = absurd (omega (arith, lt))
+state_at (s ∷ states) ways classes targets zero d lt = refl
+state_at (s ∷ states) ways classes targets (suc y) d lt =
+    state_at states ways classes (drop classes targets) y d (omega (arith, lt))
+
+-- there are as many as are stored
+pub length_states : (states : List StoredState) (ways : List StoredWay) (classes : ℕ)
+    (targets : List Target)
+    → length (states_in ways classes targets states) ≡ length states
+length_states [] ways classes targets = refl
+length_states (s ∷ states) ways classes targets =
+    ap suc (length_states states ways classes (drop classes targets))
 
 -- what the automaton stands for that stores these
-abbrev pub seen : Intervals → List StoredState → (used : ℕ) → List StoredWay → Automaton
-seen intervals states used ways = record {
+abbrev pub seen : Intervals → List StoredState → List Target → (used : ℕ) → List StoredWay
+    → Automaton
+seen intervals states targets used ways = record {
   intervals = intervals;
-  states = map (state_in ways) states;
+  states = states_in ways (classes_in intervals) targets states;
   pending = map way_in (drop used ways);
 }
 
-pub slice_get_within_map : (states : List StoredState) (ways : List StoredWay) (x : ℕ)
-    (state : State)
-    → slice_get (map (state_in ways) states) x ≡ Some state → x < length states
-slice_get_within_map states ways x state at =
-    let inside = slice_get_within (map (state_in ways) states) x state at in
-    let n = length-map states (state_in ways) in omega (arith, inside, n)
+module _ (states : List StoredState) (used : ℕ) (ways : List StoredWay) (classes : ℕ)
+    (targets : List Target) where
+  pub state_within : (x : ℕ) (state : State)
+      → slice_get (states_in ways classes targets states) x ≡ Some state → x < length states
+  state_within x state at =
+      let inside = slice_get_within (states_in ways classes targets states) x state at in
+      let n = length_states states ways classes targets in omega (arith, inside, n)
 
--- a state has as many ways as are stored
-pub ways_len : (states : List StoredState) (used : ℕ) (ways : List StoredWay) (x : ℕ)
-    (d : StoredState) (state : State)
-    → LieWithin used states → used ≤ length ways
-    → slice_get (map (state_in ways) states) x ≡ Some state →
-    length state.ways ≡ (slice_index_or states x d).len
-ways_len states used ways x d state within fits at =
-    let inside = slice_get_within_map states ways x state at in
-    let s = slice_index_or states x d in
-    let same : state_in ways s ≡ state = same_some (sym (state_at states ways x d inside) ∙ at) in
-    let own = within x d inside in
-    ap (λ (z : State). length z.ways) (sym same) ∙ length-map (take s.len (drop s.from ways)) way_in
-    ∙ length-take-le s.len (drop s.from ways)
-    (let n = length-drop s.from ways in omega (arith, n, own, fits))
+  -- a state has as many ways as are stored
+  pub ways_len : (x : ℕ) (d : StoredState) (state : State)
+      → LieWithin used states → used ≤ length ways
+      → slice_get (states_in ways classes targets states) x ≡ Some state →
+      length state.ways ≡ (slice_index_or states x d).len
+  ways_len x d state within fits at =
+      let inside = state_within x state at in
+      let s = slice_index_or states x d in
+      let same : state_in ways (row classes targets x) s ≡ state =
+      same_some (sym (state_at states ways classes targets x d inside) ∙ at) in
+      let own = within x d inside in
+      ap (λ (z : State). length z.ways) (sym same)
+      ∙ length-map (take s.len (drop s.from ways)) way_in
+      ∙ length-take-le s.len (drop s.from ways)
+      (let n = length-drop s.from ways in omega (arith, n, own, fits))
 
--- there are none where none are stored, and only there
-pub empty_by_len : (states : List StoredState) (used : ℕ) (ways : List StoredWay) (x : ℕ)
-    (d : StoredState) (state : State)
-    → LieWithin used states → used ≤ length ways
-    → slice_get (map (state_in ways) states) x ≡ Some state →
-    (slice_index_or states x d).len ≡ 0 → state.ways ≡ []
-empty_by_len states used ways x d state within fits at none =
-    nil_from_length state.ways (ways_len states used ways x d state within fits at ∙ none)
+  -- there are none where none are stored, and only there
+  pub empty_by_len : (x : ℕ) (d : StoredState) (state : State)
+      → LieWithin used states → used ≤ length ways
+      → slice_get (states_in ways classes targets states) x ≡ Some state →
+      (slice_index_or states x d).len ≡ 0 → state.ways ≡ []
+  empty_by_len x d state within fits at none =
+      nil_from_length state.ways (ways_len x d state within fits at ∙ none)
 
-pub len_by_empty : (states : List StoredState) (used : ℕ) (ways : List StoredWay) (x : ℕ)
-    (d : StoredState) (state : State)
-    → LieWithin used states → used ≤ length ways
-    → slice_get (map (state_in ways) states) x ≡ Some state →
-    state.ways ≡ [] → (slice_index_or states x d).len ≡ 0
-len_by_empty states used ways x d state within fits at none =
-    sym (ways_len states used ways x d state within fits at) ∙ ap length none
+  pub len_by_empty : (x : ℕ) (d : StoredState) (state : State)
+      → LieWithin used states → used ≤ length ways
+      → slice_get (states_in ways classes targets states) x ≡ Some state →
+      state.ways ≡ [] → (slice_index_or states x d).len ≡ 0
+  len_by_empty x d state within fits at none =
+      sym (ways_len x d state within fits at) ∙ ap length none
 
--- where a state is marked as plain, it has ways, and no match is complete in it
-pub plain_is : (states : List StoredState) (used : ℕ) (ways : List StoredWay) (x : ℕ)
-    (d : StoredState) (state : State)
-    → LieWithin used states → used ≤ length ways → ArePlain states
-    → slice_get (map (state_in ways) states) x ≡ Some state →
-    (slice_index_or states x d).is_plain ≡ true → (state.ways ≡ [] → ⊥) × (state.hit ≡ None)
-plain_is states used ways x d state within fits plain at told =
-    let inside = slice_get_within_map states ways x state at in
-    let own = plain x d inside told in
-    let n = ways_len states used ways x d state within fits at in
-    let same : state_in ways (slice_index_or states x d) ≡ state =
-    same_some (sym (state_at states ways x d inside) ∙ at) in (
-      λ none. let zero = sym n ∙ ap length none in omega (arith, own.0, zero),
-      ap (λ (z : State). z.hit) (sym same) ∙ own.1,
-    )
+  -- a plain state has ways, and no match is complete in it
+  pub plain_is : LieWithin used states → used ≤ length ways → (y : ℕ) → IsPlain states y →
+      (to : State) × (slice_get (states_in ways classes targets states) y ≡ Some to)
+      × (to.ways ≡ [] → ⊥) × (to.hit ≡ None)
+  plain_is within fits y plain =
+      let s = plain.state in
+      let at = state_at states ways classes targets y s
+      (slice_get_within states y s plain.is_state) in
+      let own : slice_index_or states y s ≡ s =
+      get_or_from_slice_get states y s s plain.is_state in
+      let some = plain.some in (
+        state_in ways (row classes targets y) (slice_index_or states y s),
+        at,
+        λ none.
+            let zero = len_by_empty y s _ within fits at none in
+            let len = ap (λ (z : StoredState). z.len) own in omega (arith, zero, len, some),
+        ap (λ (z : StoredState). (state_in ways [] z).hit) own ∙ plain.none,
+      )
 
-module _ (intervals : Intervals) (states : List StoredState) (used : ℕ) (ways : List StoredWay)
-    (automaton : Automaton) (view : seen intervals states used ways ≡ automaton) where
-  -- there are as many as are stored
+module _ (intervals : Intervals) (states : List StoredState) (targets : List Target) (used : ℕ)
+    (ways : List StoredWay) (automaton : Automaton)
+    (view : seen intervals states targets used ways ≡ automaton) where
   pub stored_within : (x : ℕ) → x < length automaton.states → x < length states
   stored_within x inside =
       let n = ap (λ (z : Automaton). length z.states) view in
-      let m = length-map states (state_in ways) in omega (arith, inside, n, m)
+      let m = length_states states ways (classes_in intervals) targets in omega (arith, inside, n, m)
 
   -- what is stored at a number
   pub is_stored : (x : ℕ) (found : StoredState) → found ≡ slice_index_or states x found
-      → x < length automaton.states → slice_get automaton.states x ≡ Some (state_in ways found)
+      → x < length automaton.states →
+      slice_get automaton.states x ≡ Some (state_in ways (row (classes_in intervals) targets x) found)
   is_stored x found stored inside =
       sym (ap (λ (z : Automaton). slice_get z.states x) view)
-      ∙ state_at states ways x found (stored_within x inside)
-      ∙ ap (λ s. Some (state_in ways s)) (sym stored)
+      ∙ state_at states ways (classes_in intervals) targets x found (stored_within x inside)
+      ∙ ap (λ s. Some (state_in ways (row (classes_in intervals) targets x) s)) (sym stored)
 
-  -- a turn that is remembered
+  -- a turn that is remembered leads on
   pub known_turn : (table : List (Place ℕ)) (entries : List ℕ)
-      → Remembers table entries automaton → (x : ℕ) (found : StoredState)
-      → found ≡ slice_index_or states x found → x < length automaton.states →
-      (class : ℕ) → class < most_classes → (slice_index found.next class ≡ unknown → ⊥) →
-      (to : State) × (slice_get automaton.states (slice_index found.next class) ≡ Some to)
-      × LeadsOn table entries automaton.intervals (state_in ways found) class to
-  known_turn table entries remembers x found stored inside class few known =
-      remembers.leads x (state_in ways found) class (is_stored x found stored inside) few known
+      → Remembers table entries automaton → (x class y : ℕ) → x < length automaton.states
+      → class < classes_in intervals
+      → (y ≡ unknown → ⊥) × ((state : State) → slice_get automaton.states x ≡ Some state
+      → slice_index state.next class ≡ y) →
+      (from to : State) × (slice_get automaton.states x ≡ Some from)
+      × (slice_get automaton.states y ≡ Some to)
+      × LeadsOn table entries automaton.intervals from class to
+  known_turn table entries remembers x class y inside few known =
+      let from = there_is automaton.states x inside in
+      let same = known.1 from.0 from.1 in
+      let led = subst
+      (λ z. (to : State) × (slice_get automaton.states z ≡ Some to)
+      × LeadsOn table entries automaton.intervals from.0 class to)
+      same (remembers.leads x from.0 class from.1
+      (subst (λ (z : Automaton). class < classes_in z.intervals) view few)
+      (λ e. known.0 (sym same ∙ e))) in
+      (from.0, led.0, from.1, led.1, led.2)
 
-  -- the states that it leads from and to are those that are stored
-  pub stored_turn : (table : List (Place ℕ)) (entries : List ℕ)
-      → Remembers table entries automaton → (x : ℕ) (found : StoredState)
-      → found ≡ slice_index_or states x found → x < length automaton.states →
-      (class : ℕ) → class < most_classes → (slice_index found.next class ≡ unknown → ⊥) →
-      (there : StoredState) → there ≡ slice_index_or states (slice_index found.next class) there →
-      (slice_get automaton.states x ≡ Some (state_in ways found))
-      × (slice_get automaton.states (slice_index found.next class) ≡ Some (state_in ways there))
-      × LeadsOn table entries automaton.intervals (state_in ways found) class
-      (state_in ways there)
-  stored_turn table entries remembers x found stored inside class few known there own =
-      let y = slice_index found.next class in
-      let turn = known_turn table entries remembers x found stored inside class few known in
-      let at = is_stored y there own (slice_get_within automaton.states y turn.0 turn.1) in (
-        is_stored x found stored inside,
-        at,
-        subst
-            (LeadsOn table entries automaton.intervals (state_in ways found) class)
-            (same_some (sym turn.1 ∙ at)) turn.2,
-      )
+  module _ (full : length targets ≡ length states * classes_in intervals) (x class : ℕ)
+      (inside : x < length automaton.states) (few : class < classes_in automaton.intervals) where
+    same_classes : classes_in automaton.intervals ≡ classes_in intervals
+    same_classes = ap (λ (z : Automaton). classes_in z.intervals) (sym view)
+
+    own_few : class < classes_in intervals
+    own_few = subst (λ n. class < n) same_classes few
+
+    own_row : x * classes_in intervals + classes_in intervals ≤ length targets
+    own_row =
+        let fits = row_within (length states) (classes_in intervals) x (stored_within x inside) in
+        omega (arith, fits, full)
+
+    pub cell_within : x * classes_in automaton.intervals + class < length targets
+    cell_within =
+        subst (λ n. x * n + class < length targets) (sym same_classes)
+        (let fits = own_row in
+        let lt = own_few in omega (arith, fits, lt))
+
+    -- the target of a state for a class is where the turn leads
+    pub target_is : (cell : ℕ) → cell ≡ x * classes_in automaton.intervals + class
+        → (target : Target) → target ≡ slice_index_or targets cell target → (state : State)
+        → slice_get automaton.states x ≡ Some state → slice_index state.next class ≡ target.state
+    target_is cell e target stored state at =
+        let own = stored_within x inside in
+        let s = there_is states x own in
+        let same = same_some (sym at ∙ sym (ap (λ (z : Automaton). slice_get z.states x) view)
+        ∙ state_at states ways (classes_in intervals) targets x s.0 own) in
+        ap (λ (z : State). slice_index z.next class) same
+        ∙ next_at (classes_in intervals) targets x class target own_few own_row
+        ∙ ap (λ n. (slice_index_or targets (x * n + class) target).state) (sym same_classes)
+        ∙ ap (λ k. (slice_index_or targets k target).state) (sym e)
+        ∙ ap (λ (t : Target). t.state) (sym stored)

@@ -6,7 +6,7 @@ use Rattle.regex_lite_engine.specs.declared.lazy_dfa.side.Side.{Side}
 use Rattle.regex_lite_engine.specs.declared.search.here.Here.{Here}
 use Rattle.regex_lite_engine.specs.Graph.Places.{Place, reading_of}
 use Rattle.regex_lite_engine.specs.LazyDfa.Intervals.{AreIntervalsFor, Intervals, class_of}
-use Rattle.regex_lite_engine.specs.LazyDfa.Intervals.{side_of}
+use Rattle.regex_lite_engine.specs.LazyDfa.Intervals.{classes_in, side_of}
 use Rattle.regex_lite_engine.specs.Search.Beginnings.{Told}
 use Rattle.regex_lite_engine.specs.Pikevm.Machine.{Thread}
 use Rattle.regex_lite_engine.specs.Search.Standing.{IsHere}
@@ -41,10 +41,6 @@ pub record Automaton : Type 0 where
   pub states : List State
   -- the ways of a state that is to come
   pub pending : List Way
-
--- a state has room for the turns of this many classes
-abbrev pub most_classes : ℕ
-most_classes = 128
 
 -- stands for a turn that isn't remembered
 abbrev pub unknown : ℕ
@@ -137,7 +133,7 @@ pub record Remembers (table : List (Place ℕ)) (entries : List ℕ) (automaton 
     : Type 0 where
   pub intervals : AreIntervalsFor table automaton.intervals
   pub leads : (x : ℕ) (from : State) (class : ℕ) → slice_get automaton.states x ≡ Some from
-      → class < most_classes → (slice_index from.next class ≡ unknown → ⊥)
+      → class < classes_in automaton.intervals → (slice_index from.next class ≡ unknown → ⊥)
       → (to : State) × (slice_get automaton.states (slice_index from.next class) ≡ Some to)
       × LeadsOn table entries automaton.intervals from class to
   pub fit : (x : ℕ) (state : State) → slice_get automaton.states x ≡ Some state

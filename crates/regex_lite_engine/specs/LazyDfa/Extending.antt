@@ -2,7 +2,8 @@
 use Rattle.std.specs.Prelude.{◌≡◌, ◌<◌, ℕ, Bool, List, Option, Some, slice_get, slice_index}
 use Rattle.regex_lite_engine.specs.declared.lazy_dfa.side.Side.{Side}
 use Rattle.regex_lite_engine.specs.LazyDfa.Automaton.{Automaton, KeptOrigin, State}
-use Rattle.regex_lite_engine.specs.LazyDfa.Automaton.{Way, most_classes, unknown}
+use Rattle.regex_lite_engine.specs.LazyDfa.Automaton.{Way, unknown}
+use Rattle.regex_lite_engine.specs.LazyDfa.Intervals.{classes_in}
 
 -- the state with this number has these ways and properties
 pub record IsState (automaton : Automaton) (y : ℕ) (all : List Way) (goes_on : Bool)
@@ -22,4 +23,4 @@ pub record Extends (old new : Automaton) : Type 0 where
   pub fresh : (x : ℕ) (state : State) → slice_get new.states x ≡ Some state
       → (slice_get old.states x ≡ Some state → ⊥)
       → (state.ways ≡ old.pending)
-      × ((class : ℕ) → class < most_classes → slice_index state.next class ≡ unknown)
+      × ((class : ℕ) → class < classes_in old.intervals → slice_index state.next class ≡ unknown)

@@ -35,6 +35,10 @@ abbrev pub class_of : (boundaries : List ℕ) → Option ℕ → ℕ
 class_of boundaries None = suc (length boundaries)
 class_of boundaries (Some c) = interval_of boundaries c
 
+-- how many classes there are: one for each interval, and that of the end
+abbrev pub classes_in : Intervals → ℕ
+classes_in intervals = length intervals.boundaries + 2
+
 -- all characters of the interval are of its class
 pub record IsInterval (boundaries : List ℕ) (interval : Interval) : Type 0 where
   pub all : (c : ℕ) → interval.start ≤ c → c < interval.end

@@ -1,5 +1,5 @@
 -- A search that goes by remembered turns from offset to offset, without the characters beside them.
-use Rattle.std.specs.Prelude.{◌≡◌, ◌⊎◌, ℕ, List, [], None, Some, slice_get}
+use Rattle.std.specs.Prelude.{◌≡◌, ◌⊎◌, ℕ, List, [], None, Some, slice_get, true}
 use Rattle.regex_lite_syntax.specs.Text.{Text}
 use Rattle.regex_lite_engine.specs.declared.lazy_dfa.scan.Standing.{Standing}
 use Rattle.regex_lite_engine.specs.declared.lazy_dfa.spot.Spot.{Spot}
@@ -36,6 +36,8 @@ pub record IsTurn (table : List (Place ℕ)) (entries : List ℕ) (automaton : A
   pub to : State
   pub is_to : slice_get automaton.states turn.to ≡ Some to
   pub leads : LeadsOn table entries automaton.intervals from class to
+  -- where the state is marked as plain, it has ways, and no match is complete in it
+  pub plain : turn.is_plain ≡ true → (to.ways ≡ [] → ⊥) × (to.hit ≡ None)
 
 -- after the turn to this state the search stands there, and has something to do
 pub record IsTaken (spot : Spot) (turn : Turn) (state : State) (before after : Standing)

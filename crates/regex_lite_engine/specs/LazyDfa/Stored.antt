@@ -1,10 +1,11 @@
 -- How the states of the lazy automaton are stored.
-use Rattle.std.specs.Prelude.{◌≡◌, ◌+◌, ◌<◌, ◌≤◌, ℕ, true, false, All, List}
-use Rattle.std.specs.Prelude.{take, drop, map, Option, Some, None}
+use Rattle.std.specs.Prelude.{◌≡◌, ◌+◌, ◌<◌, ◌≤◌, ℕ, true, false, All, List, [], ◌∷◌}
+use Rattle.std.specs.Prelude.{take, drop, map, slice_get, Option, Some, None}
 use Rattle.regex_lite_engine.specs.declared.lazy_dfa.state.Hit as code
 use Rattle.regex_lite_engine.specs.declared.lazy_dfa.state.Hit.TheVariants as stored
 use Rattle.regex_lite_engine.specs.declared.lazy_dfa.state.StoredState.{StoredState}
 use Rattle.regex_lite_engine.specs.declared.lazy_dfa.state.StoredWay.{StoredWay}
+use Rattle.regex_lite_engine.specs.declared.lazy_dfa.state.Target.{Target}
 use Rattle.regex_lite_engine.specs.LazyDfa.Automaton.{KeptOrigin, Way, State}
 
 abbrev pub way_in : StoredWay → Way
@@ -18,21 +19,34 @@ hit_in stored.Nowhere = None
 hit_in (stored.AtFirst number) = Some (record { first = true; number = Some number })
 hit_in (stored.AtLater number) = Some (record { first = false; number = Some number })
 
--- the state, whose ways lie among those of all
-abbrev pub state_in : List StoredWay → StoredState → State
-state_in ways state = record {
+-- the state, whose ways lie among those of all, and whose turns lead to these targets
+abbrev pub state_in : List StoredWay → List Target → StoredState → State
+state_in ways targets state = record {
   ways = map way_in (take state.len (drop state.from ways));
   searching = state.searching;
   before = state.before;
   hit = hit_in state.hit;
-  next = state.next;
+  next = map (λ target. target.state) targets;
 }
+
+-- the states, each of which has its own row of targets, one for each class
+abbrev pub states_in : List StoredWay → (classes : ℕ) → List Target → List StoredState → List State
+states_in ways classes targets [] = []
+states_in ways classes targets (state ∷ states) =
+    state_in ways (take classes targets) state
+    ∷ states_in ways classes (drop classes targets) states
 
 -- each state has its ways among the first of these
 abbrev pub LieWithin : (used : ℕ) → List StoredState → Type 0
 LieWithin used states = All (λ state. state.from + state.len ≤ used) states
 
--- each state that is marked as plain has ways, and no match is complete in it
-abbrev pub ArePlain : List StoredState → Type 0
-ArePlain states =
-    All (λ state. state.is_plain ≡ true → (0 < state.len) × (hit_in state.hit ≡ None)) states
+-- the state with this number has ways, and no match is complete in it
+pub record IsPlain (states : List StoredState) (y : ℕ) : Type 0 where
+  pub state : StoredState
+  pub is_state : slice_get states y ≡ Some state
+  pub some : 0 < state.len
+  pub none : hit_in state.hit ≡ None
+
+-- each target that is marked as plain is such a state
+abbrev pub ArePlain : List StoredState → List Target → Type 0
+ArePlain states targets = All (λ target. target.is_plain ≡ true → IsPlain states target.state) targets

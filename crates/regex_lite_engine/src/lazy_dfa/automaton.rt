@@ -1,27 +1,31 @@
 //! What a lazy automaton remembers.
-ghost use Rattle.std.specs.Prelude.{◌≡◌, ◌+◌, ◌≤◌, ◌<◌, ◌++◌, ◌∷◌, [], ℕ, IfOk, IfSome};
-ghost use Rattle.std.specs.Prelude.{Some, length, map, slice_get, slice_set, true};
+ghost use Rattle.std.specs.Prelude.{◌≡◌, ◌+◌, ◌*◌, ◌≤◌, ◌<◌, ◌++◌, ◌∷◌, [], ℕ, IfOk, IfSome};
+ghost use Rattle.std.specs.Prelude.{None, Some, length, map, slice_get, slice_index, slice_set, true};
 ghost use Rattle.regex_lite_engine.specs.LazyDfa.Automaton.{State, unknown};
 ghost use Rattle.regex_lite_engine.specs.LazyDfa.Extending.{Extends, IsState};
+ghost use Rattle.regex_lite_engine.specs.LazyDfa.Intervals.{classes_in};
 ghost use Rattle.regex_lite_engine.specs.LazyDfa.Stored.{hit_in, way_in};
 
 use crate::lazy_dfa::classes::Classes;
 use crate::lazy_dfa::side::Side;
-use crate::lazy_dfa::state::{Hit, StoredState, StoredWay, are_same};
+use crate::lazy_dfa::state::{Hit, StoredState, StoredWay, Target, are_same};
 use std::alloc::{AllocError, Global};
 use std::marker::Model;
 
 /// At most this many states are kept.
-pub(super) const MOST_STATES: usize = 128;
+const MOST_STATES: usize = 256;
+
+/// At most this many targets are kept: one for each state and class.
+const MOST_TARGETS: usize = 7168;
 
 /// At most this many ways are kept, in all states together.
-const MOST_WAYS: usize = 2304;
+const MOST_WAYS: usize = 2176;
 
 /// They do if of this number of bytes more than one turn finds no room.
 const BYTES_FOR_ONE: usize = 32;
 
-/// Stands for a turn that isn't remembered.
-pub(super) const UNKNOWN: u16 = 0xFFFF;
+/// Stands for the state to which a turn leads that isn't remembered.
+const UNKNOWN: u16 = 0xFFFF;
 
 /// Classes of characters, and the states that searches have come to. All its memory is requested at
 /// once. When that is full, nothing more is remembered.
@@ -29,6 +33,8 @@ pub(super) const UNKNOWN: u16 = 0xFFFF;
 pub(crate) struct LazyDfa {
     pub(super) classes: Classes,
     pub(super) states: Vec<StoredState>,
+    /// Where turns lead: for each state a row, with a target for each class of the next character.
+    targets: Vec<Target>,
     /// The ways of all states, and after them the pending ones: those of a state that is to come.
     ways: Vec<StoredWay>,
     /// How many of them belong to states.
@@ -40,22 +46,24 @@ pub(crate) struct LazyDfa {
 }
 
 impl Model for LazyDfa {
-    ghost use Rattle.std.specs.Prelude.{◌≤◌, length, map, drop, vec_capacity};
+    ghost use Rattle.std.specs.Prelude.{◌≡◌, ◌*◌, ◌≤◌, length, map, drop, vec_capacity};
     ghost use Rattle.regex_lite_engine.specs.LazyDfa.Automaton.{Automaton};
+    ghost use Rattle.regex_lite_engine.specs.LazyDfa.Intervals.{classes_in};
     ghost use Rattle.regex_lite_engine.specs.LazyDfa.Stored.{ArePlain, LieWithin};
-    ghost use Rattle.regex_lite_engine.specs.LazyDfa.Stored.{state_in, way_in};
+    ghost use Rattle.regex_lite_engine.specs.LazyDfa.Stored.{states_in, way_in};
 
     ghost Value = { Automaton };
 
     ghost view = { λ dfa. record {
       intervals = dfa.classes;
-      states = map (state_in dfa.ways.items) dfa.states.items;
+      states = states_in dfa.ways.items (classes_in dfa.classes) dfa.targets.items dfa.states.items;
       pending = map way_in (drop dfa.used dfa.ways.items);
     } };
 
     ghost invariant = { λ dfa. LieWithin dfa.used dfa.states.items
-        × (dfa.used ≤ length dfa.ways.items) × (length dfa.states.items ≤ 128)
-        × ArePlain dfa.states.items };
+        × (dfa.used ≤ length dfa.ways.items) × (length dfa.states.items ≤ 256)
+        × ArePlain dfa.states.items dfa.targets.items
+        × (length dfa.targets.items ≡ length dfa.states.items * classes_in dfa.classes) };
 }
 
 impl LazyDfa {
@@ -67,10 +75,12 @@ impl LazyDfa {
         ensures pending { IfOk result (λ dfa. dfa.pending ≡ []) }
     {
         let states = Vec::with_capacity(alloc, MOST_STATES)?;
+        let targets = Vec::with_capacity(alloc, MOST_TARGETS)?;
         let ways = Vec::with_capacity(alloc, MOST_WAYS)?;
         Ok(LazyDfa {
             classes,
             states,
+            targets,
             ways,
             used: 0,
             not_kept: 0,
@@ -123,6 +133,7 @@ impl LazyDfa {
 
     /// The state that has the pending ways and these properties, if it is there or there is room
     /// for it.
+    #[tactic(auto, using(crate::proofs::lazy_dfa::StoredStateLemmas::length_states))]
     pub(crate) fn settle(&mut self, searching: bool, before: Side, hit: Hit) -> Option<u16>
         ensures state { IfSome result (λ y.
             IsState self.new y self.old.pending searching before (hit_in hit)) }
@@ -134,7 +145,7 @@ impl LazyDfa {
             return Some(y);
         }
         let y = self.states.len();
-        if y >= MOST_STATES || !self.add(searching, before, hit) {
+        if !self.has_room() || !self.add(searching, before, hit) {
             self.drop_pending();
             self.not_kept = self.not_kept.saturating_add(1);
             return None;
@@ -142,7 +153,16 @@ impl LazyDfa {
         Some(y as u16)
     }
 
+    /// Whether there is room for another state.
+    #[tactic(auto, using(crate::proofs::lazy_dfa::StoredStateLemmas::length_states))]
+    pub(super) fn has_room(&self) -> bool
+        ensures { result ≡ true → length self.now.states < 256 }
+    {
+        self.states.len() < MOST_STATES && self.targets.len() + self.classes.len() <= MOST_TARGETS
+    }
+
     /// The state that has the pending ways and these properties.
+    #[tactic(auto, using(crate::proofs::lazy_dfa::StoredStateLemmas::length_states))]
     fn find_state(&self, searching: bool, before: Side, hit: Hit) -> Option<u16>
         ensures { IfSome result (λ y.
             IsState self.now y self.now.pending searching before (hit_in hit)) }
@@ -163,46 +183,92 @@ impl LazyDfa {
 
     /// Adds a state with the pending ways and these properties. Returns whether there was memory.
     fn add(&mut self, searching: bool, before: Side, hit: Hit) -> bool
-        requires { length self.old.states < 128 }
+        requires { length self.old.states < 256 }
         ensures state { result ≡ true → IsState self.new (length self.old.states)
             self.old.pending searching before (hit_in hit) }
         ensures extends { Extends self.old self.new }
         ensures none_pending { result ≡ true → self.new.pending ≡ [] }
     {
-        let len = self.ways.len() - self.used;
         let state = StoredState {
             from: self.used,
-            len,
+            len: self.ways.len() - self.used,
             searching,
             before,
             hit,
-            is_plain: len > 0 && hit.is(Hit::Nowhere),
-            next: [UNKNOWN; 128],
+        };
+        let rows = self.targets.len();
+        let longer = rows + self.classes.len();
+        let unknown = Target {
+            state: UNKNOWN,
+            is_plain: false,
+        };
+        let Ok(()) = self.targets.resize(longer, unknown) else {
+            return false;
         };
         match self.states.push(state) {
             Ok(()) => {
                 self.used = self.ways.len();
                 true
             }
-            Err(_) => false,
+            Err(_) => {
+                self.targets.truncate(rows);
+                false
+            }
         }
     }
 
     /// Remembers where a turn leads.
+    #[tactic(auto, using(crate::proofs::lazy_dfa::StoredStateLemmas::length_states))]
     pub(crate) fn remember(&mut self, x: u16, class: usize, y: u16)
         requires state { x < length self.old.states }
-        requires class { class < 128 }
+        requires class { class < classes_in self.old.intervals }
+        requires target { y < length self.old.states }
         ensures { (state : State) → slice_get self.old.states x ≡ Some state
             → self.new ≡ record self.old {
               states = slice_set self.old.states x
                   (record state { next = slice_set state.next class y });
             } }
     {
-        let state = &mut self.states[x as usize];
-        state.next[class] = y;
+        let target = Target {
+            state: y,
+            is_plain: self.states[y as usize].is_plain(),
+        };
+        let cell = self.cell(x, class);
+        self.targets[cell] = target;
+    }
+
+    /// Where the turn from this state leads, if it is remembered.
+    #[inline(always)]
+    pub(super) fn target(&self, x: u16, class: usize) -> Option<Target>
+        requires state { x < length self.now.states }
+        requires class { class < classes_in self.now.intervals }
+        ensures known { IfSome result (λ target. ¬ (target.state ≡ unknown)
+            × ((state : State) → slice_get self.now.states x ≡ Some state
+            → slice_index state.next class ≡ target.state)) }
+        ensures plain { IfSome result (λ target. target.is_plain ≡ true → (to : State)
+            × (slice_get self.now.states target.state ≡ Some to) × ¬ (to.ways ≡ [])
+            × (to.hit ≡ None)) }
+    {
+        let target = self.targets[self.cell(x, class)];
+        // A turn to a plain state is remembered.
+        if !target.is_plain && target.state == UNKNOWN {
+            return None;
+        }
+        Some(target)
+    }
+
+    /// Where the target of this state for this class lies in the list of all.
+    #[inline(always)]
+    fn cell(&self, x: u16, class: usize) -> usize
+        requires state { x < length self.now.states }
+        requires class { class < classes_in self.now.intervals }
+        ensures { result ≡ x * classes_in self.now.intervals + class }
+    {
+        x as usize * self.classes.len() + class
     }
 
     /// The ways of the state.
+    #[tactic(auto, using(crate::proofs::lazy_dfa::StoredStateLemmas::length_states))]
     pub(super) fn ways(&self, y: usize) -> &[StoredWay]
         requires { y < length self.now.states }
         ensures { (state : State) → slice_get self.now.states y ≡ Some state

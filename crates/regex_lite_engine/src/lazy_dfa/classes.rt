@@ -2,7 +2,7 @@
 ghost use Rattle.std.specs.Prelude.{◌≡◌, ◌+◌, ◌≤◌, ◌<◌, ℕ, IfOk, IfSome};
 ghost use Rattle.std.specs.Prelude.{IsCharBoundary, length, nat_le, slice_index};
 ghost use Rattle.regex_lite_engine.specs.LazyDfa.Intervals.{AreIntervalsOf, IsAhead, IsInterval};
-ghost use Rattle.regex_lite_engine.specs.LazyDfa.Intervals.{class_of};
+ghost use Rattle.regex_lite_engine.specs.LazyDfa.Intervals.{class_of, classes_in};
 ghost use Rattle.regex_lite_engine.specs.LazyDfa.Intervals.{interval_of, tick};
 
 use crate::lazy_dfa::boundaries::Boundaries;
@@ -74,8 +74,9 @@ impl Classes {
     }
 
     /// How many classes there are.
+    #[inline(always)]
     pub(crate) fn len(&self) -> usize
-        ensures same { result ≡ length self.now.boundaries + 2 }
+        ensures same { result ≡ classes_in self.now }
         ensures few { result < 128 }
     {
         self.boundaries.len() + 2
@@ -84,7 +85,7 @@ impl Classes {
     /// The class of the next character, or of the end.
     pub(crate) fn class(&self, next: Option<char>) -> usize
         ensures same { result ≡ class_of self.now.boundaries next }
-        ensures few { result < 128 }
+        ensures few { result < classes_in self.now }
     {
         match next {
             None => self.boundaries.len() + 1,
@@ -113,7 +114,7 @@ impl Classes {
         requires boundary { IsCharBoundary haystack.now at }
         requires near { IsInterval self.now.boundaries near.old }
         ensures ahead { IfSome result (IsAhead self.now.boundaries haystack.now at) }
-        ensures few { IfSome result (λ ahead. ahead.class < 128) }
+        ensures few { IfSome result (λ ahead. ahead.class < classes_in self.now) }
         ensures near { IsInterval self.now.boundaries near.new }
     {
         let bytes = haystack.as_bytes();
@@ -137,7 +138,7 @@ impl Classes {
         requires boundary { IsCharBoundary haystack.now at }
         requires near { IsInterval self.now.boundaries near.old }
         ensures ahead { IfSome result (IsAhead self.now.boundaries haystack.now at) }
-        ensures few { IfSome result (λ ahead. ahead.class < 128) }
+        ensures few { IfSome result (λ ahead. ahead.class < classes_in self.now) }
         ensures near { IsInterval self.now.boundaries near.new }
     {
         let Some(c) = first_char(haystack, at) else {
@@ -155,7 +156,7 @@ impl Classes {
     fn class_near(&self, c: u32, near: &mut Interval) -> usize
         requires { IsInterval self.now.boundaries near.old }
         ensures same { interval_of self.now.boundaries c ≡ result }
-        ensures few { result < 128 }
+        ensures few { result < classes_in self.now }
         ensures near { IsInterval self.now.boundaries near.new }
     {
         let boundaries = &self.boundaries;

@@ -11,7 +11,7 @@ ghost use Rattle.regex_lite_engine.specs.Search.Standing.{IsHere};
 ghost use Rattle.regex_lite_engine.specs.Search.Starts.{PassesTo};
 ghost use Rattle.regex_lite_engine.specs.Search.Starts.{AreDeadAt};
 
-use crate::lazy_dfa::automaton::{LazyDfa, MOST_STATES, UNKNOWN};
+use crate::lazy_dfa::automaton::LazyDfa;
 use crate::lazy_dfa::run::Progress;
 use crate::lazy_dfa::scan::Standing;
 use crate::lazy_dfa::state::Hit;
@@ -245,7 +245,7 @@ impl LazyDfa {
         !patterns.has_prefilter()
             && here.at < next.at
             && next.at - here.at <= NEAR
-            && self.states.len() < MOST_STATES
+            && self.has_room()
     }
 
     /// Whether the turn from this state is remembered.
@@ -253,6 +253,6 @@ impl LazyDfa {
     pub(super) fn knows(&self, x: u16, next: Option<char>) -> bool
         requires { x < length self.now.states }
     {
-        self.states[x as usize].next[self.classes.class(next)] != UNKNOWN
+        self.target(x, self.classes.class(next)).is_some()
     }
 }

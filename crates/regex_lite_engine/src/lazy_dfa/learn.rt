@@ -106,6 +106,7 @@ impl LazyDfa {
     }
 
     /// Whether there is no match yet after a turn from this state.
+    #[tactic(auto, using(crate::proofs::lazy_dfa::StoredStateLemmas::length_states))]
     fn searching_after(&self, x: u16, hit: Hit) -> bool
         requires { x < length self.now.states }
         ensures { (state : State) → slice_get self.now.states x ≡ Some state

@@ -10,7 +10,7 @@ ghost use Rattle.regex_lite_engine.specs.LazyDfa.Scanning.{IsScanning, IsSince, 
 ghost use Rattle.regex_lite_engine.specs.Search.Offsets.{position_at};
 ghost use Rattle.regex_lite_engine.specs.Search.Standing.{IsHere};
 
-use crate::lazy_dfa::automaton::{LazyDfa, UNKNOWN};
+use crate::lazy_dfa::automaton::LazyDfa;
 use crate::lazy_dfa::side::Side;
 use crate::lazy_dfa::state::Hit;
 use crate::pikevm::beginning::Origin;
@@ -154,6 +154,7 @@ impl LazyDfa {
     }
 
     /// Whether the state has no ways.
+    #[tactic(auto, using(crate::proofs::lazy_dfa::StoredStateLemmas::length_states))]
     pub(super) fn is_empty(&self, x: u16) -> bool
         requires { x < length self.now.states }
         ensures { (state : State) → slice_get self.now.states x ≡ Some state
@@ -177,10 +178,7 @@ impl LazyDfa {
             low p self.now at told.0 told.1) }
     {
         let class = self.classes.class(at.here.after);
-        let to = self.states[at.state as usize].next[class];
-        if to == UNKNOWN {
-            return None;
-        }
+        let to = self.target(at.state, class)?.state;
         match self.states[to as usize].hit {
             Hit::Nowhere => Some((to, at.best)),
             Hit::AtFirst(number) => {

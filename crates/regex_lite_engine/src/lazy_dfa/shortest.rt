@@ -15,7 +15,7 @@ ghost use Rattle.regex_lite_engine.specs.Pikevm.Searching.{IsFresh};
 ghost use Rattle.regex_lite_engine.specs.Search.NumberedOutcomes.{IsNumberedEndOf};
 ghost use Rattle.regex_lite_engine.specs.Pikevm.Turns.{best_of};
 
-use crate::lazy_dfa::automaton::{LazyDfa, UNKNOWN};
+use crate::lazy_dfa::automaton::LazyDfa;
 use crate::lazy_dfa::run::Progress;
 use crate::lazy_dfa::scan::{Standing, idle_since};
 use crate::lazy_dfa::state::Hit;
@@ -205,10 +205,7 @@ impl LazyDfa {
             haystack low p self.now at told.0 told.1) }
     {
         let class = self.classes.class(at.here.after);
-        let to = self.states[at.state as usize].next[class];
-        if to == UNKNOWN {
-            return None;
-        }
+        let to = self.target(at.state, class)?.state;
         match self.states[to as usize].hit {
             Hit::Nowhere => Some((to, false)),
             Hit::AtFirst(_) => Some((to, true)),

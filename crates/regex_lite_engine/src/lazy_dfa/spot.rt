@@ -10,7 +10,7 @@ ghost use Rattle.regex_lite_engine.specs.Search.Offsets.{position_at};
 ghost use Rattle.regex_lite_engine.specs.Search.Standing.{IsHere};
 ghost use Rattle.regex_lite_engine.specs.Search.NumberedOutcomes.{IsBestOutcomeOf};
 
-use crate::lazy_dfa::automaton::{LazyDfa, UNKNOWN};
+use crate::lazy_dfa::automaton::LazyDfa;
 use crate::lazy_dfa::classes::Ahead;
 use crate::lazy_dfa::interval::Interval;
 use crate::lazy_dfa::scan::Standing;
@@ -33,6 +33,8 @@ pub(super) struct Spot {
 #[derive(Clone, Copy)]
 pub(super) struct Turn {
     to: u16,
+    /// Whether the state has ways, and no match is complete in it.
+    is_plain: bool,
     end: usize,
 }
 
@@ -133,11 +135,12 @@ impl LazyDfa {
         let Some(Ahead { class, end }) = self.classes.ahead(haystack, spot.at, near) else {
             return None;
         };
-        let to = self.states[spot.state as usize].next[class];
-        if to == UNKNOWN {
-            return None;
-        }
-        Some(Turn { to, end })
+        let target = self.target(spot.state, class)?;
+        Some(Turn {
+            to: target.state,
+            is_plain: target.is_plain,
+            end,
+        })
     }
 
     /// Takes the turn, unless it completes a match of which the start isn't known, or leads from
@@ -146,14 +149,17 @@ impl LazyDfa {
     fn take(&self, spot: Spot, turn: Turn, at: &mut Standing) -> Step
         requires from { spot.state < length self.now.states }
         requires to { turn.to < length self.now.states }
+        requires plain { turn.is_plain ≡ true → (state : State)
+            → slice_get self.now.states turn.to ≡ Some state → ¬ (state.ways ≡ [])
+            × (state.hit ≡ None) }
         ensures taken { (state : State) → slice_get self.now.states turn.to ≡ Some state
             → Takes spot turn state at.old at.new result }
         ensures same { (state : State) → slice_get self.now.states turn.to ≡ Some state
             → state.hit ≡ None → at.new.best ≡ at.old.best }
     {
-        let Turn { to, end } = turn;
+        let Turn { to, is_plain, end } = turn;
         // Most turns: the rest needs no test.
-        if self.is_plain(to) {
+        if is_plain {
             return Step::On(Spot {
                 at: end,
                 state: to,
@@ -188,7 +194,7 @@ impl LazyDfa {
         requires from { spot.state < length self.now.states }
         ensures { TakesToNothing turn at.old at.new result }
     {
-        let Turn { to, end } = turn;
+        let Turn { to, end, .. } = turn;
         if at.best.is_some() {
             return Step::Over;
         }
@@ -220,22 +226,13 @@ impl LazyDfa {
 
     /// Where the way began by which a match is complete in this state.
     #[inline(always)]
+    #[tactic(auto, using(crate::proofs::lazy_dfa::StoredStateLemmas::length_states))]
     fn hit(&self, x: u16) -> Hit
         requires { x < length self.now.states }
         ensures { (state : State) → slice_get self.now.states x ≡ Some state
             → hit_in result ≡ state.hit }
     {
         self.states[x as usize].hit
-    }
-
-    /// Whether the state has ways, and no match is complete in it. Not every such state is known.
-    #[inline(always)]
-    fn is_plain(&self, x: u16) -> bool
-        requires { x < length self.now.states }
-        ensures { (state : State) → slice_get self.now.states x ≡ Some state → IsTrue result
-            → ¬ (state.ways ≡ []) × (state.hit ≡ None) }
-    {
-        self.states[x as usize].is_plain
     }
 
     /// Whether a match is complete in this state.

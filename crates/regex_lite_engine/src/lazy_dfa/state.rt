@@ -1,6 +1,6 @@
 //! The states of a lazy automaton.
-ghost use Rattle.std.specs.Prelude.{◌≡◌, true};
-ghost use Rattle.regex_lite_engine.specs.LazyDfa.Stored.{way_in};
+ghost use Rattle.std.specs.Prelude.{◌≡◌, ◌<◌, None, true};
+ghost use Rattle.regex_lite_engine.specs.LazyDfa.Stored.{hit_in};
 
 use crate::lazy_dfa::side::Side;
 
@@ -34,10 +34,15 @@ pub(crate) struct StoredState {
     pub before: Side,
     /// Whether a match was complete at the last position.
     pub hit: Hit,
-    /// Whether there are ways, and no match was complete: a turn to it changes nothing else.
+}
+
+/// Where a turn leads.
+#[derive(Clone, Copy)]
+pub(crate) struct Target {
+    /// The number of the state, or that the turn isn't remembered.
+    pub state: u16,
+    /// Whether the state has ways, and no match was complete: the turn changes nothing else.
     pub is_plain: bool,
-    /// Where turns lead, by the class of the next character.
-    pub next: [u16; 128],
 }
 
 /// Whether the ways are the same.
@@ -72,6 +77,14 @@ impl StoredState {
         ensures hit { result ≡ true → self.now.hit ≡ hit }
     {
         self.searching == searching && self.before.is(before) && self.hit.is(hit)
+    }
+
+    /// Whether it has ways, and no match is complete in it.
+    pub(crate) fn is_plain(&self) -> bool
+        ensures some { result ≡ true → 0 < self.now.len }
+        ensures none { result ≡ true → hit_in self.now.hit ≡ None }
+    {
+        self.len > 0 && self.hit.is(Hit::Nowhere)
     }
 }
 

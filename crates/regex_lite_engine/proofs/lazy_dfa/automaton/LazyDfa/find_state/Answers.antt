@@ -1,6 +1,7 @@
 use Rattle.regex_lite_engine.proofs.Common.{◌≡◌, map, slice_get, slice_index_or, sym, refl, ap, ◌∙◌}
 use Rattle.regex_lite_engine.proofs.Common.{rules, Automaton, way_in, hit_in, state_in, StoredState}
-use Rattle.regex_lite_engine.proofs.lazy_dfa.StoredStateLemmas.{state_at}
+use Rattle.regex_lite_engine.proofs.Common.{classes_in}
+use Rattle.regex_lite_engine.proofs.lazy_dfa.StoredStateLemmas.{row, state_at}
 use Rattle.regex_lite_engine.proofs.lazy_dfa.automaton.LazyDfa.find_state.Goals as goal
 
 pub returns-then-are_same : goal.returns-then-are_same
@@ -10,9 +11,11 @@ returns-then-are_same c =
     let found : StoredState = c.index-state.result.now in
     let stored : slice_index_or i.states.items c.states.y found ≡ found = search rules in
     let at = sym (ap (λ (z : Automaton). slice_get z.states c.states.y) c.self.view_is)
-    ∙ state_at i.states.items i.ways.items c.states.y found (search rules) in
+    ∙ state_at i.states.items i.ways.items (classes_in i.classes) i.targets.items c.states.y found
+    (search rules) in
     record {
-      state = state_in i.ways.items (slice_index_or i.states.items c.states.y found);
+      state = state_in i.ways.items (row (classes_in i.classes) i.targets.items c.states.y)
+          (slice_index_or i.states.items c.states.y found);
       is = at;
       ways =
           sym (c.ways.ensures _ at) ∙ ap (map way_in) (c.if-are_same.ensures refl)

@@ -1,6 +1,6 @@
 use Rattle.regex_lite_engine.proofs.Common.{◌≡◌, true, slice_get, Some, sym, refl, ap, ◌∙◌, subst}
 use Rattle.regex_lite_engine.proofs.Common.{slice_get_within, Automaton, ways_of, searching_after}
-use Rattle.regex_lite_engine.proofs.Common.{Suits, Remembers, class_of, side_of, IsIn, best_of}
+use Rattle.regex_lite_engine.proofs.Common.{◌<◌, classes_in, Suits, Remembers, class_of, side_of, IsIn, best_of}
 use Rattle.regex_lite_engine.proofs.lazy_dfa.LearnLemmas.{learned, remembers_settled}
 use Rattle.regex_lite_engine.proofs.lazy_dfa.LearnLemmas.{still_in, suits_after}
 use Rattle.regex_lite_engine.proofs.lazy_dfa.RememberedLemmas.{remembers_more}
@@ -47,6 +47,16 @@ remember-requires-clause-state g c =
     let own = own_state g (goal.at.remember-requires-clause-state g c).Else-not-gather in
     slice_get_within c.settle.new.self.states c.args.taken.state from
     (c.settle.ensures.extends.kept c.args.taken.state from own)
+
+pub remember-requires-clause-class : goal.remember-requires-clause-class
+remember-requires-clause-class g c =
+    subst (λ (z : Automaton). c.class-class.result < classes_in z.intervals) c.self.view_is
+    c.class-class.ensures.few
+
+pub remember-requires-clause-target : goal.remember-requires-clause-target
+remember-requires-clause-target g c =
+    let to = c.in_ok-y.ensures.state in
+    slice_get_within c.settle.new.self.states c.in_ok-y.y to.state to.is
 
 pub returns : goal.returns
 returns g c =

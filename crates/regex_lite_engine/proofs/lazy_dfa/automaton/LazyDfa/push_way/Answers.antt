@@ -12,8 +12,8 @@ returns-clause-pushed c = λ told.
     let way : StoredWay = c.args.way in
     elim c.match-push.branch [
       | in-Ok w ↦
-          seen_pushed i.classes i.states.items i.used i.ways.items v.0 v.1 way c.push.new.self.items
-          w.in-Ok.ensures.items
+          seen_pushed i.classes i.states.items i.targets.items i.used i.ways.items v.0 v.1 way
+          c.push.new.self.items w.in-Ok.ensures.items
           ∙ ap (λ (z : Automaton). record z { pending = z.pending ++ way_in way ∷ [] })
           c.self.view_is
       | in-Err w ↦ absurd (true≢false (sym told ∙ w.result-is))
@@ -26,16 +26,17 @@ returns-clause-same c =
     let way : StoredWay = c.args.way in
     elim c.match-push.branch [
       | in-Ok w ↦
-          seen_pushed i.classes i.states.items i.used i.ways.items v.0 v.1 way c.push.new.self.items
-          w.in-Ok.ensures.items
+          seen_pushed i.classes i.states.items i.targets.items i.used i.ways.items v.0 v.1 way
+          c.push.new.self.items w.in-Ok.ensures.items
           ∙ ap (λ (z : Automaton). record z { pending = z.pending ++ way_in way ∷ [] })
           c.self.view_is
           ∙ ap (λ more. record c.args.self.now { pending = more })
-          (sym (ap (λ (z : Automaton). z.pending) (seen_pushed i.classes i.states.items i.used
-          i.ways.items v.0 v.1 way c.push.new.self.items w.in-Ok.ensures.items)
+          (sym (ap (λ (z : Automaton). z.pending) (seen_pushed i.classes i.states.items
+          i.targets.items i.used i.ways.items v.0 v.1 way c.push.new.self.items
+          w.in-Ok.ensures.items)
           ∙ ap (λ (z : Automaton). z.pending ++ way_in way ∷ []) c.self.view_is))
       | in-Err w ↦
-          ap (λ items. seen i.classes i.states.items i.used items) w.in-Err.ensures.items
+          ap (λ items. seen i.classes i.states.items i.targets.items i.used items) w.in-Err.ensures.items
           ∙ c.self.view_is
           ∙ ap (λ more. record c.args.self.now { pending = more })
           (sym (ap (λ items. map way_in (drop i.used items)) w.in-Err.ensures.items

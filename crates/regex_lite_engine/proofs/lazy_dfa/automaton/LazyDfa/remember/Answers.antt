@@ -1,22 +1,50 @@
-use Rattle.regex_lite_engine.proofs.Common.{map, drop, slice_get, slice_set, ap, ◌∙◌, Automaton}
-use Rattle.regex_lite_engine.proofs.Common.{way_in, StoredState}
-use Rattle.regex_lite_engine.proofs.lazy_dfa.StoredChangeLemmas.{seen_set}
-use Rattle.regex_lite_engine.proofs.lazy_dfa.StoredStateLemmas.{slice_get_within_map}
+use Rattle.regex_lite_engine.proofs.Common.{◌≡◌, ◌+◌, ◌*◌, ◌<◌, true, map, drop, slice_get}
+use Rattle.regex_lite_engine.proofs.Common.{slice_set, Some, sym, ap, ◌∙◌, subst, length-set}
+use Rattle.regex_lite_engine.proofs.Common.{slice_get-get_or, Automaton, StoredState, Target}
+use Rattle.regex_lite_engine.proofs.Common.{classes_in, way_in}
+use Rattle.std.proofs.lemmas.List.Elements.{All-set}
+use Rattle.regex_lite_engine.specs.LazyDfa.Stored.{IsPlain}
+use Rattle.regex_lite_engine.proofs.lazy_dfa.StoredChangeLemmas.{states_set}
+use Rattle.regex_lite_engine.proofs.lazy_dfa.StoredStateLemmas.{stored_within}
 use Rattle.regex_lite_engine.proofs.lazy_dfa.automaton.LazyDfa.remember.Goals as goal
+
+pub invariant_of-self : goal.invariant_of-self
+invariant_of-self c =
+    let i = c.self.inside in
+    let v = c.self.invariant in
+    let to : StoredState = c.index.result.now in
+    let target : Target = record { state = c.args.y; is_plain = c.is_plain.result } in
+    let inside = stored_within i.classes i.states.items i.targets.items i.used i.ways.items
+    c.args.self.now c.self.view_is c.args.y c.requires.target in (
+      v.0,
+      v.1,
+      v.2,
+      All-set (λ (t : Target). t.is_plain ≡ true → IsPlain i.states.items t.state) i.targets.items
+          c.cell-cell.result target
+          (λ told. record {
+            state = to;
+            is_state =
+                slice_get-get_or i.states.items c.args.y to inside ∙ ap Some (sym c.index.ensures);
+            some = c.is_plain.ensures.some told;
+            none = c.is_plain.ensures.none told;
+          }) v.3,
+      length-set i.targets.items c.cell-cell.result target ∙ v.4,
+    )
 
 pub returns : goal.returns
 returns c = λ state at.
     let i = c.self.inside in
-    let was : StoredState = c.index_mut-state.result.now in
+    let same = ap (λ (z : Automaton). classes_in z.intervals) (sym c.self.view_is) in
     let there = ap (λ (z : Automaton). slice_get z.states c.args.x) c.self.view_is ∙ at in
     ap (λ states. record {
       intervals = i.classes;
       states = states;
       pending = map way_in (drop i.used i.ways.items);
     })
-    (seen_set i.states.items i.ways.items c.args.x c.args.class c.args.y was state
-    c.index_mut-state.ensures.value
-    (slice_get_within_map i.states.items i.ways.items c.args.x state there) there)
+    (states_set i.states.items i.ways.items (classes_in i.classes) i.targets.items c.args.x
+    c.args.class c.cell-cell.result (record { state = c.args.y; is_plain = c.is_plain.result })
+    state (c.cell-cell.ensures ∙ ap (λ n. c.args.x * n + c.args.class) same)
+    (subst (λ n. c.args.class < n) same c.requires.class) there)
     ∙ ap (λ (z : Automaton). record z {
       states =
           slice_set z.states c.args.x

@@ -1,5 +1,7 @@
 use Rattle.regex_lite_engine.proofs.Common.{◌≡◌, ◌+◌, ◌^◌, ◌<◌, length, chars, refl, ap, ◌∙◌, inl}
-use Rattle.regex_lite_engine.proofs.Common.{arith, slice_get_within, Standing}
+use Rattle.regex_lite_engine.proofs.Common.{[], None, sym, subst, arith, slice_get_within, Standing}
+use Rattle.regex_lite_engine.specs.LazyDfa.Automaton.{State}
+use Rattle.regex_lite_engine.proofs.OptionLemmas.{same_some}
 use Rattle.regex_lite_engine.proofs.lazy_dfa.SpotLemmas.{ran, since_on, spot_edge, spot_of}
 use Rattle.regex_lite_engine.proofs.lazy_dfa.SpotLemmas.{spot_on, spot_over, spot_since}
 use Rattle.regex_lite_engine.proofs.lazy_dfa.automaton.LazyDfa.run.Given as given
@@ -48,6 +50,12 @@ pub take-requires-clause-to : goal.take-requires-clause-to
 take-requires-clause-to g c =
     let turn = c.in-Some.ensures.turn in
     slice_get_within c.args.self.now.states c.in-Some.turn.to turn.to turn.is_to
+
+pub take-requires-clause-plain : goal.take-requires-clause-plain
+take-requires-clause-plain g c = λ told state at.
+    let turn = c.in-Some.ensures.turn in
+    subst (λ (s : State). (s.ways ≡ [] → ⊥) × (s.hit ≡ None)) (same_some (sym turn.is_to ∙ at))
+    (turn.plain told)
 
 pub turns-preserved : goal.turns-preserved
 turns-preserved g c = record {
