@@ -15,3 +15,4 @@ pub mod StoredChangeLemmas
 pub mod StoredStateLemmas
 pub mod AlikeLemmas
 pub mod OnceLemmas
+pub mod PassedLemmas

@@ -7,6 +7,7 @@ pub(crate) mod find;
 pub(crate) mod idle;
 mod interval;
 pub(crate) mod learn;
+pub(crate) mod list_spans;
 pub(crate) mod remembering;
 pub(crate) mod run;
 pub(crate) mod scan;

@@ -1,15 +1,17 @@
 -- What a searcher remembers, and what it passes over.
 use Rattle.std.specs.Prelude.{◌≡◌, ◌≤◌, ℕ, List, [], ◌∷◌, Option, IfSome, Some, length}
 use Rattle.regex_lite_syntax.specs.Text.{Text}
+use Rattle.regex_lite_engine.specs.declared.lazy_dfa.list_spans.ListSpanSearcher.{ListSpanSearcher}
 use Rattle.regex_lite_engine.specs.declared.lazy_dfa.spans.Passed.{Passed}
 use Rattle.regex_lite_engine.specs.declared.lazy_dfa.spans.SpanSearcher.{SpanSearcher}
+use Rattle.regex_lite_engine.specs.declared.pikevm.beginning.Origin.{Origin}
 use Rattle.regex_lite_engine.specs.Backtrack.Short.{SearchesShort}
 use Rattle.regex_lite_engine.specs.Graph.NoLooks.{HasNoLooks}
 use Rattle.regex_lite_engine.specs.Graph.Places.{Place}
 use Rattle.regex_lite_engine.specs.Graph.Stored.{StoredGraph, table_of}
 use Rattle.regex_lite_engine.specs.Graph.StoredList.{StoredList, table_of_list}
 use Rattle.regex_lite_engine.specs.LazyDfa.Automaton.{Automaton, Remembers}
-use Rattle.regex_lite_engine.specs.LazyDfa.Scanning.{span_told}
+use Rattle.regex_lite_engine.specs.LazyDfa.Scanning.{best_told, span_told}
 use Rattle.regex_lite_engine.specs.Search.NumberedAnswer.{IsNumberedMatch}
 use Rattle.regex_lite_engine.specs.Search.NumberedOutcomes.{IsBestOutcomeOf}
 use Rattle.regex_lite_engine.specs.Search.Counting.{IsCountable}
@@ -46,6 +48,12 @@ pub record FindsSpansIn (graph : StoredGraph) (slots : ℕ) (spans : SpanSearche
   pub short : IfSome spans.short (λ short. SearchesShort graph short
       × (length short.walk.stack.row ≡ slots) × HasNoLooks (table_of graph))
 
+-- searches for matches of any pattern of the list go on in its memory, which has no slots
+pub record FindsSpansInList (list : StoredList) (spans : ListSpanSearcher) : Type 0 where
+  pub remembers : RemembersFor (table_of_list list) list.entries spans.dfa
+  pub between : IsBetween (table_of_list list) spans.cache
+  pub width : length spans.cache.walk.memory.row ≡ 0
+
 -- position m is s or a later one, and no match from s on starts before it
 pub record NoneStartsBefore (table : List (Place ℕ)) (haystack : Text) (start s m : ℕ) : Type 0
   where
@@ -59,3 +67,10 @@ abbrev pub IsKnown : (table : List (Place ℕ)) → Text → (start s : ℕ) →
 IsKnown table haystack start s passed =
     IfSome passed.end (λ end.
     IsBestOutcomeOf table haystack (start ∷ []) s (span_told (Some (passed.from, end))))
+
+-- the answer of a search of the list from position s on has this start and the number of this
+-- pattern
+abbrev pub IsOriginInList : StoredList → Text → (s : ℕ) → Origin → Type 0
+IsOriginInList list haystack s origin =
+    (end : ℕ)
+    × IsBestOutcomeOf (table_of_list list) haystack list.entries s (best_told (Some (origin, end)))

@@ -25,6 +25,9 @@ const SPARE: usize = 8192;
 /// In a graph of this number of places the memory of a search without slots takes at most 4 KB.
 const MOST_PLACES: usize = 85;
 
+/// In a list of this number of places it takes at most 48 KB.
+const MOST_PLACES_OF_LIST: usize = 1024;
+
 /// Whether it pays to remember the turns of searches over this number of bytes. By measurement it
 /// doesn't if the first character of a match is looked for anyway and nothing branches after it,
 /// nor if the graph reads no character: each match is empty then, and one turn finds it.
@@ -69,6 +72,12 @@ pub(crate) fn pays_with_slots(graph: &Graph, bytes: usize) -> bool {
 /// it doesn't where an index of the patterns rules most of them out at most positions.
 pub(crate) fn pays_for_list(list: &GraphList, bytes: usize) -> bool {
     bytes >= LONG_BETWEEN_MATCHES && list.heads().begin_often()
+}
+
+/// Whether it pays if slots are kept. The automaton then finds where matches start, in memory of
+/// its own, which stays small in a graph of few places.
+pub(crate) fn pays_for_list_with_slots(list: &GraphList, bytes: usize) -> bool {
+    list.table().places() <= MOST_PLACES_OF_LIST && pays_for_list(list, bytes)
 }
 
 /// Whether one of a few bytes begins each match. If slots are then searched for by ordered sets, an

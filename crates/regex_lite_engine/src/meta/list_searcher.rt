@@ -14,8 +14,8 @@ ghost use Rattle.regex_lite_engine.specs.Search.Outcomes.{IsSpanOutcomeOfList};
 ghost use Rattle.regex_lite_engine.specs.Pikevm.Searching.{GoesOnIn, IsBetween, IsFresh};
 
 use crate::lazy_dfa::automaton::LazyDfa;
-use crate::lazy_dfa::remembering::pays_for_list;
-use crate::lazy_dfa::run::Progress;
+use crate::lazy_dfa::list_spans::{ListSpanSearcher, find_origin, find_slots, weigh};
+use crate::lazy_dfa::remembering::{pays_for_list, pays_for_list_with_slots};
 use crate::nfa::list::GraphList;
 use crate::pikevm::beginning::Origin;
 use crate::pikevm::best::{Best, numbered};
@@ -23,7 +23,6 @@ use crate::pikevm::cache::{Cache, cache_for, restart};
 use crate::pikevm::memory::Memory;
 use crate::pikevm::run::run;
 use crate::pikevm::walk::Walk;
-use crate::search::all_of_list::AllOfList;
 use crate::search::list_patterns::ListPatterns;
 use crate::steps::Steps;
 use std::alloc::{AllocError, Global};
@@ -38,12 +37,15 @@ pub struct ListSearcher<'g> {
     cache: Cache<Origin>,
     /// What is remembered of the turns of earlier searches, if no slots are kept and it pays.
     dfa: Option<Box<LazyDfa>>,
+    /// What finds where a match starts and its pattern, if slots are kept and it pays.
+    spans: Option<Box<ListSpanSearcher>>,
 }
 
 impl<'g> Model for ListSearcher<'g> {
     ghost use Rattle.std.specs.Prelude.{◌≡◌};
-    ghost use Rattle.std.specs.Prelude.{length, option_map};
+    ghost use Rattle.std.specs.Prelude.{IfSome, length, option_map};
     ghost use Rattle.regex_lite_engine.specs.Graph.StoredList.{table_of_list};
+    ghost use Rattle.regex_lite_engine.specs.LazyDfa.Remembering.{FindsSpansInList};
     ghost use Rattle.regex_lite_engine.specs.LazyDfa.Remembering.{IsRememberingList};
     ghost use Rattle.regex_lite_engine.specs.Search.Searching.{ListSearching};
     ghost use Rattle.regex_lite_engine.specs.Pikevm.Searching.{GoesOnIn};
@@ -59,7 +61,8 @@ impl<'g> Model for ListSearcher<'g> {
         × (table_of_list searcher.patterns.list.now ≡ table_of_list searcher.graph.now)
         × (searcher.patterns.list.now.entries ≡ searcher.graph.now.entries)
         × IsRememberingList searcher.graph.now (length searcher.cache.best.row)
-        (option_map (λ dfa. dfa.value) searcher.dfa) };
+        (option_map (λ dfa. dfa.value) searcher.dfa)
+        × IfSome searcher.spans (λ boxed. FindsSpansInList searcher.graph.now boxed.value) };
 }
 
 impl<'g> ListSearcher<'g> {
@@ -87,11 +90,17 @@ impl<'g> ListSearcher<'g> {
         } else {
             None
         };
+        let spans = if slots > 0 && pays_for_list_with_slots(graph, bytes) {
+            ListSpanSearcher::for_list(alloc, graph)
+        } else {
+            None
+        };
         Ok(ListSearcher {
             graph,
             patterns,
             cache,
             dfa,
+            spans,
         })
     }
 
@@ -116,8 +125,15 @@ impl<'g> ListSearcher<'g> {
         if let Some(found) = find_remembering(dfa, self.graph, &mut self.cache, haystack, start) {
             return numbered(found);
         }
+        if let Some(found) = find_origin(&mut self.spans, self.graph, haystack, start) {
+            let found = find_slots(self.graph, &mut self.cache, haystack, found?);
+            weigh(&mut self.spans, found, self.cache.walk.steps.tried());
+            return found;
+        }
         run(&mut self.cache, &mut self.patterns, haystack, start);
-        self.cache.best.numbered_span()
+        let found = self.cache.best.numbered_span();
+        weigh(&mut self.spans, found, self.cache.walk.steps.tried());
+        found
     }
 
     /// The slots of the last match that was found, none of them marked before the first. Slots 2k
@@ -126,14 +142,6 @@ impl<'g> ListSearcher<'g> {
         ensures { result.now ≡ self.now.slots }
     {
         self.cache.best.row()
-    }
-}
-
-/// Up to where a search has gone.
-fn went(found: Option<(Origin, usize)>, haystack: &str) -> usize {
-    match found {
-        Some((_, end)) => end,
-        None => haystack.len(),
     }
 }
 
@@ -193,12 +201,7 @@ fn find_remembering(
     let Some(automaton) = dfa else {
         return None;
     };
-    // Each place is one of the graph.
-    let _entries = graph.entries();
-    let all = AllOfList { list: graph };
-    let begun = Progress::begun(haystack, start);
-    if let Ok(found) = automaton.find_while_it_pays(&all, cache, haystack, begun, 0) {
-        automaton.count_bytes(went(found, haystack).saturating_sub(start));
+    if let Some(found) = automaton.find_in_list(graph, cache, haystack, start) {
         return Some(found);
     }
     restart(cache);

@@ -1,7 +1,9 @@
-use Rattle.regex_lite_engine.proofs.Common.{ℕ, ◌^◌, ◌<◌, List, [], length, chars, sym, subst, arith}
-use Rattle.regex_lite_engine.proofs.Common.{rules, nil_from_length, table_of_list, IsGraphOfList}
+use Rattle.regex_lite_engine.proofs.Common.{ℕ, ◌^◌, ◌<◌, List, [], length, IfSome, Some, None, chars}
+use Rattle.regex_lite_engine.proofs.Common.{sym, ap, subst, arith, rules, nil_from_length}
+use Rattle.regex_lite_engine.proofs.Common.{table_of_list, IsGraphOfList}
 use Rattle.regex_lite_engine.proofs.Common.{best_of, characters_left, CanCount, IsBestOutcomeOf}
 use Rattle.regex_lite_engine.proofs.Common.{position_at}
+use Rattle.regex_lite_engine.specs.LazyDfa.Remembering.{IsOriginInList}
 use Rattle.regex_lite_engine.specs.Search.Outcomes.{IsSpanOutcomeOfList}
 use Rattle.regex_lite_engine.specs.Search.Searching.{ListSearching}
 use Rattle.regex_lite_engine.proofs.search.ListOutcomeLemmas.{list_span_told}
@@ -50,6 +52,41 @@ returns-in-Some-clause-found c = λ trees regular is.
     (subst (IsBestOutcomeOf (table_of_list list) h list.entries s) (c.numbered.ensures [])
     c.in-Some.ensures.found))
 
+pub find_origin-requires-clause-counts : goal.find_origin-requires-clause-counts
+find_origin-requires-clause-counts c =
+    let list = c.self.inside.graph.now in
+    let haystack = c.args.haystack.now in
+    let short : length haystack < 2 ^ 63 = search rules in
+    let some : 0 < length list.entries = omega (arith, c.if-len-eq0.false, c.len.ensures.same) in
+    let few : length list.entries < 2 ^ 32 = omega (arith, c.len.ensures.few, c.len.ensures.same) in
+    can_count (table_of_list list) haystack (position_at haystack c.args.start) c.utf8.haystack
+    short (c.self.invariant.0 some).1 (length list.entries) few
+
+pub returns-in_err-found-clause-found : goal.returns-in_err-found-clause-found
+returns-in_err-found-clause-found c = λ trees regular is.
+    let list = c.self.inside.graph.now in
+    let haystack = c.args.haystack.now in
+    let of_list =
+    subst (λ (z : ListSearching). IsGraphOfList trees z.graph) (sym c.self.view_is) is in
+    subst (IsSpanOutcomeOfList trees haystack c.args.start _) (sym c.from_residual.ensures)
+    (list_span_told trees list of_list haystack c.args.start
+    (omega (arith, c.if-start-haystack.false)) regular None []
+    (c.in-Some-find_origin.ensures.none (ap Some c.in_err-found.was)))
+
+pub returns-in-Some-find_origin-clause-found : goal.returns-in-Some-find_origin-clause-found
+returns-in-Some-find_origin-clause-found c = λ trees regular is.
+    let list = c.self.inside.graph.now in
+    let haystack = c.args.haystack.now in
+    let s = position_at haystack c.args.start in
+    let of_list =
+    subst (λ (z : ListSearching). IsGraphOfList trees z.graph) (sym c.self.view_is) is in
+    list_span_told trees list of_list haystack c.args.start
+    (omega (arith, c.if-start-haystack.false)) regular c.find_slots-found.result
+    c.find_slots-found.new.cache.best.row
+    (c.find_slots-found.ensures.found s
+    (subst (λ found. IfSome found (IsOriginInList list (chars haystack) s)) c.in_ok-found.was
+    c.in-Some-find_origin.ensures.found))
+
 pub returns-clause-found : goal.returns-clause-found
 returns-clause-found c = λ trees regular is.
     let list = c.self.inside.graph.now in
@@ -63,7 +100,7 @@ returns-clause-found c = λ trees regular is.
     (subst (λ (entries : List ℕ). IsBestOutcomeOf (table_of_list c.self.inside.patterns.list.now)
     (chars haystack) entries s best) c.self.invariant.2 c.run.ensures.found) in
     list_span_told trees list of_list haystack c.args.start
-    (omega (arith, c.if-start-haystack.false)) regular c.numbered_span.result
+    (omega (arith, c.if-start-haystack.false)) regular c.numbered_span-found.result
     c.run.new.cache.best.row
     (subst (λ own. IsBestOutcomeOf (table_of_list list) (chars haystack) list.entries s own)
-    c.numbered_span.ensures found)
+    c.numbered_span-found.ensures found)

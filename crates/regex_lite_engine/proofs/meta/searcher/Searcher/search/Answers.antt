@@ -1,44 +1,16 @@
-use Rattle.regex_lite_engine.proofs.Common.{ℕ, ◌^◌, ◌<◌, List, [], ◌∷◌, length, Some, None, chars}
+use Rattle.regex_lite_engine.proofs.Common.{◌^◌, ◌<◌, [], ◌∷◌, length, Some, None, chars}
 use Rattle.regex_lite_engine.proofs.Common.{sym, refl, ◌∙◌, subst, arith, rules, nil_from_length}
-use Rattle.regex_lite_engine.proofs.Common.{Text, table_of, Best, best_at, with_start_kept, span_of}
-use Rattle.regex_lite_engine.proofs.Common.{IsBestOutcome, IsBestOutcomeOf, position_at}
-use Rattle.regex_lite_engine.specs.Graph.Places.{Place}
+use Rattle.regex_lite_engine.proofs.Common.{table_of, best_at, with_start_kept, span_of}
+use Rattle.regex_lite_engine.proofs.Common.{IsBestOutcomeOf, position_at}
 use Rattle.regex_lite_engine.specs.Graph.Renumbered.{IsGraphOf}
-use Rattle.regex_lite_engine.specs.LazyDfa.Remembering.{NoneStartsBefore}
 use Rattle.regex_lite_engine.specs.Search.Outcomes.{IsSpanOutcome}
 use Rattle.regex_lite_engine.specs.Search.Searching.{Searching}
 use Rattle.regex_lite_engine.proofs.lazy_dfa.OnceLemmas.{spanned}
+use Rattle.regex_lite_engine.proofs.lazy_dfa.PassedLemmas.{answer_from}
 use Rattle.regex_lite_engine.proofs.lazy_dfa.RunLemmas.{all_of_one}
 use Rattle.regex_lite_engine.proofs.pikevm.EndLemmas.{one_best}
 use Rattle.regex_lite_engine.proofs.search.OutcomeLemmas.{can_count, span_told}
 use Rattle.regex_lite_engine.proofs.meta.searcher.Searcher.search.Goals as goal
-
--- the answer from a later start, before which no match starts, is the answer from here
-answer_from : (table : List (Place ℕ)) (haystack : Text) (start s m : ℕ)
-    → NoneStartsBefore table haystack start s m → (best : Best)
-    → IsBestOutcome table haystack start m best → IsBestOutcome table haystack start s best
-answer_from table haystack start s m before None none = λ i q j way is.
-    let from = before.least i q j way is in
-    none i q j way (record { from = from; inside = is.inside; leads = is.leads })
-answer_from table haystack start s m before (Some best) (found, answer, from, to, held) =
-    let low = before.from in
-    let high = answer.from in (
-      found,
-      record {
-        from = omega (arith, low, high);
-        inside = answer.inside;
-        least = λ i q j way is. answer.least i q j way
-            (record { from = before.least i q j way is; inside = is.inside; leads = is.leads });
-        way = answer.way;
-        last = answer.last;
-        is_way = answer.is_way;
-        preferred = answer.preferred;
-        marks = answer.marks;
-      },
-      from,
-      to,
-      held,
-    )
 
 pub run-requires-clause-counts : goal.run-requires-clause-counts
 run-requires-clause-counts c =
