@@ -1,7 +1,7 @@
 -- What a walk keeps true when it passes over a node that it has entered before.
 use Rattle.regex_lite_engine.proofs.Common.{◌≡◌, ℕ, Bool, ◌⊎◌, List, [], ◌∷◌, ◌++◌, Some, Option}
 use Rattle.regex_lite_engine.proofs.Common.{sym, refl, ap, ◌∙◌, subst, inl, inr, NotAfter}
-use Rattle.regex_lite_engine.proofs.Common.{IsAnswered, StartsBelow}
+use Rattle.regex_lite_engine.proofs.Common.{IsAnswered}
 use Rattle.regex_lite_engine.specs.Pikevm.InStep as walk
 use Rattle.regex_lite_engine.specs.Search.Offers as offer
 use Rattle.regex_lite_engine.proofs.search.RecordLemmas.{or_dead}

@@ -1,12 +1,11 @@
 //! The characters at which what places read begins and ends.
-ghost use Rattle.std.specs.Prelude.{◌≡◌, ◌≤◌, ◌<◌, ◌+◌, All, IfOk, true, length};
+ghost use Rattle.std.specs.Prelude.{◌≡◌, ◌≤◌, ◌<◌, ◌∷◌, ◌++◌, [], All, true, length};
 ghost use Rattle.regex_lite_engine.specs.LazyDfa.Intervals.{AreBounded, IsBoundary, IsBoundedPlace};
 ghost use Rattle.regex_lite_engine.specs.LazyDfa.Intervals.{character_bounds, look_bounds};
 ghost use Rattle.regex_lite_engine.specs.LazyDfa.Boundaries.{Grows};
 
 use crate::nfa::place::Place;
 use regex_lite_syntax::ClassRange;
-use std::alloc::{AllocError, Global};
 use std::marker::Model;
 
 /// At most this many boundaries are kept, so that the number of an interval takes few bits.
@@ -19,48 +18,61 @@ const CHARACTER_BOUNDS: [u32; 3] = [0xD800, 0xE000, 0x11_0000];
 /// What looks distinguish: line feeds, carriage returns, and the runs of word characters.
 const LOOK_BOUNDS: [u32; 12] = [10, 11, 13, 14, 48, 58, 65, 91, 95, 96, 97, 123];
 
-/// Where the intervals begin, except the lowest.
+/// Where the intervals begin, except the lowest. They are few enough to need no block of memory.
 #[derive(Drop)]
 pub(crate) struct Boundaries {
-    /// In the order in which they were added, each once.
-    all: Vec<u32>,
+    /// In the order in which they were added, each once. Those before `len` are used.
+    cells: [u32; 125],
+    len: usize,
     /// Whether some place looks at its neighbours.
     looks: bool,
 }
 
 impl Model for Boundaries {
-    ghost use Rattle.std.specs.Prelude.{◌≡◌, ◌≤◌, All, true, length};
+    ghost use Rattle.std.specs.Prelude.{◌≡◌, ◌≤◌, All, true, take};
     ghost use Rattle.regex_lite_engine.specs.LazyDfa.Intervals.{Intervals, IsBoundary, look_bounds};
 
     ghost Value = { Intervals };
 
-    ghost view = { λ bounds. record { boundaries = bounds.all.items; looks = bounds.looks } };
+    ghost view = { λ bounds. record {
+      boundaries = take bounds.len bounds.cells;
+      looks = bounds.looks;
+    } };
 
-    ghost invariant = { λ bounds. (length bounds.all.items ≤ 125)
-        × (bounds.looks ≡ true → All (IsBoundary bounds.all.items) look_bounds) };
+    ghost invariant = { λ bounds. (bounds.len ≤ 125)
+        × (bounds.looks ≡ true → All (IsBoundary (take bounds.len bounds.cells)) look_bounds) };
 }
 
 impl Boundaries {
     /// The boundaries between characters and other numbers.
-    pub(crate) fn new(alloc: Global) -> Result<Boundaries, AllocError>
-        ensures { IfOk result (λ bounds. All (IsBoundary bounds.boundaries) character_bounds) }
+    pub(crate) fn new() -> Boundaries
+        ensures { All (IsBoundary result.boundaries) character_bounds }
     {
-        let mut all = Vec::with_capacity(alloc, MOST)?;
+        let mut bounds = Boundaries {
+            cells: [0; MOST],
+            len: 0,
+            looks: false,
+        };
         'bounds: for k in 0..CHARACTER_BOUNDS.len() {
-            all.push(CHARACTER_BOUNDS[k])?;
+            bounds.push(CHARACTER_BOUNDS[k]);
         }
-        Ok(Boundaries { all, looks: false })
+        bounds
     }
 
-    /// Where they lie, and whether some place looks at its neighbours.
-    pub(crate) fn into_parts(self) -> (Vec<u32>, bool)
-        ensures boundaries { result.0.items ≡ self.boundaries }
-        ensures looks { result.1 ≡ self.looks }
-        ensures few { length result.0.items ≤ 125 }
-        ensures sides { result.1 ≡ true → All (IsBoundary result.0.items) look_bounds }
+    /// All of them.
+    pub(crate) fn all(&self) -> &[u32]
+        ensures same { result.now ≡ self.now.boundaries }
+        ensures few { length result.now ≤ 125 }
+        ensures sides { self.now.looks ≡ true → All (IsBoundary result.now) look_bounds }
     {
-        let Boundaries { all, looks } = self;
-        (all, looks)
+        &self.cells[..self.len]
+    }
+
+    /// Whether some place looks at its neighbours.
+    pub(crate) fn looks(&self) -> bool
+        ensures { result ≡ self.now.looks }
+    {
+        self.looks
     }
 
     /// Adds the boundaries of what the place reads. Returns whether there was room for them.
@@ -111,10 +123,26 @@ impl Boundaries {
         ensures grows { Grows self.old self.new }
         ensures looks { self.new.looks ≡ self.old.looks }
     {
-        if is_among(&self.all, bound) {
+        if is_among(self.all(), bound) {
             return true;
         }
-        self.all.len() < MOST && self.all.push(bound).is_ok()
+        if self.len >= MOST {
+            return false;
+        }
+        self.push(bound);
+        true
+    }
+
+    /// Adds a boundary at this number, for which there is room.
+    #[tactic(auto, using(crate::proofs::lazy_dfa::BoundaryLemmas::one_more))]
+    fn push(&mut self, bound: u32)
+        requires { length self.old.boundaries < 125 }
+        ensures { self.new ≡ record self.old {
+          boundaries = self.old.boundaries ++ bound ∷ [];
+        } }
+    {
+        self.cells[self.len] = bound;
+        self.len += 1;
     }
 }
 

@@ -9,7 +9,6 @@ use crate::lazy_dfa::boundaries::Boundaries;
 use crate::lazy_dfa::interval::Interval;
 use crate::nfa::place::Place;
 use crate::search::here::first_char;
-use std::alloc::{AllocError, Global};
 use std::marker::Model;
 
 /// The class of a character, and the offset at which the character ends.
@@ -23,8 +22,7 @@ pub(crate) struct Ahead {
 /// class of its own.
 #[derive(Drop)]
 pub(crate) struct Classes {
-    boundaries: Vec<u32>,
-    looks: bool,
+    boundaries: Boundaries,
     /// The intervals of the ASCII characters.
     ascii: [u8; 128],
 }
@@ -35,42 +33,34 @@ impl Model for Classes {
 
     ghost Value = { Intervals };
 
-    ghost view = { λ classes. record {
-      boundaries = classes.boundaries.items;
-      looks = classes.looks;
-    } };
+    ghost view = { λ classes. classes.boundaries };
 
-    ghost invariant = { λ classes. (length classes.boundaries.items ≤ 125)
+    ghost invariant = { λ classes. (length classes.boundaries.boundaries ≤ 125)
         × ((c : ℕ) → c < 128
-        → slice_index classes.ascii c ≡ interval_of classes.boundaries.items c) };
+        → slice_index classes.ascii c ≡ interval_of classes.boundaries.boundaries c) };
 }
 
 impl Classes {
     /// The classes of characters that these places don't distinguish; none if there would be too
     /// many.
-    pub(crate) fn of(alloc: Global, places: &[Place]) -> Result<Option<Classes>, AllocError>
-        ensures { IfOk result (λ made. IfSome made (AreIntervalsOf places.now)) }
+    pub(crate) fn of(places: &[Place]) -> Option<Classes>
+        ensures { IfSome result (AreIntervalsOf places.now) }
     {
-        let mut bounds = Boundaries::new(alloc)?;
+        let mut boundaries = Boundaries::new();
         'places: for q in 0..places.len() {
-            if !bounds.add_place(&places[q]) {
-                return Ok(None);
+            if !boundaries.add_place(&places[q]) {
+                return None;
             }
         }
-        let (boundaries, looks) = bounds.into_parts();
-        let ascii = ascii_of(&boundaries);
-        Ok(Some(Classes {
-            boundaries,
-            looks,
-            ascii,
-        }))
+        let ascii = ascii_of(boundaries.all());
+        Some(Classes { boundaries, ascii })
     }
 
     /// Whether some place looks at its neighbours.
     pub(crate) fn looks(&self) -> bool
         ensures { result ≡ self.now.looks }
     {
-        self.looks
+        self.boundaries.looks()
     }
 
     /// How many classes there are.
@@ -79,7 +69,7 @@ impl Classes {
         ensures same { result ≡ classes_in self.now }
         ensures few { result < 128 }
     {
-        self.boundaries.len() + 2
+        self.boundaries.all().len() + 2
     }
 
     /// The class of the next character, or of the end.
@@ -88,7 +78,7 @@ impl Classes {
         ensures few { result < classes_in self.now }
     {
         match next {
-            None => self.boundaries.len() + 1,
+            None => self.boundaries.all().len() + 1,
             Some(c) => self.interval(c),
         }
     }
@@ -102,7 +92,7 @@ impl Classes {
         if c.is_ascii() {
             self.ascii[c as usize] as usize
         } else {
-            Interval::around(&self.boundaries, c as u32).class
+            Interval::around(self.boundaries.all(), c as u32).class
         }
     }
 
@@ -159,7 +149,7 @@ impl Classes {
         ensures few { result < classes_in self.now }
         ensures near { IsInterval self.now.boundaries near.new }
     {
-        let boundaries = &self.boundaries;
+        let boundaries = self.boundaries.all();
         if !near.has(c) {
             near.come_to(boundaries, c);
         }

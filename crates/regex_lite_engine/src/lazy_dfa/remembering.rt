@@ -11,7 +11,7 @@ use crate::lazy_dfa::classes::Classes;
 use crate::nfa::list::GraphList;
 use crate::nfa::table::Table;
 use crate::prefilter::Prefilter;
-use std::alloc::{AllocError, Global};
+use std::alloc::Global;
 
 /// From this number of bytes on it pays to remember turns.
 const LONG: usize = 1000;
@@ -97,21 +97,11 @@ impl LazyDfa {
     pub(crate) fn for_table(alloc: Global, table: &Table, spare: usize) -> Option<LazyDfa>
         ensures { (entries : List ℕ) → IfSome result (RemembersFor (places_of table.now) entries) }
     {
-        match LazyDfa::of(alloc, table, spare) {
-            Ok(made) => made,
+        let classes = Classes::of(table.all())?;
+        match LazyDfa::new(alloc, classes, spare) {
+            Ok(made) => Some(made),
             Err(_) => None,
         }
-    }
-
-    /// [`LazyDfa::for_table`], or that memory ran out.
-    fn of(alloc: Global, table: &Table, spare: usize) -> Result<Option<LazyDfa>, AllocError>
-        ensures { (entries : List ℕ)
-            → IfOk result (λ made. IfSome made (RemembersFor (places_of table.now) entries)) }
-    {
-        let Some(classes) = Classes::of(alloc, table.all())? else {
-            return Ok(None);
-        };
-        Ok(Some(LazyDfa::new(alloc, classes, spare)?))
     }
 
     /// One for this graph. It is never given up, since a turn costs no more with it.

@@ -1,5 +1,5 @@
 use Rattle.regex_lite_engine.proofs.Common.{[], ◌∷◌, length, slice_index, sym, ap, ◌∙◌, subst}
-use Rattle.regex_lite_engine.proofs.Common.{arith, IsBoundary, character_bounds}
+use Rattle.regex_lite_engine.proofs.Common.{arith, IsBoundary, Intervals, character_bounds}
 use Rattle.std.proofs.lemmas.List.{length-append}
 use Rattle.regex_lite_engine.proofs.lazy_dfa.BoundaryLemmas.{added_boundary, next_there}
 use Rattle.regex_lite_engine.proofs.lazy_dfa.BoundaryLemmas.{still_boundary}
@@ -7,16 +7,17 @@ use Rattle.regex_lite_engine.proofs.lazy_dfa.boundaries.Boundaries.new.Goals as 
 
 pub bounds-preserved : goal.bounds-preserved
 bounds-preserved c =
-    let before = c.bounds.all.items in
+    let before = c.bounds.bounds.boundaries in
     let added = slice_index character_bounds c.bounds.k in
-    let items = c.in_ok-push.ensures.items in
+    let pushed = ap (λ (z : Intervals). z.boundaries) c.push.ensures in
     let more = length-append before (added ∷ []) in
     let count = c.bounds.invariant.count in
     record {
-      count = ap length items ∙ (let n = more in omega (arith, n, count));
-      first = next_there character_bounds before c.push.new.self.items c.bounds.k c.bounds-test.true
+      count = ap length pushed ∙ (let n = more in omega (arith, n, count));
+      first = next_there character_bounds before c.push.new.self.boundaries c.bounds.k
+          c.bounds-test.true
           (λ b is.
-          subst (λ bs. IsBoundary bs b) (sym items) (still_boundary before (added ∷ []) b is))
+          subst (λ bs. IsBoundary bs b) (sym pushed) (still_boundary before (added ∷ []) b is))
           c.bounds.invariant.first
-          (subst (λ bs. IsBoundary bs added) (sym items) (added_boundary before added));
+          (subst (λ bs. IsBoundary bs added) (sym pushed) (added_boundary before added));
     }

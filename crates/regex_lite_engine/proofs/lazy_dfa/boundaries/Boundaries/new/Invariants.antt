@@ -4,6 +4,6 @@ use Rattle.regex_lite_engine.proofs.lazy_dfa.boundaries.Boundaries.new.Given as 
 
 abbrev pub invariant-bounds : goal.invariant-bounds
 invariant-bounds l = record {
-  count : length l.all.items ≡ l.k;
-  first : AreFirst character_bounds l.k l.all.items;
+  count : length l.bounds.boundaries ≡ l.k;
+  first : AreFirst character_bounds l.k l.bounds.boundaries;
 }

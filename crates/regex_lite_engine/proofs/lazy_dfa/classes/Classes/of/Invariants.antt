@@ -6,6 +6,6 @@ use Rattle.regex_lite_engine.proofs.lazy_dfa.classes.Classes.of.Given as goal
 abbrev pub invariant-places : goal.invariant-places
 invariant-places l = record {
   each : (k : ℕ) (place : Place) → k < l.q → slice_get l.places k ≡ Some place
-      → IsBoundedPlace l.bounds place;
-  characters : All (IsBoundary l.bounds.boundaries) character_bounds;
+      → IsBoundedPlace l.boundaries place;
+  characters : All (IsBoundary l.boundaries.boundaries) character_bounds;
 }
