@@ -189,7 +189,8 @@ module _ (table : List (Place ℕ)) (entries : List ℕ) where
           × LeadsOn table entries new.intervals from class to
       by_age x from class at inside known (Some was) old_at =
           let same : was ≡ from = same_some (sym (extends.kept x was old_at) ∙ at) in
-          let led = remembers.leads x from class (old_at ∙ ap Some same) (own class inside) known in (
+          let led =
+          remembers.leads x from class (old_at ∙ ap Some same) (own class inside) known in (
             led.0,
             extends.kept (slice_index from.next class) led.0 led.1,
             subst (λ z. LeadsOn table entries z from class led.0)

@@ -1,11 +1,11 @@
 -- How an automaton changes when a way, a state or a turn is stored, or pending ways are dropped.
 use Rattle.regex_lite_engine.proofs.Common.{◌≡◌, ℕ, zero, suc, ◌+◌, ◌-◌, ◌*◌, ◌<◌, ◌≤◌, List, []}
-use Rattle.regex_lite_engine.proofs.Common.{◌∷◌, ◌++◌, map, length, take, drop, replicate, slice_get}
-use Rattle.regex_lite_engine.proofs.Common.{slice_index, slice_set, Some, sym, refl}
+use Rattle.regex_lite_engine.proofs.Common.{◌∷◌, ◌++◌, map, length, take, drop, replicate}
+use Rattle.regex_lite_engine.proofs.Common.{slice_get, slice_index, slice_set, Some, sym, refl}
 use Rattle.regex_lite_engine.proofs.Common.{ap, ◌∙◌, arith, drop-append-le, get_or-replicate}
-use Rattle.regex_lite_engine.proofs.Common.{length-drop, length-replicate, length-take-le, map-append}
-use Rattle.regex_lite_engine.proofs.Common.{map-set, nil_from_length, suc-mul, take-append-drop}
-use Rattle.regex_lite_engine.proofs.Common.{take-append-le, Automaton, Extends, Intervals}
+use Rattle.regex_lite_engine.proofs.Common.{length-drop, length-replicate, length-take-le}
+use Rattle.regex_lite_engine.proofs.Common.{map-append, map-set, nil_from_length, suc-mul}
+use Rattle.regex_lite_engine.proofs.Common.{take-append-drop, take-append-le, Automaton, Extends, Intervals}
 use Rattle.regex_lite_engine.proofs.Common.{StoredState, StoredWay, classes_in, state_in, states_in}
 use Rattle.regex_lite_engine.proofs.Common.{Target, true, false, true≢false, unknown, way_in}
 use Rattle.std.proofs.lemmas.List.{take_rest, drop-set-add, drop-set-lt, get_or-map, take-set-le}

@@ -149,12 +149,14 @@ module _ (intervals : Intervals) (states : List StoredState) (targets : List Tar
   pub stored_within : (x : ℕ) → x < length automaton.states → x < length states
   stored_within x inside =
       let n = ap (λ (z : Automaton). length z.states) view in
-      let m = length_states states ways (classes_in intervals) targets in omega (arith, inside, n, m)
+      let m = length_states states ways (classes_in intervals) targets in
+      omega (arith, inside, n, m)
 
   -- what is stored at a number
   pub is_stored : (x : ℕ) (found : StoredState) → found ≡ slice_index_or states x found
       → x < length automaton.states →
-      slice_get automaton.states x ≡ Some (state_in ways (row (classes_in intervals) targets x) found)
+      slice_get automaton.states x
+      ≡ Some (state_in ways (row (classes_in intervals) targets x) found)
   is_stored x found stored inside =
       sym (ap (λ (z : Automaton). slice_get z.states x) view)
       ∙ state_at states ways (classes_in intervals) targets x found (stored_within x inside)

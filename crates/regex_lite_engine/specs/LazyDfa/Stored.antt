@@ -49,4 +49,5 @@ pub record IsPlain (states : List StoredState) (y : ℕ) : Type 0 where
 
 -- each target that is marked as plain is such a state
 abbrev pub ArePlain : List StoredState → List Target → Type 0
-ArePlain states targets = All (λ target. target.is_plain ≡ true → IsPlain states target.state) targets
+ArePlain states targets =
+    All (λ target. target.is_plain ≡ true → IsPlain states target.state) targets

@@ -1,6 +1,7 @@
 //! What a lazy automaton remembers.
 ghost use Rattle.std.specs.Prelude.{◌≡◌, ◌+◌, ◌*◌, ◌≤◌, ◌<◌, ◌++◌, ◌∷◌, [], ℕ, IfOk, IfSome};
-ghost use Rattle.std.specs.Prelude.{None, Some, length, map, slice_get, slice_index, slice_set, true};
+ghost use Rattle.std.specs.Prelude.{None, Some, length, map, slice_get, slice_index, slice_set};
+ghost use Rattle.std.specs.Prelude.{true};
 ghost use Rattle.regex_lite_engine.specs.LazyDfa.Automaton.{State, unknown};
 ghost use Rattle.regex_lite_engine.specs.LazyDfa.Extending.{Extends, IsState};
 ghost use Rattle.regex_lite_engine.specs.LazyDfa.Intervals.{classes_in};

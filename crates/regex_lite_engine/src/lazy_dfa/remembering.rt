@@ -22,7 +22,8 @@ const LONG_BETWEEN_MATCHES: usize = 4096;
 /// Searches for the patterns of a list go over this number of bytes before they give it up.
 const SPARE: usize = 8192;
 
-/// In a graph of this number of places the memory of a search without slots takes at most 4 KB.
+/// In a graph of this number of places the memory of a search without slots takes at most 5,440
+/// bytes, 64 for each.
 const MOST_PLACES: usize = 85;
 
 /// In a list of this number of places it takes at most 48 KB.

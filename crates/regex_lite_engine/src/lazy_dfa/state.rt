@@ -3,6 +3,7 @@ ghost use Rattle.std.specs.Prelude.{◌≡◌, ◌<◌, None, true};
 ghost use Rattle.regex_lite_engine.specs.LazyDfa.Stored.{hit_in};
 
 use crate::lazy_dfa::side::Side;
+use std::mem::size_of;
 
 /// A place to go on from, whether the way to it began at the first start, and the number of its
 /// pattern.
@@ -36,6 +37,9 @@ pub(crate) struct StoredState {
     pub hit: Hit,
 }
 
+// An automaton has memory for hundreds of them.
+const _: () = prove!(size_of::<StoredState>() == 32);
+
 /// Where a turn leads.
 #[derive(Clone, Copy)]
 pub(crate) struct Target {
@@ -44,6 +48,9 @@ pub(crate) struct Target {
     /// Whether the state has ways, and no match was complete: the turn changes nothing else.
     pub is_plain: bool,
 }
+
+// An automaton has memory for thousands of them.
+const _: () = prove!(size_of::<Target>() == 4);
 
 /// Whether the ways are the same.
 pub(crate) fn are_same(ways: &[StoredWay], others: &[StoredWay]) -> bool

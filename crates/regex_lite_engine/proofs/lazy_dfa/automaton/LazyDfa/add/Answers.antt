@@ -1,8 +1,8 @@
-use Rattle.regex_lite_engine.proofs.Common.{◌≡◌, ◌+◌, ◌-◌, ◌*◌, ◌<◌, suc, false, [], ◌∷◌, ◌++◌, length}
-use Rattle.regex_lite_engine.proofs.Common.{map, replicate, refl, ap, ◌∙◌, sym, subst, arith}
-use Rattle.regex_lite_engine.proofs.Common.{length-append, length-replicate, rules, suc-mul, take_all}
-use Rattle.regex_lite_engine.proofs.Common.{Automaton, StoredState, Target, classes_in, hit_in}
-use Rattle.regex_lite_engine.proofs.Common.{unknown}
+use Rattle.regex_lite_engine.proofs.Common.{◌≡◌, ◌+◌, ◌-◌, ◌*◌, ◌<◌, suc, false, [], ◌∷◌, ◌++◌}
+use Rattle.regex_lite_engine.proofs.Common.{length, map, replicate, refl, ap, ◌∙◌, sym, subst}
+use Rattle.regex_lite_engine.proofs.Common.{arith, length-append, length-replicate, rules, suc-mul}
+use Rattle.regex_lite_engine.proofs.Common.{take_all, Automaton, StoredState, Target, classes_in}
+use Rattle.regex_lite_engine.proofs.Common.{hit_in, unknown}
 use Rattle.std.specs.Vec.{vec_len}
 use Rattle.regex_lite_engine.specs.LazyDfa.Automaton.{State}
 use Rattle.regex_lite_engine.specs.LazyDfa.Stored.{ArePlain, LieWithin}

@@ -1,6 +1,7 @@
 use Rattle.regex_lite_engine.proofs.Common.{◌≡◌, true, slice_get, Some, sym, refl, ap, ◌∙◌, subst}
 use Rattle.regex_lite_engine.proofs.Common.{slice_get_within, Automaton, ways_of, searching_after}
-use Rattle.regex_lite_engine.proofs.Common.{◌<◌, classes_in, Suits, Remembers, class_of, side_of, IsIn, best_of}
+use Rattle.regex_lite_engine.proofs.Common.{Suits, Remembers, class_of, side_of, IsIn, best_of}
+use Rattle.regex_lite_engine.proofs.Common.{◌<◌, classes_in}
 use Rattle.regex_lite_engine.proofs.lazy_dfa.LearnLemmas.{learned, remembers_settled}
 use Rattle.regex_lite_engine.proofs.lazy_dfa.LearnLemmas.{still_in, suits_after}
 use Rattle.regex_lite_engine.proofs.lazy_dfa.RememberedLemmas.{remembers_more}

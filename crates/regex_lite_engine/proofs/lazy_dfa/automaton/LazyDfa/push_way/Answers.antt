@@ -36,7 +36,8 @@ returns-clause-same c =
           w.in-Ok.ensures.items)
           ∙ ap (λ (z : Automaton). z.pending ++ way_in way ∷ []) c.self.view_is))
       | in-Err w ↦
-          ap (λ items. seen i.classes i.states.items i.targets.items i.used items) w.in-Err.ensures.items
+          ap (λ items. seen i.classes i.states.items i.targets.items i.used items)
+          w.in-Err.ensures.items
           ∙ c.self.view_is
           ∙ ap (λ more. record c.args.self.now { pending = more })
           (sym (ap (λ items. map way_in (drop i.used items)) w.in-Err.ensures.items

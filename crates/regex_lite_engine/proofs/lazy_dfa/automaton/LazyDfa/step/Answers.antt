@@ -28,7 +28,8 @@ led : (g : given.Over) (c : After-index g) →
     (from to : State) × (slice_get c.args.self.now.states c.args.at.state ≡ Some from)
     × (slice_get c.args.self.now.states c.in_ok-to.field-0.state ≡ Some to)
     × LeadsOn (g.P.Patterns.table c.args.patterns.now) (g.P.Patterns.entries c.args.patterns.now)
-    c.args.self.now.intervals from c.class-class.result to × (to.hit ≡ hit_in c.index.result.now.hit)
+    c.args.self.now.intervals from c.class-class.result to
+    × (to.hit ≡ hit_in c.index.result.now.hit)
 led g c =
     let i = c.self.inside in
     let now = c.args.self.now in
@@ -40,7 +41,8 @@ led g c =
     let own = is_stored i.classes i.states.items i.targets.items i.used i.ways.items now
     c.self.view_is y c.index.result.now c.index.ensures
     (slice_get_within now.states y turn.1 turn.3) in
-    (turn.0, turn.1, turn.2, turn.3, turn.4, ap (λ (s : State). s.hit) (same_some (sym turn.3 ∙ own)))
+    let hit = ap (λ (s : State). s.hit) (same_some (sym turn.3 ∙ own)) in
+    (turn.0, turn.1, turn.2, turn.3, turn.4, hit)
 
 -- the class of the next character is the one that is looked up
 class_is : (g : given.Over) (c : After-index g) →
