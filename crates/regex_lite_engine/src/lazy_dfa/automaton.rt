@@ -240,7 +240,7 @@ impl LazyDfa {
 
     /// Where the turn from this state leads, if it is remembered.
     #[inline(always)]
-    pub(super) fn target(&self, x: u16, class: usize) -> Option<Target>
+    pub(super) fn known_target(&self, x: u16, class: usize) -> Option<Target>
         requires state { x < length self.now.states }
         requires class { class < classes_in self.now.intervals }
         ensures known { IfSome result (λ target. ¬ (target.state ≡ unknown)

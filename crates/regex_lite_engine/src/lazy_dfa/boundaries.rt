@@ -68,6 +68,14 @@ impl Boundaries {
         &self.cells[..self.len]
     }
 
+    /// How many there are.
+    #[inline(always)]
+    pub(crate) fn len(&self) -> usize
+        ensures { result ≡ length self.now.boundaries }
+    {
+        self.len
+    }
+
     /// Whether some place looks at its neighbours.
     pub(crate) fn looks(&self) -> bool
         ensures { result ≡ self.now.looks }

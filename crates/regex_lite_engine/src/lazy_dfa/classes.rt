@@ -69,7 +69,7 @@ impl Classes {
         ensures same { result ≡ classes_in self.now }
         ensures few { result < 128 }
     {
-        self.boundaries.all().len() + 2
+        self.boundaries.len() + 2
     }
 
     /// The class of the next character, or of the end.
@@ -78,7 +78,7 @@ impl Classes {
         ensures few { result < classes_in self.now }
     {
         match next {
-            None => self.boundaries.all().len() + 1,
+            None => self.boundaries.len() + 1,
             Some(c) => self.interval(c),
         }
     }

@@ -253,6 +253,6 @@ impl LazyDfa {
     pub(super) fn knows(&self, x: u16, next: Option<char>) -> bool
         requires { x < length self.now.states }
     {
-        self.target(x, self.classes.class(next)).is_some()
+        self.known_target(x, self.classes.class(next)).is_some()
     }
 }

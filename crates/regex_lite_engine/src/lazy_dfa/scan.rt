@@ -178,7 +178,7 @@ impl LazyDfa {
             low p self.now at told.0 told.1) }
     {
         let class = self.classes.class(at.here.after);
-        let to = self.target(at.state, class)?.state;
+        let to = self.known_target(at.state, class)?.state;
         match self.states[to as usize].hit {
             Hit::Nowhere => Some((to, at.best)),
             Hit::AtFirst(number) => {

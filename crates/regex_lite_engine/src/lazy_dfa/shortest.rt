@@ -205,7 +205,7 @@ impl LazyDfa {
             haystack low p self.now at told.0 told.1) }
     {
         let class = self.classes.class(at.here.after);
-        let to = self.target(at.state, class)?.state;
+        let to = self.known_target(at.state, class)?.state;
         match self.states[to as usize].hit {
             Hit::Nowhere => Some((to, false)),
             Hit::AtFirst(_) => Some((to, true)),

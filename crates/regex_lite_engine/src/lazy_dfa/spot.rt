@@ -135,7 +135,7 @@ impl LazyDfa {
         let Some(Ahead { class, end }) = self.classes.ahead(haystack, spot.at, near) else {
             return None;
         };
-        let target = self.target(spot.state, class)?;
+        let target = self.known_target(spot.state, class)?;
         Some(Turn {
             to: target.state,
             is_plain: target.is_plain,

@@ -1,0 +1,63 @@
+use Rattle.regex_lite_engine.proofs.Common.{◌≡◌, true, [], slice_get, Some, None, sym, subst, arith}
+use Rattle.regex_lite_engine.proofs.Common.{ap, length, rules, slice_get_within, Automaton, Target}
+use Rattle.regex_lite_engine.proofs.Common.{classes_in}
+use Rattle.regex_lite_engine.specs.LazyDfa.Automaton.{State}
+use Rattle.regex_lite_engine.specs.LazyDfa.Stored.{IsPlain}
+use Rattle.regex_lite_engine.proofs.lazy_dfa.StoredStateLemmas.{cell_within, length_states}
+use Rattle.regex_lite_engine.proofs.lazy_dfa.StoredStateLemmas.{plain_is, target_is}
+use Rattle.regex_lite_engine.proofs.lazy_dfa.automaton.LazyDfa.known_target.Goals as goal
+use Rattle.regex_lite_engine.proofs.lazy_dfa.automaton.LazyDfa.known_target.Goals.{
+  After-index-target,
+  else-not-target-via-then-not-target+else-target,
+  else-not-target-via-else-not-target,
+}
+
+pub index-target-requires : goal.index-target-requires
+index-target-requires c =
+    let i = c.self.inside in
+    let inside = cell_within i.classes i.states.items i.targets.items i.used i.ways.items
+    c.args.self.now c.self.view_is c.self.invariant.4 c.args.x c.args.class c.requires.state
+    c.requires.class in
+    search (inside, rules)
+
+-- a target that is marked as plain is a plain state
+plain : (c : After-index-target) → c.index-target.result.now.is_plain ≡ true →
+    (to : State) × (slice_get c.args.self.now.states c.index-target.result.now.state ≡ Some to)
+    × (to.ways ≡ [] → ⊥) × (to.hit ≡ None)
+plain c told =
+    let i = c.self.inside in
+    let v = c.self.invariant in
+    let target : Target = c.index-target.result.now in
+    let inside = cell_within i.classes i.states.items i.targets.items i.used i.ways.items
+    c.args.self.now c.self.view_is v.4 c.args.x c.args.class c.requires.state c.requires.class in
+    let marked = subst (λ (t : Target). t.is_plain ≡ true → IsPlain i.states.items t.state)
+    (sym c.index-target.ensures) (v.3 c.cell.result target (search (inside, rules))) in
+    subst
+    (λ (z : Automaton). (to : State) × (slice_get z.states target.state ≡ Some to)
+    × (to.ways ≡ [] → ⊥) × (to.hit ≡ None))
+    c.self.view_is
+    (plain_is i.states.items i.used i.ways.items (classes_in i.classes) i.targets.items v.0 v.1
+    target.state (marked told))
+
+pub returns-clause-known : goal.returns-clause-known
+returns-clause-known c = (
+  elim c.else-not-target.branch [
+    | else-not-target-via-then-not-target+else-target w ↦ search rules
+    | else-not-target-via-else-not-target w ↦ λ e.
+        let i = c.self.inside in
+        let v = c.self.invariant in
+        let own = plain (goal.at.returns-clause-known c).After-index-target (search rules) in
+        let inside = slice_get_within c.args.self.now.states _ own.0 own.1 in
+        let n = ap (λ (z : Automaton). length z.states) c.self.view_is in
+        let m = length_states i.states.items i.ways.items (classes_in i.classes) i.targets.items in
+        let few = v.2 in
+        omega (arith, inside, n, m, few, e)
+  ],
+  let i = c.self.inside in
+      target_is i.classes i.states.items i.targets.items i.used i.ways.items c.args.self.now
+      c.self.view_is c.self.invariant.4 c.args.x c.args.class c.requires.state c.requires.class
+      c.cell.result c.cell.ensures c.index-target.result.now c.index-target.ensures,
+)
+
+pub returns-clause-plain : goal.returns-clause-plain
+returns-clause-plain c = plain (goal.at.returns-clause-plain c).After-index-target
