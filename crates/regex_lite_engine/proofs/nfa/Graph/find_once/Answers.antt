@@ -110,3 +110,8 @@ returns c =
     c.with_state-known.ensures c.state_at-state.ensures.state in
     let end = c.find_from.ensures in
     record { found = end.found s known; bounded = end.bounded s known; entered = end.entered }
+
+pub find_from-requires-clause-all : goal.find_from-requires-clause-all
+find_from-requires-clause-all c =
+    all_of_one c.args.self.now c.start-start.result c.start-start.ensures.same
+    c.start-start.ensures.inside

@@ -111,3 +111,14 @@ returns c =
     c.with_state-known.ensures c.state_at-state.ensures.state in
     let end = c.find_shortest_from.ensures in
     record { found = end.found s known; bounded = end.bounded s known; entered = end.entered }
+
+pub take_turns_to_end-requires-in_default-for_graph-clause-all :
+    goal.take_turns_to_end-requires-in_default-for_graph-clause-all
+take_turns_to_end-requires-in_default-for_graph-clause-all c =
+    all_of_one c.args.self.now c.start-start.result c.start-start.ensures.same
+    c.start-start.ensures.inside
+
+pub find_shortest_from-requires-clause-all : goal.find_shortest_from-requires-clause-all
+find_shortest_from-requires-clause-all c =
+    all_of_one c.args.self.now c.start-start.result c.start-start.ensures.same
+    c.start-start.ensures.inside

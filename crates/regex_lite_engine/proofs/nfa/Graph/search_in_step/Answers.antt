@@ -3,7 +3,7 @@ use Rattle.regex_lite_engine.proofs.Common.{places_of, table_of, best_of, IsCoun
 use Rattle.regex_lite_engine.proofs.Common.{IsBestOutcome, position_at}
 use Rattle.regex_lite_engine.specs.Pikevm.Searching.{IsFresh}
 use Rattle.regex_lite_engine.proofs.pikevm.EndLemmas.{one_best}
-use Rattle.regex_lite_engine.proofs.search.OutcomeLemmas.{can_count, answer_told}
+use Rattle.regex_lite_engine.proofs.search.OutcomeLemmas.{can_count, answer_told, cost_told}
 use Rattle.regex_lite_engine.proofs.nfa.Graph.search_in_step.Goals as goal
 
 pub run-requires-clause-fresh : goal.run-requires-clause-fresh
@@ -29,3 +29,9 @@ returns-clause-found c = λ tree regular is. (
     answer_told tree regular graph is haystack c.args.start c.requires.0 c.into_outcome.result
     (subst (λ z. IsBestOutcome (table_of graph) (chars haystack) graph.start
     (position_at haystack c.args.start) z) c.into_outcome.ensures.told found))
+
+pub returns-clause-cost : goal.returns-clause-cost
+returns-clause-cost c = λ tree is.
+    let steps = c.run.new.cache.walk.steps in
+    cost_told tree c.args.self.now is c.args.haystack.now c.args.start c.requires.0 steps.tried
+    steps.entered steps.looked c.run.ensures.bounded

@@ -1,4 +1,4 @@
-use Rattle.regex_lite_engine.proofs.Common.{◌+◌, [], ◌∷◌, None, unwrap_or, sym, ap, ◌∙◌, subst}
+use Rattle.regex_lite_engine.proofs.Common.{◌+◌, ◌<◌, [], ◌∷◌, None, unwrap_or, sym, ap, ◌∙◌, subst}
 use Rattle.regex_lite_engine.proofs.Common.{length-map, was_entered, with_arrows, place_of}
 use Rattle.regex_lite_engine.proofs.Common.{table_of, LeadsBelow}
 use Rattle.regex_lite_engine.specs.declared.backtrack.walk.Walk.{Walk}
@@ -68,3 +68,8 @@ returns-clause-taken c =
     (pair_inside table bytes c.utf8.haystack w.visited fit.all a.place a.at fit.below.0 fit.below.1
     fit.below.2.0)
     (ap (λ o. unwrap_or o (with_arrows [])) got) c.enter.ensures.entered))
+
+pub look-found-requires-clause-inside : goal.look-found-requires-clause-inside
+look-found-requires-clause-inside c =
+    let places = c.args.graph.now.places in
+    subst (λ n. c.args.place < n) (length-map places place_of) c.requires.below.0

@@ -150,3 +150,17 @@ pub returns-in-Some-clause-found : goal.returns-in-Some-clause-found
 returns-in-Some-clause-found g c = λ s begun.
     let idle = c.at_idle-at.ensures.stands s (c.positions.invariant.stands s begun) in
     c.in-Some.ensures.stands s idle
+
+pub at_idle-at-requires-clause-stands : goal.at_idle-at-requires-clause-stands
+at_idle-at-requires-clause-stands g c =
+    let s = c.requires.stands.0 in (s, c.positions.invariant.stands s c.requires.stands.2)
+
+pub look_ahead-requires-clause-stands : goal.look_ahead-requires-clause-stands
+look_ahead-requires-clause-stands g c =
+    let s = c.requires.stands.0 in
+    (s, c.at_idle-at.ensures.stands s (c.positions.invariant.stands s c.requires.stands.2))
+
+pub returns-then-is_given_up-clause-stands : goal.returns-then-is_given_up-clause-stands
+returns-then-is_given_up-clause-stands g c = λ s begun.
+    let idle = c.at_idle-at.ensures.stands s (c.positions.invariant.stands s begun) in
+    c.in_default.ensures.stands s idle

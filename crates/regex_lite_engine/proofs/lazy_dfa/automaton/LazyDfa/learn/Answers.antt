@@ -1,4 +1,4 @@
-use Rattle.regex_lite_engine.proofs.Common.{◌≡◌, true, slice_get, Some, sym, refl, ap, ◌∙◌, subst}
+use Rattle.regex_lite_engine.proofs.Common.{◌≡◌, true, [], slice_get, Some, sym, refl, ap, ◌∙◌, subst}
 use Rattle.regex_lite_engine.proofs.Common.{slice_get_within, Automaton, ways_of, searching_after}
 use Rattle.regex_lite_engine.proofs.Common.{Suits, Remembers, class_of, side_of, IsIn, best_of}
 use Rattle.regex_lite_engine.proofs.Common.{◌<◌, classes_in}
@@ -111,3 +111,12 @@ returns g c =
           }));
       none_pending = ap (λ (z : Automaton). z.pending) kept ∙ c.settle.ensures.none_pending;
     }
+
+pub returns-then-not-gather-clause-remembers : goal.returns-then-not-gather-clause-remembers
+returns-then-not-gather-clause-remembers g c =
+    let a = c.args in
+    let same = c.drop_pending.ensures
+    ∙ ap (λ (z : Automaton). record z { pending = [] }) c.gather.ensures.same
+    ∙ ap (λ ways. record a.self.now { pending = ways }) (sym c.requires.none_pending) in
+    subst (Remembers (g.P.Patterns.table a.patterns.now) (g.P.Patterns.entries a.patterns.now))
+    (sym same) c.requires.remembers

@@ -134,3 +134,8 @@ pub returns-clause-none : goal.returns-clause-none
 returns-clause-none g c =
     ap (λ (s : Standing). s.best) c.settle.ensures.same
     ∙ ap (λ (s : Standing). s.best) (stays g c) ∙ c.turns.invariant.none
+
+pub is_hit-requires : goal.is_hit-requires
+is_hit-requires g c =
+    let turn = c.in-Some.ensures.turn in
+    slice_get_within c.args.self.now.states c.in-Some.turn.to turn.to turn.is_to

@@ -1,6 +1,6 @@
 use Rattle.regex_lite_engine.proofs.Common.{◌≡◌, ◌^◌, ◌<◌, map, length, sym, ap, ◌∙◌, arith}
 use Rattle.regex_lite_engine.proofs.Common.{tree_of, arrows_of, places_of_all, StoredTable}
-use Rattle.regex_lite_engine.proofs.Common.{places_of, patterns_table}
+use Rattle.regex_lite_engine.proofs.Common.{places_of, patterns_table, length-map}
 use Rattle.regex_lite_engine.proofs.nfa.list.TableLemmas.{closed, name, written, entered}
 use Rattle.regex_lite_engine.proofs.nfa.list.TableLemmas.{entries_inside, parted}
 use Rattle.regex_lite_engine.proofs.nfa.list.TableLemmas.{entry_for_each, few_entries}
@@ -67,3 +67,9 @@ returns-clause-ok c =
           ∙ c.in_ok-totals.ensures.totals.arrows;
       each_arrow = ap arrows_of table_is ∙ arrows_add_up trees 0;
     }
+
+pub returns-clause-groups : goal.returns-clause-groups
+returns-clause-groups c = record {
+  all = c.in_ok-totals.ensures.all ∙ sym (length-map c.args.hirs.now tree_of);
+  each = c.in_ok-totals.ensures.each;
+}

@@ -1,4 +1,5 @@
-use Rattle.regex_lite_engine.proofs.Common.{◌≤◌, slice_index, vec_capacity, sym, refl, subst}
+use Rattle.regex_lite_engine.proofs.Common.{◌≤◌, arith, slice_index, vec_capacity, sym, refl, subst}
+use Rattle.std.proofs.lemmas.Grind.{common_steps}
 use Rattle.regex_lite_engine.specs.declared.pikevm.memory.Memory.TheInside.{Inside}
 use Rattle.regex_lite_engine.specs.Pikevm.Cells.{rounds_in, HoldTogether}
 use Rattle.regex_lite_engine.specs.Pikevm.Machine.{State}
@@ -38,3 +39,9 @@ returns-clause-old g c = λ low q.
           (sym w.self-inside-is)
           (subst (λ (z : State). slice_index z.rounds q ≤ z.now) (sym c.self.view_is) (low q))
     ]
+
+pub returns-clause-rounds : goal.returns-clause-rounds
+returns-clause-rounds g c = grind (arith, common_steps)
+
+pub returns-clause-now : goal.returns-clause-now
+returns-clause-now g c = grind (arith, common_steps)

@@ -1,4 +1,4 @@
-use Rattle.regex_lite_engine.proofs.Common.{◌≡◌, ◌+◌, true, [], ◌∷◌, map, length, if◌then◌else◌}
+use Rattle.regex_lite_engine.proofs.Common.{◌≡◌, ◌+◌, ◌<◌, true, [], ◌∷◌, map, length, if◌then◌else◌}
 use Rattle.regex_lite_engine.proofs.Common.{sym, ap, subst, arith, rules, length-map, kept_back}
 use Rattle.regex_lite_engine.proofs.Common.{place_of, places_of, LeadsBelow}
 use Rattle.regex_lite_engine.specs.declared.pikevm.enter.Onward as code
@@ -83,3 +83,8 @@ returns-in_default-clause-taken g c =
     (sym (goes_on o c.in_default.not-Complete)))
     (counted_all w.steps c.count_try.new.self c.count_entry.new.self c.look-found.new.steps
     c.count_try.ensures c.count_entry.ensures c.look-found.ensures.counted)
+
+pub look-found-requires-clause-inside : goal.look-found-requires-clause-inside
+look-found-requires-clause-inside g c =
+    let places = c.args.table.now.places in
+    subst (λ n. c.args.place < n) (length-map places place_of) c.requires.room.frames_below.0

@@ -1,5 +1,5 @@
 use Rattle.regex_lite_engine.proofs.Common.{true, false, List, [], ◌∷◌, refl, ◌∙◌, subst, arith}
-use Rattle.regex_lite_engine.proofs.Common.{places_of}
+use Rattle.regex_lite_engine.proofs.Common.{length, places_of}
 use Rattle.regex_lite_engine.specs.Pikevm.Machine.{explore, Frame}
 use Rattle.regex_lite_engine.specs.Pikevm.Room.{with_frames, GoesOn}
 use Rattle.regex_lite_engine.proofs.search.CountLemmas.{still_counted}
@@ -96,3 +96,7 @@ places-preserved-in-To g c =
       counts = still_counted a.self.now.steps w.steps x.steps v.counts c.in-To.ensures.counts;
       ready = c.in-To.ensures.ready ∙ v.ready;
     }
+
+pub next_place-requires : goal.next_place-requires
+next_place-requires g c =
+    (length (places_of c.args.table.now), c.in-Back.ensures.taken.fit.frames_below)
