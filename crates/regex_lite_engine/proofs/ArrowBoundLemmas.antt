@@ -1,15 +1,17 @@
 -- How many arrows a tree has, by its places.
 use Rattle.regex_lite_engine.proofs.Common.{ℕ, zero, suc, ◌+◌, ◌-◌, ◌*◌, ◌<◌, ◌≤◌, Bool, true}
-use Rattle.regex_lite_engine.proofs.Common.{false, List, [], ◌∷◌, Some, None, Option, arith}
-use Rattle.regex_lite_engine.proofs.Common.{mul-le-mul_left, Tree, empty, character, class, look}
-use Rattle.regex_lite_engine.proofs.Common.{repetition, capture, concat, alternation, Trees, none}
-use Rattle.regex_lite_engine.proofs.Common.{more, nullable, IsRegular, ClassRange, copies}
-use Rattle.regex_lite_engine.proofs.Common.{own_places, class_arrows, places, places_in, arrows}
-use Rattle.regex_lite_engine.proofs.Common.{count}
+use Rattle.regex_lite_engine.proofs.Common.{false, List, [], ◌∷◌, Some, None, Option}
+use Rattle.regex_lite_engine.proofs.Common.{refl, arith, mul-le-mul_left, sum_by-cons, Tree, empty}
+use Rattle.regex_lite_engine.proofs.Common.{character, class, look, repetition, capture, concat}
+use Rattle.regex_lite_engine.proofs.Common.{alternation, Trees, none, more, nullable, IsRegular}
+use Rattle.regex_lite_engine.proofs.Common.{ClassRange, copies, own_places, class_arrows, places}
+use Rattle.regex_lite_engine.proofs.Common.{places_in, arrows, count, whole_places, whole_arrows}
+use Rattle.regex_lite_engine.proofs.Common.{places_of_all, arrows_of_all}
 use Rattle.regex_lite_syntax.specs.Tree.Regular.{AreRegular}
 use Rattle.regex_lite_engine.specs.Graph.PlaceCounts.{arrows_in}
 use Rattle.regex_lite_engine.specs.Graph.PlaceCounts.{own_arrows}
 use Rattle.regex_lite_engine.specs.Graph.PlaceCounts.{bounded_places, bounded_arrows}
+use Rattle.regex_lite_engine.specs.Graph.SideBySide as patterns
 
 own_few : (least above : ℕ)
     → bounded_arrows least above + 1 ≤ 2 * bounded_places least above + (least + above)
@@ -54,3 +56,13 @@ mutual
   arrows_in_few none regular = omega arith
   arrows_in_few (more a rest) regular =
       omega (arith, arrows_few a regular.0, arrows_in_few rest regular.1)
+
+-- so do several patterns
+pub arrows_all_few : (trees : List Tree) → patterns.AreRegular trees
+    → arrows_of_all trees ≤ 2 * places_of_all trees
+arrows_all_few [] regular = omega arith
+arrows_all_few (tree ∷ trees) regular =
+    let arrows = sum_by-cons whole_arrows tree trees in
+    let places = sum_by-cons whole_places tree trees in
+    let later = arrows_all_few trees (λ k t there. regular (suc k) t there) in
+    omega (arith, arrows, places, arrows_few tree (regular 0 tree refl), later)

@@ -3,9 +3,11 @@ use Rattle.regex_lite_engine.proofs.Common.{◌≡◌, ℕ, zero, suc, ◌+◌, 
 use Rattle.regex_lite_engine.proofs.Common.{length, take, drop, slice_get, Some, IsUtf8, sum_by}
 use Rattle.regex_lite_engine.proofs.Common.{chars, IsCharBoundary, sym, refl, ap, ◌∙◌, subst, arith}
 use Rattle.regex_lite_engine.proofs.Common.{length-append, sum_by-cons, encodes-chars, len_utf8}
-use Rattle.regex_lite_engine.proofs.Common.{offset, IsOffset}
+use Rattle.regex_lite_engine.proofs.Common.{offset, IsOffset, inl, inr, cases_lt}
 use lib.Utf8.{encode, encodes}
-use Rattle.std.proofs.lemmas.List.{drop-drop}
+use Rattle.std.proofs.Math.Seq.{drop-append_seam}
+use Rattle.std.proofs.lemmas.List.{drop-drop, take-take}
+use Rattle.std.proofs.lemmas.List.Sums.{sum_by-take-le}
 use Rattle.std.proofs.lemmas.Str.{IsUtf8-past_char, length-encode}
 use Rattle.std.proofs.lemmas.Str.{len_utf8_bounds, IsCharBoundary-from_drop}
 use Rattle.regex_lite_engine.proofs.OptionLemmas.{not_there, same_some}
@@ -38,6 +40,19 @@ offset_less (x ∷ cs) (suc p) (suc q) lt le =
     let more = offset_less cs p q (omega (arith, lt)) (omega (arith, le)) in
     omega (arith, more, sum_by-cons len_utf8 x (take p cs), sum_by-cons len_utf8 x (take q cs))
 
+-- offsets do not fall
+pub offset_grows : (cs : List ℕ) (p q : ℕ) → p ≤ q → offset cs p ≤ offset cs q
+offset_grows cs p q le =
+    subst (λ t. sum_by len_utf8 t ≤ offset cs q) (take-take p q cs le)
+    (sum_by-take-le len_utf8 (take q cs) p)
+
+-- positions are in the order of their offsets
+pub positions_order : (cs : List ℕ) (p q : ℕ) → p ≤ length cs → offset cs p ≤ offset cs q → p ≤ q
+positions_order cs p q inside le = elim (cases_lt q p) [
+  | inl less ↦ let shorter = offset_less cs q p less inside in absurd (omega (arith, shorter, le))
+  | inr later ↦ later
+]
+
 pub offset_most : (cs : List ℕ) (p : ℕ) → offset cs p ≤ length (encodes cs)
 offset_most [] zero = omega arith
 offset_most [] (suc p) = omega arith
@@ -61,12 +76,8 @@ rest_at (x ∷ cs) (suc p) =
     ap (λ k. drop k (encode x ++ encodes cs))
     (sum_by-cons len_utf8 x (take p cs) ∙ ap (λ n. n + offset cs p) (sym size))
     ∙ sym (drop-drop (offset cs p) (length (encode x)) (encode x ++ encodes cs))
-    ∙ ap (drop (offset cs p)) (past (encode x))
+    ∙ ap (drop (offset cs p)) (drop-append_seam (encode x) (encodes cs))
     ∙ rest_at cs p
-  where
-    past : (xs : List ℕ) → drop (length xs) (xs ++ encodes cs) ≡ encodes cs
-    past [] = refl
-    past (y ∷ xs) = past xs
 
 pub utf8_rest : (cs : List ℕ) (p : ℕ) → IsUtf8 (encodes cs) → IsUtf8 (encodes (drop p cs))
 utf8_rest [] zero u = u

@@ -7,6 +7,7 @@ use Rattle.regex_lite_engine.proofs.Common.{length-take-le, take-append-drop, sl
 use Rattle.regex_lite_engine.proofs.Common.{IsUtf8-take, encodes-chars, len_utf8, after, offset}
 use Rattle.regex_lite_engine.proofs.Common.{IsOffset, position_at, search_start}
 use lib.Utf8.{encode, encodes}
+use Rattle.std.proofs.Math.Seq.{take-append_seam}
 use Rattle.std.proofs.lemmas.Str.{chars-append, IsUtf8-drop, chars-nil}
 use Rattle.std.proofs.lemmas.Str.{chars_from_encodes, chars_past_char}
 use Rattle.regex_lite_engine.proofs.OffsetLemmas.{boundary_at, length_encodes, offset_less}
@@ -45,15 +46,11 @@ position_is bs at u b = (within, spans)
     within : position_at bs at ≤ length (chars bs)
     within = omega (arith, ap length both, length-append xs ys)
 
-    front : (us cs : List ℕ) → take (length us) (us ++ cs) ≡ us
-    front [] cs = refl
-    front (a ∷ us) cs = ap (λ z. a ∷ z) (front us cs)
-
     spans : at ≡ offset (chars bs) (position_at bs at)
     spans =
         sym (length-take-le at bs b.0)
         ∙ ap length (sym (encodes-chars (take at bs) (IsUtf8-take bs at u b))) ∙ length_encodes xs
-        ∙ ap (sum_by len_utf8) (sym (front xs ys))
+        ∙ ap (sum_by len_utf8) (sym (take-append_seam xs ys))
         ∙ ap (λ z. sum_by len_utf8 (take (length xs) z)) (sym both)
 
 -- an offset has one position

@@ -14,14 +14,6 @@ use Rattle.regex_lite_engine.proofs.backtrack.UnwindLemmas.{unwinds_explores, un
 use Rattle.regex_lite_engine.proofs.backtrack.WalkLemmas.{walk_unwinds}
 
 module _ (table : List (Place ℕ)) (haystack : List ℕ) where
-  pub goes_nowhere : (walk : Walk) → GoesOn table haystack walk walk None
-  goes_nowhere walk = record {
-    walks = λ s from i w. w;
-    kept = record { places = refl; first = refl; row = refl; room = refl };
-    spent = omega arith;
-    spent_entries = omega arith;
-  }
-
   pub goes_further : (a b c : Walk) (end : Option ℕ) → GoesOn table haystack a b None
       → GoesOn table haystack b c end → GoesOn table haystack a c end
   goes_further a b c end one more = record {

@@ -1,8 +1,8 @@
 -- Where the steps of a depth-first walk lead, by the offsets of a haystack's bytes.
-use Rattle.regex_lite_engine.proofs.Common.{◌≡◌, ℕ, suc, ◌<◌, ◌≤◌, Bool, true, false, ◌⊎◌, List, []}
+use Rattle.regex_lite_engine.proofs.Common.{◌≡◌, ℕ, suc, ◌<◌, ◌≤◌, Bool, true, false, List, []}
 use Rattle.regex_lite_engine.proofs.Common.{◌∷◌, length, if◌then◌else◌, slice_set, Some, None}
-use Rattle.regex_lite_engine.proofs.Common.{IsUtf8, Option, chars, IsCharBoundary, subst, inl, inr}
-use Rattle.regex_lite_engine.proofs.Common.{arith, cases_lt, Pairs, pair_number, was_entered, Held}
+use Rattle.regex_lite_engine.proofs.Common.{IsUtf8, Option, chars, IsCharBoundary, subst}
+use Rattle.regex_lite_engine.proofs.Common.{arith, Pairs, pair_number, was_entered, Held}
 use Rattle.regex_lite_engine.proofs.Common.{searching, SearchFrom, place_of, place_with}
 use Rattle.regex_lite_engine.proofs.Common.{IsNumberedOutcome, offset, IsOffset, position_at}
 use Rattle.regex_lite_engine.proofs.Common.{IsDeadAt}
@@ -14,7 +14,7 @@ use Rattle.regex_lite_engine.specs.Backtrack.Room.{with_frames, AreAll}
 use Rattle.regex_lite_engine.specs.Backtrack.Room.{IsWalkingOrDone, WalksTo}
 use Rattle.regex_lite_engine.specs.Backtrack.Walking.{IsWalking}
 use Rattle.regex_lite_engine.specs.Graph.Places.{Place}
-use Rattle.regex_lite_engine.proofs.OffsetLemmas.{offset_less}
+use Rattle.regex_lite_engine.proofs.OffsetLemmas.{positions_order}
 use Rattle.regex_lite_engine.proofs.backtrack.EnterLemmas.{walk_enters, Entered}
 use Rattle.regex_lite_engine.proofs.backtrack.WalkLemmas.{walk_between, walk_passed, walk_started}
 use Rattle.regex_lite_engine.proofs.PositionLemmas.{position_is}
@@ -30,20 +30,10 @@ module _ (bytes : List ℕ) (utf8 : IsUtf8 bytes) where
   pub position_grows : (at to : ℕ) → IsCharBoundary bytes at → IsCharBoundary bytes to → at ≤ to
       → position_at bytes at ≤ position_at bytes to
   position_grows at to edge edge' le =
-      by_order (cases_lt (position_at bytes to) (position_at bytes at))
-    where
-      by_order : (position_at bytes to < position_at bytes at)
-          ⊎ (position_at bytes at ≤ position_at bytes to)
-          → position_at bytes at ≤ position_at bytes to
-      by_order (inr more) = more
-      by_order (inl lt) =
-          let here = position_is bytes at utf8 edge in
-          let there = position_is bytes to utf8 edge' in
-          let less =
-          offset_less (chars bytes) (position_at bytes to) (position_at bytes at) lt here.0 in
-          let at_here = here.1 in
-          let at_there = there.1 in
-          absurd (omega (arith, less, at_here, at_there, le))
+      let here = position_is bytes at utf8 edge in
+      let there = position_is bytes to utf8 edge' in
+      positions_order (chars bytes) (position_at bytes at) (position_at bytes to) here.0
+      (omega (arith, here.1, there.1, le))
 
   module _ (table : List (Place ℕ)) (walk : Walk) (all : AreAll table bytes walk.visited) (q at : ℕ)
       (inside : q < length table) (low : walk.visited.first ≤ at)

@@ -11,7 +11,7 @@ use Rattle.regex_lite_engine.proofs.Common.{was_entered, characters_left, lone, 
 use Rattle.std.proofs.Math.Nat.{mul_comm}
 use Rattle.regex_lite_engine.specs.Backtrack.Room.{AreAll, left_in, left_from, left_of}
 use Rattle.regex_lite_engine.specs.Graph.Places.{Place}
-use Rattle.regex_lite_engine.proofs.OffsetLemmas.{offset_less}
+use Rattle.regex_lite_engine.proofs.OffsetLemmas.{offset_less, positions_order}
 use Rattle.regex_lite_engine.proofs.OptionLemmas.{not_there, same_some}
 use Rattle.regex_lite_engine.proofs.search.CountLemmas.{test_most}
 use Rattle.regex_lite_engine.proofs.PositionLemmas.{position_is}
@@ -111,15 +111,6 @@ pair_later places first q at at' low later =
     let a = mul_comm (at - first) places in
     let b = mul_comm (at' - first) places in
     omega (arith, more, one, a, b)
-
--- positions are in the order of their offsets
-positions_order : (text : List ℕ) (p j : ℕ) → p ≤ length text
-    → offset text p ≤ offset text j → p ≤ j
-positions_order text p j inside le = go (cases_lt j p)
-  where
-    go : (j < p) ⊎ (p ≤ j) → p ≤ j
-    go (inl lt) = let less = offset_less text j p lt inside in absurd (omega (arith, less, le))
-    go (inr low) = low
 
 module _ (table : List (Place ℕ)) (haystack : List ℕ) (utf8 : IsUtf8 haystack) (pairs : Pairs)
     (all : AreAll table haystack pairs) where

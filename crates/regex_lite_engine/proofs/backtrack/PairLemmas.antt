@@ -1,11 +1,9 @@
 -- Pairs of a place and an offset, and their numbers.
-use Rattle.regex_lite_engine.proofs.Common.{◌≡◌, ℕ, ◌-◌, ◌<◌, ◌≤◌, false, ◌⊎◌, length, replicate}
-use Rattle.regex_lite_engine.proofs.Common.{slice_index_or, ap, ◌∙◌, inl, inr, arith, cases_eq}
+use Rattle.regex_lite_engine.proofs.Common.{◌≡◌, ℕ, ◌-◌, ◌<◌, ◌≤◌, false, ◌⊎◌, replicate}
+use Rattle.regex_lite_engine.proofs.Common.{slice_index_or, ap, ◌∙◌, inl, inr, arith}
 use Rattle.regex_lite_engine.proofs.Common.{cases_lt, get_or-replicate, get_or_past}
-use Rattle.regex_lite_engine.proofs.Common.{length-replicate, Text, Pairs, pair_number, was_entered}
-use Rattle.regex_lite_engine.proofs.Common.{offset}
+use Rattle.regex_lite_engine.proofs.Common.{length-replicate, Pairs, pair_number, was_entered}
 use Rattle.std.proofs.lemmas.Nat.{same_from_place}
-use Rattle.regex_lite_engine.proofs.OffsetLemmas.{offset_less}
 
 -- one pair only has the number
 pub same_pair : (places first q at r to : ℕ) → q < places → r < places → first ≤ at → first ≤ to
@@ -13,16 +11,6 @@ pub same_pair : (places first q at r to : ℕ) → q < places → r < places →
 same_pair places first q at r to q_inside r_inside at_low to_low e =
     let same = same_from_place (at - first) q (to - first) r places q_inside r_inside e in
     (same.1, omega (arith, same.0, at_low, to_low))
-
--- offsets do not fall
-pub offset_grows : (haystack : Text) (p q : ℕ) → p ≤ q → q ≤ length haystack
-    → offset haystack p ≤ offset haystack q
-offset_grows haystack p q le inside = by_order (cases_eq p q)
-  where
-    by_order : (p ≡ q) ⊎ (p ≡ q → ⊥) → offset haystack p ≤ offset haystack q
-    by_order (inl d) = omega (arith, ap (offset haystack) d)
-    by_order (inr d) =
-        let less = offset_less haystack p q (omega (arith, le, d)) inside in omega (arith, less)
 
 -- none was entered
 pub none_entered : (pairs : Pairs) (n : ℕ) → pairs.entered ≡ replicate n false → (q at : ℕ)

@@ -14,10 +14,9 @@ use Rattle.regex_lite_engine.specs.Backtrack.Room.{explores, HasRoom, left_of}
 use Rattle.regex_lite_engine.specs.Backtrack.Searching.{Explores, IsFresh, IsUnderWay}
 use Rattle.regex_lite_engine.specs.Backtrack.Walking.{IsWalking}
 use Rattle.regex_lite_engine.specs.Graph.Places.{Place}
-use Rattle.regex_lite_engine.proofs.OffsetLemmas.{boundary_at}
+use Rattle.regex_lite_engine.proofs.OffsetLemmas.{boundary_at, offset_grows}
 use Rattle.regex_lite_engine.proofs.backtrack.LeadsLemmas.{start_left}
 use Rattle.regex_lite_engine.proofs.backtrack.LeftLemmas.{left_blank, left_most, lone_all}
-use Rattle.regex_lite_engine.proofs.backtrack.PairLemmas.{offset_grows}
 use Rattle.regex_lite_engine.proofs.backtrack.WalkLemmas.{walk_begun}
 use Rattle.regex_lite_engine.proofs.search.here.HereLemmas.{over_at}
 use Rattle.regex_lite_engine.proofs.search.OutcomeLemmas.{few_chars}
@@ -120,7 +119,7 @@ module _ (table : List (Place ℕ)) (haystack : List ℕ) (utf8 : IsUtf8 haystac
         → HasRoom table haystack walk (explore s at ∷ [])
     start_fits counts lt =
         let start_is = (position_is haystack start utf8 edge).1 in
-        let grows = offset_grows (chars haystack) first q low is.0 in
+        let grows = offset_grows (chars haystack) first q low in
         let there = is.1 in
         let begins = on.first in
         let inside = is.0 in

@@ -21,7 +21,8 @@ use Rattle.regex_lite_engine.proofs.backtrack.DepthFirstLemmas.{
 }
 use Rattle.regex_lite_engine.proofs.backtrack.NumberedLemmas.{numbered_over, numbered_entered}
 use Rattle.regex_lite_engine.proofs.backtrack.NumberedLemmas.{numbered_complete}
-use Rattle.regex_lite_engine.proofs.backtrack.PairLemmas.{same_pair, offset_grows}
+use Rattle.regex_lite_engine.proofs.OffsetLemmas.{offset_grows}
+use Rattle.regex_lite_engine.proofs.backtrack.PairLemmas.{same_pair}
 use Rattle.regex_lite_engine.proofs.backtrack.PairLemmas.{none_entered}
 use Rattle.regex_lite_engine.proofs.OptionLemmas.{not_there}
 use Rattle.regex_lite_engine.proofs.search.RecordLemmas as records
@@ -244,7 +245,7 @@ module _ (table : List (Place ℕ)) (search : SearchFrom) where
             low_offset : (k : ℕ) → first ≤ k → IsPosition haystack k
                 → pairs.first ≤ offset haystack k
             low_offset k k_low k_within =
-                let grows = offset_grows haystack first k k_low k_within in
+                let grows = offset_grows haystack first k k_low in
                 omega (arith, grows, begins)
 
             same : number r (offset haystack j) ≡ number q at → ◌≡◌ {A = Node} (r, j) (q, p)

@@ -1,30 +1,23 @@
 -- What a name takes, by the bytes of its text.
-use Rattle.regex_lite_engine.proofs.Common.{◌≡◌, ℕ, Bool, true, false, List, [], ◌∷◌, length, ◌==◌}
-use Rattle.regex_lite_engine.proofs.Common.{Some, None, Option, refl, ap, ◌∙◌, arith, length-append}
-use Rattle.regex_lite_engine.proofs.Common.{sum_by-cons, encodes-chars, len_utf8, option_or, Text}
-use Rattle.regex_lite_engine.proofs.Common.{Tree, empty, character, class, look, repetition}
-use Rattle.regex_lite_engine.proofs.Common.{capture, concat, alternation, Trees, none, more}
-use Rattle.regex_lite_engine.proofs.Common.{text_of_name}
+use Rattle.regex_lite_engine.proofs.Common.{◌≡◌, ℕ, Bool, true, false, length, ◌==◌}
+use Rattle.regex_lite_engine.proofs.Common.{Some, None, Option, sym, refl, ap, ◌∙◌, arith}
+use Rattle.regex_lite_engine.proofs.Common.{encodes-chars, len_utf8}
+use Rattle.regex_lite_engine.proofs.Common.{option_or, Text, Tree, empty, character, class, look}
+use Rattle.regex_lite_engine.proofs.Common.{repetition, capture, concat, alternation, Trees, none}
+use Rattle.regex_lite_engine.proofs.Common.{more, text_of_name}
 use Rattle.std.proofs.Common.{Global}
 use Rattle.std.specs.List.{sum_by}
-use Rattle.std.proofs.Math.Utf8.{encode, encodes}
-use Rattle.std.proofs.lemmas.Str.{IsUtf8-string_bytes, length-encode}
+use Rattle.std.proofs.lemmas.Str.{IsUtf8-string_bytes}
 use Rattle.std.specs.Rc.{rc_str_bytes}
 use Rattle.std.specs.declared.rc.RcStr.{RcStr}
 use Rattle.regex_lite_syntax.specs.Tree.Properties.{name_if, group_name, group_name_in}
 use Rattle.regex_lite_engine.specs.Graph.Size.{name_size, names_size, names_size_in}
-
--- characters have as many bytes as each of them, in all
-bytes_of : (cs : List ℕ) → sum_by len_utf8 cs ≡ length (encodes cs)
-bytes_of [] = refl
-bytes_of (c ∷ cs) =
-    let sum = sum_by-cons len_utf8 c cs in
-    omega (arith, sum, length-append (encode c) (encodes cs), length-encode c, bytes_of cs)
+use Rattle.regex_lite_engine.proofs.OffsetLemmas.{length_encodes}
 
 pub name_length : (name : RcStr Global)
     → sum_by len_utf8 (text_of_name name) ≡ length (rc_str_bytes name)
 name_length name =
-    bytes_of (text_of_name name)
+    sym (length_encodes (text_of_name name))
     ∙ ap length (encodes-chars (rc_str_bytes name) (IsUtf8-string_bytes name.text.value))
 
 no_name_here : (this : Bool) (name : Option Text) → name_size name ≡ 0 → name_if this name ≡ None

@@ -1,13 +1,11 @@
 -- What several patterns take together, one after another.
-use Rattle.regex_lite_engine.proofs.Common.{◌≡◌, ℕ, suc, ◌+◌, ◌*◌, ◌<◌, ◌≤◌, List, [], ◌∷◌, map}
+use Rattle.regex_lite_engine.proofs.Common.{◌≡◌, ℕ, ◌+◌, ◌<◌, ◌≤◌, List, [], ◌∷◌, map}
 use Rattle.regex_lite_engine.proofs.Common.{length, get_or, drop, slice_get, Some, option_map, sym}
-use Rattle.regex_lite_engine.proofs.Common.{refl, ap, ◌∙◌, arith, sum_by-cons, slice_get-get_or}
+use Rattle.regex_lite_engine.proofs.Common.{ap, ◌∙◌, arith, sum_by-cons, slice_get-get_or}
 use Rattle.regex_lite_engine.proofs.Common.{slice_get-map, Tree, tree_of, Hir, reading_places}
-use Rattle.regex_lite_engine.proofs.Common.{whole_places, whole_arrows, places_of_all}
-use Rattle.regex_lite_engine.proofs.Common.{arrows_of_all, reading_of_all}
+use Rattle.regex_lite_engine.proofs.Common.{whole_places, places_of_all}
+use Rattle.regex_lite_engine.proofs.Common.{reading_of_all}
 use Rattle.std.proofs.lemmas.List.{drop_more}
-use Rattle.regex_lite_engine.specs.Graph.SideBySide.{AreRegular}
-use Rattle.regex_lite_engine.proofs.ArrowBoundLemmas.{arrows_few}
 use Rattle.regex_lite_engine.proofs.count.ReadingCountLemmas.{reading_few}
 
 -- the tree with a number, and those that are left from it on
@@ -30,13 +28,3 @@ reading_all_few (tree ∷ trees) =
     let reading = sum_by-cons reading_places tree trees in
     let places = sum_by-cons whole_places tree trees in
     omega (arith, reading, places, reading_few tree, reading_all_few trees)
-
--- and arrows are at most twice as many as places
-pub arrows_all_few : (trees : List Tree) → AreRegular trees
-    → arrows_of_all trees ≤ 2 * places_of_all trees
-arrows_all_few [] regular = omega arith
-arrows_all_few (tree ∷ trees) regular =
-    let arrows = sum_by-cons whole_arrows tree trees in
-    let places = sum_by-cons whole_places tree trees in
-    let later = arrows_all_few trees (λ k t there. regular (suc k) t there) in
-    omega (arith, arrows, places, arrows_few tree (regular 0 tree refl), later)

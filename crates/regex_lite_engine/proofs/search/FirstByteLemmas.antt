@@ -10,6 +10,7 @@ use Rattle.regex_lite_engine.proofs.Common.{len_utf8, Text, after, begins_with, 
 use Rattle.regex_lite_engine.proofs.Common.{MayBegin, offset, IsHere, Starts, Here}
 use lib.Utf8.{encode, encodes}
 use Rattle.std.proofs.lemmas.Str.{char_from_byte, byte_from_char}
+use Rattle.regex_lite_engine.proofs.LookupLemmas.{there_is}
 use Rattle.regex_lite_engine.proofs.OptionLemmas.{not_there, same_some}
 use Rattle.regex_lite_engine.proofs.OffsetLemmas.{length_encodes, offset_next, offset_less}
 use Rattle.regex_lite_engine.proofs.OffsetLemmas.{offset_most, rest_at, boundary_at}
@@ -24,11 +25,6 @@ get_drop : (k : ℕ) (bs : List ℕ) → slice_index (drop k bs) 0 ≡ slice_ind
 get_drop zero bs = refl
 get_drop (suc k) [] = refl
 get_drop (suc k) (b ∷ bs) = get_drop k bs
-
-pub there : (cs : List ℕ) (i : ℕ) → i < length cs → (c : ℕ) × (slice_get cs i ≡ Some c)
-there [] i lt = absurd (omega (arith, lt))
-there (c ∷ cs) zero lt = (c, refl)
-there (c ∷ cs) (suc i) lt = there cs i (omega (arith, lt))
 
 -- a match can begin with a character if the scan stops at its first byte
 pub first_byte : (s : Starts) (bs : List ℕ) (i c : ℕ) → IsUtf8 bs → slice_get (chars bs) i ≡ Some c
@@ -93,7 +89,7 @@ pub ascii_there : (bs : List ℕ) (i : ℕ) → IsUtf8 bs → i < length (chars 
     → slice_get (chars bs) i ≡ Some (slice_index bs (offset (chars bs) i))
 ascii_there bs i u within short ascii =
     let at = offset (chars bs) i in
-    let own = there (chars bs) i within in
+    let own = there_is (chars bs) i within in
     let rest : drop at bs ≡ encode own.0 ++ encodes (drop (suc i) (chars bs)) =
     ap (drop at) (sym (encodes-chars bs u)) ∙ rest_at (chars bs) i
     ∙ ap encodes (first_of i (chars bs) own.0 own.1) in
@@ -161,7 +157,7 @@ module _ (bs : List ℕ) (i : ℕ) (u : IsUtf8 bs) (within : i < length (chars b
   at = offset (chars bs) i
 
   abbrev here : (c : ℕ) × (slice_get (chars bs) i ≡ Some c)
-  here = there (chars bs) i within
+  here = there_is (chars bs) i within
 
   rest : drop at bs ≡ encode here.0 ++ encodes (drop (suc i) (chars bs))
   rest = ap (drop at) (sym (encodes-chars bs u)) ∙ rest_at (chars bs) i
@@ -193,7 +189,7 @@ module _ (bs : List ℕ) (i : ℕ) (u : IsUtf8 bs) (within : i < length (chars b
   pub second_off : (second : Starts) → stops_at second (slice_index bs (at + 1)) ≡ false
       → MayBegin second (chars bs) (suc i) → ⊥
   second_off second off =
-      let next = there (chars bs) (suc i) inside in
+      let next = there_is (chars bs) (suc i) inside in
       begins_later second (chars bs) i here (
         next.0,
         next.1,

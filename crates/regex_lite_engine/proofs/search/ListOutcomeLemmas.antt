@@ -20,11 +20,7 @@ use Rattle.regex_lite_engine.proofs.laws.several.NumberedListLemmas.{any_numbere
 use Rattle.regex_lite_engine.proofs.laws.several.NumberedListLemmas.{list_answer_of_numbers}
 use Rattle.regex_lite_engine.proofs.OptionLemmas.{same_some}
 use Rattle.regex_lite_engine.proofs.search.OneStartLemmas.{only_entry}
-
--- a start inside the haystack is that of a position
-start_inside : (bytes : List ℕ) (start : ℕ) → start ≤ length bytes
-    → search_start bytes start ≡ position_at bytes start
-start_inside bytes start inside = omega (arith, inside)
+use Rattle.regex_lite_engine.proofs.search.OutcomeLemmas.{start_inside}
 
 -- each pattern is one try more than its arrows
 tries_are : (trees : List Tree) → tries_of_all trees ≡ arrows_of_all trees + length trees

@@ -7,8 +7,9 @@ use Rattle.regex_lite_engine.proofs.Common.{has, MayBegin, offset, IsHere, AreDe
 use Rattle.regex_lite_engine.proofs.Common.{AreListHeadsOf, ListHeads, Here}
 use Rattle.regex_lite_engine.specs.Graph.Places.{Place}
 use Rattle.regex_lite_engine.proofs.search.FirstByteLemmas.{ascii_there, begins_later, first_byte}
-use Rattle.regex_lite_engine.proofs.search.FirstByteLemmas.{inside, next_at, there}
-use Rattle.regex_lite_engine.proofs.OffsetLemmas.{offset_less}
+use Rattle.regex_lite_engine.proofs.search.FirstByteLemmas.{inside, next_at}
+use Rattle.regex_lite_engine.proofs.LookupLemmas.{there_is}
+use Rattle.regex_lite_engine.proofs.OffsetLemmas.{offset_less, positions_order}
 
 module _ (table : List (Place ℕ)) (entries : List ℕ) (heads : ListHeads)
     (w : AreListHeadsOf table entries heads) (bs : List ℕ) (u : IsUtf8 bs) where
@@ -17,9 +18,9 @@ module _ (table : List (Place ℕ)) (entries : List ℕ) (heads : ListHeads)
       → IsPassedByAll heads bs (offset (chars bs) (suc i))
       → AreDeadAt table (chars bs) entries (suc i)
   dead_later i within short (inl off) number entry is =
-      let next = there (chars bs) (suc i) within in
+      let next = there_is (chars bs) (suc i) within in
       w.any (chars bs) (suc i) (begins_later heads.any (chars bs) i
-      (there (chars bs) i (omega (arith, within)))
+      (there_is (chars bs) i (omega (arith, within)))
       (next.0, next.1, first_byte heads.any bs (suc i) next.0 u next.1 within short ∙ off))
       number entry is
   dead_later i within short (inr (more, (first_in, second_in, off))) number entry is =
@@ -43,10 +44,10 @@ module _ (table : List (Place ℕ)) (entries : List ℕ) (heads : ListHeads)
       second = slice_index bs (at + 1)
 
       before : ℕ
-      before = (there (chars bs) i (omega (arith, within))).0
+      before = (there_is (chars bs) i (omega (arith, within))).0
 
       before_is : slice_get (chars bs) i ≡ Some before
-      before_is = (there (chars bs) i (omega (arith, within))).1
+      before_is = (there_is (chars bs) i (omega (arith, within))).1
 
       first_is : slice_get (chars bs) (suc i) ≡ Some first
       first_is = ascii_there bs (suc i) u within short first_in
@@ -73,13 +74,7 @@ module _ (table : List (Place ℕ)) (entries : List ℕ) (heads : ListHeads)
     within = js.inside
 
     later : p ≤ q
-    later = go (cases_lt q p)
-      where
-        go : (q < p) ⊎ (p ≤ q) → p ≤ q
-        go (inr le') = le'
-        go (inl lt) =
-            let less = offset_less (chars bs) q p lt is.inside in
-            absurd (omega (arith, less, a, b, le))
+    later = positions_order (chars bs) p q is.inside (omega (arith, a, b, le))
 
     dead : (i : ℕ) → p ≤ i → i < q → AreDeadAt table (chars bs) entries i
     dead zero low high = w.any (chars bs) 0 (start (omega (arith, low)))

@@ -7,6 +7,7 @@ use Rattle.regex_lite_engine.proofs.Common.{slice_get_within, option_or, Text, s
 use Rattle.regex_lite_engine.proofs.Common.{marked, over, mark_of, marks_along, offset, HasSlots}
 use Rattle.regex_lite_engine.proofs.Common.{Row, IsBlank}
 use Rattle.regex_lite_engine.specs.Graph.Places.{Place}
+use Rattle.regex_lite_engine.proofs.laws.list.EntryLemmas.{either_assoc}
 use Rattle.regex_lite_engine.proofs.OptionLemmas.{not_there, same_some}
 
 -- an element of a list in which one was set
@@ -90,14 +91,10 @@ marks_append haystack place (j ∷ ks) n m a k (l, s, rest) =
     (marked (mark_of (place n.0) j) n.1 k)) s
     ∙ ap (λ z. option_or z (marked (mark_of (place n.0) j) n.1 k))
     (marks_append haystack place ks l m a k rest)
-    ∙ grouped (marked (mark_of (place m.0) a) m.1 k) (marks_along haystack place (Some l) ks k)
+    ∙ either_assoc (marked (mark_of (place m.0) a) m.1 k) (marks_along haystack place (Some l) ks k)
     (marked (mark_of (place n.0) j) n.1 k)
     ∙ ap (λ o. option_or (marked (mark_of (place m.0) a) m.1 k)
     (option_or (marks_along haystack place o ks k) (marked (mark_of (place n.0) j) n.1 k))) (sym s)
-  where
-    grouped : (x y z : Option ℕ) → option_or (option_or x y) z ≡ option_or x (option_or y z)
-    grouped None y z = refl
-    grouped (Some v) y z = refl
 
 -- a row without marks
 pub blank_row : (w : ℕ) → IsBlank (replicate w None)

@@ -49,7 +49,7 @@ can_count table bytes s utf8 short countable patterns few_patterns =
     }
 
 -- a start inside the haystack is that of a position
-start_inside : (bytes : List ℕ) (start : ℕ) → start ≤ length bytes
+pub start_inside : (bytes : List ℕ) (start : ℕ) → start ≤ length bytes
     → search_start bytes start ≡ position_at bytes start
 start_inside bytes start inside = omega (arith, inside)
 

@@ -6,9 +6,10 @@ use Rattle.regex_lite_engine.proofs.Common.{arith, mul-le-mul_left, cases_eq, ca
 use Rattle.regex_lite_engine.proofs.Common.{NeverBegins, IsPassed, stops_at, MayBegin, offset}
 use Rattle.regex_lite_engine.proofs.Common.{IsHere, PassesTo, Heads, Starts, Here}
 use Rattle.regex_lite_engine.specs.Prefilter.Heads.{IsCutOff}
-use Rattle.regex_lite_engine.proofs.OffsetLemmas.{offset_less}
+use Rattle.regex_lite_engine.proofs.LookupLemmas.{there_is}
+use Rattle.regex_lite_engine.proofs.OffsetLemmas.{offset_less, positions_order}
 use Rattle.regex_lite_engine.proofs.search.FirstByteLemmas.{begins_later, first_byte, second_off}
-use Rattle.regex_lite_engine.proofs.search.FirstByteLemmas.{there, whole}
+use Rattle.regex_lite_engine.proofs.search.FirstByteLemmas.{whole}
 
 -- none begins where the bytes show that no second character does
 pub cut_off_never : (heads : Heads) (bs : List ℕ) (i : ℕ) → IsUtf8 bs → i < length (chars bs)
@@ -60,18 +61,12 @@ module _ (heads : Heads) (bs : List ℕ) (p q : ℕ) (x y : Here) (utf8 : IsUtf8
   within = js.inside
 
   later : p ≤ q
-  later = go (cases_lt q p)
-    where
-      go : (q < p) ⊎ (p ≤ q) → p ≤ q
-      go (inr le') = le'
-      go (inl lt) =
-          let less = offset_less (chars bs) q p lt is.inside in
-          absurd (omega (arith, less, a, b, le))
+  later = positions_order (chars bs) p q is.inside (omega (arith, a, b, le))
 
   never_later : (i : ℕ) → p < i → i < q → NeverBegins heads (chars bs) i
   never_later zero low high = absurd (omega (arith, low))
   never_later (suc i) low high =
-      let next = there (chars bs) (suc i) (omega (arith, high, within)) in
+      let next = there_is (chars bs) (suc i) (omega (arith, high, within)) in
       let less = offset_less (chars bs) (suc i) q high within in
       let more = offset_less (chars bs) p (suc i) low (omega (arith, high, within)) in
       elim (pass (offset (chars bs) (suc i)) (omega (arith, a, more)) (omega (arith, b, less))) [
@@ -81,7 +76,7 @@ module _ (heads : Heads) (bs : List ℕ) (p q : ℕ) (x y : Here) (utf8 : IsUtf8
             (omega (arith, less, b, most))
             ∙ off in
             inl (begins_later heads.first (chars bs) i
-            (there (chars bs) i (omega (arith, high, within))) (next.0, next.1, none))
+            (there_is (chars bs) i (omega (arith, high, within))) (next.0, next.1, none))
         | inr cut ↦ cut_off_never heads bs (suc i) utf8 (omega (arith, high, within)) cut
       ]
 

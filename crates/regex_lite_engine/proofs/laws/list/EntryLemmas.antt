@@ -4,7 +4,7 @@ use Rattle.regex_lite_engine.proofs.Common.{sym, refl, ap, ◌∙◌, append_ass
 use Rattle.regex_lite_engine.proofs.Common.{map-append, option_or, Marks, no_marks, marked, over}
 use Rattle.regex_lite_engine.proofs.Common.{Entry, behind_marks, onward, stop}
 
-either_assoc : (a b c : Option ℕ) → option_or (option_or a b) c ≡ option_or a (option_or b c)
+pub either_assoc : (a b c : Option ℕ) → option_or (option_or a b) c ≡ option_or a (option_or b c)
 either_assoc None b c = refl
 either_assoc (Some a) b c = refl
 

@@ -16,7 +16,8 @@ use Rattle.regex_lite_engine.specs.Graph.Stored.{IsClosed}
 use Rattle.regex_lite_engine.specs.declared.nfa.place.Place as code
 use Rattle.regex_lite_engine.proofs.count.KeptBackLemmas.{kept_back_pattern}
 use Rattle.regex_lite_engine.proofs.count.ReadingCountLemmas.{reading_pattern}
-use Rattle.regex_lite_engine.proofs.count.TotalLemmas.{arrows_all_few, reading_all_few}
+use Rattle.regex_lite_engine.proofs.ArrowBoundLemmas.{arrows_all_few}
+use Rattle.regex_lite_engine.proofs.count.TotalLemmas.{reading_all_few}
 use Rattle.regex_lite_engine.proofs.nfa.write.SeveralLemmas.{side_by_side_renumbered, are_entries}
 use Rattle.regex_lite_engine.proofs.nfa.write.SeveralLemmas.{own_parts}
 use Rattle.regex_lite_engine.proofs.nfa.write.SeveralNameLemmas.{name_of_patterns}

@@ -7,6 +7,7 @@ use Rattle.regex_lite_engine.proofs.Common.{arith, or-false, cases_eq, cases_lt,
 use Rattle.regex_lite_engine.proofs.Common.{bit_of_words, in_set, begins_with_pair, Heads}
 use Rattle.regex_lite_engine.specs.declared.prefilter.list_heads.ascii_set.AsciiSet.{AsciiSet}
 use Rattle.regex_lite_engine.specs.Prefilter.Pairs.{in_some_set}
+use Rattle.regex_lite_engine.proofs.LookupLemmas.{set_elsewhere, set_here}
 use Rattle.regex_lite_engine.proofs.prefilter.list_heads.WalkLemmas.{bit_of_either}
 use Rattle.regex_lite_engine.proofs.WordBitLemmas.{bit_told, zero_bit}
 
@@ -48,20 +49,6 @@ pub no_pair : (n : ℕ) (set : AsciiSet) (a b : ℕ) → in_set set b ≡ false
 no_pair zero set a b off = refl
 no_pair (suc n) set zero b off = off
 no_pair (suc n) set (suc a) b off = no_pair n set a b off
-
-set_at : {X : Type 0} (xs : List X) (k : ℕ) (x : X) → k < length xs
-    → slice_get (slice_set xs k x) k ≡ Some x
-set_at [] k x lt = absurd (omega (arith, lt))
-set_at (y ∷ xs) zero x lt = refl
-set_at (y ∷ xs) (suc k) x lt = set_at xs k x (omega (arith, lt))
-
-set_beside : {X : Type 0} (xs : List X) (k i : ℕ) (x : X) → (i ≡ k → ⊥)
-    → slice_get (slice_set xs k x) i ≡ slice_get xs i
-set_beside [] k i x apart = refl
-set_beside (y ∷ xs) zero zero x apart = absurd (apart refl)
-set_beside (y ∷ xs) zero (suc i) x apart = refl
-set_beside (y ∷ xs) (suc k) zero x apart = refl
-set_beside (y ∷ xs) (suc k) (suc i) x apart = set_beside xs k i x (λ e. apart (ap suc e))
 
 -- The pairs with one first character more. Those of the first characters below it were added before
 module _ (before : ℕ → ℕ → Bool) (part : Heads) (first : ℕ) where
@@ -123,12 +110,12 @@ module _ (before : ℕ → ℕ → Bool) (part : Heads) (first : ℕ) where
       → AddedBelow (first + 1) (slice_set pairs first new)
   one_more pairs old new inside is so_far added a b a_in b_in = elim (cases_eq a first) [
     | inr apart ↦
-        ap (λ o. in_some_set o b) (set_beside pairs first a new apart)
+        ap (λ o. in_some_set o b) (set_elsewhere pairs first a new apart)
         ∙ so_far a b a_in b_in ∙ beside a b apart
     | inl same ↦
         let first_in : first < 128 = omega (arith, same, a_in) in
         ap (λ k. in_some_set (slice_get (slice_set pairs first new) k) b) same
-        ∙ ap (λ o. in_some_set o b) (set_at pairs first new inside)
+        ∙ ap (λ o. in_some_set o b) (set_here pairs first new inside)
         ∙ added b b_in
         ∙ ap (λ t. t || begins_with_pair first b part)
         (sym (ap (λ o. in_some_set o b) is) ∙ so_far first b first_in b_in ∙ here_before b)

@@ -2,7 +2,7 @@
 use Rattle.regex_lite_engine.proofs.Common.{◌≡◌, ℕ, zero, suc, ◌+◌, ◌<◌, ◌≤◌, min, Bool, true}
 use Rattle.regex_lite_engine.proofs.Common.{false, ◌&&◌, ◌||◌, ◌⊎◌, List, [], ◌∷◌, length, get_or}
 use Rattle.regex_lite_engine.proofs.Common.{take, replicate, is_none, if◌then◌else◌, IsTrue, nat_lt}
-use Rattle.regex_lite_engine.proofs.Common.{slice_index_or, slice_set, Some, None, Option, sym}
+use Rattle.regex_lite_engine.proofs.Common.{slice_index_or, Some, None, Option, sym}
 use Rattle.regex_lite_engine.proofs.Common.{refl, ap, ◌∙◌, subst, inl, inr, arith, cases_lt}
 use Rattle.regex_lite_engine.proofs.Common.{nat_tests, in_ranges, Text, after, Tree, repetition}
 use Rattle.regex_lite_engine.proofs.Common.{Trees, more, Matches, Chain, SomeBranch, ClassRange}
@@ -65,11 +65,6 @@ may_grown s t h i grown = by_next (after h i)
         either (begins_with s c) (s.at_start && is_none (before h i)) (begins_with t c)
         (t.at_start && is_none (before h i)) (grown.with c)
         (both s.at_start t.at_start (is_none (before h i)) grown.at_start) m
-
-pub set_there : (xs : List Bool) (k : ℕ) → slice_index_or (slice_set xs k true) k true ≡ true
-set_there [] k = refl
-set_there (x ∷ xs) zero = refl
-set_there (x ∷ xs) (suc k) = set_there xs k
 
 -- a character of the range was added
 pub in_span : (s : Starts) (start end c : ℕ) → s.any ≡ true

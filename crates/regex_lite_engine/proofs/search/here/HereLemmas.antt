@@ -8,6 +8,7 @@ use Rattle.regex_lite_engine.proofs.Common.{encodes-chars, len_utf8, Text, offse
 use Rattle.regex_lite_engine.proofs.Common.{position_at, IsHere, Here}
 use Rattle.std.specs.Char.{IsScalar}
 use lib.Utf8.{encode}
+use Rattle.std.proofs.Math.Seq.{take-append_seam}
 use Rattle.std.proofs.lemmas.Str.{chars-append, IsCharBoundary-at_seam}
 use Rattle.std.proofs.lemmas.Str.{IsUtf8-encode, chars-nil, chars_past_char}
 use Rattle.regex_lite_syntax.specs.Text.{before}
@@ -33,10 +34,6 @@ some_before bs rest p at c u b scalar is e =
     (chars_cut bs at u b ∙ ap (λ z. z ++ chars (drop at bs)) xs)
     ∙ last_of (chars rest) (chars (drop at bs)) c)
   where
-    front : (us vs : List ℕ) → take (length us) (us ++ vs) ≡ us
-    front [] vs = refl
-    front (a ∷ us) vs = ap (λ z. a ∷ z) (front us vs)
-
     uc : IsUtf8 (encode c)
     uc = IsUtf8-encode c scalar
 
@@ -45,7 +42,7 @@ some_before bs rest p at c u b scalar is e =
 
     ur : IsUtf8 rest
     ur =
-        subst IsUtf8 (ap (take (length rest)) e ∙ front rest (encode c)) (IsUtf8-take (take at bs)
+        subst IsUtf8 (ap (take (length rest)) e ∙ take-append_seam rest (encode c)) (IsUtf8-take (take at bs)
         (length rest) ut (IsCharBoundary-at_seam (take at bs) rest (encode c) e uc))
 
     one : chars (encode c) ≡ c ∷ []
