@@ -5,3 +5,6 @@ pub mod StaticNumberLemmas
 pub mod PointerLemmas
 pub mod UnboxedLemmas
 pub use Rattle.regex_lite.proofs.string.AgreementLemmas
+pub use Rattle.regex_lite.proofs.string.AheadLemmas
+pub use Rattle.regex_lite.proofs.string.AnsweredLemmas
+pub use Rattle.regex_lite.proofs.string.ReplacementLemmas

@@ -1,12 +1,10 @@
 -- Pieces and matches in turn are the haystack.
 use Rattle.regex_lite.proofs.Common.{◌≡◌, ℕ, ◌+◌, ◌-◌, ◌≤◌, List, [], ◌∷◌, ◌++◌, map, length, take}
 use Rattle.regex_lite.proofs.Common.{drop, slice_range, Some, None, Option, chars, unwrap_or, sym}
-use Rattle.regex_lite.proofs.Common.{refl, ap, ◌∙◌, subst, arith, length-map, Text, Found, offset}
+use Rattle.regex_lite.proofs.Common.{refl, ap, ◌∙◌, subst, arith, length-map, Found, offset}
 use Rattle.regex_lite.proofs.Common.{Expression, text_at, found_span}
-use Rattle.std.specs.List.{sum_by}
-use Rattle.std.specs.Char.{len_utf8}
-use Rattle.std.proofs.lemmas.List.{append-nil, drop-drop, take-append-drop, take-take}
-use Rattle.std.proofs.lemmas.List.Sums.{sum_by-take-le}
+use Rattle.std.proofs.lemmas.List.{append-nil, drop-drop, take-append-drop}
+use Rattle.regex_lite_engine.proofs.OffsetLemmas.{offset_grows}
 use Rattle.regex_lite.specs.MatchList.{AreMatches}
 use Rattle.regex_lite.specs.PieceLaws.{OnePieceList, PiecesAndMatches, in_turn, texts_of_matches}
 use Rattle.regex_lite.specs.Pieces.{pieces}
@@ -20,11 +18,6 @@ part hay i j ordered =
     ap (λ n. take k (drop i hay) ++ drop n hay) (sym end)
     ∙ ap (λ t. take k (drop i hay) ++ t) (sym (drop-drop k i hay)) ∙ take-append-drop k (drop i hay)
 
-offsets_grow : (h : Text) (p q : ℕ) → p ≤ q → offset h p ≤ offset h q
-offsets_grow h p q le =
-    subst (λ t. sum_by len_utf8 t ≤ offset h q) (take-take p q h le)
-    (sum_by-take-le len_utf8 (take q h) p)
-
 -- what stands before a match, the match, and what is after it
 pub cut_around : (hay : List ℕ) (e from : ℕ) (found : Found) (rest : List ℕ)
     → from ≡ offset (chars hay) e → StandsFrom e found
@@ -36,10 +29,10 @@ cut_around hay e from found rest is stands behind =
     let s = offset h found.start in
     let t = offset h found.end in
     let before : from ≤ s =
-    subst (λ n. n ≤ s) (sym is) (offsets_grow h e found.start stands.from) in
+    subst (λ n. n ≤ s) (sym is) (offset_grows h e found.start stands.from) in
     ap (λ x. slice_range hay from s ++ (slice_range hay s t ++ x)) behind
     ∙ ap (λ x. slice_range hay from s ++ x)
-    (part hay s t (offsets_grow h found.start found.end stands.ordered)) ∙ part hay from s before
+    (part hay s t (offset_grows h found.start found.end stands.ordered)) ∙ part hay from s before
 
 one_more : (hay : List ℕ) (from : ℕ) (spans : List (ℕ × ℕ))
     → length (pieces hay from spans) ≡ length spans + 1

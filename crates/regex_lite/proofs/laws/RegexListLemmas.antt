@@ -12,12 +12,10 @@ use Rattle.std.proofs.Common.{option_and_then}
 use Rattle.regex_lite_engine.specs.declared.steps.Steps.{Steps}
 use Rattle.regex_lite_engine.specs.Graph.SideBySide.{tries_of_all}
 use Rattle.regex_lite_engine.specs.Graph.PlaceCounts.{whole_arrows}
-use Rattle.regex_lite_engine.specs.Search.AnswerOfList.{AnyMatchesFrom}
-use Rattle.regex_lite_engine.specs.Search.AnswerOfList.{IsAnswerOfList}
+use Rattle.regex_lite_engine.specs.Search.AnswerOfList.{AnyMatchesFrom, IsAnswerOfList}
 use Rattle.regex_lite_engine.specs.Search.Bounds.{IsBoundedBy, characters_left}
 use Rattle.regex_lite_engine.specs.Search.Outcomes.{HasCostOfList}
-use Rattle.regex_lite_engine.proofs.laws.several.ListAnswerLemmas.{alone_by_itself}
-use Rattle.regex_lite_engine.proofs.laws.several.ListAnswerLemmas.{alone_in_list}
+use Rattle.regex_lite_engine.proofs.laws.several.ListAnswerLemmas.{alone_by_itself, alone_in_list}
 use Rattle.regex_lite_engine.proofs.laws.several.ListAnswerLemmas.{none_match, one_list_answer}
 use Rattle.regex_lite_engine.proofs.OptionLemmas.{same_some}
 use Rattle.regex_lite.specs.RegexListLaws.{AgreeOnList, AnswersAsItsRegex}

@@ -1,4 +1,4 @@
--- What the template `$0`, and what a template without a `$`, puts in the place of matches.
+-- What a template without a `$`, and the template `$0`, replace matches with.
 use Rattle.regex_lite.proofs.Common.{◌≡◌, ℕ, zero, suc, ◌<◌, List, [], ◌∷◌, ◌++◌, map, drop}
 use Rattle.regex_lite.proofs.Common.{slice_range, Some, None, Option, option_map, chars, unwrap_or}
 use Rattle.regex_lite.proofs.Common.{sym, refl, ap, ◌∙◌, subst, inr, arith, append_assoc, Text}

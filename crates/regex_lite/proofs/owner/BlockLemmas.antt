@@ -19,9 +19,7 @@ use mir.Raw.{raw as bare}
 use base.Logic.{wand, all_e, apply∗}
 use base.Fml.{Incl, Incl-trans, fwand, fbor}
 use contract.BorrowLft.{meet_⊑_left, meet_⊑_right}
-use types.Kit.{given, drop}
-use types.Kit.{learn, assume}
-use types.Kit.{fjoin3, flt_i}
+use types.Kit.{given, drop, learn, assume, fjoin3, flt_i}
 use types.RcWeak as rc
 use denote.RattleType.{Denots}
 use denote.Memory.{part_of}
@@ -34,8 +32,7 @@ use denote.Struct.Members.{Member, rows_of, parts_at}
 use denote.Struct.Parts.{shape_of, PartsBack, Struct-parts}
 use denote.Struct.Struct.{Struct}
 use Rattle.std.specs.Rc.Ownership.{counter_at}
-use Rattle.regex_lite.specs.Owner.Ownership.{is_stored}
-use Rattle.regex_lite.specs.Owner.Ownership.{block_back, Whole, whole, frees}
+use Rattle.regex_lite.specs.Owner.Ownership.{is_stored, block_back, Whole, whole, frees}
 use Rattle.regex_lite.proofs.owner.CountLemmas.{Id, key, S, static, box, value, weaks, handle}
 
 module _ (T : RattleType) (L : Laws T) (b o : ℕ) (x : T.Denot) {M : Type 1} {𝓤 : Ura M}

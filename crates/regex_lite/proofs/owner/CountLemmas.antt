@@ -24,10 +24,7 @@ use base.Share
 use base.Logic.{guard}
 use base.Fml.{Key, fobor}
 use contract.BorrowLft.{meet_⊑_left}
-use types.Kit.{given}
-use types.Kit.{drop, learn}
-use types.Kit.{check, fsplit3}
-use types.Kit.{fjoin3, flt_i, flt_l}
+use types.Kit.{given, drop, learn, check, fsplit3, fjoin3, flt_i, flt_l}
 use types.Tokens.{bor_new, bor_fracture, shr_bor-open, obor_close}
 use types.Within.{tokens_halve}
 use types.Na.{na_inv_dup}

@@ -3,8 +3,7 @@ use Rattle.regex_lite.proofs.Common.{◌≡◌, ℕ, zero, suc, ◌+◌, ◌-◌
 use Rattle.regex_lite.proofs.Common.{length, Some, None, Option, chars, refl, subst, inl, inr}
 use Rattle.regex_lite.proofs.Common.{arith, Text, Found, Ahead, IsOver, Passes, IsOnward}
 use Rattle.regex_lite.proofs.Common.{most_ahead, Expression, one_less, AreWithin, Scanning}
-use Rattle.regex_lite.specs.Ahead.{AreAhead, AreFirstAhead}
-use Rattle.regex_lite.specs.Ahead.{most_left}
+use Rattle.regex_lite.specs.Ahead.{AreAhead, AreFirstAhead, most_left}
 use Rattle.regex_lite.specs.MatchList.{AreFirst, IsNext}
 
 module _ (re : Expression) (haystack : Text) where

@@ -98,9 +98,8 @@ module _ {Z : Type 0} (start a : Ahead) (same : CowStr Z) (made : List ℕ) wher
       IfOk-weaker result (IsFinished same made ended) (λ new. (IsOver start → ⊥) → IsOwnedStr new)
       (λ new h. owned_finished ended begun over new h) finished
 
-from_start : (haystack : List ℕ) → search_start haystack 0 ≡ 0
-from_start haystack =
-    omega (arith, ap length chars-nil)
+pub from_start : (haystack : List ℕ) → search_start haystack 0 ≡ 0
+from_start haystack = omega (arith, ap length chars-nil)
 
 -- where the pattern matches, and the limit isn't 0, some match is ahead
 some_ahead : (re : Expression) (haystack : List ℕ) (limit : Option ℕ) → limit ≢ Some 0

@@ -1,30 +1,19 @@
 -- What is found, by offsets: its match and its groups lie in the haystack.
-use Rattle.regex_lite.proofs.Common.{◌≡◌, ℕ, zero, suc, ◌+◌, ◌*◌, ◌<◌, ◌≤◌, ◌⊎◌, List, [], ◌∷◌}
-use Rattle.regex_lite.proofs.Common.{length, take, IfSome, slice_get, Some, None, IsUtf8, Option}
-use Rattle.regex_lite.proofs.Common.{option_map, chars, refl, ap, ◌∙◌, inl, inr, arith, cases_order}
-use Rattle.regex_lite.proofs.Common.{filter_map, option_zip, Text, Tree, captures_len}
-use Rattle.regex_lite.proofs.Common.{static_captures_len, Found, IsFound, span, offset}
-use Rattle.regex_lite.proofs.Common.{IsPatternTree, LiesIn, text_at, spans_of, span_at, offsets}
-use Rattle.regex_lite.proofs.Common.{spans_from}
+use Rattle.regex_lite.proofs.Common.{◌≡◌, ℕ, zero, suc, ◌+◌, ◌*◌, ◌<◌, ◌≤◌, List, [], ◌∷◌, length}
+use Rattle.regex_lite.proofs.Common.{take, IfSome, slice_get, Some, None, IsUtf8, Option}
+use Rattle.regex_lite.proofs.Common.{option_map, chars, refl, ap, ◌∙◌, arith, filter_map}
+use Rattle.regex_lite.proofs.Common.{option_zip, Text, Tree, captures_len, static_captures_len}
+use Rattle.regex_lite.proofs.Common.{Found, IsFound, span, offset, IsPatternTree, LiesIn, text_at}
+use Rattle.regex_lite.proofs.Common.{spans_of, span_at, offsets, spans_from}
 use Rattle.regex_lite_engine.specs.SearchLaws.{HasGroupsInside}
 use Rattle.regex_lite_engine.specs.Search.Marks.{Marks, taking_part}
 use Rattle.regex_lite_engine.specs.Graph.WrittenOut.{place_of_pattern, start_address, end_address}
-use Rattle.regex_lite_engine.proofs.OffsetLemmas.{offset_less, boundary_at}
+use Rattle.regex_lite_engine.proofs.OffsetLemmas.{boundary_at, offset_grows}
 use Rattle.regex_lite_engine.proofs.laws.PatternTreeLemmas.{regular_tree, numbered_tree}
 use Rattle.regex_lite_engine.proofs.laws.answer.ReachLemmas.{walk_inside}
 use Rattle.regex_lite_engine.proofs.laws.groups.SpanLemmas.{groups_inside}
 use Rattle.regex_lite_engine.proofs.laws.groups.TakingPartLemmas.{enough_take_part}
 use Rattle.regex_lite.specs.Laws.{LiesInside}
-
--- offsets are in the order of their positions
-offset_most : (haystack : Text) (p q : ℕ) → p ≤ q → q ≤ length haystack
-    → offset haystack p ≤ offset haystack q
-offset_most haystack p q le inside = each (cases_order p q)
-  where
-    each : (p ≡ q) ⊎ ((p < q) ⊎ (q < p)) → offset haystack p ≤ offset haystack q
-    each (inl same) = omega (arith, ap (offset haystack) same)
-    each (inr (inl less)) = omega (arith, offset_less haystack p q less inside)
-    each (inr (inr more)) = absurd (omega (arith, le, more))
 
 -- two positions in order lie in the haystack
 pub positions_lie : (bytes : List ℕ) (i j : ℕ) → IsUtf8 bytes → i ≤ j → j ≤ length (chars bytes)
@@ -34,7 +23,7 @@ positions_lie bytes i j utf8 le inside =
     boundary_at bytes i (offset (chars bytes) i) utf8 (omega (arith, le, inside), refl) in
     let ends = boundary_at bytes j (offset (chars bytes) j) utf8 (inside, refl) in
     record {
-      ordered = offset_most (chars bytes) i j le inside;
+      ordered = offset_grows (chars bytes) i j le;
       inside = ends.0;
       starts_cleanly = starts;
       ends_cleanly = ends;
@@ -158,9 +147,8 @@ module _ (bytes : List ℕ) (utf8 : IsUtf8 bytes) (tree : Tree) (given : IsPatte
           let last = within.2 in
           let below = end_inside in
           record {
-            starts_inside = offset_most (chars bytes) found.start from within.0
-                (omega (arith, order, last, below));
-            ends_inside = offset_most (chars bytes) to found.end last below;
+            starts_inside = offset_grows (chars bytes) found.start from within.0;
+            ends_inside = offset_grows (chars bytes) to found.end last;
             lies_in = positions_lie bytes from to utf8 order (omega (arith, last, below));
           }
 

@@ -1,24 +1,17 @@
 -- A list of patterns is accepted, or refused by the lowest that fails, or for all places together.
-use Rattle.regex_lite.proofs.Common.{◌≡◌, ℕ, zero, suc, ◌+◌, ◌*◌, ◌<◌, ◌≤◌, ◌⊎◌, List, [], ◌∷◌}
+use Rattle.regex_lite.proofs.Common.{◌≡◌, ℕ, zero, suc, ◌+◌, ◌<◌, ◌≤◌, ◌⊎◌, List, [], ◌∷◌}
 use Rattle.regex_lite.proofs.Common.{◌++◌, map, length, get_or, take, slice_get, Some, Err, chars}
 use Rattle.regex_lite.proofs.Common.{sym, refl, ap, ◌∙◌, inl, inr, add-one, arith, slice_get-get_or}
 use Rattle.regex_lite.proofs.Common.{Refusal, syntax_error, too_deep, too_many_groups, passed_limit}
 use Rattle.regex_lite.proofs.Common.{out_of_memory, refused_replacement, kind_of, IsTree, Tree}
-use Rattle.regex_lite.proofs.Common.{Error, whole_places, HasTree, AreRegular, places_of_all}
+use Rattle.regex_lite.proofs.Common.{Error, HasTree, AreRegular, places_of_all}
 use Rattle.regex_lite.proofs.Common.{IsPatternTree, Expression, expression_of, IsAccepted, IsDue}
 use Rattle.regex_lite.proofs.Common.{AreAcceptedAs, AreAccepted, AreTrees, Settings}
-use Rattle.std.proofs.Common.{◌^◌}
-use Rattle.std.proofs.Common.{All}
-use Rattle.std.proofs.Common.{take-suc, slice_index_or}
-use Rattle.std.proofs.lemmas.List.Sums.{sum_by-cons}
+use Rattle.std.proofs.Common.{◌^◌, All, take-suc, slice_index_or}
 use Rattle.regex_lite_syntax.specs.declared.error.ErrorKind.TheVariants.{Places}
-use Rattle.regex_lite_engine.specs.Graph.SideBySide.{arrows_of_all}
-use Rattle.regex_lite_engine.specs.Graph.PlaceCounts.{whole_arrows}
 use Rattle.regex_lite_engine.specs.Graph.Size.{Fits}
-use Rattle.regex_lite_engine.proofs.ArrowBoundLemmas.{arrows_few}
 use Rattle.regex_lite_engine.proofs.laws.PatternTreeLemmas.{regular_tree}
-use Rattle.regex_lite.specs.RegexList.{BuildsList}
-use Rattle.regex_lite.specs.RegexList.{IsAcceptedAs, IsDueToAll, IsDueToLowest}
+use Rattle.regex_lite.specs.RegexList.{BuildsList, IsAcceptedAs, IsDueToAll, IsDueToLowest}
 use Rattle.regex_lite.proofs.string.AcceptanceLemmas.{for_memory, same_tree}
 use Rattle.regex_lite.proofs.string.OneTreeLemmas.{one_tree}
 use Rattle.regex_lite.proofs.string.PairedLemmas.{paired_at, paired_back, paired_more}
@@ -172,13 +165,3 @@ accepted_more all k trees new settings tree accepted less there own more =
     = ap (λ n. take n all) (add-one k) ∙ take-suc all k settings less
     ∙ ap (λ own. take k all ++ (own ∷ [])) (sym there) in
     rw (longer, more) (paired_more IsAcceptedAs (take k all) trees settings tree accepted own)
-
--- the patterns have at most twice as many arrows as places
-pub arrows_few_of_all : (trees : List Tree) → AreRegular trees
-    → arrows_of_all trees ≤ 2 * places_of_all trees
-arrows_few_of_all [] regular = omega arith
-arrows_few_of_all (tree ∷ rest) regular =
-    let others = arrows_few_of_all rest (λ k other there. regular (suc k) other there) in
-    let arrows = sum_by-cons whole_arrows tree rest in
-    let places = sum_by-cons whole_places tree rest in
-    omega (arith, arrows_few tree (regular 0 tree refl), others, arrows, places)

@@ -8,8 +8,7 @@ use Rattle.regex_lite.proofs.Common.{groups_at, Expression, Groups, AreGroups, A
 use Rattle.regex_lite.proofs.Common.{AreTrees, TellsGroupsOfList, offsets, AreGroupsOf, all_slots}
 use Rattle.regex_lite.proofs.Common.{most_groups, CompiledList}
 use Rattle.std.proofs.lemmas.Option.{slice_get_within, unwrap_or-slice_get}
-use Rattle.regex_lite_engine.specs.Graph.StoredList.{HasGroupsOfList, StoredList}
-use Rattle.regex_lite_engine.specs.Graph.StoredList.{TellsGroupsOf}
+use Rattle.regex_lite_engine.specs.Graph.StoredList.{HasGroupsOfList, StoredList, TellsGroupsOf}
 use Rattle.regex_lite_engine.proofs.laws.PatternTreeLemmas.{regular_tree}
 use Rattle.regex_lite.specs.CompiledList.{IsBuiltList}
 use Rattle.regex_lite.specs.RegexListSearches.{AreOfPattern}
@@ -114,12 +113,6 @@ module _ (bytes : List ℕ) (utf8 : IsUtf8 bytes) (start : ℕ) (list : List Exp
 
   own_span_is : own_span ≡ offsets (chars bytes) (own.0.start, own.0.end)
   own_span_is = same_pair own.2.start own.2.end
-
-  -- the pattern is there
-  pub listed_there : number < length compiled.graph.groups
-  listed_there =
-      found_there bytes utf8 list compiled built given (search_start bytes start) number own.0 own.1
-      outcome.slots.items own.2.slots own_span own_span_is width slots
 
   module _
       (filled : slots ≡ take (2 * length (groups_at compiled.graph.groups number).capture_names)

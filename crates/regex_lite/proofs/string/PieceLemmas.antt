@@ -32,9 +32,6 @@ cut_nil a from over = record { found = []; are_ahead = ahead_nil a over; cut = r
 pub chosen : (P : Type 0) {Q : Type 0} (b : Bool) → b ≡ false → Q → MatchBool b P Q
 chosen P {Q} b is q = subst (λ b. MatchBool b P Q) (sym is) q
 
-pub chose : (P : Type 0) {Q : Type 0} (b : Bool) → b ≡ false → MatchBool b P Q → Q
-chose P {Q} b is q = subst (λ b. MatchBool b P Q) is q
-
 -- what is left at first, where at most this many pieces may come, at least one
 pub left_at_first : (limit : ℕ) (re : Expression) (hay : List ℕ) (a : Ahead) (ended : Option ℕ)
     → 0 < limit → a ≡ whole re hay (Some (limit - 1)) → ended ≡ None → (list : List (List ℕ))

@@ -23,11 +23,6 @@ pub record Continues (text : List ℕ) (start a : Ahead) (from : ℕ) (made : Li
       → IsReplacedBy text start
       (made ++ replaced_by text start.haystack from (map (found_span (chars start.haystack)) found))
 
-pub at_start : (text : List ℕ) (start : Ahead) → Continues text start start 0 []
-at_start text start = record {
-  on = λ found are. record { found = found; are_ahead = are; replaced = refl };
-}
-
 pub passed_on : {text : List ℕ} {start old new : Ahead} {found : Found} {from to : ℕ}
     {span : ℕ × ℕ} {made written : List ℕ} → Continues text start old from made
     → Passes old found new → span ≡ found_span (chars start.haystack) found → to ≡ span.1
@@ -61,14 +56,6 @@ module _ {R : Type 0} (Fixed : R → Option (List ℕ) → R → Type 0)
     pub refuses : (found : List Found) (groups : List Groups) (error : Error)
         → AreFirstAhead a found → AreGroupsOfEach start.sought start.haystack found groups
         → IsRefusedAt Fixed Appends rep groups error → IsRefused Fixed Appends first start error
-
-  pub in_turn_at_start : (first : R) (start : Ahead) → ContinuesInTurn first start start first 0 []
-  in_turn_at_start first start = record {
-    on = λ found groups rest are each chain.
-        record { found = found; are_ahead = are; groups = groups; each = each; chain = chain };
-    refuses = λ found groups error are each refused.
-        record { found = found; are_first = are; groups = groups; each = each; refused = refused };
-  }
 
   pub in_turn_passed : {first : R} {start old new : Ahead} {rep after : R} {found : Found}
       {groups : Groups} {from to : ℕ} {made text written : List ℕ}
@@ -134,7 +121,7 @@ of_passed {old} {found} groups passes are =
     (of_regex old.sought old.haystack found groups are)
 
 -- what holds of each error that was handed on holds of the one that is returned
-pub handed_on : {T E : Type 0} {P Q : E → Type 0} (r : Result T E) → IsErrAnd r Q
-    → ((e : E) → Q e → P e) → IfErr r P
-handed_on (Ok x) h f = absurd h
-handed_on (Err e) h f = f e h
+pub handed_on : {T E : Type 0} {Is Was : E → Type 0} (result : Result T E)
+    → IsErrAnd result Was → ((error : E) → Was error → Is error) → IfErr result Is
+handed_on (Ok value) handed so = absurd handed
+handed_on (Err error) handed so = so error handed

@@ -5,8 +5,7 @@ use Rattle.regex_lite.proofs.Common.{None, Option, sym, refl, ap, ◌∙◌, ari
 use Rattle.regex_lite.proofs.Common.{option_zip, StoredGroups, spans_of, resized, span_at}
 use Rattle.regex_lite.proofs.Common.{kept_slots, most_groups}
 use Rattle.std.proofs.Common.{◌/◌, min}
-use Rattle.std.proofs.lemmas.List.{length-append, length-replicate}
-use Rattle.std.proofs.lemmas.List.{take-append-le}
+use Rattle.std.proofs.lemmas.List.{length-append, length-replicate, take-append-le}
 use Rattle.std.specs.Option.{option_flatten}
 use Rattle.std.proofs.lemmas.Option.{slice_get_past}
 use Rattle.regex_lite_engine.proofs.OptionLemmas.{same_some}

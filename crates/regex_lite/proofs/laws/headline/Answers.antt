@@ -1,7 +1,7 @@
+use Rattle.std.proofs.lemmas.Result.{IfErr-weaker, IfOk-weaker}
 use Rattle.regex_lite.proofs.Common.{◌≡◌, IfOk, sym, subst, inl, out_of_memory, Expression}
 use Rattle.regex_lite.proofs.Common.{IsAccepted, IsDue, TellsGroups}
 use Rattle.regex_lite.specs.Searches.{IsWithinCost}
-use Rattle.regex_lite.proofs.laws.HeadlineLemmas.{of_error, on_ok}
 use Rattle.regex_lite.proofs.laws.headline.Goals as goal
 
 pub returns : goal.returns
@@ -13,11 +13,12 @@ returns c =
     let search = c.captures_counted_at.ensures in
     let regex_is = c.in_ok-regex.ensures.ok in
     record {
-      accepted = on_ok told (IsAccepted settings) c.in_ok-regex.ensures.accepted;
+      accepted = IfOk-weaker told _ (λ _. IsAccepted settings)
+          (λ _ _. c.in_ok-regex.ensures.accepted) search.cost;
       complete =
-          of_error told (λ e. e ≡ out_of_memory) (λ e. IsAccepted settings → e ≡ out_of_memory)
+          IfErr-weaker told (λ e. e ≡ out_of_memory) (λ e. IsAccepted settings → e ≡ out_of_memory)
           (λ e is accepted. is) search.refused;
-      refused = of_error told (λ e. e ≡ out_of_memory) (λ e. IsDue settings e)
+      refused = IfErr-weaker told (λ e. e ≡ out_of_memory) (λ e. IsDue settings e)
           (λ e is. subst (IsDue settings) (sym is) (inl tt)) search.refused;
       answer = subst (λ (re : Expression). IfOk told (λ t. TellsGroups re haystack start t.0))
           regex_is search.found;

@@ -1,8 +1,8 @@
+use Rattle.std.proofs.lemmas.Result.{IfErr-weaker, IfOk-weaker}
 use Rattle.regex_lite.proofs.Common.{◌≡◌, ◌⊎◌, List, IfOk, subst, inl, out_of_memory, Expression}
 use Rattle.regex_lite.proofs.Common.{AreAccepted, TellsGroupsOfList}
 use Rattle.regex_lite.specs.RegexList.{IsDueToAll, IsDueToLowest}
 use Rattle.regex_lite.specs.RegexListSearches.{IsWithinListCost}
-use Rattle.regex_lite.proofs.laws.HeadlineLemmas.{of_error, on_ok}
 use Rattle.regex_lite.proofs.laws.list_headline.Goals as goal
 
 pub returns : goal.returns
@@ -14,10 +14,11 @@ returns c =
     let search = c.captures_counted_at.ensures in
     let list_is = c.in_ok-list.ensures.ok in
     record {
-      accepted = on_ok told (AreAccepted all) c.in_ok-list.ensures.accepted;
-      complete = of_error told (λ e. e ≡ out_of_memory) (λ e. AreAccepted all → e ≡ out_of_memory)
+      accepted = IfOk-weaker told _ (λ _. AreAccepted all)
+          (λ _ _. c.in_ok-list.ensures.accepted) search.cost;
+      complete = IfErr-weaker told (λ e. e ≡ out_of_memory) (λ e. AreAccepted all → e ≡ out_of_memory)
           (λ e is accepted. is) search.refused;
-      refused = of_error told (λ e. e ≡ out_of_memory)
+      refused = IfErr-weaker told (λ e. e ≡ out_of_memory)
           (λ e. (e ≡ out_of_memory) ⊎ (IsDueToLowest all e ⊎ IsDueToAll all e))
           (λ e is. inl is) search.refused;
       answer = subst (λ (list : List Expression).

@@ -17,11 +17,9 @@ use mathlib.Core.Bool.{Bool, true, false}
 use Prim.Native.Nat.{ℕ, ◌+◌, ◌-◌, ◌<◌, ◌^◌}
 use lib.Dec.{nleb→lt}
 use prog.Wp.{Wp, after_block, after_seq, at_return}
-use types.Kit.{any_q}
-use types.Kit.{drop}
-use types.Run.{look, store, load, lit, neg_lit, bin}
-use types.Run.{assigns, assigns_last}
-use types.Run.{skips, branches, returns_within}
+use types.Kit.{any_q, drop}
+use types.Run.{look, store, load, lit, neg_lit, bin, assigns, assigns_last, skips, branches}
+use types.Run.{returns_within}
 use types.Part.{whole}
 use types.Match.{live}
 use types.ByLocal.{is}

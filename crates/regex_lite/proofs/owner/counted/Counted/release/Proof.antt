@@ -16,8 +16,7 @@ use mathlib.Core.Bool.{true}
 use Prim.Native.Nat.{ℕ, ◌-◌, ◌<◌, ◌^◌}
 use prog.Wp.{Wp, after_block, after_seq, at_return}
 use types.Kit.{any_q}
-use types.Run.{look, store, load, lit, neg_lit, bin}
-use types.Run.{assigns, skips, branches, returns_within}
+use types.Run.{look, store, load, lit, neg_lit, bin, assigns, skips, branches, returns_within}
 use types.Part.{whole}
 use types.Match.{live}
 use types.ByLocal.{is}

@@ -12,10 +12,8 @@ use Rattle.regex_lite.proofs.Common.{and_then, blocks, enter, exec, first, fld, 
 use Rattle.regex_lite.proofs.Common.{returns, stop}
 use seplogic.Ra.Ura.{Ura}
 use mir.Syntax.{dcons}
-use types.Kit.{mean}
-use types.Kit.{drop}
-use types.ByLocal.{lands_last}
-use types.ByLocal.{holding}
+use types.Kit.{mean, drop}
+use types.ByLocal.{lands_last, holding}
 use types.Part.{whole}
 use denote.Steps.{nothing, only}
 use denote.Param.{bounded}

@@ -1,8 +1,7 @@
 use Rattle.regex_lite.proofs.Common.{[], ◌++◌, string_bytes, sym, refl, ap, ◌∙◌, subst, rules}
 use Rattle.regex_lite.proofs.Common.{append_assoc, IsInterpolation, texts_of}
 use Rattle.std.proofs.lemmas.List.{append-nil}
-use Rattle.regex_lite_engine.specs.Interpolation.{piece_and_rest}
-use Rattle.regex_lite_engine.specs.Interpolation.{nothing, piece_text}
+use Rattle.regex_lite_engine.specs.Interpolation.{piece_and_rest, nothing, piece_text}
 use Rattle.regex_lite_engine.specs.Interpolation.Pieces.{piece_of}
 use Rattle.regex_lite_engine.proofs.laws.templates.OneTextLemmas.{one_text}
 use Rattle.regex_lite.proofs.string.ReplacementLemmas.{handed_on}

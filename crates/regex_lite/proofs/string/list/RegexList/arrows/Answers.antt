@@ -1,5 +1,6 @@
 use Rattle.regex_lite.proofs.Common.{ap, arith, places_of_all, AreTrees, CompiledList}
-use Rattle.regex_lite.proofs.string.ListBuildLemmas.{arrows_few_of_all, one_list}
+use Rattle.regex_lite_engine.proofs.ArrowBoundLemmas.{arrows_all_few}
+use Rattle.regex_lite.proofs.string.ListBuildLemmas.{one_list}
 use Rattle.regex_lite.proofs.string.list.RegexList.arrows.Goals as goal
 
 pub returns-clause-few : goal.returns-clause-few
@@ -13,7 +14,7 @@ returns-clause-few c = λ places (trees, given, counted).
       built.graph.arrows,
       counted,
       (ap places_of_all (one_list c.args.self.now trees built.trees given own)),
-      arrows_few_of_all built.trees built.regular,
+      arrows_all_few built.trees built.regular,
     )
 
 pub returns-clause-bounded : goal.returns-clause-bounded
@@ -25,5 +26,5 @@ returns-clause-bounded c =
       (ap (λ (compiled : CompiledList). compiled.graph.arrows) c.deref.ensures),
       built.graph.arrows,
       built.fit,
-      arrows_few_of_all built.trees built.regular,
+      arrows_all_few built.trees built.regular,
     )

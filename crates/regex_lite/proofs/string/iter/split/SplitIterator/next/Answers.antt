@@ -1,7 +1,8 @@
 use Rattle.regex_lite.proofs.Common.{◌≡◌, ℕ, false, [], ◌∷◌, drop, slice_range, Option, unwrap_or}
 use Rattle.regex_lite.proofs.Common.{sym, ap, ◌∙◌, subst, rules, ahead_of}
+use Rattle.std.proofs.lemmas.Bool.{MatchBool-at_false}
 use Rattle.regex_lite.specs.Pieces.{IsCut}
-use Rattle.regex_lite.proofs.string.PieceLemmas.{chosen, chose, cut_cons, cut_nil}
+use Rattle.regex_lite.proofs.string.PieceLemmas.{chosen, cut_cons, cut_nil}
 use Rattle.regex_lite.proofs.string.iter.split.SplitIterator.next.Goals as goal
 
 pub returns-in-Some-clause-steps : goal.returns-in-Some-clause-steps
@@ -16,7 +17,7 @@ returns-in-Some-clause-steps c =
       λ list left.
           let rest =
           subst (λ (e : Option ℕ). IsCut (ahead_of c.next.new.self) (unwrap_or e 0) list) s.3
-          (chose (list ≡ []) _ goes_on left) in
+          (MatchBool-at_false (list ≡ []) _ goes_on left) in
           let start =
           c.unwrap_or-from.ensures ∙ ap (λ at. unwrap_or at 0) c.cursor-cursor.ensures.ended in
           let piece : c.range.result.now ≡ slice_range hay from c.in-Some.found.start =

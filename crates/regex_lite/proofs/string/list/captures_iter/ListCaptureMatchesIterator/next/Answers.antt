@@ -2,8 +2,7 @@ use Rattle.regex_lite.proofs.Common.{ℕ, List, Some, None, Ok, Err, Option, Res
 use Rattle.regex_lite.proofs.Common.{Error, Expression, Groups, AreGroupsFoundInList}
 use Rattle.regex_lite.proofs.Common.{IsAnswerOfPatterns, Scanning}
 use Rattle.regex_lite.specs.Items.{GivesNextGroups}
-use Rattle.regex_lite.specs.ListAhead.{GivesListGroups, ListPasses}
-use Rattle.regex_lite.specs.ListAhead.{list_ahead_of}
+use Rattle.regex_lite.specs.ListAhead.{GivesListGroups, ListPasses, list_ahead_of}
 use Rattle.regex_lite.specs.Scanning.{ListSearching, seen_by}
 use Rattle.regex_lite.proofs.string.list.captures_iter.ListCaptureMatchesIterator.next.Goals as goal
 
