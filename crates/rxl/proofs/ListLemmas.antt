@@ -1,63 +1,17 @@
 -- From the matches that an iterator gives, one after another, to the list of all.
-use Rattle.std.proofs.Common.{◌≡◌, ◌≢◌, ◌⊎◌, ℕ, suc, zero, Bool, true, false, Option}
-use Rattle.std.proofs.Common.{Some, None, List, [], ◌∷◌, ◌++◌, map, flat_map, chars}
-use Rattle.std.proofs.Common.{refl, sym, ap, ◌∙◌, subst, inl, inr, arith, ◌||◌}
+use Rattle.std.proofs.Common.{◌≡◌, ℕ, Bool, true, false, None, List, [], ◌∷◌, ◌++◌, map, flat_map}
+use Rattle.std.proofs.Common.{chars, refl, sym, ap, ◌∙◌, subst, ◌||◌}
+use Rattle.std.proofs.Math.Bool.{or-false, or-true}
 use Rattle.std.proofs.lemmas.List.{append_assoc, append-nil}
 use Rattle.regex_lite.specs.Search.Answer.{Found}
 use Rattle.regex_lite.specs.Ahead.{Ahead, Passes, AreAhead, IsOver, whole}
 use Rattle.regex_lite.specs.Expression.{Expression}
 use Rattle.regex_lite.specs.Groups.{Groups}
 use Rattle.regex_lite.specs.Items.{AreGroupsFound}
-use Rattle.regex_lite.specs.MatchList.{IsNext, AreFirst, AreWithin, one_less}
 use Rattle.regex_lite.specs.Pieces.{found_span}
 use Rattle.regex_lite.specs.Replacements.{AreGroupsOfEach}
+use Rattle.regex_lite.proofs.AheadLemmas.{ahead_cons, ahead_nil}
 use Rattle.rxl.specs.Printed.{PrintsMatches, PrintsGroups, groups_line, has_some, span_line}
-
-module _ (re : Expression) (haystack : List ℕ) where
-  within_more : (limit ended : Option ℕ) (found : Found) (list : List Found)
-      → limit ≢ Some 0 → IsNext re haystack ended (Some found)
-      → AreWithin re haystack (one_less limit) (Some found.end) list
-      → AreWithin re haystack limit ended (found ∷ list)
-  within_more None ended found list some comes rest = (comes, rest)
-  within_more (Some zero) ended found list some comes rest = absurd (some refl)
-  within_more (Some (suc k)) ended found list some comes rest =
-      (comes, subst (λ m. AreFirst re haystack m (Some found.end) list) (omega arith) rest)
-
-  within_none : (limit ended : Option ℕ) → (limit ≡ Some 0) ⊎ IsNext re haystack ended None
-      → AreWithin re haystack limit ended []
-  within_none None ended (inl is) = absurd (cc)
-  within_none None ended (inr comes) = comes
-  within_none (Some zero) ended over = refl
-  within_none (Some (suc k)) ended (inl is) = absurd (cc)
-  within_none (Some (suc k)) ended (inr comes) = comes
-
--- a match that was passed, and those after it
-pub ahead_more : (old new : Ahead) (found : Found) (list : List Found) → Passes old found new
-    → AreAhead new list → AreAhead old (found ∷ list)
-ahead_more old new found list passes rest =
-    within_more old.sought (chars old.haystack) old.limit old.ended found list passes.may_come
-    passes.comes (subst (λ a. AreAhead a list) passes.passed rest)
-
-pub ahead_none : (a : Ahead) → IsOver a → AreAhead a []
-ahead_none a over = within_none a.sought (chars a.haystack) a.limit a.ended over
-
--- the regex and the haystack stay the same
-pub same_regex : (old new : Ahead) (found : Found) (re : Expression) → Passes old found new
-    → old.sought ≡ re → new.sought ≡ re
-same_regex old new found re passes same = ap (λ a. a.sought) passes.passed ∙ same
-
-pub same_haystack : (old new : Ahead) (found : Found) (haystack : List ℕ)
-    → Passes old found new → old.haystack ≡ haystack → new.haystack ≡ haystack
-same_haystack old new found haystack passes same =
-    ap (λ a. a.haystack) passes.passed ∙ same
-
-or_true : (b : Bool) → (b || true) ≡ true
-or_true true = refl
-or_true false = refl
-
-or_false : (b : Bool) → (b || false) ≡ b
-or_false true = refl
-or_false false = refl
 
 -- The matches ahead of the first, of which some were passed and their lines printed; whether there
 -- was one
@@ -76,11 +30,11 @@ pub leads_more : (first old new : Ahead) (has : Bool) (printed : List ℕ) (foun
     → LeadsOn first new true (printed ++ line)
 leads_more first old new has printed found line leads passes is = record {
   on = λ list are.
-      let all = leads.on (found ∷ list) (ahead_more old new found list passes are) in
+      let all = leads.on (found ∷ list) (ahead_cons old new found list passes are) in
       let rest = flat_map span_line (map (found_span (chars first.haystack)) list) in (
         all.0,
         all.1,
-        all.2 ∙ or_true has,
+        all.2 ∙ or-true has,
         append_assoc printed line rest ∙ ap (λ x. printed ++ (x ++ rest)) is ∙ all.3,
       );
 }
@@ -89,11 +43,11 @@ pub leads_end : (re : Expression) (haystack : List ℕ) (a : Ahead) (has : Bool)
     → LeadsOn (whole re haystack None) a has printed → IsOver a
     → PrintsMatches re haystack has printed
 leads_end re haystack a has printed leads over =
-    let all = leads.on [] (ahead_none a over) in
+    let all = leads.on [] (ahead_nil a over) in
     record {
       matches = all.0;
       are_all = all.1;
-      known = sym (all.2 ∙ or_false has);
+      known = sym (all.2 ∙ or-false has);
       printed = sym (append-nil printed) ∙ all.3;
     }
 
@@ -124,12 +78,12 @@ groups_more first old new has printed found own leads passes same there are = re
       let is = subst (λ re. AreGroupsFound re first.haystack found own) same
       (subst (λ haystack. AreGroupsFound old.sought haystack found own) there are) in
       let all = leads.on (found ∷ list) (own ∷ groups)
-      (ahead_more old new found list passes ahead) (is, each) in (
+      (ahead_cons old new found list passes ahead) (is, each) in (
         all.0,
         all.1,
         all.2,
         all.3,
-        all.4 ∙ or_true has,
+        all.4 ∙ or-true has,
         append_assoc printed (line_of own) (flat_map line_of groups) ∙ all.5,
       );
 }
@@ -138,12 +92,12 @@ pub groups_end : (re : Expression) (haystack : List ℕ) (a : Ahead) (has : Bool
     (printed : List ℕ) → GroupsLeadOn (whole re haystack None) a has printed → IsOver a
     → PrintsGroups re haystack has printed
 groups_end re haystack a has printed leads over =
-    let all = leads.on [] [] (ahead_none a over) tt in
+    let all = leads.on [] [] (ahead_nil a over) tt in
     record {
       matches = all.0;
       are_all = all.2;
       groups = all.1;
       each = all.3;
-      known = sym (all.4 ∙ or_false has);
+      known = sym (all.4 ∙ or-false has);
       printed = sym (append-nil printed) ∙ all.5;
     }

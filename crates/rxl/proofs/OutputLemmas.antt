@@ -3,8 +3,8 @@ use Rattle.std.proofs.Common.{◌≡◌, ℕ, Bool, true, false, not, List, [], 
 use Rattle.std.proofs.Common.{None, MatchBool, Result, Ok, Err, IsErr, OnOk, is_ok, is_err}
 use Rattle.std.proofs.Common.{refl, sym, ap, ◌∙◌, subst, take, drop, take-append-drop}
 use Rattle.std.specs.Io.KnownBytes.{Appends, Keeps}
+use Rattle.std.proofs.lemmas.Bool.{MatchBool-at_false}
 use Rattle.std.proofs.lemmas.List.{append_assoc, append-nil}
-use Rattle.regex_lite.specs.Replacing.{Begins}
 use Rattle.rxl.specs.declared.output.Output.{Output}
 use Rattle.rxl.specs.Output.{IsPrinted, IsWritten, Puts}
 
@@ -34,36 +34,13 @@ front_written bytes written rest n parts =
     parts ∙ ap (λ left. written ++ left) (sym (take-append-drop n rest))
     ∙ sym (append_assoc written (take n rest) (drop n rest))
 
-at_true : (P Q : Type 0) (b : Bool) → b ≡ true → P → MatchBool b P Q
+pub at_true : (P Q : Type 0) (b : Bool) → b ≡ true → P → MatchBool b P Q
 at_true P Q true is p = p
 at_true P Q false is p = cc
 
 at_false : (P Q : Type 0) (b : Bool) → b ≡ false → Q → MatchBool b P Q
 at_false P Q true is q = cc
 at_false P Q false is q = q
-
-from_true : (P Q : Type 0) (b : Bool) → b ≡ true → MatchBool b P Q → P
-from_true P Q true is p = p
-from_true P Q false is p = cc
-
-from_false : (P Q : Type 0) (b : Bool) → b ≡ false → MatchBool b P Q → Q
-from_false P Q true is q = cc
-from_false P Q false is q = q
-
--- after a beginning of a text is one of a longer text
-longer : (written text more : List ℕ) → Begins written text → Begins written (text ++ more)
-longer written text more begun =
-    (begun.0 ++ more, ap (λ x. x ++ more) begun.1 ∙ append_assoc written begun.0 more)
-
--- once a write failed texts are dropped
-pub dropped : (output : Output) (held : Option (List ℕ)) (text : List ℕ)
-    → output.has_failed ≡ true → Puts output held output held text
-dropped output held text failed before printed was = record {
-  written = was.written;
-  appended = was.appended;
-  told = at_true _ _ output.has_failed failed
-      (longer was.written printed text (from_true _ _ output.has_failed failed was.told));
-}
 
 -- a text waits with the others
 pub gathered : (old new : Output) (held : Option (List ℕ)) (text : List ℕ)
@@ -73,7 +50,7 @@ gathered old new held text still now waits before printed was = record {
   written = was.written;
   appended = was.appended;
   told = at_false _ _ new.has_failed now
-      (ap (λ x. x ++ text) (from_false _ _ old.has_failed still was.told)
+      (ap (λ x. x ++ text) (MatchBool-at_false _ _ still was.told)
       ∙ append_assoc was.written old.waiting.items text ∙ ap (λ x. was.written ++ x) (sym waits));
 }
 
@@ -104,7 +81,7 @@ sent old new held holds text true still now empty w before printed was = record 
   written = was.written ++ w.written;
   appended = appends_more before held holds was.written w.written was.appended w.appended;
   told = at_false _ _ new.has_failed now
-      (ap (λ x. x ++ text) (from_false _ _ old.has_failed still was.told)
+      (ap (λ x. x ++ text) (MatchBool-at_false _ _ still was.told)
       ∙ append_assoc was.written old.waiting.items text
       ∙ ap (λ x. was.written ++ x) w.told
       ∙ sym (append-nil (was.written ++ w.written))
@@ -115,7 +92,7 @@ sent old new held holds text false still now empty w before printed was = record
   appended = appends_more before held holds was.written w.written was.appended w.appended;
   told = at_true _ _ new.has_failed now (
     w.told.0,
-    ap (λ x. x ++ text) (from_false _ _ old.has_failed still was.told)
+    ap (λ x. x ++ text) (MatchBool-at_false _ _ still was.told)
         ∙ append_assoc was.written old.waiting.items text
         ∙ ap (λ x. was.written ++ x) w.told.1
         ∙ sym (append_assoc was.written w.written w.told.0),
@@ -128,7 +105,7 @@ pub finished : (before held holds : Option (List ℕ)) (output : Output) (text :
     → IsPrinted before held output text → IsWritten before holds text all
 finished before held holds output text all still w was =
     subst (λ x. IsWritten before holds x all)
-    (sym (from_false _ _ output.has_failed still was.told))
+    (sym (MatchBool-at_false _ _ still was.told))
     (both_written before held holds was.written output.waiting.items all
     (record { written = was.written; appended = was.appended; told = refl }) w)
 
@@ -178,7 +155,7 @@ refused old new held text still now before printed was = record {
   appended = was.appended;
   told = at_true _ _ new.has_failed now (
     old.waiting.items ++ text,
-    ap (λ x. x ++ text) (from_false _ _ old.has_failed still was.told)
+    ap (λ x. x ++ text) (MatchBool-at_false _ _ still was.told)
         ∙ append_assoc was.written old.waiting.items text,
   );
 }

@@ -1,5 +1,5 @@
 -- From the pieces that come one after another to the list of all.
-use Rattle.std.proofs.Common.{◌≡◌, ℕ, Bool, true, false, MatchBool, List, []}
+use Rattle.std.proofs.Common.{◌≡◌, ℕ, true, List, []}
 use Rattle.std.proofs.Common.{◌∷◌, ◌++◌, Option, flat_map, codes, refl, sym, ◌∙◌}
 use Rattle.std.proofs.lemmas.List.{append_assoc, append-nil}
 use Rattle.regex_lite.specs.Expression.{Expression}
@@ -7,7 +7,7 @@ use Rattle.regex_lite.specs.Pieces.{ArePieces, ArePiecesLeft, Cutting}
 use Rattle.rxl.specs.declared.output.Output.{Output}
 use Rattle.rxl.specs.Output.{Puts}
 use Rattle.rxl.specs.Printed.{PrintsPieces, piece_line}
-use Rattle.rxl.proofs.OutputLemmas.{puts_more}
+use Rattle.rxl.proofs.OutputLemmas.{at_true, puts_more}
 
 -- This text and then the lines of the pieces that are left are the lines of all pieces
 pub record PiecesFollow (re : Expression) (haystack : List ℕ) (it : Cutting) (printed : List ℕ)
@@ -40,12 +40,8 @@ module _ (re : Expression) (haystack : List ℕ) where
   pub pieces_end : (it : Cutting) (printed : List ℕ) → PiecesFollow re haystack it printed
       → it.is_done ≡ true → PrintsPieces re haystack printed
   pieces_end it printed follow over =
-      let all = follow.on [] (at_end _ _ it.is_done over refl) in
+      let all = follow.on [] (at_true _ _ it.is_done over refl) in
       record { pieces = all.0; are_all = all.1; printed = sym (append-nil printed) ∙ all.2 }
-    where
-      at_end : (P Q : Type 0) (is_done : Bool) → is_done ≡ true → P → MatchBool is_done P Q
-      at_end P Q true is p = p
-      at_end P Q false is p = cc
 
 -- a bracket, a piece, a bracket and a line feed are its line
 pub line_put : (old first second new : Output) (held one two holds : Option (List ℕ))

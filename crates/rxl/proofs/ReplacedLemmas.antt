@@ -1,27 +1,20 @@
 -- Whether the pattern matches, as the new text shows.
-use Rattle.std.proofs.Common.{◌≡◌, ◌⊎◌, ◌↔◌, inl, inr, refl, sym, ap, subst, arith, ℕ, Bool}
+use Rattle.std.proofs.Common.{◌≡◌, ◌⊎◌, ◌↔◌, inl, inr, refl, sym, ap, subst, ℕ, Bool}
 use Rattle.std.proofs.Common.{true, false, IsTrue, List, [], ◌∷◌, Some, None, chars}
-use Rattle.std.proofs.Common.{length}
 use Rattle.std.specs.Borrow.{Bor}
 use Rattle.std.specs.Cow.{IsOwnedStr, cow_str_bytes}
 use Rattle.std.specs.declared.borrow.CowStr.{CowStr}
 use Rattle.std.specs.declared.borrow.CowStr.TheVariants.{Borrowed}
 use Rattle.std.proofs.lemmas.Bool.{false≢true}
-use Rattle.std.proofs.lemmas.Str.{chars-nil}
 use Rattle.regex_lite.specs.Ahead.{AreAhead, whole}
 use Rattle.regex_lite.specs.Expression.{Expression}
 use Rattle.regex_lite.specs.MatchList.{IsAnswerOf}
 use Rattle.regex_lite.specs.Search.Answer.{Found, IsFound}
-use Rattle.regex_lite.specs.Search.Offsets.{search_start}
 use Rattle.regex_lite.specs.Searches.{MatchesFrom}
 use Rattle.regex_lite.proofs.AgreementLemmas.{answer_told}
+use Rattle.regex_lite.proofs.AnsweredLemmas.{from_start}
 use Rattle.rxl.specs.declared.command.Question.TheVariants.{Replace}
 use Rattle.rxl.specs.Printed.{IsReplacedText, Prints}
-
-from_start : (haystack : List ℕ) → search_start haystack 0 ≡ 0
-from_start haystack =
-    let none = ap length chars-nil in
-    omega (arith, none)
 
 -- the list of the matches shows whether there is one
 first_shows : (re : Expression) (haystack : List ℕ) (matches : List Found)

@@ -1,6 +1,5 @@
 -- Why a template is refused.
-use Rattle.std.proofs.Common.{◌≡◌, ◌⊎◌, inl, inr, ℕ, List, [], ◌∷◌, Option, Result, Ok, Err, IfErr}
-use Rattle.std.specs.Result.{IsErrAnd}
+use Rattle.std.proofs.Common.{◌≡◌, ◌⊎◌, inl, inr, ℕ, List, [], ◌∷◌, Option}
 use Rattle.std.specs.Borrow.{Bor}
 use Rattle.regex_lite.specs.Ahead.{Ahead}
 use Rattle.regex_lite.specs.declared.Error.{Error}
@@ -29,9 +28,3 @@ pub template_refused : (template : Bor (List ℕ)) (a : Ahead) (error : Error)
 template_refused template a error (inl is) = is
 template_refused template a error (inr handed) =
     refused_at handed.0 handed.2.groups error handed.2.refused
-
--- the error that is handed on is so
-pub handed_on : {T E : Type 0} {Is Was : E → Type 0} (result : Result T E)
-    → IsErrAnd result Was → ((error : E) → Was error → Is error) → IfErr result Is
-handed_on (Ok value) handed so = absurd handed
-handed_on (Err error) handed so = so error handed

@@ -1,5 +1,5 @@
 -- From what went wrong to what the fault says.
-use Rattle.std.proofs.Common.{◌≡◌, inl, inr, ℕ, Bool, true, false, Result, Ok, Err, IfErr, IsErrAnd}
+use Rattle.std.proofs.Common.{◌≡◌, inl, inr, ℕ, Bool, true, false, Result, Ok, Err}
 use Rattle.std.proofs.Common.{List, [], Option, Some, None, IfSome, IsUtf8, refl, sym, ◌∙◌, subst}
 use Rattle.std.specs.Borrow.{Bor}
 use Rattle.std.specs.Io.KnownBytes.{Appends}
@@ -27,19 +27,13 @@ pub ends_cut_short : (fault : Fault) (args : List (Bor (List ℕ)))
 ends_cut_short fault args input before now is cut =
     subst (λ f. Ends f args input before now) (sym is) cut
 
--- an error that was handed on
-pub handed_on : {T E : Type 0} {P Q : E → Type 0} (result : Result T E) → IsErrAnd result Q
-    → ((error : E) → Q error → P error) → IfErr result P
-handed_on (Ok value) error told = absurd error
-handed_on (Err error) comes told = told error comes
-
 -- memory can be wanting for any command
 wanting : (command : Command) (input : Option (List ℕ))
     → IsFaultOf (Refused out_of_memory) command input
 wanting (Ask question pattern) input = (inl tt, λ _. refl)
 wanting (Escape text) input = refl
 
--- what is reported in the place of a fault that is so, is so too
+-- what is reported instead of a fault that occurred, occurred too
 so_as_reported : (fault named : Fault) (args : List (Bor (List ℕ)))
     (input before now : Option (List ℕ)) → IsReportedAs fault named
     → Ends fault args input before now → Ends named args input before now

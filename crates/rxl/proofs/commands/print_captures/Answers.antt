@@ -1,8 +1,7 @@
 use Rattle.std.proofs.Common.{◌++◌, [], None, false, ap, sym, subst, ◌∙◌}
 use Rattle.regex_lite.specs.Ahead.{ahead_of, whole}
 use Rattle.rxl.specs.Printed.{groups_line}
-use Rattle.rxl.proofs.ListLemmas.{GroupsLeadOn, groups_end, groups_more}
-use Rattle.rxl.proofs.ListLemmas.{groups_start, same_haystack, same_regex}
+use Rattle.rxl.proofs.ListLemmas.{GroupsLeadOn, groups_end, groups_more, groups_start}
 use Rattle.rxl.proofs.OutputLemmas.{puts_more, puts_nothing}
 use Rattle.rxl.proofs.commands.print_captures.Goals as goal
 
@@ -40,8 +39,8 @@ loop-item-preserved g c =
           old new c.loop-item.has_match inv.printed step.0 caps inv.so_far step.4 inv.regex
           inv.haystack
           step.1;
-      regex = same_regex old new step.0 c.args.regex.now step.4 inv.regex;
-      haystack = same_haystack old new step.0 c.args.haystack.now step.4 inv.haystack;
+      regex = ap (λ a. a.sought) step.4.passed ∙ inv.regex;
+      haystack = ap (λ a. a.haystack) step.4.passed ∙ inv.haystack;
     }
 
 pub returns-in_err-caps-clause-kept : goal.returns-in_err-caps-clause-kept

@@ -3,7 +3,7 @@ use Rattle.regex_lite.specs.Ahead.{ahead_of, whole}
 use Rattle.regex_lite.specs.MatchViews.{span_of_match}
 use Rattle.regex_lite.specs.Pieces.{found_span}
 use Rattle.rxl.specs.Printed.{span_line, span_text}
-use Rattle.rxl.proofs.ListLemmas.{LeadsOn, leads_end, leads_more, leads_start, same_haystack}
+use Rattle.rxl.proofs.ListLemmas.{LeadsOn, leads_end, leads_more, leads_start}
 use Rattle.rxl.proofs.OutputLemmas.{puts_more, puts_nothing}
 use Rattle.rxl.proofs.commands.print_matches.Goals as goal
 
@@ -41,8 +41,7 @@ loop-found-preserved g c =
       so_far = leads_more (whole c.args.regex.now c.args.haystack.now None)
           (ahead_of c.loop-found.found-iterator) (ahead_of c.next.new.self) c.loop-found.has_match
           inv.printed step.0 (span_line span) inv.so_far step.4 (ap span_line is);
-      haystack = same_haystack (ahead_of c.loop-found.found-iterator) (ahead_of c.next.new.self)
-          step.0 c.args.haystack.now step.4 inv.haystack;
+      haystack = ap (λ a. a.haystack) step.4.passed ∙ inv.haystack;
     }
 
 pub returns-clause-ok : goal.returns-clause-ok

@@ -1,9 +1,10 @@
 use Rattle.std.proofs.Common.{None, sym, ◌∙◌, subst}
 use Rattle.regex_lite.specs.Ahead.{whole}
+use Rattle.regex_lite.proofs.ReplacementLemmas.{handed_on}
 use Rattle.rxl.specs.Printed.{Prints}
 use Rattle.rxl.specs.declared.command.Question.TheVariants.{Replace}
 use Rattle.rxl.proofs.ReplacedLemmas.{replaced_prints}
-use Rattle.rxl.proofs.TemplateLemmas.{handed_on, template_refused}
+use Rattle.rxl.proofs.TemplateLemmas.{template_refused}
 use Rattle.rxl.proofs.commands.print_replaced.Goals as goal
 
 pub returns-in_err-replaced-clause-refused : goal.returns-in_err-replaced-clause-refused

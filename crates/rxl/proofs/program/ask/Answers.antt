@@ -1,6 +1,7 @@
 use Rattle.std.proofs.Common.{◌≡◌, ◌∙◌, IfSome, IsUtf8, sym, subst}
+use Rattle.regex_lite.proofs.ReplacementLemmas.{handed_on}
 use Rattle.rxl.specs.Faults.{IsQuestionFault}
-use Rattle.rxl.proofs.program.FaultLemmas.{handed_on, no_text}
+use Rattle.rxl.proofs.program.FaultLemmas.{no_text}
 use Rattle.rxl.proofs.program.ToldLemmas.{answered_by_print}
 use Rattle.rxl.proofs.program.ask.Goals as goal
 
