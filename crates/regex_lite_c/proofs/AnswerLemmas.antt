@@ -1,10 +1,10 @@
--- What a walk over groups returns of a text that can be searched.
+-- What a call returns of a text that can be searched.
 use Rattle.regex_lite_c.proofs.Common.{◌≡◌, ℕ, ◌≤◌, ◌⊎◌, List, IsUtf8, IsCharBoundary, inl, inr}
 use Rattle.regex_lite_c.proofs.Common.{arith, NO_ROOM, OUT_OF_MEMORY, YES}
 use Rattle.regex_lite_c.specs.Answers.{RefusesText}
 use Rattle.regex_lite_c.specs.declared.answer.TheConstants.{NOT_TEXT, BAD_OFFSET}
 
--- the answers of such a walk
+-- the answers where a text can be searched
 abbrev IsOne : (answer : ℕ) → Type 0
 IsOne answer = (answer ≤ YES) ⊎ ((answer ≡ OUT_OF_MEMORY) ⊎ (answer ≡ NO_ROOM))
 

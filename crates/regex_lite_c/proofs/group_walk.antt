@@ -1,4 +1,3 @@
 -- lemmas that the proofs of walks over groups share
-pub mod AnswerLemmas
 pub mod GroupWalkLemmas
 pub mod StageLemmas

@@ -1,12 +1,11 @@
 -- Texts one after another, and what is returned of each.
-use Rattle.regex_lite_c.proofs.Common.{◌≡◌, ℕ, zero, suc, ◌+◌, ◌<◌, ◌≤◌, List, [], ◌∷◌, ◌++◌}
+use Rattle.regex_lite_c.proofs.Common.{◌≡◌, ℕ, ◌+◌, ◌<◌, ◌≤◌, List, [], ◌∷◌, ◌++◌}
 use Rattle.regex_lite_c.proofs.Common.{length, get_or, drop, slice_set, Some, None, Option}
 use Rattle.regex_lite_c.proofs.Common.{option_map, IsCharBoundary, sym, refl, ap, ◌∙◌, subst}
 use Rattle.regex_lite_c.proofs.Common.{append_assoc, append-nil, arith, length-append, Expression}
 use Rattle.regex_lite_c.proofs.Common.{span_of, AreWritten, Span}
-use Rattle.std.proofs.Common.{add-one}
-use Rattle.std.proofs.Common.{drop-cons}
-use Rattle.std.proofs.Common.{slice_range}
+use Rattle.std.proofs.Common.{add-one, drop-cons, slice_range}
+use Rattle.std.proofs.lemmas.List.{drop_all}
 use Rattle.regex_lite.specs.declared.string.matches.Match.{Match}
 use Rattle.regex_lite.specs.MatchViews.{span_of_match}
 use Rattle.regex_lite.specs.Searches.{TellsMatch}
@@ -19,12 +18,6 @@ pub len_at : (lens : List ℕ) (k : ℕ) → k < length lens
     → drop k lens ≡ get_or lens k 0 ∷ drop (k + 1) lens
 len_at lens k less =
     drop-cons lens k 0 less ∙ ap (λ n. get_or lens k 0 ∷ drop n lens) (sym (add-one k))
-
-pub drop_all : {X : Type 0} (xs : List X) (k : ℕ) → length xs ≤ k → drop k xs ≡ []
-drop_all [] zero past = refl
-drop_all [] (suc k) past = refl
-drop_all (x ∷ xs) zero past = absurd (omega (arith, past))
-drop_all (x ∷ xs) (suc k) past = drop_all xs k (omega (arith, past))
 
 -- a match that is the answer has the span of the answer
 pub tells_span : (re : Expression) (haystack : List ℕ) (start : ℕ) (found : Option Match)
@@ -86,6 +79,6 @@ pub all_searched : (re : Expression) (bytes lens : List ℕ) (at k : ℕ) (old n
 all_searched re bytes lens at k old new so past = (
   so.told,
   subst (AreFirstOfEach re bytes 0 lens) (append-nil so.told)
-      (so.on [] (subst (λ ns. AreFirstOfEach re bytes at ns []) (sym (drop_all lens k past)) refl)),
+      (so.on [] (subst (λ ns. AreFirstOfEach re bytes at ns []) (sym (drop_all k lens past)) refl)),
   so.written,
 )

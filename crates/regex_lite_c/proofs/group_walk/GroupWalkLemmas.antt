@@ -4,8 +4,7 @@ use Rattle.regex_lite_c.proofs.Common.{length, Some, None, Option, chars, unwrap
 use Rattle.regex_lite_c.proofs.Common.{inl, inr, arith, cases_lt, Found, ComesNext, Expression}
 use Rattle.regex_lite_c.proofs.Common.{Groups, group_span, IsAnswerOf, spans_of_all, span_of}
 use Rattle.regex_lite_c.proofs.Common.{AreWritten, NO, NO_ROOM, OUT_OF_MEMORY, YES, Span}
-use Rattle.std.proofs.Common.{◌≢◌}
-use Rattle.std.proofs.Common.{IsSome, Bool, cond}
+use Rattle.std.proofs.Common.{◌≢◌, IsSome, Bool, cond}
 use Rattle.regex_lite.specs.Groups.{span_at}
 use Rattle.regex_lite.specs.Items.{AreGroupsFound}
 use Rattle.regex_lite.specs.MatchList.{AreFirst}

@@ -7,10 +7,11 @@ use Rattle.regex_lite_c.proofs.Common.{cases_lt, Found, Groups, spans_of_all, sp
 use Rattle.regex_lite_c.proofs.Common.{ended_of, Span, Walk}
 use Rattle.std.proofs.lemmas.Grind.{flat_map-append}
 use Rattle.regex_lite_syntax.specs.Text.{Text}
+use Rattle.regex_lite_engine.proofs.LookupLemmas.{get_left, get_right}
 use Rattle.regex_lite.specs.Ahead.{AheadOf, PassesAnswer}
 use Rattle.regex_lite.specs.Groups.{whole_span}
 use Rattle.regex_lite_c.specs.Spans.{AreWrittenAt}
-use Rattle.regex_lite_c.proofs.walk.WalkLemmas.{ListsAnswers, get_before, lists_more, lists_none}
+use Rattle.regex_lite_c.proofs.walk.WalkLemmas.{ListsAnswers, lists_more, lists_none}
 
 -- what is searched for: the match in an answer, and how it is related to the groups of a match, and
 -- a list of answers to those of each match
@@ -52,24 +53,16 @@ written_after told more old now new before is =
       each = λ k lt. elim (cases_lt k n) [
         | inl left ↦
             ap (option_map span_of) (is.rest k (inl left)) ∙ before.each k left
-            ∙ sym (get_before told more k left)
+            ∙ sym (get_left told more k left)
         | inr right ↦
             let j = k - n in
             let at : k ≡ n + j = omega (arith, right) in
             subst (λ m. option_map span_of (slice_get new m) ≡ slice_get (told ++ more) m) (sym at)
-            (is.each j (omega (arith, lt, longer, at)) ∙ sym (get_after told more j))
+            (is.each j (omega (arith, lt, longer, at)) ∙ sym (get_right told more j))
       ];
       rest = λ k le.
           is.rest k (inr (omega (arith, le, longer))) ∙ before.rest k (omega (arith, le, longer));
     }
-  where
-    -- an item after the first list is one of the second
-    get_after : {X : Type 0} (xs ys : List X) (k : ℕ)
-        → slice_get (xs ++ ys) (length xs + k) ≡ slice_get ys k
-    get_after [] ys k = let e : 0 + k ≡ k = omega arith in ap (slice_get ys) e
-    get_after (x ∷ xs) ys k =
-        let e : length (x ∷ xs) + k ≡ suc (length xs + k) = omega arith in
-        ap (slice_get (x ∷ (xs ++ ys))) e ∙ get_after xs ys k
 
 module _ {S A : Type 0} (searched : Searched S A) where
   -- since the start the groups of these matches were written, one after another

@@ -5,9 +5,7 @@ use Rattle.regex_lite_c.proofs.Common.{option_map, unwrap_or, sym, refl, ap, ◌
 use Rattle.regex_lite_c.proofs.Common.{append_assoc, append-nil, arith, length-append, cases_lt}
 use Rattle.regex_lite_c.proofs.Common.{length-map, map-append, IsAccepted, settings_of_all}
 use Rattle.regex_lite_c.proofs.Common.{settings_of_source, IsFirstOtherBytes, settings_of}
-use Rattle.std.proofs.Common.{Err, add-one}
-use Rattle.std.proofs.Common.{drop-cons}
-use Rattle.std.proofs.Common.{take}
+use Rattle.std.proofs.Common.{Err, add-one, drop-cons, take}
 use Rattle.std.proofs.lemmas.List.Sums.{sum_by-cons}
 use Rattle.std.proofs.lemmas.Option.{slice_get-get_or, slice_get-map}
 use Rattle.regex_lite_syntax.specs.Errors.{Refusal, out_of_memory, passed_limit}
@@ -18,12 +16,11 @@ use Rattle.regex_lite.specs.Expression.{Builds}
 use Rattle.regex_lite.specs.RegexList.{AreAccepted, AreAcceptedAs, BuildsList, IsDueToAll}
 use Rattle.regex_lite.specs.RegexList.{IsDueToLowest}
 use Rattle.regex_lite.specs.Settings.{Settings}
-use Rattle.regex_lite_c.specs.ListBuilding.{AreTexts, IsDueAt, IsEachAccepted}
-use Rattle.regex_lite_c.specs.ListBuilding.{all_len}
+use Rattle.regex_lite_c.specs.ListBuilding.{AreTexts, IsDueAt, IsEachAccepted, all_len}
 use Rattle.regex_lite_c.specs.declared.list.patterns.Source.{Source}
 use Rattle.regex_lite_c.specs.declared.list.types.ListPattern.{ListPattern}
 use Rattle.regex_lite_c.specs.declared.types.Options.{Options}
-use Rattle.regex_lite_c.proofs.walk.WalkLemmas.{get_before, get_seam}
+use Rattle.regex_lite_engine.proofs.LookupLemmas.{get_left, get_seam}
 
 -- what stands for an element past the end of a list
 abbrev pub no_options : Options
@@ -136,7 +133,7 @@ first_other bytes patterns rest k sources own is less there not =
       is_not = not;
       lower = λ j other below is_there.
           is.texts j other
-          (sym (get_before (map f sources) (now ∷ left) j (omega (arith, below, many)))
+          (sym (get_left (map f sources) (now ∷ left) j (omega (arith, below, many)))
           ∙ subst (λ xs. slice_get xs j ≡ Some other) (sym all) is_there);
     }
 

@@ -4,8 +4,8 @@ use Rattle.regex_lite_c.proofs.Common.{slice_get, slice_set, Some, None, Option,
 use Rattle.regex_lite_c.proofs.Common.{sym, refl, ap, ◌∙◌, subst, inl, inr, append_assoc}
 use Rattle.regex_lite_c.proofs.Common.{append-nil, arith, length-append, cases_lt, Found}
 use Rattle.regex_lite_c.proofs.Common.{IsAnswerOf, AreWrittenAs}
-use Rattle.std.proofs.Common.{◌≢◌}
 use Rattle.regex_lite_syntax.specs.Text.{Text}
+use Rattle.regex_lite_engine.proofs.LookupLemmas.{get_left, get_seam, set_elsewhere, set_here}
 use Rattle.regex_lite.specs.Ahead.{Ahead, AheadOf, AnswerComesNext, NoneIsAhead, PassesAnswer}
 use Rattle.regex_lite.specs.MatchList.{AreFirstAnswers, IsNextAnswer, one_less}
 
@@ -95,31 +95,6 @@ module _ {S A : Type 0} (found_of : A → Found)
 abbrev pub Lists : (start a : Ahead) (room left : ℕ) (list : List Found) → Type 0
 Lists start a room left list = ListsAnswers (λ own. own) IsAnswerOf start a room left list
 
-module _ {X : Type 0} where
-  set_here : (xs : List X) (i : ℕ) (x : X) → i < length xs → slice_get (slice_set xs i x) i ≡ Some x
-  set_here [] i x below = absurd (omega (arith, below))
-  set_here (y ∷ xs) zero x below = refl
-  set_here (y ∷ xs) (suc i) x below = set_here xs i x (omega (arith, below))
-
-  set_there : (xs : List X) (i j : ℕ) (x : X) → i ≢ j
-      → slice_get (slice_set xs i x) j ≡ slice_get xs j
-  set_there [] i j x apart = refl
-  set_there (y ∷ xs) zero zero x apart = absurd (apart refl)
-  set_there (y ∷ xs) zero (suc j) x apart = refl
-  set_there (y ∷ xs) (suc i) zero x apart = refl
-  set_there (y ∷ xs) (suc i) (suc j) x apart = set_there xs i j x (λ same. apart (ap suc same))
-
-  pub get_before : (xs ys : List X) (k : ℕ) → k < length xs
-      → slice_get (xs ++ ys) k ≡ slice_get xs k
-  get_before [] ys k below = absurd (omega (arith, below))
-  get_before (x ∷ xs) ys zero below = refl
-  get_before (x ∷ xs) ys (suc k) below = get_before xs ys k (omega (arith, below))
-
-  pub get_seam : (xs : List X) (y : X) (ys : List X)
-      → slice_get (xs ++ (y ∷ ys)) (length xs) ≡ Some y
-  get_seam [] y ys = refl
-  get_seam (x ∷ xs) y ys = get_seam xs y ys
-
 -- one more was written
 pub written_more : {X Y : Type 0} (view : X → Y) (told : List Y) (one : Y) (old now : List X)
     (n : ℕ) (s : X)
@@ -129,9 +104,9 @@ written_more view told one old now n s is number below same =
     let longer = length-append told (one ∷ []) in
     record {
       each = λ k lt. elim (cases_lt k n) [
-        | inl before ↦ ap (option_map view) (set_there now n k s (λ e. omega (arith, e, before)))
+        | inl before ↦ ap (option_map view) (set_elsewhere now n k s (λ e. omega (arith, e, before)))
             ∙ is.each k (omega (arith, number, before))
-            ∙ sym (get_before told (one ∷ []) k (omega (arith, number, before)))
+            ∙ sym (get_left told (one ∷ []) k (omega (arith, number, before)))
         | inr after ↦
             let here : k ≡ n = omega (arith, after, lt, longer, number) in
             subst (λ j. option_map view (slice_get (slice_set now n s) j)
@@ -142,6 +117,6 @@ written_more view told one old now n s is number below same =
             (get_seam told one [])))
       ];
       rest = λ k le.
-          set_there now n k s (λ e. omega (arith, e, le, longer, number))
+          set_elsewhere now n k s (λ e. omega (arith, e, le, longer, number))
           ∙ is.rest k (omega (arith, le, longer));
     }

@@ -2,7 +2,7 @@ use Rattle.regex_lite_c.proofs.Common.{ℕ, List, IsUtf8, IsCharBoundary, unwrap
 use Rattle.regex_lite_c.proofs.Common.{Expression, ended_of, Span, Walk}
 use Rattle.regex_lite.specs.Ahead.{after}
 use Rattle.regex_lite_c.specs.GroupWalks.{IsFilled, IsGroupWalkAnswer}
-use Rattle.regex_lite_c.proofs.group_walk.AnswerLemmas.{nothing_refused, one_of_more}
+use Rattle.regex_lite_c.proofs.AnswerLemmas.{nothing_refused, one_of_more}
 use Rattle.regex_lite_c.proofs.group_walk.captures_all.Goals as goal
 
 -- with a text that can be searched from there on, what was filled is the answer

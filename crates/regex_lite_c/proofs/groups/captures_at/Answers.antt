@@ -3,6 +3,7 @@ use Rattle.regex_lite_c.proofs.Common.{subst, inl, inr, arith, cases_lt, Express
 use Rattle.regex_lite_c.proofs.Common.{AreWritten, NO_ROOM, YES, Span}
 use Rattle.regex_lite.specs.Searches.{TellsGroups}
 use Rattle.regex_lite_c.specs.Spans.{IsGroupsAnswer}
+use Rattle.regex_lite_c.proofs.AnswerLemmas.{nothing_refused}
 use Rattle.regex_lite_c.proofs.groups.captures_at.Goals as goal
 
 groups_told : (re : Expression) (bytes : List ℕ) (start : ℕ) (old new : List Span)
@@ -21,11 +22,7 @@ groups_told re bytes start old new old_count count answer groups told utf8 bound
         none = λ wrong. absurd (omega (arith, is, wrong));
         same = λ wrong. absurd (wrong is);
         same_count = λ wrong _. absurd (wrong is);
-        refused = record {
-          not_text = (λ wrong. absurd (omega (arith, is, wrong)), λ wrong. absurd (wrong utf8));
-          bad_offset =
-              (λ wrong. absurd (omega (arith, is, wrong)), λ wrong. absurd (wrong.1 boundary));
-        };
+        refused = nothing_refused bytes start answer utf8 boundary (inl (omega (arith, is)));
         one_of = inl (omega (arith, is));
       }
       | inl above ↦ let is = (no_room above).0 in record {
@@ -34,11 +31,7 @@ groups_told re bytes start old new old_count count answer groups told utf8 bound
         none = λ wrong. absurd (omega (arith, is, wrong));
         same = λ _. (no_room above).1;
         same_count = λ _ wrong. absurd (wrong is);
-        refused = record {
-          not_text = (λ wrong. absurd (omega (arith, is, wrong)), λ wrong. absurd (wrong utf8));
-          bad_offset =
-              (λ wrong. absurd (omega (arith, is, wrong)), λ wrong. absurd (wrong.1 boundary));
-        };
+        refused = nothing_refused bytes start answer utf8 boundary (inr (inr is));
         one_of = inr (inr (inr (inr is)));
       }
     ]

@@ -1,11 +1,9 @@
 use Rattle.regex_lite_c.proofs.Common.{◌≡◌, ℕ, true, false, length, slice_set, Some, None, Option}
 use Rattle.regex_lite_c.proofs.Common.{chars, unwrap_or, refl, ap, ◌∙◌, subst, arith, ahead_of}
 use Rattle.regex_lite_c.proofs.Common.{found_span, span_of, ended_of, Span}
-use Rattle.std.proofs.Common.{Bool}
-use Rattle.std.proofs.Common.{cond}
+use Rattle.std.proofs.Common.{Bool, cond}
 use Rattle.regex_lite_c.specs.Cuts.{ArePiecesListed}
-use Rattle.regex_lite_c.proofs.split.CutLemmas.{Stage, full_of_pieces, last_piece}
-use Rattle.regex_lite_c.proofs.split.CutLemmas.{one_piece_more}
+use Rattle.regex_lite_c.proofs.split.CutLemmas.{Stage, full_of_pieces, last_piece, one_piece_more}
 use Rattle.regex_lite_c.proofs.split.put_pieces.Goals as goal
 
 -- so whether it is there or not

@@ -3,6 +3,7 @@ use Rattle.regex_lite_c.proofs.Common.{unwrap_or, refl, ap, ◌∙◌, subst, in
 use Rattle.regex_lite_c.proofs.Common.{Expression, ended_of, NO, YES, Span, Walk}
 use Rattle.regex_lite.specs.Ahead.{after}
 use Rattle.regex_lite_c.specs.Walks.{AreListed, GoesOnAfter, IsWalkAnswer}
+use Rattle.regex_lite_c.proofs.AnswerLemmas.{nothing_refused}
 use Rattle.regex_lite_c.proofs.walk.find_all.Goals as goal
 
 -- with a text that can be searched from there on, what was listed is the answer
@@ -22,11 +23,8 @@ walk_told re bytes old_walk walk old new zero answer utf8 boundary some none =
       none = λ _. told.1;
       same = λ _. (told.2, told.3, refl);
       no_room = λ wrong. absurd (omega (arith, is, wrong));
-      refused = record {
-        not_text = (λ wrong. absurd (omega (arith, is, wrong)), λ wrong. absurd (wrong utf8));
-        bad_offset =
-            (λ wrong. absurd (omega (arith, is, wrong)), λ wrong. absurd (wrong.1 boundary));
-      };
+      refused = nothing_refused bytes (unwrap_or (ended_of old_walk) 0) answer utf8 boundary
+          (inl (omega (arith, is)));
       one_of = inl (omega (arith, is));
     }
 walk_told re bytes old_walk walk old new (suc n) answer utf8 boundary some none =
@@ -37,11 +35,8 @@ walk_told re bytes old_walk walk old new (suc n) answer utf8 boundary some none 
       none = λ wrong. absurd (omega (arith, is, wrong));
       same = λ wrong. absurd (wrong is);
       no_room = λ wrong. absurd (omega (arith, is, wrong));
-      refused = record {
-        not_text = (λ wrong. absurd (omega (arith, is, wrong)), λ wrong. absurd (wrong utf8));
-        bad_offset =
-            (λ wrong. absurd (omega (arith, is, wrong)), λ wrong. absurd (wrong.1 boundary));
-      };
+      refused = nothing_refused bytes (unwrap_or (ended_of old_walk) 0) answer utf8 boundary
+          (inl (omega (arith, is)));
       one_of = inl (omega (arith, is));
     }
 

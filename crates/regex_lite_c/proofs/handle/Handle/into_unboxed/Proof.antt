@@ -8,10 +8,8 @@ use Rattle.regex_lite_c.proofs.Common.{get_in, look_at, pass_all, sets, !, by, f
 use Rattle.regex_lite_c.proofs.Common.{move, qed, raw, split, suffices, use0, ‵, ◌$◌, ◌∵◌, ◌⊛◌}
 use Rattle.regex_lite_c.proofs.Common.{live, agg, sub, whole, and_then, enter, fld, lit, no_more}
 use Rattle.regex_lite_c.proofs.Common.{of_opd, returns, stop}
-use types.Kit.{at_ret}
-use types.Kit.{drop}
-use types.Run.{bin, first}
-use types.Run.{branches, skips, exec, returns_within}
+use types.Kit.{at_ret, drop}
+use types.Run.{bin, first, branches, skips, exec, returns_within}
 use types.ByLocal.{is, env}
 use denote.RawPtr.{ptr_val, tests_null}
 use Rattle.std.proofs.RcSteps.{some_Good, none_of}

@@ -5,6 +5,7 @@ use Rattle.regex_lite.specs.ListAhead.{list_after}
 use Rattle.regex_lite_c.specs.ListWalks.{AreListSpansListed, IsListWalkAnswer}
 use Rattle.regex_lite_c.specs.Walks.{GoesOnAfterLast}
 use Rattle.regex_lite_c.specs.declared.list.types.ListSpan.{ListSpan}
+use Rattle.regex_lite_c.proofs.AnswerLemmas.{nothing_refused}
 use Rattle.regex_lite_c.proofs.list.walk.find_all.Goals as goal
 
 -- with a text that can be searched from there on, what was listed is the answer
@@ -25,11 +26,8 @@ walk_told list bytes old_walk walk old new zero answer utf8 boundary some none =
       none = λ _. told.1;
       same = λ _. (told.2, told.3, refl);
       no_room = λ wrong. absurd (omega (arith, is, wrong));
-      refused = record {
-        not_text = (λ wrong. absurd (omega (arith, is, wrong)), λ wrong. absurd (wrong utf8));
-        bad_offset =
-            (λ wrong. absurd (omega (arith, is, wrong)), λ wrong. absurd (wrong.1 boundary));
-      };
+      refused = nothing_refused bytes (unwrap_or (ended_of old_walk) 0) answer utf8 boundary
+          (inl (omega (arith, is)));
       one_of = inl (omega (arith, is));
     }
 walk_told list bytes old_walk walk old new (suc n) answer utf8 boundary some none =
@@ -40,11 +38,8 @@ walk_told list bytes old_walk walk old new (suc n) answer utf8 boundary some non
       none = λ wrong. absurd (omega (arith, is, wrong));
       same = λ wrong. absurd (wrong is);
       no_room = λ wrong. absurd (omega (arith, is, wrong));
-      refused = record {
-        not_text = (λ wrong. absurd (omega (arith, is, wrong)), λ wrong. absurd (wrong utf8));
-        bad_offset =
-            (λ wrong. absurd (omega (arith, is, wrong)), λ wrong. absurd (wrong.1 boundary));
-      };
+      refused = nothing_refused bytes (unwrap_or (ended_of old_walk) 0) answer utf8 boundary
+          (inl (omega (arith, is)));
       one_of = inl (omega (arith, is));
     }
 
