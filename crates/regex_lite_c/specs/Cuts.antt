@@ -41,17 +41,17 @@ spans_in haystack list = map (found_span (chars haystack)) list
 -- the pieces before the first of the matches ahead were written to the front of the room, as many
 -- as there is room for; and where all matches came before it was full, the last piece too. The cut
 -- goes on where the last of these matches ends
-pub record ArePiecesListed (a : Ahead) (ended : Option ℕ) (cut : Cut) (old new : List Span)
+pub record ArePiecesListed (ahead : Ahead) (ended : Option ℕ) (cut : Cut) (old new : List Span)
     (count : ℕ) : Type 0 where
   pub list : List Found
-  pub are_first : AreFirst a.sought (chars a.haystack) (length old) a.ended list
+  pub are_first : AreFirst ahead.sought (chars ahead.haystack) (length old) ahead.ended list
   pub over : IsTrue cut.is_over → length list < length old
   pub full : cut.is_over ≡ false → length list ≡ length old
   pub written : AreWritten
-      (pieces_of ended (spans_in a.haystack list) (length a.haystack) cut.is_over) old new
+      (pieces_of ended (spans_in ahead.haystack list) (length ahead.haystack) cut.is_over) old new
   pub number : count
-      ≡ length (pieces_of ended (spans_in a.haystack list) (length a.haystack) cut.is_over)
-  pub goes_on : ended_of cut.walk ≡ last_end ended (spans_in a.haystack list)
+      ≡ length (pieces_of ended (spans_in ahead.haystack list) (length ahead.haystack) cut.is_over)
+  pub goes_on : ended_of cut.walk ≡ last_end ended (spans_in ahead.haystack list)
 
 -- what is returned where the cutting of this text goes on
 pub record IsCutAnswer (re : Expression) (bytes : List ℕ) (old_cut cut : Cut)

@@ -10,11 +10,10 @@ use Rattle.regex_lite.specs.MatchList.{AreFirst}
 use Rattle.regex_lite.specs.Replacements.{AreGroupsOfEach}
 use Rattle.regex_lite_c.specs.Answers.{RefusesText}
 use Rattle.regex_lite_c.specs.Spans.{AreWritten}
-use Rattle.regex_lite_c.specs.Walks.{ended_of}
+use Rattle.regex_lite_c.specs.Walks.{WalkRoom, ended_of}
 use Rattle.regex_lite_c.specs.declared.answer.TheConstants.{NO, YES, NOT_TEXT, BAD_OFFSET}
 use Rattle.regex_lite_c.specs.declared.answer.TheConstants.{NO_ROOM, OUT_OF_MEMORY}
 use Rattle.regex_lite_c.specs.declared.types.Span.{Span}
-use Rattle.regex_lite_c.specs.declared.types.Walk.{Walk}
 
 -- the spans of all these groups in a row
 abbrev pub spans_of_all : List Groups → List (Option (ℕ × ℕ))
@@ -22,41 +21,39 @@ spans_of_all groups = flat_map (λ own. own.spans) groups
 
 -- the groups of this many matches, the first of those ahead, were written to the front of the room,
 -- and the walk goes on where the last of these matches ends
-pub record AreGroupsListed (a : Ahead) (walk : Walk) (old new : List Span) (count : ℕ)
-    : Type 0 where
+pub record AreGroupsListed (ahead : Ahead) (old new : WalkRoom Span) (count : ℕ) : Type 0 where
   pub list : List Found
-  pub are_first : AreFirst a.sought (chars a.haystack) count a.ended list
+  pub are_first : AreFirst ahead.sought (chars ahead.haystack) count ahead.ended list
   pub number : count ≡ length list
   pub front : List Groups
   pub last : Groups
-  pub each : AreGroupsOfEach a.sought a.haystack list (front ++ (last ∷ []))
-  pub written : AreWritten (spans_of_all (front ++ (last ∷ []))) old new
-  pub end : ended_of walk ≡ Some (whole_span last).1
+  pub each : AreGroupsOfEach ahead.sought ahead.haystack list (front ++ (last ∷ []))
+  pub written : AreWritten (spans_of_all (front ++ (last ∷ []))) old.room new.room
+  pub end : ended_of new.walk ≡ Some (whole_span last).1
 
 -- there is a next match, and the room is too small for its groups
 abbrev pub IsWithoutRoom : Ahead → (room : ℕ) → Type 0
-IsWithoutRoom a room =
-    (found : Found) × (groups : Groups) × ComesNext a (Some found)
-    × AreGroupsFound a.sought a.haystack found groups × (room < length groups.spans)
+IsWithoutRoom ahead room =
+    (found : Found) × (groups : Groups) × ComesNext ahead (Some found)
+    × AreGroupsFound ahead.sought ahead.haystack found groups × (room < length groups.spans)
 
 -- what is returned where groups are written as long as there is room
-pub record IsFilled (a : Ahead) (old_walk walk : Walk) (old new : List Span) (count answer : ℕ)
-    : Type 0 where
-  pub found : answer ≡ YES → AreGroupsListed a walk old new count × (0 < count)
-  pub none : answer ≡ NO → ComesNext a None
-  pub no_room : answer ≡ NO_ROOM → IsWithoutRoom a (length old)
-  pub same : answer ≢ YES → (walk ≡ old_walk) × (new ≡ old) × (count ≡ 0)
+pub record IsFilled (ahead : Ahead) (old new : WalkRoom Span) (count answer : ℕ) : Type 0 where
+  pub found : answer ≡ YES → AreGroupsListed ahead old new count × (0 < count)
+  pub none : answer ≡ NO → ComesNext ahead None
+  pub no_room : answer ≡ NO_ROOM → IsWithoutRoom ahead (length old.room)
+  pub same : answer ≢ YES → (new.walk ≡ old.walk) × (new.room ≡ old.room) × (count ≡ 0)
   pub one_of : (answer ≤ YES) ⊎ ((answer ≡ OUT_OF_MEMORY) ⊎ (answer ≡ NO_ROOM))
 
 -- what is returned where a walk over the groups of this text's matches goes on
-pub record IsGroupWalkAnswer (re : Expression) (bytes : List ℕ) (old_walk walk : Walk)
-    (old new : List Span) (count answer : ℕ) : Type 0 where
+pub record IsGroupWalkAnswer (re : Expression) (bytes : List ℕ) (old new : WalkRoom Span)
+    (count answer : ℕ) : Type 0 where
   pub found : answer ≡ YES
-      → AreGroupsListed (after re bytes (ended_of old_walk)) walk old new count × (0 < count)
-  pub none : answer ≡ NO → ComesNext (after re bytes (ended_of old_walk)) None
+      → AreGroupsListed (after re bytes (ended_of old.walk)) old new count × (0 < count)
+  pub none : answer ≡ NO → ComesNext (after re bytes (ended_of old.walk)) None
   pub no_room : answer ≡ NO_ROOM
-      → IsWithoutRoom (after re bytes (ended_of old_walk)) (length old)
-  pub same : answer ≢ YES → (walk ≡ old_walk) × (new ≡ old) × (count ≡ 0)
-  pub refused : RefusesText bytes (unwrap_or (ended_of old_walk) 0) answer
+      → IsWithoutRoom (after re bytes (ended_of old.walk)) (length old.room)
+  pub same : answer ≢ YES → (new.walk ≡ old.walk) × (new.room ≡ old.room) × (count ≡ 0)
+  pub refused : RefusesText bytes (unwrap_or (ended_of old.walk) 0) answer
   pub one_of : (answer ≤ YES) ⊎ ((answer ≡ NOT_TEXT) ⊎ ((answer ≡ BAD_OFFSET)
       ⊎ ((answer ≡ OUT_OF_MEMORY) ⊎ (answer ≡ NO_ROOM))))

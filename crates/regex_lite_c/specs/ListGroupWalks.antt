@@ -37,52 +37,63 @@ counts_of_each (answer ∷ matches) [] = []
 counts_of_each (answer ∷ matches) (groups ∷ list) =
     (answer.0, length groups.spans) ∷ counts_of_each matches list
 
+-- what a walk over groups writes to: how far it has gone, the room for the number of each match's
+-- pattern and how many groups that has, and the room for spans
+pub record ListGroupRoom : Type 0 where
+  pub walk : Walk
+  pub told : List ListGroups
+  pub room : List Span
+
+abbrev pub list_group_room : Walk → List ListGroups → List Span → ListGroupRoom
+list_group_room walk told room = record { walk = walk; told = told; room = room }
+
 -- the groups of this many matches, the first of those ahead, were written to the front of the room,
 -- with the number of each match's pattern and how many groups that has, and the walk goes on where
 -- the last of these matches ends
-pub record AreListGroupsListed (a : ListAhead) (walk : Walk) (old_told told : List ListGroups)
-    (old new : List Span) (count : ℕ) : Type 0 where
+pub record AreListGroupsListed (ahead : ListAhead) (old new : ListGroupRoom) (count : ℕ)
+    : Type 0 where
   pub list : List (ℕ × Found)
   pub are_first : AreFirstAnswers (λ (own : ℕ × Found). own.1)
-      (IsAnswerOfPatterns a.sought (chars a.haystack)) count a.ended list
+      (IsAnswerOfPatterns ahead.sought (chars ahead.haystack)) count ahead.ended list
   pub number : count ≡ length list
   pub front : List Groups
   pub last : Groups
-  pub each : AreListGroupsOfEach a.sought a.haystack list (front ++ (last ∷ []))
-  pub counts : AreWrittenAs counts_of (counts_of_each list (front ++ (last ∷ []))) old_told told
-  pub written : AreWritten (spans_of_all (front ++ (last ∷ []))) old new
-  pub end : ended_of walk ≡ Some (whole_span last).1
+  pub each : AreListGroupsOfEach ahead.sought ahead.haystack list (front ++ (last ∷ []))
+  pub counts : AreWrittenAs counts_of (counts_of_each list (front ++ (last ∷ []))) old.told
+      new.told
+  pub written : AreWritten (spans_of_all (front ++ (last ∷ []))) old.room new.room
+  pub end : ended_of new.walk ≡ Some (whole_span last).1
 
 -- there is a next match with this many groups, and the room is too small for them
 abbrev pub IsWithoutListRoom : ListAhead → (matches room need : ℕ) → Type 0
-IsWithoutListRoom a matches room need =
-    (answer : ℕ × Found) × (groups : Groups) × ListComesNext a (Some answer)
-    × AreGroupsFoundInList a.sought a.haystack answer.0 answer.1 groups
+IsWithoutListRoom ahead matches room need =
+    (answer : ℕ × Found) × (groups : Groups) × ListComesNext ahead (Some answer)
+    × AreGroupsFoundInList ahead.sought ahead.haystack answer.0 answer.1 groups
     × (need ≡ length groups.spans) × ((matches ≡ 0) ⊎ (room < need))
 
 -- what is returned where groups are written as long as there is room
-pub record IsListFilled (a : ListAhead) (old_walk walk : Walk) (old_told told : List ListGroups)
-    (old new : List Span) (count answer : ℕ) : Type 0 where
-  pub found : answer ≡ YES
-      → AreListGroupsListed a walk old_told told old new count × (0 < count)
-  pub none : answer ≡ NO → ListComesNext a None
-  pub no_room : answer ≡ NO_ROOM → IsWithoutListRoom a (length old_told) (length old) count
-  pub same : answer ≢ YES → (walk ≡ old_walk) × (told ≡ old_told) × (new ≡ old)
+pub record IsListFilled (ahead : ListAhead) (old new : ListGroupRoom) (count answer : ℕ)
+    : Type 0 where
+  pub found : answer ≡ YES → AreListGroupsListed ahead old new count × (0 < count)
+  pub none : answer ≡ NO → ListComesNext ahead None
+  pub no_room : answer ≡ NO_ROOM
+      → IsWithoutListRoom ahead (length old.told) (length old.room) count
+  pub same : answer ≢ YES → (new.walk ≡ old.walk) × (new.told ≡ old.told) × (new.room ≡ old.room)
   pub no_count : answer ≢ YES → answer ≢ NO_ROOM → count ≡ 0
   pub one_of : (answer ≤ YES) ⊎ ((answer ≡ OUT_OF_MEMORY) ⊎ (answer ≡ NO_ROOM))
 
 -- what is returned where a walk over the groups of the matches in this text goes on
-pub record IsListGroupWalkAnswer (list : List Expression) (bytes : List ℕ) (old_walk walk : Walk)
-    (old_told told : List ListGroups) (old new : List Span) (count answer : ℕ) : Type 0 where
+pub record IsListGroupWalkAnswer (list : List Expression) (bytes : List ℕ)
+    (old new : ListGroupRoom) (count answer : ℕ) : Type 0 where
   pub found : answer ≡ YES
-      → AreListGroupsListed (list_after list bytes (ended_of old_walk)) walk old_told told old new
-      count × (0 < count)
-  pub none : answer ≡ NO → ListComesNext (list_after list bytes (ended_of old_walk)) None
+      → AreListGroupsListed (list_after list bytes (ended_of old.walk)) old new count
+      × (0 < count)
+  pub none : answer ≡ NO → ListComesNext (list_after list bytes (ended_of old.walk)) None
   pub no_room : answer ≡ NO_ROOM
-      → IsWithoutListRoom (list_after list bytes (ended_of old_walk)) (length old_told)
-      (length old) count
-  pub same : answer ≢ YES → (walk ≡ old_walk) × (told ≡ old_told) × (new ≡ old)
+      → IsWithoutListRoom (list_after list bytes (ended_of old.walk)) (length old.told)
+      (length old.room) count
+  pub same : answer ≢ YES → (new.walk ≡ old.walk) × (new.told ≡ old.told) × (new.room ≡ old.room)
   pub no_count : answer ≢ YES → answer ≢ NO_ROOM → count ≡ 0
-  pub refused : RefusesText bytes (unwrap_or (ended_of old_walk) 0) answer
+  pub refused : RefusesText bytes (unwrap_or (ended_of old.walk) 0) answer
   pub one_of : (answer ≤ YES) ⊎ ((answer ≡ NOT_TEXT) ⊎ ((answer ≡ BAD_OFFSET)
       ⊎ ((answer ≡ OUT_OF_MEMORY) ⊎ (answer ≡ NO_ROOM))))

@@ -8,11 +8,10 @@ use Rattle.regex_lite.specs.Pieces.{found_span}
 use Rattle.regex_lite_c.specs.Answers.{RefusesText}
 use Rattle.regex_lite_c.specs.ListSpans.{list_span_of}
 use Rattle.regex_lite_c.specs.Spans.{AreWrittenAs}
-use Rattle.regex_lite_c.specs.Walks.{GoesOnAfterLast, ended_of}
+use Rattle.regex_lite_c.specs.Walks.{GoesOnAfterLast, WalkRoom, ended_of}
 use Rattle.regex_lite_c.specs.declared.answer.TheConstants.{NO, YES, NOT_TEXT, BAD_OFFSET}
 use Rattle.regex_lite_c.specs.declared.answer.TheConstants.{NO_ROOM, OUT_OF_MEMORY}
 use Rattle.regex_lite_c.specs.declared.list.types.ListSpan.{ListSpan}
-use Rattle.regex_lite_c.specs.declared.types.Walk.{Walk}
 
 -- the number of a pattern, and where its match starts and ends, as it is written
 abbrev pub told_of_answer : (haystack : List ℕ) → ℕ × Found → ℕ × (ℕ × ℕ)
@@ -20,23 +19,23 @@ told_of_answer haystack answer = (answer.0, found_span (chars haystack) answer.1
 
 -- these are the first of the matches ahead, as many as there is room for, or all where they are
 -- fewer; and they were written to the front of the room
-pub record AreListSpansListed (a : ListAhead) (old new : List ListSpan) (count : ℕ)
+pub record AreListSpansListed (ahead : ListAhead) (old new : List ListSpan) (count : ℕ)
     : Type 0 where
   pub list : List (ℕ × Found)
   pub are_first : AreFirstAnswers (λ (own : ℕ × Found). own.1)
-      (IsAnswerOfPatterns a.sought (chars a.haystack)) (length old) a.ended list
+      (IsAnswerOfPatterns ahead.sought (chars ahead.haystack)) (length old) ahead.ended list
   pub number : count ≡ length list
-  pub written : AreWrittenAs list_span_of (map (told_of_answer a.haystack) list) old new
+  pub written : AreWrittenAs list_span_of (map (told_of_answer ahead.haystack) list) old new
 
 -- what is returned where a walk over the matches of the patterns in this text goes on
-pub record IsListWalkAnswer (list : List Expression) (bytes : List ℕ) (old_walk walk : Walk)
-    (old new : List ListSpan) (count answer : ℕ) : Type 0 where
+pub record IsListWalkAnswer (list : List Expression) (bytes : List ℕ)
+    (old new : WalkRoom ListSpan) (count answer : ℕ) : Type 0 where
   pub found : answer ≡ YES
-      → AreListSpansListed (list_after list bytes (ended_of old_walk)) old new count
-      × GoesOnAfterLast (λ span. span.end) new count walk
-  pub none : answer ≡ NO → ListComesNext (list_after list bytes (ended_of old_walk)) None
-  pub same : answer ≢ YES → (walk ≡ old_walk) × (new ≡ old) × (count ≡ 0)
-  pub no_room : answer ≡ NO_ROOM → length old ≡ 0
-  pub refused : RefusesText bytes (unwrap_or (ended_of old_walk) 0) answer
+      → AreListSpansListed (list_after list bytes (ended_of old.walk)) old.room new.room count
+      × GoesOnAfterLast (λ span. span.end) new.room count new.walk
+  pub none : answer ≡ NO → ListComesNext (list_after list bytes (ended_of old.walk)) None
+  pub same : answer ≢ YES → (new.walk ≡ old.walk) × (new.room ≡ old.room) × (count ≡ 0)
+  pub no_room : answer ≡ NO_ROOM → length old.room ≡ 0
+  pub refused : RefusesText bytes (unwrap_or (ended_of old.walk) 0) answer
   pub one_of : (answer ≤ YES) ⊎ ((answer ≡ NOT_TEXT) ⊎ ((answer ≡ BAD_OFFSET)
       ⊎ ((answer ≡ OUT_OF_MEMORY) ⊎ (answer ≡ NO_ROOM))))

@@ -21,13 +21,21 @@ ended_of walk = cond walk.is_begun (Some walk.end) None
 abbrev pub told_of : (haystack : List ℕ) → Found → Option (ℕ × ℕ)
 told_of haystack found = Some (found_span (chars haystack) found)
 
+-- what a walk writes to: how far it has gone, and the caller's room
+pub record WalkRoom (X : Type 0) : Type 0 where
+  pub walk : Walk
+  pub room : List X
+
+abbrev pub walk_room : {X : Type 0} → Walk → List X → WalkRoom X
+walk_room walk room = record { walk = walk; room = room }
+
 -- these are the first of the matches ahead, as many as there is room for, or all where they are
 -- fewer; and they were written to the front of the room
-pub record AreListed (a : Ahead) (old new : List Span) (count : ℕ) : Type 0 where
+pub record AreListed (ahead : Ahead) (old new : List Span) (count : ℕ) : Type 0 where
   pub list : List Found
-  pub are_first : AreFirst a.sought (chars a.haystack) (length old) a.ended list
+  pub are_first : AreFirst ahead.sought (chars ahead.haystack) (length old) ahead.ended list
   pub number : count ≡ length list
-  pub written : AreWritten (map (told_of a.haystack) list) old new
+  pub written : AreWritten (map (told_of ahead.haystack) list) old new
 
 -- the walk goes on where the last of this many ends
 pub record GoesOnAfterLast {X : Type 0} (end_of : X → ℕ) (written : List X) (count : ℕ)
@@ -40,13 +48,14 @@ abbrev pub GoesOnAfter : List Span → (count : ℕ) → Walk → Type 0
 GoesOnAfter spans count walk = GoesOnAfterLast (λ span. span.end) spans count walk
 
 -- what is returned where a walk over the matches of this text goes on
-pub record IsWalkAnswer (re : Expression) (bytes : List ℕ) (old_walk walk : Walk)
-    (old new : List Span) (count answer : ℕ) : Type 0 where
+pub record IsWalkAnswer (re : Expression) (bytes : List ℕ) (old new : WalkRoom Span)
+    (count answer : ℕ) : Type 0 where
   pub found : answer ≡ YES
-      → AreListed (after re bytes (ended_of old_walk)) old new count × GoesOnAfter new count walk
-  pub none : answer ≡ NO → ComesNext (after re bytes (ended_of old_walk)) None
-  pub same : answer ≢ YES → (walk ≡ old_walk) × (new ≡ old) × (count ≡ 0)
-  pub no_room : answer ≡ NO_ROOM → length old ≡ 0
-  pub refused : RefusesText bytes (unwrap_or (ended_of old_walk) 0) answer
+      → AreListed (after re bytes (ended_of old.walk)) old.room new.room count
+      × GoesOnAfter new.room count new.walk
+  pub none : answer ≡ NO → ComesNext (after re bytes (ended_of old.walk)) None
+  pub same : answer ≢ YES → (new.walk ≡ old.walk) × (new.room ≡ old.room) × (count ≡ 0)
+  pub no_room : answer ≡ NO_ROOM → length old.room ≡ 0
+  pub refused : RefusesText bytes (unwrap_or (ended_of old.walk) 0) answer
   pub one_of : (answer ≤ YES) ⊎ ((answer ≡ NOT_TEXT) ⊎ ((answer ≡ BAD_OFFSET)
       ⊎ ((answer ≡ OUT_OF_MEMORY) ⊎ (answer ≡ NO_ROOM))))

@@ -2,6 +2,7 @@
 ghost use Rattle.std.specs.Prelude.{◌≡◌, ◌<◌, IfSome, None};
 ghost use Rattle.regex_lite.specs.Ahead.{ahead_of};
 ghost use Rattle.regex_lite_c.specs.GroupWalks.{IsFilled, IsGroupWalkAnswer};
+ghost use Rattle.regex_lite_c.specs.Walks.{walk_room};
 
 use crate::answer::{NO, NO_ROOM, NOTHING_HELD, OUT_OF_MEMORY, YES};
 use crate::groups::put_groups;
@@ -29,8 +30,8 @@ pub extern "C" fn regex_lite_captures_all(
     ensures same { handle.new.value ≡ handle.old.value }
     ensures nothing_held { handle.old.value ≡ None → (result ≡ NOTHING_HELD)
         × (walk.new ≡ walk.old) × (spans.new ≡ spans.old) × (count.new ≡ 0) }
-    ensures answer { IfSome handle.old.value (λ re. IsGroupWalkAnswer re text.now walk.old walk.new
-        spans.old spans.new count.new result) }
+    ensures answer { IfSome handle.old.value (λ re. IsGroupWalkAnswer re text.now
+        (walk_room walk.old spans.old) (walk_room walk.new spans.new) count.new result) }
 {
     *count = 0;
     let Some(regex) = handle.take(alloc) else {
@@ -50,8 +51,8 @@ fn captures_all(
     count: &mut usize,
 ) -> u32
     requires { count.old ≡ 0 }
-    ensures { IsGroupWalkAnswer regex.now text.now walk.old walk.new spans.old spans.new count.new
-        result }
+    ensures { IsGroupWalkAnswer regex.now text.now (walk_room walk.old spans.old)
+        (walk_room walk.new spans.new) count.new result }
 {
     let ended = walk.ended();
     let text = match text_from(text, ended.unwrap_or(0)) {
@@ -73,8 +74,8 @@ fn fill_groups(
 ) -> u32
     requires all { (ahead_of items).limit ≡ None }
     requires none { count.old ≡ 0 }
-    ensures { IsFilled (ahead_of items.entry) walk.old walk.new spans.old spans.new count.new
-        result }
+    ensures { IsFilled (ahead_of items.entry) (walk_room walk.old spans.old)
+        (walk_room walk.new spans.new) count.new result }
 {
     let mut used = 0;
     for item in items {

@@ -1,7 +1,7 @@
 //! All matches of a text, some at a time.
 ghost use Rattle.std.specs.Prelude.{◌≡◌, ◌<◌, ◌≤◌, IfSome, None, length};
 ghost use Rattle.regex_lite.specs.Ahead.{ComesNext, ahead_of};
-ghost use Rattle.regex_lite_c.specs.Walks.{AreListed, GoesOnAfter, IsWalkAnswer};
+ghost use Rattle.regex_lite_c.specs.Walks.{AreListed, GoesOnAfter, IsWalkAnswer, walk_room};
 
 use crate::answer::{NO, NO_ROOM, NOTHING_HELD, OUT_OF_MEMORY, YES};
 use crate::handle::Handle;
@@ -29,8 +29,8 @@ pub extern "C" fn regex_lite_find_all(
     ensures same { handle.new.value ≡ handle.old.value }
     ensures nothing_held { handle.old.value ≡ None → (result ≡ NOTHING_HELD)
         × (walk.new ≡ walk.old) × (spans.new ≡ spans.old) × (count.new ≡ 0) }
-    ensures answer { IfSome handle.old.value (λ re. IsWalkAnswer re text.now walk.old walk.new
-        spans.old spans.new count.new result) }
+    ensures answer { IfSome handle.old.value (λ re. IsWalkAnswer re text.now
+        (walk_room walk.old spans.old) (walk_room walk.new spans.new) count.new result) }
 {
     *count = 0;
     let Some(regex) = handle.take(alloc) else {
@@ -50,8 +50,8 @@ fn find_all(
     count: &mut usize,
 ) -> u32
     requires { count.old ≡ 0 }
-    ensures { IsWalkAnswer regex.now text.now walk.old walk.new spans.old spans.new count.new
-        result }
+    ensures { IsWalkAnswer regex.now text.now (walk_room walk.old spans.old)
+        (walk_room walk.new spans.new) count.new result }
 {
     let ended = walk.ended();
     let text = match text_from(text, ended.unwrap_or(0)) {

@@ -10,6 +10,7 @@ use Rattle.regex_lite.specs.Items.{AreGroupsFound}
 use Rattle.regex_lite.specs.MatchList.{AreFirst}
 use Rattle.regex_lite.specs.Replacements.{AreGroupsOfEach}
 use Rattle.regex_lite_c.specs.GroupWalks.{AreGroupsListed, IsFilled, IsWithoutRoom}
+use Rattle.regex_lite_c.specs.Walks.{walk_room}
 use Rattle.regex_lite_c.proofs.group_walk.StageLemmas.{AreSoFar, Searched, Stage}
 use Rattle.regex_lite_c.proofs.walk.WalkLemmas.{lists_all}
 
@@ -37,7 +38,8 @@ of_regex = record {
 
 -- those that were written are the first of those ahead
 listed : (start now : Stage Expression) → AreSoFar of_regex start now → 0 < now.count
-    → AreGroupsListed start.ahead now.walk start.spans now.spans now.count
+    → AreGroupsListed start.ahead (walk_room start.walk start.spans) (walk_room now.walk now.spans)
+    now.count
 listed start now so some =
     let ahead = start.ahead in
     let ends = so.some some in
@@ -59,7 +61,8 @@ listed start now so some =
 -- what is returned where a walk that began there ends here
 abbrev pub IsAnswer : (start now : Stage Expression) → (answer : ℕ) → Type 0
 IsAnswer start now answer =
-    IsFilled start.ahead start.walk now.walk start.spans now.spans now.count answer
+    IsFilled start.ahead (walk_room start.walk start.spans) (walk_room now.walk now.spans) now.count
+    answer
 
 -- why a walk ends here: none is left, memory ran out, or there is too little room
 abbrev pub IsEnd : (now : Stage Expression) → (answer : ℕ) → Type 0

@@ -1,8 +1,8 @@
 -- Patterns that are cut out of bytes, and the first of them that is refused.
-use Rattle.regex_lite_c.proofs.Common.{◌≡◌, ℕ, zero, suc, ◌+◌, ◌<◌, ◌≤◌, false, ◌⊎◌, List, [], ◌∷◌}
+use Rattle.regex_lite_c.proofs.Common.{◌≡◌, ℕ, zero, suc, ◌+◌, ◌<◌, false, ◌⊎◌, List, [], ◌∷◌}
 use Rattle.regex_lite_c.proofs.Common.{◌++◌, map, length, get_or, drop, slice_get, Some, IsUtf8}
 use Rattle.regex_lite_c.proofs.Common.{option_map, unwrap_or, sym, refl, ap, ◌∙◌, subst, inl, inr}
-use Rattle.regex_lite_c.proofs.Common.{append_assoc, append-nil, arith, length-append, cases_lt}
+use Rattle.regex_lite_c.proofs.Common.{append_assoc, arith, length-append, cases_lt}
 use Rattle.regex_lite_c.proofs.Common.{length-map, map-append, IsAccepted, settings_of_all}
 use Rattle.regex_lite_c.proofs.Common.{settings_of_source, IsFirstOtherBytes, settings_of}
 use Rattle.std.proofs.Common.{Err, add-one, drop-cons, take}

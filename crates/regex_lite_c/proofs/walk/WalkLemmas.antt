@@ -104,7 +104,8 @@ written_more view told one old now n s is number below same =
     let longer = length-append told (one ∷ []) in
     record {
       each = λ k lt. elim (cases_lt k n) [
-        | inl before ↦ ap (option_map view) (set_elsewhere now n k s (λ e. omega (arith, e, before)))
+        | inl before ↦
+            ap (option_map view) (set_elsewhere now n k s (λ e. omega (arith, e, before)))
             ∙ is.each k (omega (arith, number, before))
             ∙ sym (get_left told (one ∷ []) k (omega (arith, number, before)))
         | inr after ↦

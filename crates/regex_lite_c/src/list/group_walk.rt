@@ -2,6 +2,7 @@
 ghost use Rattle.std.specs.Prelude.{◌≡◌, ◌<◌, IfSome, None};
 ghost use Rattle.regex_lite.specs.ListAhead.{list_ahead_of};
 ghost use Rattle.regex_lite_c.specs.ListGroupWalks.{IsListFilled, IsListGroupWalkAnswer};
+ghost use Rattle.regex_lite_c.specs.ListGroupWalks.{list_group_room};
 
 use crate::answer::{NO, NO_ROOM, NOTHING_HELD, OUT_OF_MEMORY, YES};
 use crate::group_walk::or_yes;
@@ -35,8 +36,9 @@ pub extern "C" fn regex_lite_list_captures_all(
     ensures nothing_held { handle.old.value ≡ None → (result ≡ NOTHING_HELD)
         × (walk.new ≡ walk.old) × (told.new ≡ told.old) × (spans.new ≡ spans.old)
         × (count.new ≡ 0) }
-    ensures answer { IfSome handle.old.value (λ list. IsListGroupWalkAnswer list text.now walk.old
-        walk.new told.old told.new spans.old spans.new count.new result) }
+    ensures answer { IfSome handle.old.value (λ list. IsListGroupWalkAnswer list text.now
+        (list_group_room walk.old told.old spans.old)
+        (list_group_room walk.new told.new spans.new) count.new result) }
 {
     *count = 0;
     let Some(list) = handle.take(alloc) else {
@@ -57,8 +59,9 @@ fn captures_all(
     count: &mut usize,
 ) -> u32
     requires { count.old ≡ 0 }
-    ensures { IsListGroupWalkAnswer list.now text.now walk.old walk.new told.old told.new spans.old
-        spans.new count.new result }
+    ensures { IsListGroupWalkAnswer list.now text.now
+        (list_group_room walk.old told.old spans.old)
+        (list_group_room walk.new told.new spans.new) count.new result }
 {
     let ended = walk.ended();
     let text = match text_from(text, ended.unwrap_or(0)) {
@@ -81,8 +84,8 @@ fn fill_groups(
 ) -> u32
     requires all { (list_ahead_of items).limit ≡ None }
     requires none { count.old ≡ 0 }
-    ensures { IsListFilled (list_ahead_of items.entry) walk.old walk.new told.old told.new
-        spans.old spans.new count.new result }
+    ensures { IsListFilled (list_ahead_of items.entry) (list_group_room walk.old told.old spans.old)
+        (list_group_room walk.new told.new spans.new) count.new result }
 {
     let mut used = 0;
     for item in items {

@@ -2,7 +2,7 @@
 ghost use Rattle.std.specs.Prelude.{◌≡◌, ◌<◌, ◌≤◌, IfSome, None, length};
 ghost use Rattle.regex_lite.specs.ListAhead.{ListComesNext, list_ahead_of};
 ghost use Rattle.regex_lite_c.specs.ListWalks.{AreListSpansListed, IsListWalkAnswer};
-ghost use Rattle.regex_lite_c.specs.Walks.{GoesOnAfterLast};
+ghost use Rattle.regex_lite_c.specs.Walks.{GoesOnAfterLast, walk_room};
 
 use crate::answer::{NO, NO_ROOM, NOTHING_HELD, OUT_OF_MEMORY, YES};
 use crate::list::handle::ListHandle;
@@ -31,8 +31,8 @@ pub extern "C" fn regex_lite_list_find_all(
     ensures same { handle.new.value ≡ handle.old.value }
     ensures nothing_held { handle.old.value ≡ None → (result ≡ NOTHING_HELD)
         × (walk.new ≡ walk.old) × (spans.new ≡ spans.old) × (count.new ≡ 0) }
-    ensures answer { IfSome handle.old.value (λ list. IsListWalkAnswer list text.now walk.old
-        walk.new spans.old spans.new count.new result) }
+    ensures answer { IfSome handle.old.value (λ list. IsListWalkAnswer list text.now
+        (walk_room walk.old spans.old) (walk_room walk.new spans.new) count.new result) }
 {
     *count = 0;
     let Some(list) = handle.take(alloc) else {
@@ -52,8 +52,8 @@ fn find_all(
     count: &mut usize,
 ) -> u32
     requires { count.old ≡ 0 }
-    ensures { IsListWalkAnswer list.now text.now walk.old walk.new spans.old spans.new count.new
-        result }
+    ensures { IsListWalkAnswer list.now text.now (walk_room walk.old spans.old)
+        (walk_room walk.new spans.new) count.new result }
 {
     let ended = walk.ended();
     let text = match text_from(text, ended.unwrap_or(0)) {

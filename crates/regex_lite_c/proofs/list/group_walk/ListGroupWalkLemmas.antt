@@ -11,7 +11,7 @@ use Rattle.regex_lite.specs.ListAhead.{AreGroupsFoundInList}
 use Rattle.regex_lite.specs.MatchList.{AreFirstAnswers}
 use Rattle.regex_lite_c.specs.ListGroupWalks.{AreListGroupsListed, AreListGroupsOfEach}
 use Rattle.regex_lite_c.specs.ListGroupWalks.{IsListFilled, IsWithoutListRoom, counts_of}
-use Rattle.regex_lite_c.specs.ListGroupWalks.{counts_of_each}
+use Rattle.regex_lite_c.specs.ListGroupWalks.{ListGroupRoom, counts_of_each, list_group_room}
 use Rattle.regex_lite_c.proofs.group_walk.GroupWalkLemmas.{some_groups}
 use Rattle.regex_lite_c.proofs.group_walk.StageLemmas.{AreSoFar, IsOneMore, Searched, Stage}
 use Rattle.regex_lite_c.proofs.group_walk.StageLemmas.{more_so_far, none_so_far}
@@ -49,6 +49,10 @@ of_patterns = record {
 pub record ListStage : Type 0 where
   pub stage : Stage (List Expression)
   pub told : List ListGroups
+
+-- what it writes to
+abbrev pub room_of : ListStage → ListGroupRoom
+room_of at = list_group_room at.stage.walk at.told at.stage.spans
 
 -- since the start the groups of these matches were written, with the pattern and count of each
 pub record IsListSoFar (start now : ListStage) : Type 0 where
@@ -129,8 +133,7 @@ one_more start old new sofar is =
 
 -- those that were written are the first of those ahead
 listed : (start now : ListStage) → IsListSoFar start now → 0 < now.stage.count
-    → AreListGroupsListed start.stage.ahead now.stage.walk start.told now.told start.stage.spans
-    now.stage.spans now.stage.count
+    → AreListGroupsListed start.stage.ahead (room_of start) (room_of now) now.stage.count
 listed start now sofar some =
     let so = sofar.so in
     let ahead = start.stage.ahead in
@@ -159,8 +162,7 @@ listed start now sofar some =
 -- what is returned where a walk that began there ends here, with this number written
 abbrev pub IsAnswer : (start now : ListStage) → (count answer : ℕ) → Type 0
 IsAnswer start now count answer =
-    IsListFilled start.stage.ahead start.stage.walk now.stage.walk start.told now.told
-    start.stage.spans now.stage.spans count answer
+    IsListFilled start.stage.ahead (room_of start) (room_of now) count answer
 
 -- if there are any, the answer is yes
 filled : (start now : ListStage) (answer : ℕ) → IsListSoFar start now → 0 < now.stage.count

@@ -1,24 +1,24 @@
 use Rattle.regex_lite_c.proofs.Common.{◌≡◌, ℕ, zero, suc, ◌<◌, List, None, IsUtf8, IsCharBoundary}
 use Rattle.regex_lite_c.proofs.Common.{unwrap_or, refl, ap, ◌∙◌, subst, inl, arith, Expression}
-use Rattle.regex_lite_c.proofs.Common.{ListComesNext, ended_of, NO, YES, Walk}
+use Rattle.regex_lite_c.proofs.Common.{ListComesNext, ended_of, NO, YES}
 use Rattle.regex_lite.specs.ListAhead.{list_after}
 use Rattle.regex_lite_c.specs.ListWalks.{AreListSpansListed, IsListWalkAnswer}
-use Rattle.regex_lite_c.specs.Walks.{GoesOnAfterLast}
+use Rattle.regex_lite_c.specs.Walks.{GoesOnAfterLast, WalkRoom, walk_room}
 use Rattle.regex_lite_c.specs.declared.list.types.ListSpan.{ListSpan}
 use Rattle.regex_lite_c.proofs.AnswerLemmas.{nothing_refused}
 use Rattle.regex_lite_c.proofs.list.walk.find_all.Goals as goal
 
 -- with a text that can be searched from there on, what was listed is the answer
-walk_told : (list : List Expression) (bytes : List ℕ) (old_walk walk : Walk)
-    (old new : List ListSpan) (count answer : ℕ)
-    → IsUtf8 bytes → IsCharBoundary bytes (unwrap_or (ended_of old_walk) 0)
+walk_told : (list : List Expression) (bytes : List ℕ) (old new : WalkRoom ListSpan)
+    (count answer : ℕ)
+    → IsUtf8 bytes → IsCharBoundary bytes (unwrap_or (ended_of old.walk) 0)
     → (0 < count → (answer ≡ YES)
-    × AreListSpansListed (list_after list bytes (ended_of old_walk)) old new count
-    × GoesOnAfterLast (λ span. span.end) new count walk)
-    → (count ≡ 0 → (answer ≡ NO) × ListComesNext (list_after list bytes (ended_of old_walk)) None
-    × (walk ≡ old_walk) × (new ≡ old))
-    → IsListWalkAnswer list bytes old_walk walk old new count answer
-walk_told list bytes old_walk walk old new zero answer utf8 boundary some none =
+    × AreListSpansListed (list_after list bytes (ended_of old.walk)) old.room new.room count
+    × GoesOnAfterLast (λ span. span.end) new.room count new.walk)
+    → (count ≡ 0 → (answer ≡ NO) × ListComesNext (list_after list bytes (ended_of old.walk)) None
+    × (new.walk ≡ old.walk) × (new.room ≡ old.room))
+    → IsListWalkAnswer list bytes old new count answer
+walk_told list bytes old new zero answer utf8 boundary some none =
     let told = none refl in
     let is = told.0 in
     record {
@@ -26,11 +26,11 @@ walk_told list bytes old_walk walk old new zero answer utf8 boundary some none =
       none = λ _. told.1;
       same = λ _. (told.2, told.3, refl);
       no_room = λ wrong. absurd (omega (arith, is, wrong));
-      refused = nothing_refused bytes (unwrap_or (ended_of old_walk) 0) answer utf8 boundary
+      refused = nothing_refused bytes (unwrap_or (ended_of old.walk) 0) answer utf8 boundary
           (inl (omega (arith, is)));
       one_of = inl (omega (arith, is));
     }
-walk_told list bytes old_walk walk old new (suc n) answer utf8 boundary some none =
+walk_told list bytes old new (suc n) answer utf8 boundary some none =
     let told = some (omega arith) in
     let is = told.0 in
     record {
@@ -38,7 +38,7 @@ walk_told list bytes old_walk walk old new (suc n) answer utf8 boundary some non
       none = λ wrong. absurd (omega (arith, is, wrong));
       same = λ wrong. absurd (wrong is);
       no_room = λ wrong. absurd (omega (arith, is, wrong));
-      refused = nothing_refused bytes (unwrap_or (ended_of old_walk) 0) answer utf8 boundary
+      refused = nothing_refused bytes (unwrap_or (ended_of old.walk) 0) answer utf8 boundary
           (inl (omega (arith, is)));
       one_of = inl (omega (arith, is));
     }
@@ -53,8 +53,9 @@ returns-in-Ok-find_iter_after c =
     let none = c.write_next.ensures.none in
     let is = c.in-Ok-find_iter_after.ensures.ahead
     ∙ ap (λ b. list_after list b c.ended-ended.result) text.0 ∙ ap (list_after list bytes) ended in
-    walk_told list bytes c.args.walk.now c.write_next.new.walk c.args.spans.now
-    c.write_next.new.spans c.write_next.new.count c.write_next.result text.1
+    walk_told list bytes (walk_room c.args.walk.now c.args.spans.now)
+    (walk_room c.write_next.new.walk c.write_next.new.spans) c.write_next.new.count
+    c.write_next.result text.1
     (subst (IsCharBoundary bytes) (c.unwrap_or.ensures ∙ ap (λ e. unwrap_or e 0) ended) text.2)
     (λ some. let told = found some in (
       told.0,
