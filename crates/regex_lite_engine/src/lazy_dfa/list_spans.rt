@@ -1,7 +1,7 @@
 //! Searches for several patterns, without slots, that find by remembered turns where a match starts
 //! and of which pattern it is. A search for that pattern alone finds the slots.
 ghost use Rattle.std.specs.Prelude.{◌≡◌, ℕ, IfSome, IsCharBoundary, None, Some, chars, length};
-ghost use Rattle.regex_lite_engine.specs.Graph.StoredList.{StoredList, table_of_list};
+ghost use Rattle.regex_lite_engine.specs.Graph.StoredList.{table_of_list};
 ghost use Rattle.regex_lite_engine.specs.LazyDfa.Remembering.{FindsSpansInList, IsOriginInList};
 ghost use Rattle.regex_lite_engine.specs.LazyDfa.Remembering.{RemembersFor};
 ghost use Rattle.regex_lite_engine.specs.LazyDfa.Scanning.{best_told};
@@ -15,7 +15,6 @@ ghost use Rattle.regex_lite_engine.specs.Pikevm.Searching.{IsBetween, IsFresh};
 
 use crate::lazy_dfa::automaton::LazyDfa;
 use crate::lazy_dfa::run::Progress;
-use crate::lazy_dfa::trial::Trial;
 use crate::nfa::list::GraphList;
 use crate::pikevm::beginning::Origin;
 use crate::pikevm::best::span_of;
@@ -31,7 +30,6 @@ use std::alloc::Global;
 pub(crate) struct ListSpanSearcher {
     dfa: LazyDfa,
     cache: Cache<Origin>,
-    trial: Trial,
 }
 
 impl ListSpanSearcher {
@@ -48,11 +46,7 @@ impl ListSpanSearcher {
         let Ok(cache) = cache_for(alloc, list.table(), 0) else {
             return None;
         };
-        let searcher = ListSpanSearcher {
-            dfa,
-            cache,
-            trial: Trial::new(),
-        };
+        let searcher = ListSpanSearcher { dfa, cache };
         Box::new(alloc, searcher).ok()
     }
 
@@ -123,8 +117,7 @@ fn went(found: Option<(Origin, usize)>, haystack: &str) -> usize {
 }
 
 /// Where the first match at or after this offset starts, and the number of its pattern, if there is
-/// a match. None where remembered turns aren't asked for it. An automaton that is given up is
-/// dropped.
+/// a match. None if there is no automaton, or if it is given up: then it is dropped.
 pub(crate) fn find_origin(
     spans: &mut Option<Box<ListSpanSearcher>>,
     list: &GraphList,
@@ -144,9 +137,6 @@ pub(crate) fn find_origin(
     let Some(searcher) = spans else {
         return None;
     };
-    if searcher.trial.is_without() {
-        return None;
-    }
     match searcher.find(list, haystack, start) {
         Some(Some((origin, _))) => Some(Some(origin)),
         Some(None) => Some(None),
@@ -180,30 +170,4 @@ pub(crate) fn find_slots(
     run(cache, &mut pattern, haystack, origin.at);
     let span = span_of(cache.best.found())?;
     Some((number, span))
-}
-
-/// Counts the match, if one was found, and the tries of the search for its slots, until enough were
-/// found. An automaton that doesn't pay is dropped.
-pub(crate) fn weigh(
-    spans: &mut Option<Box<ListSpanSearcher>>,
-    found: Option<(usize, (usize, usize))>,
-    tried: u128,
-)
-    ensures { (list : StoredList)
-        → IfSome spans.old (λ boxed. FindsSpansInList list boxed.value)
-        → IfSome spans.new (λ boxed. FindsSpansInList list boxed.value) }
-{
-    let Some((_, (start, end))) = found else {
-        return;
-    };
-    let Some(searcher) = spans else {
-        return;
-    };
-    if searcher.trial.is_over() {
-        return;
-    }
-    searcher.trial.count(end.saturating_sub(start), tried);
-    if !searcher.trial.pays() {
-        *spans = None;
-    }
 }

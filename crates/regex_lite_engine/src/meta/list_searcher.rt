@@ -14,7 +14,7 @@ ghost use Rattle.regex_lite_engine.specs.Search.Outcomes.{IsSpanOutcomeOfList};
 ghost use Rattle.regex_lite_engine.specs.Pikevm.Searching.{GoesOnIn, IsBetween, IsFresh};
 
 use crate::lazy_dfa::automaton::LazyDfa;
-use crate::lazy_dfa::list_spans::{ListSpanSearcher, find_origin, find_slots, weigh};
+use crate::lazy_dfa::list_spans::{ListSpanSearcher, find_origin, find_slots};
 use crate::lazy_dfa::remembering::{pays_for_list, pays_for_list_with_slots};
 use crate::nfa::list::GraphList;
 use crate::pikevm::beginning::Origin;
@@ -126,14 +126,10 @@ impl<'g> ListSearcher<'g> {
             return numbered(found);
         }
         if let Some(found) = find_origin(&mut self.spans, self.graph, haystack, start) {
-            let found = find_slots(self.graph, &mut self.cache, haystack, found?);
-            weigh(&mut self.spans, found, self.cache.walk.steps.tried());
-            return found;
+            return find_slots(self.graph, &mut self.cache, haystack, found?);
         }
         run(&mut self.cache, &mut self.patterns, haystack, start);
-        let found = self.cache.best.numbered_span();
-        weigh(&mut self.spans, found, self.cache.walk.steps.tried());
-        found
+        self.cache.best.numbered_span()
     }
 
     /// The slots of the last match that was found, none of them marked before the first. Slots 2k

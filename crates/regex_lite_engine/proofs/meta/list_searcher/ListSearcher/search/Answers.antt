@@ -81,9 +81,9 @@ returns-in-Some-find_origin-clause-found c = λ trees regular is.
     let of_list =
     subst (λ (z : ListSearching). IsGraphOfList trees z.graph) (sym c.self.view_is) is in
     list_span_told trees list of_list haystack c.args.start
-    (omega (arith, c.if-start-haystack.false)) regular c.find_slots-found.result
-    c.find_slots-found.new.cache.best.row
-    (c.find_slots-found.ensures.found s
+    (omega (arith, c.if-start-haystack.false)) regular c.find_slots.result
+    c.find_slots.new.cache.best.row
+    (c.find_slots.ensures.found s
     (subst (λ found. IfSome found (IsOriginInList list (chars haystack) s)) c.in_ok-found.was
     c.in-Some-find_origin.ensures.found))
 
@@ -100,7 +100,7 @@ returns-clause-found c = λ trees regular is.
     (subst (λ (entries : List ℕ). IsBestOutcomeOf (table_of_list c.self.inside.patterns.list.now)
     (chars haystack) entries s best) c.self.invariant.2 c.run.ensures.found) in
     list_span_told trees list of_list haystack c.args.start
-    (omega (arith, c.if-start-haystack.false)) regular c.numbered_span-found.result
+    (omega (arith, c.if-start-haystack.false)) regular c.numbered_span.result
     c.run.new.cache.best.row
     (subst (λ own. IsBestOutcomeOf (table_of_list list) (chars haystack) list.entries s own)
-    c.numbered_span-found.ensures found)
+    c.numbered_span.ensures found)
