@@ -26,7 +26,8 @@ const SPARE: usize = 8192;
 /// bytes, 64 for each.
 const MOST_PLACES: usize = 85;
 
-/// In a list of this number of places it takes at most 48 KB.
+/// In a list of this number of places it takes at most 48 KB. Larger lists often have states that
+/// find no room.
 const MOST_PLACES_OF_LIST: usize = 1024;
 
 /// Whether it pays to remember the turns of searches over this number of bytes. By measurement it
@@ -75,8 +76,10 @@ pub(crate) fn pays_for_list(list: &GraphList, bytes: usize) -> bool {
     bytes >= LONG_BETWEEN_MATCHES && list.heads().begin_often()
 }
 
-/// Whether it pays if slots are kept. The automaton then finds where matches start, in memory of
-/// its own, which stays small in a graph of few places.
+/// Whether it pays if slots are kept. The automaton then finds where a match starts and of which
+/// pattern it is, in memory of its own, and a search for that pattern alone finds the slots. By
+/// measurement it takes from a hundredth of the instructions, where all patterns are tried at most
+/// characters, to 1.04 times as many, where each match is empty or a character.
 pub(crate) fn pays_for_list_with_slots(list: &GraphList, bytes: usize) -> bool {
     list.table().places() <= MOST_PLACES_OF_LIST && pays_for_list(list, bytes)
 }
