@@ -1,7 +1,7 @@
-use Rattle.regex_lite_engine.proofs.Common.{◌≡◌, true, [], slice_get, Some, sym, refl, ap, ◌∙◌, subst}
-use Rattle.regex_lite_engine.proofs.Common.{slice_get_within, Automaton, ways_of, searching_after}
-use Rattle.regex_lite_engine.proofs.Common.{Suits, Remembers, class_of, side_of, IsIn, best_of}
-use Rattle.regex_lite_engine.proofs.Common.{◌<◌, classes_in}
+use Rattle.regex_lite_engine.proofs.Common.{◌≡◌, true, [], slice_get, Some, sym, refl, ap, ◌∙◌}
+use Rattle.regex_lite_engine.proofs.Common.{subst, slice_get_within, Automaton, ways_of, Suits}
+use Rattle.regex_lite_engine.proofs.Common.{searching_after, Remembers, class_of, side_of}
+use Rattle.regex_lite_engine.proofs.Common.{IsIn, best_of, ◌<◌, classes_in}
 use Rattle.regex_lite_engine.proofs.lazy_dfa.LearnLemmas.{learned, remembers_settled}
 use Rattle.regex_lite_engine.proofs.lazy_dfa.LearnLemmas.{still_in, suits_after}
 use Rattle.regex_lite_engine.proofs.lazy_dfa.RememberedLemmas.{remembers_more}

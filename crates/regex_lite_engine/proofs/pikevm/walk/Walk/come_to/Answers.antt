@@ -1,6 +1,6 @@
-use Rattle.regex_lite_engine.proofs.Common.{◌≡◌, ◌+◌, ◌<◌, true, [], ◌∷◌, map, length, if◌then◌else◌}
-use Rattle.regex_lite_engine.proofs.Common.{sym, ap, subst, arith, rules, length-map, kept_back}
-use Rattle.regex_lite_engine.proofs.Common.{place_of, places_of, LeadsBelow}
+use Rattle.regex_lite_engine.proofs.Common.{◌≡◌, ◌+◌, ◌<◌, true, [], ◌∷◌, map, length, sym}
+use Rattle.regex_lite_engine.proofs.Common.{if◌then◌else◌, ap, subst, arith, rules, length-map}
+use Rattle.regex_lite_engine.proofs.Common.{kept_back, place_of, places_of, LeadsBelow}
 use Rattle.regex_lite_engine.specs.declared.pikevm.enter.Onward as code
 use Rattle.regex_lite_engine.specs.Pikevm.Entering.{completes, onto, Enters}
 use Rattle.regex_lite_engine.specs.Pikevm.Machine.{explore, State}
