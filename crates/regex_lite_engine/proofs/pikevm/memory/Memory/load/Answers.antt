@@ -3,7 +3,8 @@ use Rattle.regex_lite_engine.proofs.Common.{refl, ap, ◌∙◌, arith, length-s
 use Rattle.regex_lite_engine.proofs.Common.{place_on, start_on, row_on, start_told, thread_at}
 use Rattle.regex_lite_engine.proofs.Common.{untold}
 use Rattle.regex_lite_engine.specs.Pikevm.Machine.{State}
-use Rattle.regex_lite_engine.proofs.pikevm.memory.CellLemmas.{row_fits, told_at, state_is}
+use Rattle.regex_lite_engine.proofs.pikevm.memory.CellLemmas.{row_behind_first, row_fits, told_at}
+use Rattle.regex_lite_engine.proofs.pikevm.memory.CellLemmas.{state_is}
 use Rattle.regex_lite_engine.proofs.pikevm.memory.ListLemmas.{first_put, list_kept, thread_is}
 use Rattle.regex_lite_engine.proofs.pikevm.memory.ListLemmas.{thread_told, threads_long}
 use Rattle.regex_lite_engine.proofs.pikevm.memory.Memory.load.Goals as goal
@@ -107,3 +108,7 @@ invariant_of-self g c =
           ∙ length-set i.rows 0 (nth_row i.rows c.row_of.result)
           ∙ fit.rows_fit;
     }
+
+pub copy-requires-clause-apart : goal.copy-requires-clause-apart
+copy-requires-clause-apart g c = λ same.
+    row_behind_first c.self.inside.side c.self.inside.room c.args.k (sym c.row_of.ensures ∙ same)

@@ -2,7 +2,8 @@ use Rattle.regex_lite_engine.proofs.Common.{◌≡◌, ◌+◌, ◌<◌, [], ◌
 use Rattle.regex_lite_engine.proofs.Common.{set, sym, ap, ◌∙◌, subst, arith, length-set, nth_row}
 use Rattle.regex_lite_engine.proofs.Common.{other, row_on, threads_on, Row}
 use Rattle.regex_lite_engine.specs.Pikevm.Machine.{State}
-use Rattle.regex_lite_engine.proofs.pikevm.memory.CellLemmas.{back, row_fits, state_is}
+use Rattle.regex_lite_engine.proofs.pikevm.memory.CellLemmas.{back, row_behind_first, row_fits}
+use Rattle.regex_lite_engine.proofs.pikevm.memory.CellLemmas.{state_is}
 use Rattle.regex_lite_engine.proofs.pikevm.memory.ListLemmas.{threads_long, rounds_stay}
 use Rattle.regex_lite_engine.proofs.pikevm.memory.ListLemmas.{frames_stay, row_stays}
 use Rattle.regex_lite_engine.proofs.pikevm.memory.ListLemmas.{own_list, other_list}
@@ -127,3 +128,8 @@ returns g c =
     ∙ ap (λ (z : State). z.row) v in
     state_is _ _ rounds (ap (λ (z : State). z.now) v) frames first threads next
     (ap (λ (z : State). z.room) v) (ap (λ (z : State). z.ready) v)
+
+pub copy-requires-clause-apart : goal.copy-requires-clause-apart
+copy-requires-clause-apart g c = λ same.
+    row_behind_first c.other-side.result c.self.inside.room c.self.inside.next_len
+    (sym (same ∙ c.row_of.ensures))

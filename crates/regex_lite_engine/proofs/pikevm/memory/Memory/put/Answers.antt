@@ -21,3 +21,7 @@ returns g c =
     state_is _ _ (ap (λ (z : State). z.rounds) v) (ap (λ (z : State). z.now) v)
     (ap (λ (z : State). z.frames) v) row threads next (ap (λ (z : State). z.room) v)
     (ap (λ (z : State). z.ready) v)
+
+pub put-requires-clause-inside : goal.put-requires-clause-inside
+put-requires-clause-inside g c =
+    omega (arith, c.requires, ap (λ (z : State). length z.row) c.self.view_is)
