@@ -11,7 +11,7 @@ pub use Rattle.std.proofs.lemmas.Bool.{cases_order, false≢true}
 pub use Rattle.std.proofs.lemmas.Bool.Decides.{nat_tests}
 pub use Rattle.std.proofs.lemmas.List.{append_assoc, length-map, length-take-le}
 pub use Rattle.std.proofs.lemmas.Option.{slice_get-get_or}
-pub use Rattle.std.proofs.lemmas.Result.{err_from_is_err_and}
+pub use Rattle.std.proofs.lemmas.Result.{err_from_is_err_and, IfOk-weaker}
 pub use Rattle.std.proofs.lemmas.Str.{IsCharBoundary-start}
 pub use Rattle.std.proofs.raw_atomic.Walks.{leaves, proved_at}
 pub use Rattle.std.specs.Cow.{IsOwnedStr}

@@ -41,7 +41,7 @@ pub use Rattle.regex_lite_c.specs.ListBuilding.{settings_of_all, settings_of_sou
 pub use Rattle.regex_lite_c.specs.ListBuilding.{IsFirstOtherBytes}
 pub use Rattle.regex_lite_c.specs.Options.{settings_of}
 pub use Rattle.regex_lite_c.specs.Spans.{span_of, AreWrittenAs, AreWritten}
-pub use Rattle.regex_lite_c.specs.Walks.{ended_of}
+pub use Rattle.regex_lite_c.specs.Walks.{ended_of, WalkRoom, walk_room}
 pub use Rattle.regex_lite_c.specs.declared.answer.TheConstants.{NO, NO_ROOM, OUT_OF_MEMORY, YES}
 pub use Rattle.regex_lite_c.specs.declared.list.types.ListGroups.{ListGroups}
 pub use Rattle.regex_lite_c.specs.declared.types.Span.{Span}

@@ -1,13 +1,12 @@
 -- Whether anything is ahead of a whole haystack.
 use Rattle.regex_lite.proofs.Common.{◌≡◌, ℕ, zero, suc, ◌≢◌, List, [], ◌++◌, length, drop, IfOk}
 use Rattle.regex_lite.proofs.Common.{Some, None, Ok, Err, Option, Result, chars, unwrap_or, sym, ap}
-use Rattle.regex_lite.proofs.Common.{◌∙◌, subst, inl, inr, arith, IsOwnedStr, Text, HasMatchFrom}
-use Rattle.regex_lite.proofs.Common.{Found, search_start, Ahead, IsOver, Passes, AreLawful}
-use Rattle.regex_lite.proofs.Common.{Expression, IsAnswerOf, MatchesFrom}
+use Rattle.regex_lite.proofs.Common.{◌∙◌, subst, inl, inr, arith, IfOk-weaker, IsOwnedStr, Text}
+use Rattle.regex_lite.proofs.Common.{HasMatchFrom, Found, search_start, Ahead, IsOver, Passes}
+use Rattle.regex_lite.proofs.Common.{AreLawful, Expression, IsAnswerOf, MatchesFrom}
 use Rattle.std.proofs.Common.{MatchOption}
 use Rattle.std.specs.Cow.{cow_str_bytes}
 use Rattle.std.specs.declared.borrow.CowStr.{CowStr}
-use Rattle.std.proofs.lemmas.Result.{IfOk-weaker}
 use Rattle.std.proofs.lemmas.Str.{chars-nil}
 use Rattle.regex_lite_engine.proofs.OptionLemmas.{not_there}
 use Rattle.regex_lite.specs.Ahead.{AheadOf, NoneIsAhead, PassesAnswer, whole}

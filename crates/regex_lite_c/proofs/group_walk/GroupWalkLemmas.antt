@@ -3,14 +3,13 @@ use Rattle.regex_lite_c.proofs.Common.{◌≡◌, ℕ, ◌+◌, ◌<◌, ◌≤�
 use Rattle.regex_lite_c.proofs.Common.{length, Some, None, Option, chars, unwrap_or, sym, ap, subst}
 use Rattle.regex_lite_c.proofs.Common.{inl, inr, arith, cases_lt, Found, ComesNext, Expression}
 use Rattle.regex_lite_c.proofs.Common.{Groups, group_span, IsAnswerOf, spans_of_all, span_of}
-use Rattle.regex_lite_c.proofs.Common.{AreWritten, NO, NO_ROOM, OUT_OF_MEMORY, YES, Span}
+use Rattle.regex_lite_c.proofs.Common.{AreWritten, walk_room, NO, NO_ROOM, OUT_OF_MEMORY, YES, Span}
 use Rattle.std.proofs.Common.{◌≢◌, IsSome, Bool, cond}
 use Rattle.regex_lite.specs.Groups.{span_at}
 use Rattle.regex_lite.specs.Items.{AreGroupsFound}
 use Rattle.regex_lite.specs.MatchList.{AreFirst}
 use Rattle.regex_lite.specs.Replacements.{AreGroupsOfEach}
 use Rattle.regex_lite_c.specs.GroupWalks.{AreGroupsListed, IsFilled, IsWithoutRoom}
-use Rattle.regex_lite_c.specs.Walks.{walk_room}
 use Rattle.regex_lite_c.proofs.group_walk.StageLemmas.{AreSoFar, Searched, Stage}
 use Rattle.regex_lite_c.proofs.walk.WalkLemmas.{lists_all}
 

@@ -1,6 +1,6 @@
-use Rattle.std.proofs.lemmas.Result.{IfErr-weaker, IfOk-weaker}
-use Rattle.regex_lite.proofs.Common.{◌≡◌, IfOk, sym, subst, inl, out_of_memory, Expression}
-use Rattle.regex_lite.proofs.Common.{IsAccepted, IsDue, TellsGroups}
+use Rattle.regex_lite.proofs.Common.{◌≡◌, IfOk, sym, subst, inl, IfOk-weaker, out_of_memory}
+use Rattle.regex_lite.proofs.Common.{Expression, IsAccepted, IsDue, TellsGroups}
+use Rattle.std.proofs.lemmas.Result.{IfErr-weaker}
 use Rattle.regex_lite.specs.Searches.{IsWithinCost}
 use Rattle.regex_lite.proofs.laws.headline.Goals as goal
 

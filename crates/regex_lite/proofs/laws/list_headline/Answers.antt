@@ -1,6 +1,6 @@
-use Rattle.std.proofs.lemmas.Result.{IfErr-weaker, IfOk-weaker}
-use Rattle.regex_lite.proofs.Common.{◌≡◌, ◌⊎◌, List, IfOk, subst, inl, out_of_memory, Expression}
-use Rattle.regex_lite.proofs.Common.{AreAccepted, TellsGroupsOfList}
+use Rattle.regex_lite.proofs.Common.{◌≡◌, ◌⊎◌, List, IfOk, subst, inl, IfOk-weaker, out_of_memory}
+use Rattle.regex_lite.proofs.Common.{Expression, AreAccepted, TellsGroupsOfList}
+use Rattle.std.proofs.lemmas.Result.{IfErr-weaker}
 use Rattle.regex_lite.specs.RegexList.{IsDueToAll, IsDueToLowest}
 use Rattle.regex_lite.specs.RegexListSearches.{IsWithinListCost}
 use Rattle.regex_lite.proofs.laws.list_headline.Goals as goal
@@ -16,7 +16,8 @@ returns c =
     record {
       accepted = IfOk-weaker told _ (λ _. AreAccepted all)
           (λ _ _. c.in_ok-list.ensures.accepted) search.cost;
-      complete = IfErr-weaker told (λ e. e ≡ out_of_memory) (λ e. AreAccepted all → e ≡ out_of_memory)
+      complete =
+          IfErr-weaker told (λ e. e ≡ out_of_memory) (λ e. AreAccepted all → e ≡ out_of_memory)
           (λ e is accepted. is) search.refused;
       refused = IfErr-weaker told (λ e. e ≡ out_of_memory)
           (λ e. (e ≡ out_of_memory) ⊎ (IsDueToLowest all e ⊎ IsDueToAll all e))

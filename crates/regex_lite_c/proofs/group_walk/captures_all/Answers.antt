@@ -1,8 +1,7 @@
 use Rattle.regex_lite_c.proofs.Common.{ℕ, List, IsUtf8, IsCharBoundary, unwrap_or, ap, ◌∙◌, subst}
-use Rattle.regex_lite_c.proofs.Common.{Expression, ended_of, Span}
+use Rattle.regex_lite_c.proofs.Common.{Expression, ended_of, WalkRoom, walk_room, Span}
 use Rattle.regex_lite.specs.Ahead.{after}
 use Rattle.regex_lite_c.specs.GroupWalks.{IsFilled, IsGroupWalkAnswer}
-use Rattle.regex_lite_c.specs.Walks.{WalkRoom, walk_room}
 use Rattle.regex_lite_c.proofs.AnswerLemmas.{nothing_refused, one_of_more}
 use Rattle.regex_lite_c.proofs.group_walk.captures_all.Goals as goal
 

@@ -1,8 +1,8 @@
 use Rattle.regex_lite_c.proofs.Common.{◌≡◌, ℕ, zero, suc, ◌<◌, List, None, IsUtf8, IsCharBoundary}
 use Rattle.regex_lite_c.proofs.Common.{unwrap_or, refl, ap, ◌∙◌, subst, inl, arith, ComesNext}
-use Rattle.regex_lite_c.proofs.Common.{Expression, ended_of, NO, YES, Span}
+use Rattle.regex_lite_c.proofs.Common.{Expression, ended_of, WalkRoom, walk_room, NO, YES, Span}
 use Rattle.regex_lite.specs.Ahead.{after}
-use Rattle.regex_lite_c.specs.Walks.{AreListed, GoesOnAfter, IsWalkAnswer, WalkRoom, walk_room}
+use Rattle.regex_lite_c.specs.Walks.{AreListed, GoesOnAfter, IsWalkAnswer}
 use Rattle.regex_lite_c.proofs.AnswerLemmas.{nothing_refused}
 use Rattle.regex_lite_c.proofs.walk.find_all.Goals as goal
 

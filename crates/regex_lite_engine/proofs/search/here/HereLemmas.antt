@@ -42,8 +42,9 @@ some_before bs rest p at c u b scalar is e =
 
     ur : IsUtf8 rest
     ur =
-        subst IsUtf8 (ap (take (length rest)) e ∙ take-append_seam rest (encode c)) (IsUtf8-take (take at bs)
-        (length rest) ut (IsCharBoundary-at_seam (take at bs) rest (encode c) e uc))
+        subst IsUtf8 (ap (take (length rest)) e ∙ take-append_seam rest (encode c))
+        (IsUtf8-take (take at bs) (length rest) ut
+        (IsCharBoundary-at_seam (take at bs) rest (encode c) e uc))
 
     one : chars (encode c) ≡ c ∷ []
     one =

@@ -1,9 +1,9 @@
 use Rattle.regex_lite_c.proofs.Common.{◌≡◌, ℕ, zero, suc, ◌<◌, List, None, IsUtf8, IsCharBoundary}
 use Rattle.regex_lite_c.proofs.Common.{unwrap_or, refl, ap, ◌∙◌, subst, inl, arith, Expression}
-use Rattle.regex_lite_c.proofs.Common.{ListComesNext, ended_of, NO, YES}
+use Rattle.regex_lite_c.proofs.Common.{ListComesNext, ended_of, WalkRoom, walk_room, NO, YES}
 use Rattle.regex_lite.specs.ListAhead.{list_after}
 use Rattle.regex_lite_c.specs.ListWalks.{AreListSpansListed, IsListWalkAnswer}
-use Rattle.regex_lite_c.specs.Walks.{GoesOnAfterLast, WalkRoom, walk_room}
+use Rattle.regex_lite_c.specs.Walks.{GoesOnAfterLast}
 use Rattle.regex_lite_c.specs.declared.list.types.ListSpan.{ListSpan}
 use Rattle.regex_lite_c.proofs.AnswerLemmas.{nothing_refused}
 use Rattle.regex_lite_c.proofs.list.walk.find_all.Goals as goal
