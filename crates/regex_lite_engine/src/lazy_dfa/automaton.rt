@@ -36,6 +36,8 @@ pub(crate) struct LazyDfa {
     pub(super) states: Vec<StoredState>,
     /// Where turns lead: for each state a row, with a target for each class of the next character.
     targets: Vec<Target>,
+    /// How many targets a row has.
+    width: usize,
     /// The ways of all states, and after them the pending ones: those of a state that is to come.
     ways: Vec<StoredWay>,
     /// How many of them belong to states.
@@ -47,7 +49,7 @@ pub(crate) struct LazyDfa {
 }
 
 impl Model for LazyDfa {
-    ghost use Rattle.std.specs.Prelude.{◌≡◌, ◌*◌, ◌≤◌, length, map, drop, vec_capacity};
+    ghost use Rattle.std.specs.Prelude.{◌≡◌, ◌*◌, ◌≤◌, ◌<◌, length, map, drop, vec_capacity};
     ghost use Rattle.regex_lite_engine.specs.LazyDfa.Automaton.{Automaton};
     ghost use Rattle.regex_lite_engine.specs.LazyDfa.Intervals.{classes_in};
     ghost use Rattle.regex_lite_engine.specs.LazyDfa.Stored.{ArePlain, LieWithin};
@@ -64,7 +66,8 @@ impl Model for LazyDfa {
     ghost invariant = { λ dfa. LieWithin dfa.used dfa.states.items
         × (dfa.used ≤ length dfa.ways.items) × (length dfa.states.items ≤ 256)
         × ArePlain dfa.states.items dfa.targets.items
-        × (length dfa.targets.items ≡ length dfa.states.items * classes_in dfa.classes) };
+        × (length dfa.targets.items ≡ length dfa.states.items * classes_in dfa.classes)
+        × (dfa.width ≡ classes_in dfa.classes) × (dfa.width < 128) };
 }
 
 impl LazyDfa {
@@ -78,10 +81,12 @@ impl LazyDfa {
         let states = Vec::with_capacity(alloc, MOST_STATES)?;
         let targets = Vec::with_capacity(alloc, MOST_TARGETS)?;
         let ways = Vec::with_capacity(alloc, MOST_WAYS)?;
+        let width = classes.len();
         Ok(LazyDfa {
             classes,
             states,
             targets,
+            width,
             ways,
             used: 0,
             not_kept: 0,
@@ -251,8 +256,8 @@ impl LazyDfa {
             × (to.hit ≡ None)) }
     {
         let target = self.targets[self.cell(x, class)];
-        // A turn to a plain state is remembered.
-        if !target.is_plain && target.state == UNKNOWN {
+        // Most turns lead to plain states. These are remembered, so no other test is needed.
+        if !target.is_plain && target.state as usize >= self.states.len() {
             return None;
         }
         Some(target)
@@ -265,7 +270,7 @@ impl LazyDfa {
         requires class { class < classes_in self.now.intervals }
         ensures { result ≡ x * classes_in self.now.intervals + class }
     {
-        x as usize * self.classes.len() + class
+        x as usize * self.width + class
     }
 
     /// The ways of the state.

@@ -69,6 +69,8 @@ invariant_of-self-in-Ok-push c =
           let more = length-replicate n blank in
           let own = suc-mul (length i.states.items) n in omega (arith, full, more, own))
           ∙ ap (λ k. k * n) (sym next),
+      v.5,
+      v.6,
     )
 
 added : (c : After-len-self-inside) →

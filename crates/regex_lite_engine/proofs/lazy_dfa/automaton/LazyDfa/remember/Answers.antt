@@ -29,6 +29,8 @@ invariant_of-self c =
             none = c.is_plain.ensures.none told;
           }) v.3,
       length-set i.targets.items c.cell-cell.result target ∙ v.4,
+      v.5,
+      v.6,
     )
 
 pub returns : goal.returns
