@@ -5,9 +5,9 @@ use Rattle.regex_lite_engine.proofs.Common.{slice_get, slice_index, slice_set, S
 use Rattle.regex_lite_engine.proofs.Common.{ap, ◌∙◌, arith, drop-append-le, get_or-replicate}
 use Rattle.regex_lite_engine.proofs.Common.{length-drop, length-replicate, length-take-le}
 use Rattle.regex_lite_engine.proofs.Common.{map-append, map-set, nil_from_length, suc-mul}
-use Rattle.regex_lite_engine.proofs.Common.{take-append-drop, take-append-le, Automaton, Extends, Intervals}
+use Rattle.regex_lite_engine.proofs.Common.{take-append-drop, take-append-le, Automaton, Extends}
 use Rattle.regex_lite_engine.proofs.Common.{StoredState, StoredWay, classes_in, state_in, states_in}
-use Rattle.regex_lite_engine.proofs.Common.{Target, true, false, true≢false, unknown, way_in}
+use Rattle.regex_lite_engine.proofs.Common.{Intervals, Target, true, false, true≢false, unknown, way_in}
 use Rattle.std.proofs.lemmas.List.{take_rest, drop-set-add, drop-set-lt, get_or-map, take-set-le}
 use Rattle.std.proofs.lemmas.List.Elements.{All-append, All-replicate}
 use Rattle.std.proofs.Math.Seq.{drop-length, take-length, take-set-lt}
