@@ -7,7 +7,8 @@ use Rattle.regex_lite_engine.proofs.Common.{length-drop, length-replicate, lengt
 use Rattle.regex_lite_engine.proofs.Common.{map-append, map-set, nil_from_length, suc-mul}
 use Rattle.regex_lite_engine.proofs.Common.{take-append-drop, take-append-le, Automaton, Extends}
 use Rattle.regex_lite_engine.proofs.Common.{StoredState, StoredWay, classes_in, state_in, states_in}
-use Rattle.regex_lite_engine.proofs.Common.{Intervals, Target, true, false, true≢false, unknown, way_in}
+use Rattle.regex_lite_engine.proofs.Common.{Intervals, Target, true, false, true≢false, unknown}
+use Rattle.regex_lite_engine.proofs.Common.{way_in}
 use Rattle.std.proofs.lemmas.List.{take_rest, drop-set-add, drop-set-lt, get_or-map, take-set-le}
 use Rattle.std.proofs.lemmas.List.Elements.{All-append, All-replicate}
 use Rattle.std.proofs.Math.Seq.{drop-length, take-length, take-set-lt}
