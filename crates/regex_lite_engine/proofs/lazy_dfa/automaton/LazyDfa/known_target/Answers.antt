@@ -1,6 +1,6 @@
 use Rattle.regex_lite_engine.proofs.Common.{◌≡◌, true, [], slice_get, Some, None, sym, subst, arith}
 use Rattle.regex_lite_engine.proofs.Common.{ap, length, rules, slice_get_within, Automaton, Target}
-use Rattle.regex_lite_engine.proofs.Common.{classes_in}
+use Rattle.regex_lite_engine.proofs.Common.{classes_in, slice_index, unknown}
 use Rattle.regex_lite_engine.specs.LazyDfa.Automaton.{State}
 use Rattle.regex_lite_engine.specs.LazyDfa.Stored.{IsPlain}
 use Rattle.regex_lite_engine.proofs.lazy_dfa.StoredStateLemmas.{cell_within, length_states}
@@ -8,7 +8,7 @@ use Rattle.regex_lite_engine.proofs.lazy_dfa.StoredStateLemmas.{plain_is, target
 use Rattle.regex_lite_engine.proofs.lazy_dfa.automaton.LazyDfa.known_target.Goals as goal
 use Rattle.regex_lite_engine.proofs.lazy_dfa.automaton.LazyDfa.known_target.Goals.{
   After-index-target,
-  else-not-target-via-then-not-target+else-target,
+  else-not-target-via-then-not-target+else-target-len,
   else-not-target-via-else-not-target,
 }
 
@@ -39,25 +39,38 @@ plain c told =
     (plain_is i.states.items i.used i.ways.items (classes_in i.classes) i.targets.items v.0 v.1
     target.state (marked told))
 
+-- a turn to a plain state is remembered
+known : (c : After-index-target) → c.index-target.result.now.is_plain ≡ true →
+    c.index-target.result.now.state ≡ unknown → ⊥
+known c told e =
+    let i = c.self.inside in
+    let own = plain c told in
+    let inside = slice_get_within c.args.self.now.states _ own.0 own.1 in
+    let n = ap (λ (z : Automaton). length z.states) c.self.view_is in
+    let m = length_states i.states.items i.ways.items (classes_in i.classes) i.targets.items in
+    let few = c.self.invariant.2 in
+    omega (arith, inside, n, m, few, e)
+
+-- what is stored there is where the turn leads
+leads : (c : After-index-target) (state : State) →
+    slice_get c.args.self.now.states c.args.x ≡ Some state →
+    slice_index state.next c.args.class ≡ c.index-target.result.now.state
+leads c state at =
+    let i = c.self.inside in
+    target_is i.classes i.states.items i.targets.items i.used i.ways.items c.args.self.now
+    c.self.view_is c.self.invariant.4 c.args.x c.args.class c.requires.state c.requires.class
+    c.cell.result c.cell.ensures c.index-target.result.now c.index-target.ensures state at
+
 pub returns-clause-known : goal.returns-clause-known
-returns-clause-known c = (
-  elim c.else-not-target.branch [
-    | else-not-target-via-then-not-target+else-target w ↦ search rules
-    | else-not-target-via-else-not-target w ↦ λ e.
-        let i = c.self.inside in
-        let v = c.self.invariant in
-        let own = plain (goal.at.returns-clause-known c).After-index-target (search rules) in
-        let inside = slice_get_within c.args.self.now.states _ own.0 own.1 in
-        let n = ap (λ (z : Automaton). length z.states) c.self.view_is in
-        let m = length_states i.states.items i.ways.items (classes_in i.classes) i.targets.items in
-        let few = v.2 in
-        omega (arith, inside, n, m, few, e)
-  ],
-  let i = c.self.inside in
-      target_is i.classes i.states.items i.targets.items i.used i.ways.items c.args.self.now
-      c.self.view_is c.self.invariant.4 c.args.x c.args.class c.requires.state c.requires.class
-      c.cell.result c.cell.ensures c.index-target.result.now c.index-target.ensures,
-)
+returns-clause-known c =
+    let there = (goal.at.returns-clause-known c).After-index-target in
+    let few = c.self.invariant.2 in (
+      elim c.else-not-target.branch [
+        | else-not-target-via-then-not-target+else-target-len w ↦ search (few, rules)
+        | else-not-target-via-else-not-target w ↦ known there (search rules)
+      ],
+      leads there,
+    )
 
 pub returns-clause-plain : goal.returns-clause-plain
 returns-clause-plain c = plain (goal.at.returns-clause-plain c).After-index-target
