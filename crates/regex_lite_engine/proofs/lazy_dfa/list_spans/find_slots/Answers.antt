@@ -1,5 +1,5 @@
-use Rattle.regex_lite_engine.proofs.Common.{◌≡◌, ℕ, ◌^◌, ◌<◌, [], ◌∷◌, length, slice_index}
-use Rattle.regex_lite_engine.proofs.Common.{Option, Some, None, chars, sym, ◌∙◌, subst, arith, rules, Text}
+use Rattle.regex_lite_engine.proofs.Common.{◌≡◌, ℕ, ◌^◌, ◌<◌, [], ◌∷◌, length, slice_index, Option}
+use Rattle.regex_lite_engine.proofs.Common.{Some, None, chars, sym, ◌∙◌, subst, arith, rules, Text}
 use Rattle.regex_lite_engine.proofs.Common.{StoredList, table_of_list, best_of, characters_left}
 use Rattle.regex_lite_engine.proofs.Common.{CanCount, Best, best_at, with_start_kept, best_kept}
 use Rattle.regex_lite_engine.proofs.Common.{span_of, IsBestOutcomeOf, position_at, Row, Origin}

@@ -1,8 +1,7 @@
-use Rattle.regex_lite_engine.proofs.Common.{ℕ, ◌^◌, ◌<◌, List, [], length, IfSome, Some, None, chars}
-use Rattle.regex_lite_engine.proofs.Common.{sym, ap, subst, arith, rules, nil_from_length}
-use Rattle.regex_lite_engine.proofs.Common.{table_of_list, IsGraphOfList}
-use Rattle.regex_lite_engine.proofs.Common.{best_of, characters_left, CanCount, IsBestOutcomeOf}
-use Rattle.regex_lite_engine.proofs.Common.{position_at}
+use Rattle.regex_lite_engine.proofs.Common.{ℕ, ◌^◌, ◌<◌, List, [], length, IfSome, Some, None}
+use Rattle.regex_lite_engine.proofs.Common.{chars, sym, ap, subst, arith, rules, nil_from_length}
+use Rattle.regex_lite_engine.proofs.Common.{table_of_list, IsGraphOfList, best_of, characters_left}
+use Rattle.regex_lite_engine.proofs.Common.{CanCount, IsBestOutcomeOf, position_at}
 use Rattle.regex_lite_engine.specs.LazyDfa.Remembering.{IsOriginInList}
 use Rattle.regex_lite_engine.specs.Search.Outcomes.{IsSpanOutcomeOfList}
 use Rattle.regex_lite_engine.specs.Search.Searching.{ListSearching}
