@@ -26,7 +26,7 @@ const SPARE: usize = 8192;
 /// bytes, 64 for each.
 const MOST_PLACES: usize = 85;
 
-/// In a list of this number of places it takes at most 48 KB. Larger lists often have states that
+/// In a list of this number of places it takes at most 64 KB. Larger lists often have states that
 /// find no room.
 const MOST_PLACES_OF_LIST: usize = 1024;
 
