@@ -19,7 +19,7 @@ use std::alloc::{AllocError, Global};
 
 /// Patterns, and those of them that may start at the position reached last.
 #[derive(Drop)]
-pub struct ListPatterns<'g> {
+pub(crate) struct ListPatterns<'g> {
     list: &'g GraphList,
     /// The numbers of those that may start there. There is room for all patterns.
     numbers: Vec<u32>,

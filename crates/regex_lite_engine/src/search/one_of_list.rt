@@ -12,7 +12,7 @@ use crate::search::patterns::{Patterns, Start};
 
 /// A pattern of a list, and whether it may start at the position reached last.
 #[derive(Drop)]
-pub struct OneOfList<'g> {
+pub(crate) struct OneOfList<'g> {
     list: &'g GraphList,
     /// Its number in the list.
     number: usize,
