@@ -8,19 +8,11 @@ ghost use Rattle.regex_lite_engine.specs.LazyDfa.Intervals.{classes_in};
 ghost use Rattle.regex_lite_engine.specs.LazyDfa.Stored.{hit_in, way_in};
 
 use crate::lazy_dfa::classes::Classes;
+use crate::lazy_dfa::room::{MOST_STATES, Room};
 use crate::lazy_dfa::side::Side;
 use crate::lazy_dfa::state::{Hit, StoredState, StoredWay, Target, are_same};
 use std::alloc::{AllocError, Global};
 use std::marker::Model;
-
-/// At most this many states are kept.
-const MOST_STATES: usize = 256;
-
-/// At most this many targets are kept: one for each state and class.
-const MOST_TARGETS: usize = 7168;
-
-/// At most this many ways are kept, in all states together.
-const MOST_WAYS: usize = 2176;
 
 /// They do if of this number of bytes more than one turn finds no room.
 const BYTES_FOR_ONE: usize = 32;
@@ -71,16 +63,20 @@ impl Model for LazyDfa {
 }
 
 impl LazyDfa {
-    /// One that remembers nothing yet. Searches that go over this number of bytes don't give it
-    /// up.
-    pub(crate) fn new(alloc: Global, classes: Classes, spare: usize) -> Result<LazyDfa, AllocError>
+    /// One that remembers nothing yet. Searches that go over `spare` bytes don't give it up.
+    pub(crate) fn new(
+        alloc: Global,
+        classes: Classes,
+        room: Room,
+        spare: usize,
+    ) -> Result<LazyDfa, AllocError>
         ensures intervals { IfOk result (λ dfa. dfa.intervals ≡ classes) }
         ensures states { IfOk result (λ dfa. dfa.states ≡ []) }
         ensures pending { IfOk result (λ dfa. dfa.pending ≡ []) }
     {
-        let states = Vec::with_capacity(alloc, MOST_STATES)?;
-        let targets = Vec::with_capacity(alloc, MOST_TARGETS)?;
-        let ways = Vec::with_capacity(alloc, MOST_WAYS)?;
+        let states = Vec::with_capacity(alloc, room.states)?;
+        let targets = Vec::with_capacity(alloc, room.targets)?;
+        let ways = Vec::with_capacity(alloc, room.ways)?;
         let width = classes.len();
         Ok(LazyDfa {
             classes,
@@ -121,7 +117,7 @@ impl LazyDfa {
         } }
         ensures same { self.new ≡ record self.old { pending = self.new.pending } }
     {
-        if self.ways.len() >= MOST_WAYS {
+        if self.ways.len() >= self.ways.capacity() {
             return false;
         }
         match self.ways.push(way) {
@@ -164,7 +160,8 @@ impl LazyDfa {
     pub(super) fn has_room(&self) -> bool
         ensures { result ≡ true → length self.now.states < 256 }
     {
-        self.states.len() < MOST_STATES && self.targets.len() + self.classes.len() <= MOST_TARGETS
+        self.states.len() < self.states.capacity().min(MOST_STATES)
+            && self.targets.len() + self.classes.len() <= self.targets.capacity()
     }
 
     /// The state that has the pending ways and these properties.

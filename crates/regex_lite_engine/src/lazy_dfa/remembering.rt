@@ -8,6 +8,7 @@ use crate::Graph;
 use crate::backtrack::MOST_PAIRS;
 use crate::lazy_dfa::automaton::LazyDfa;
 use crate::lazy_dfa::classes::Classes;
+use crate::lazy_dfa::room::Room;
 use crate::nfa::list::GraphList;
 use crate::nfa::table::Table;
 use crate::prefilter::Prefilter;
@@ -96,13 +97,19 @@ pub(super) fn begins_rarely(graph: &Graph) -> bool {
 }
 
 impl LazyDfa {
-    /// One for this table, which remembers nothing yet. None where there are too many classes, or
-    /// if memory runs out: turns are then taken anew.
-    pub(crate) fn for_table(alloc: Global, table: &Table, spare: usize) -> Option<LazyDfa>
+    /// One for the table of this number of patterns, which remembers nothing yet. None where there
+    /// are too many classes, or if memory runs out: turns are then taken anew.
+    pub(crate) fn for_table(
+        alloc: Global,
+        table: &Table,
+        patterns: usize,
+        spare: usize,
+    ) -> Option<LazyDfa>
         ensures { (entries : List ℕ) → IfSome result (RemembersFor (places_of table.now) entries) }
     {
         let classes = Classes::of(table.all())?;
-        match LazyDfa::new(alloc, classes, spare) {
+        let room = Room::of(table.reading(), patterns, &classes);
+        match LazyDfa::new(alloc, classes, room, spare) {
             Ok(made) => Some(made),
             Err(_) => None,
         }
@@ -112,7 +119,7 @@ impl LazyDfa {
     pub(crate) fn for_graph(alloc: Global, graph: &Graph) -> Option<LazyDfa>
         ensures { IfSome result (RemembersAll graph.now) }
     {
-        LazyDfa::for_table(alloc, graph.table(), usize::MAX)
+        LazyDfa::for_table(alloc, graph.table(), 1, usize::MAX)
     }
 
     /// One for all patterns of this list. It is given up if too many turns find no room: there each
@@ -120,6 +127,6 @@ impl LazyDfa {
     pub(crate) fn for_list(alloc: Global, list: &GraphList) -> Option<LazyDfa>
         ensures { IfSome result (RemembersFor (table_of_list list.now) list.now.entries) }
     {
-        LazyDfa::for_table(alloc, list.table(), SPARE)
+        LazyDfa::for_table(alloc, list.table(), list.len(), SPARE)
     }
 }
