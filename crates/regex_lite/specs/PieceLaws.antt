@@ -73,8 +73,8 @@ module _ {R : Type 0} (Fixed : R → Option (List ℕ) → R → Type 0)
     (Appends : R → Groups → (text : List ℕ) → Answer → R → Type 0) where
   abbrev pub LentReplacersReplaceAlike : Type 0 → Type 0
   LentReplacersReplaceAlike Lent =
-      (behind : Lent → R) (rep : Lent) (a : Ahead) (new : List ℕ)
-      → IsReplacement (λ old text after. Fixed (behind old) text (behind after))
-      (λ old groups text answer after. Appends (behind old) groups text answer (behind after))
+      (lender : Lent → R) (rep : Lent) (a : Ahead) (new : List ℕ)
+      → IsReplacement (λ old text after. Fixed (lender old) text (lender after))
+      (λ old groups text answer after. Appends (lender old) groups text answer (lender after))
       rep a new
-      → IsReplacement Fixed Appends (behind rep) a new
+      → IsReplacement Fixed Appends (lender rep) a new

@@ -59,7 +59,7 @@ pub use Rattle.regex_lite_engine.specs.Graph.PlaceCounts.{places_in, arrows, cou
 pub use Rattle.regex_lite_engine.specs.Graph.PlaceCounts.{whole_places, whole_arrows}
 pub use Rattle.regex_lite_engine.specs.Graph.Places.{Condition, free, holding, reading, Arrow}
 pub use Rattle.regex_lite_engine.specs.Graph.Places.{complete, with_arrows, renamed_arrow, renamed}
-pub use Rattle.regex_lite_engine.specs.Graph.Places.{behind, taken, go, go_marking, go_holding}
+pub use Rattle.regex_lite_engine.specs.Graph.Places.{read_past, taken, go, go_marking, go_holding}
 pub use Rattle.regex_lite_engine.specs.Graph.Places.{go_reading, choice, one_of, reading_count}
 pub use Rattle.regex_lite_engine.specs.Graph.Places.{reading_of, kept_back, kept_back_with}
 pub use Rattle.regex_lite_engine.specs.Graph.Places.{kept_back_of, arrived, arrow_taken, step_from}
@@ -157,7 +157,7 @@ pub use Rattle.regex_lite_engine.specs.Search.Offsets.{offset, IsOffset, positio
 pub use Rattle.regex_lite_engine.specs.Search.Offsets.{HasSlots}
 pub use Rattle.regex_lite_engine.specs.Search.Outcomes.{IsEndOutcome}
 pub use Rattle.regex_lite_engine.specs.Search.Preference.{IsPreferred}
-pub use Rattle.regex_lite_engine.specs.Search.PreferenceList.{Entry, behind_marks, onward, stop}
+pub use Rattle.regex_lite_engine.specs.Search.PreferenceList.{Entry, after_marks, onward, stop}
 pub use Rattle.regex_lite_engine.specs.Search.PreferenceList.{preference_list, HasReadingLoops}
 pub use Rattle.regex_lite_engine.specs.Search.Rows.{Row, IsBlank}
 pub use Rattle.regex_lite_engine.specs.Search.Standing.{IsHere}

@@ -130,7 +130,7 @@ fn write_all<W: Write>(out: &mut W, bytes: &[u8]) -> io::Result<()>
         }
         match out.write(rest) {
             Ok(0) => break,
-            Ok(count) => rest = behind(rest, count),
+            Ok(count) => rest = rest_after(rest, count),
             Err(error) if error.kind() == io::ErrorKind::Interrupted => {}
             Err(error) => return Err(error),
         }
@@ -139,7 +139,7 @@ fn write_all<W: Write>(out: &mut W, bytes: &[u8]) -> io::Result<()>
 }
 
 /// The bytes after the first `count`.
-fn behind(bytes: &[u8], count: usize) -> &[u8]
+fn rest_after(bytes: &[u8], count: usize) -> &[u8]
     requires { count ≤ length bytes.now }
     ensures { result.now ≡ drop count bytes.now }
 {

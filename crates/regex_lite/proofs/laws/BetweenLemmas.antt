@@ -24,13 +24,13 @@ pub cut_around : (hay : List ℕ) (e from : ℕ) (found : Found) (rest : List �
     → rest ≡ drop (offset (chars hay) found.end) hay
     → slice_range hay from (offset (chars hay) found.start)
     ++ (text_at hay (found_span (chars hay) found) ++ rest) ≡ drop from hay
-cut_around hay e from found rest is stands behind =
+cut_around hay e from found rest is stands later =
     let h = chars hay in
     let s = offset h found.start in
     let t = offset h found.end in
     let before : from ≤ s =
     subst (λ n. n ≤ s) (sym is) (offset_grows h e found.start stands.from) in
-    ap (λ x. slice_range hay from s ++ (slice_range hay s t ++ x)) behind
+    ap (λ x. slice_range hay from s ++ (slice_range hay s t ++ x)) later
     ∙ ap (λ x. slice_range hay from s ++ x)
     (part hay s t (offset_grows h found.start found.end stands.ordered)) ∙ part hay from s before
 

@@ -78,7 +78,7 @@ module _ {R : Type 0} (template : R → List ℕ) (re : Expression) (hay : List 
       let text_at_match = all ∙ whole_text (texts_of own) (template rep) complete is gives
       ∙ text_is re hay (unwrap_or ended 0) found stands own of_found in
       let end = ap (λ (s : ℕ × ℕ). s.1) at in
-      let behind : rest ≡ drop (whole_span own).1 hay =
+      let later : rest ≡ drop (whole_span own).1 hay =
       whole_chain (one_less limit) (Some found.end) (whole_span own).1 list groups after rest end
       (ap template same ∙ is) (within_first re h limit ended found list are).1 each chain in
       new_is ∙ ap (λ (s : ℕ × ℕ). slice_range hay from s.0 ++ text ++ rest) at
@@ -86,7 +86,7 @@ module _ {R : Type 0} (template : R → List ℕ) (re : Expression) (hay : List 
       ∙ append_assoc (slice_range hay from (offset h found.start))
       (text_at hay (found_span h found)) rest
       ∙ cut_around hay (unwrap_or ended 0) from found rest start stands
-      (behind ∙ ap (λ n. drop n hay) end)
+      (later ∙ ap (λ n. drop n hay) end)
 
   plain_chain : (limit ended : Option ℕ) (from : ℕ) (list : List Found) (groups : List Groups)
       (rep : R) (new : List ℕ) → ¬ (Contains (template rep) 36)
@@ -104,13 +104,13 @@ module _ {R : Type 0} (template : R → List ℕ) (re : Expression) (hay : List 
       let at = span_is re hay (unwrap_or ended 0) found stands own of_found in
       let as_it_is = all ∙ plain_text (texts_of own) (template rep) complete lacks gives in
       let kept = ap template same in
-      let behind =
+      let later =
       plain_chain (one_less limit) (Some found.end) (whole_span own).1 list groups after
       rest (subst (λ t. ¬ (Contains t 36)) (sym kept) lacks)
       (within_first re h limit ended found list are).1 each chain
       ∙ ap (λ t. replaced_by t hay (whole_span own).1 (Spans list)) kept in
       new_is ∙ ap (λ t. slice_range hay from (whole_span own).0 ++ t ++ rest) as_it_is
-      ∙ ap (λ t. slice_range hay from (whole_span own).0 ++ template rep ++ t) behind
+      ∙ ap (λ t. slice_range hay from (whole_span own).0 ++ template rep ++ t) later
       ∙ ap (λ (s : ℕ × ℕ). slice_range hay from s.0 ++ template rep
       ++ replaced_by (template rep) hay s.1 (Spans list)) at
 
@@ -140,21 +140,21 @@ fixed_text R template rep a new other lacks by in_turn =
     rep other lacks in_turn.are_ahead in_turn.each in_turn.chain)
 
 module _ {R Lent : Type 0} (Fixed : R → Option (List ℕ) → R → Type 0)
-    (Appends : R → Groups → List ℕ → Answer → R → Type 0) (behind : Lent → R) where
+    (Appends : R → Groups → List ℕ → Answer → R → Type 0) (lender : Lent → R) where
   abbrev LentFixed : Lent → Option (List ℕ) → Lent → Type 0
-  LentFixed old text after = Fixed (behind old) text (behind after)
+  LentFixed old text after = Fixed (lender old) text (lender after)
 
   abbrev LentAppends : Lent → Groups → List ℕ → Answer → Lent → Type 0
-  LentAppends old groups text answer after = Appends (behind old) groups text answer (behind after)
+  LentAppends old groups text answer after = Appends (lender old) groups text answer (lender after)
 
   lent_chain : (hay : List ℕ) (rep : Lent) (from : ℕ) (groups : List Groups) (new : List ℕ)
       → IsChain LentFixed LentAppends hay rep from groups new
-      → IsChain Fixed Appends hay (behind rep) from groups new
+      → IsChain Fixed Appends hay (lender rep) from groups new
   lent_chain hay rep from [] new chain = chain
   lent_chain hay rep from (own ∷ groups) new (text, rest, after, appends, new_is, chain) = (
     text,
     rest,
-    behind after,
+    lender after,
     appends,
     new_is,
     lent_chain hay after (whole_span own).1 groups rest chain,
@@ -162,7 +162,7 @@ module _ {R Lent : Type 0} (Fixed : R → Option (List ℕ) → R → Type 0)
 
   lent_replaced : (fixed : Option (List ℕ)) (rep : Lent) (a : Ahead) (new : List ℕ)
       → IsReplaced LentFixed LentAppends fixed rep a new
-      → IsReplaced Fixed Appends fixed (behind rep) a new
+      → IsReplaced Fixed Appends fixed (lender rep) a new
   lent_replaced (Some text) rep a new by = by
   lent_replaced None rep a new in_turn = record {
     found = in_turn.found;
@@ -175,5 +175,5 @@ module _ {R Lent : Type 0} (Fixed : R → Option (List ℕ) → R → Type 0)
 pub lent_alike : {R : Type 0} (Fixed : R → Option (List ℕ) → R → Type 0)
     (Appends : R → Groups → List ℕ → Answer → R → Type 0) (Lent : Type 0)
     → LentReplacersReplaceAlike Fixed Appends Lent
-lent_alike Fixed Appends Lent behind rep a new (fixed, after, asked, replaced) =
-    (fixed, behind after, asked, lent_replaced Fixed Appends behind fixed after a new replaced)
+lent_alike Fixed Appends Lent lender rep a new (fixed, after, asked, replaced) =
+    (fixed, lender after, asked, lent_replaced Fixed Appends lender fixed after a new replaced)

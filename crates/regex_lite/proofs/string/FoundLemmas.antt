@@ -54,12 +54,12 @@ slots_told haystack marks (from ∷ to ∷ slots) first (suc count) at start len
     let b : at + 1 ≡ 2 * first + 1 = omega (arith, start) in
     let start_is = told 0 from refl ∙ ap (λ n. option_map (offset haystack) (marks n)) a in
     let end_is = told 1 to refl ∙ ap (λ n. option_map (offset haystack) (marks n)) b in
-    let behind = slots_told haystack marks slots (suc first) count (at + 2)
+    let later = slots_told haystack marks slots (suc first) count (at + 2)
     (omega (arith, start)) (omega (arith, len)) (λ k slot is. told (suc (suc k)) slot is
     ∙ ap (λ n. option_map (offset haystack) (marks n)) (omega arith)) in
     ap (λ own. own ∷ spans_of slots)
     (rw (start_is, end_is) (zipped haystack (marks (2 * first)) (marks (2 * first + 1))))
-    ∙ ap (λ rest. option_map (offsets haystack) (span marks first) ∷ rest) behind
+    ∙ ap (λ rest. option_map (offsets haystack) (span marks first) ∷ rest) later
 
 -- what holds of each span holds of those that are listed
 listed : (haystack : Text) (marks : Marks) (P : ℕ × ℕ → Type 0)

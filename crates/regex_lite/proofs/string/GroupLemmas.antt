@@ -53,10 +53,10 @@ first_text groups from k span text on within is read =
     ∙ ap (λ own. own ∷ texts_from groups (k + 1)) (sym read)
 
 -- where group 0 took part, all other texts are those from index 1 on
-pub enough_behind : (groups : Groups) (span : ℕ × ℕ) → group_span groups 0 ≡ Some span
+pub enough_after : (groups : Groups) (span : ℕ × ℕ) → group_span groups 0 ≡ Some span
     → IfSome groups.static_captures_len (λ n. n ≤ length (texts_from groups 0))
     → IfSome groups.static_captures_len (λ n. n ≤ 1 + length (texts_from groups 1))
-enough_behind groups span is enough =
+enough_after groups span is enough =
     let all = ap length (own_text groups 0 (there groups.spans is) span is) in
     IfSome_then groups.static_captures_len enough (λ n less. omega (arith, less, all))
   where

@@ -15,18 +15,18 @@ module _ {A : Type 0} (found_of : A → Found) (haystack : Text)
       → is_empty_answer found_of e (Some answer) ≡ false → e < (found_of answer).end
   ends_later e answer within apart = grind (arith, nat_tests, within.from, within.ordered, apart)
 
-  behind : (e : ℕ) (answer : A) (from_end : Option A) (empty : Bool)
+  after_end : (e : ℕ) (answer : A) (from_end : Option A) (empty : Bool)
       → is_empty_answer found_of e from_end ≡ empty → Answers e from_end
       → MatchBool empty (Answers (suc e) (Some answer)) (Some answer ≡ from_end)
       → Follows (Some e) (found_of answer) × IsWithin haystack e (found_of answer)
-  behind e answer from_end true is there next =
+  after_end e answer from_end true is there next =
       let own = lawful.within (suc e) answer next in
       let from = own.from in
       let ordered = own.ordered in (
         (omega (arith, from), omega (arith, from, ordered)),
         record { from = omega (arith, from); ordered = ordered; inside = own.inside },
       )
-  behind e answer from_end false is there next =
+  after_end e answer from_end false is there next =
       let own = lawful.within e answer (subst (Answers e) (sym next) there) in
       ((own.from, ends_later e answer own (ap (is_empty_answer found_of e) next ∙ is)), own)
 
@@ -36,7 +36,7 @@ module _ {A : Type 0} (found_of : A → Found) (haystack : Text)
   follows None answer next = (tt, lawful.within 0 answer next)
   follows (Some e) answer (from_end, there, next) =
       let (after, own) =
-      behind e answer from_end (is_empty_answer found_of e from_end) refl there next in
+      after_end e answer from_end (is_empty_answer found_of e from_end) refl there next in
       (after, record { from = omega arith; ordered = own.ordered; inside = own.inside })
 
   pub apart_from : (ended : Option ℕ) (list : List A) → AreAnswers found_of Answers ended list
@@ -46,19 +46,19 @@ module _ {A : Type 0} (found_of : A → Found) (haystack : Text)
       let (after, own) = follows ended answer next in
       (after, own.ordered, apart_from (Some (found_of answer).end) list rest)
 
-  few_behind : (e : ℕ) (list : List A) → e ≤ length haystack
+  few_after : (e : ℕ) (list : List A) → e ≤ length haystack
       → AreAnswers found_of Answers (Some e) list → length list + e ≤ length haystack
-  few_behind e [] inside over = omega (arith, inside)
-  few_behind e (answer ∷ list) inside (next, rest) =
+  few_after e [] inside over = omega (arith, inside)
+  few_after e (answer ∷ list) inside (next, rest) =
       let (after, own) = follows (Some e) answer next in
-      omega (arith, few_behind (found_of answer).end list own.inside rest, after.1)
+      omega (arith, few_after (found_of answer).end list own.inside rest, after.1)
 
   pub few : (list : List A) → AreAnswers found_of Answers None list
       → length list ≤ length haystack + 1
   few [] over = omega arith
   few (answer ∷ list) (next, rest) =
       let (after, own) = follows None answer next in
-      omega (arith, few_behind (found_of answer).end list own.inside rest)
+      omega (arith, few_after (found_of answer).end list own.inside rest)
 
   -- one at most comes next
   pub one_next : (ended : Option ℕ) (a b : Option A) → IsNextAnswer found_of Answers ended a
@@ -84,10 +84,10 @@ module _ {A : Type 0} (found_of : A → Found) (haystack : Text)
       absurd (not_there (one_next ended None (Some f) over next))
   one_from ended (f ∷ list) (g ∷ other) (next, rest) (next_too, rest_too) =
       let same : f ≡ g = same_some (one_next ended (Some f) (Some g) next next_too) in
-      let behind_f = subst (λ own. AreAnswers found_of Answers (Some (found_of own).end) other)
+      let after_f = subst (λ own. AreAnswers found_of Answers (Some (found_of own).end) other)
       (sym same) rest_too in
       ap (λ own. own ∷ list) same
-      ∙ ap (λ own. g ∷ own) (one_from (Some (found_of f).end) list other rest behind_f)
+      ∙ ap (λ own. g ∷ own) (one_from (Some (found_of f).end) list other rest after_f)
 
 pub matches_apart : MatchesAreApart
 matches_apart re haystack list are =

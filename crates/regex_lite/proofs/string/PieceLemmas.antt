@@ -14,13 +14,13 @@ pub cut_cons : (old new : Ahead) (from : ℕ) (found : Found) (span : ℕ × ℕ
 cut_cons old new from found span list passes is rest =
     let hay = old.haystack in
     let Spans : List Found → List (ℕ × ℕ) = map (found_span (chars hay)) in
-    let behind : list ≡ pieces hay span.1 (Spans rest.found) = rest.cut
+    let later : list ≡ pieces hay span.1 (Spans rest.found) = rest.cut
     ∙ ap (λ (a : Ahead). pieces a.haystack span.1 (map (found_span (chars a.haystack)) rest.found))
     passes.passed in
     record {
       found = found ∷ rest.found;
       are_ahead = ahead_cons old new found rest.found passes rest.are_ahead;
-      cut = ap (λ t. slice_range hay from span.0 ∷ t) behind
+      cut = ap (λ t. slice_range hay from span.0 ∷ t) later
           ∙ ap (λ (s : ℕ × ℕ). slice_range hay from s.0 ∷ pieces hay s.1 (Spans rest.found)) is;
     }
 

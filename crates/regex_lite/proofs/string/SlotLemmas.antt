@@ -10,9 +10,9 @@ use Rattle.std.specs.Option.{option_flatten}
 use Rattle.std.proofs.lemmas.Option.{slice_get_past}
 use Rattle.regex_lite_engine.proofs.OptionLemmas.{same_some}
 
-none_behind : (start : Option ℕ) → None ≡ option_zip {U = ℕ} start None
-none_behind None = refl
-none_behind (Some at) = refl
+none_after : (start : Option ℕ) → None ≡ option_zip {U = ℕ} start None
+none_after None = refl
+none_after (Some at) = refl
 
 -- group k's span is that of its two slots
 pub span_of_slots : (slots : List (Option ℕ)) (k : ℕ)
@@ -20,7 +20,7 @@ pub span_of_slots : (slots : List (Option ℕ)) (k : ℕ)
     ≡ span_at (spans_of slots) k
 span_of_slots [] zero = refl
 span_of_slots [] (suc k) = refl
-span_of_slots (start ∷ []) zero = sym (none_behind start)
+span_of_slots (start ∷ []) zero = sym (none_after start)
 span_of_slots (start ∷ []) (suc k) =
     let a : 2 * suc k ≡ suc (suc (2 * k)) = omega arith in
     rw (a) refl
@@ -40,8 +40,8 @@ half (start ∷ end ∷ slots) =
 -- none is after them
 pub no_span : (slots : List (Option ℕ)) (k : ℕ) → length slots / 2 ≤ k
     → None ≡ span_at (spans_of slots) k
-no_span slots k behind =
-    sym (ap option_flatten (slice_get_past (spans_of slots) k (omega (arith, half slots, behind))))
+no_span slots k beyond =
+    sym (ap option_flatten (slice_get_past (spans_of slots) k (omega (arith, half slots, beyond))))
 
 -- slots that hold nothing hold no span
 pub no_spans : (n : ℕ) → spans_of (replicate (2 * n) None) ≡ replicate n None
@@ -77,7 +77,7 @@ spans_with_none [] (suc n) m count more le few all =
 spans_with_none (start ∷ []) (suc n) m count more le few all =
     let a : count ≡ 1 = omega (arith, few) in
     let b : more ≡ suc (2 * n) = omega (arith, few, all) in
-    rw (a, b) (ap (λ span. span ∷ spans_of (replicate (2 * n) None)) (sym (none_behind start))
+    rw (a, b) (ap (λ span. span ∷ spans_of (replicate (2 * n) None)) (sym (none_after start))
     ∙ ap (λ spans. None ∷ spans) (no_spans n) ∙ sym (few_of_many (suc n) m None le))
 spans_with_none (start ∷ end ∷ slots) (suc n) m (suc (suc count)) more le few all =
     ap (λ spans. option_zip start end ∷ spans)
@@ -112,13 +112,13 @@ some_kept zero more some = some
 some_kept (suc zero) more some = absurd (omega (arith, some))
 some_kept (suc (suc n)) more some = some
 
-behind : {A : Type 0} (xs : List A) (k : ℕ) (x : A) → slice_get xs k ≡ Some x
+drop_at : {A : Type 0} (xs : List A) (k : ℕ) (x : A) → slice_get xs k ≡ Some x
     → drop k xs ≡ x ∷ drop (k + 1) xs
-behind [] k x there = absurd cc
-behind (x ∷ xs) zero own there = ap (λ y. y ∷ xs) (same_some there)
-behind (x ∷ xs) (suc k) own there =
+drop_at [] k x there = absurd cc
+drop_at (x ∷ xs) zero own there = ap (λ y. y ∷ xs) (same_some there)
+drop_at (x ∷ xs) (suc k) own there =
     let next : suc k + 1 ≡ suc (k + 1) = omega arith in
-    rw (next) (behind xs k own there)
+    rw (next) (drop_at xs k own there)
 
 -- the slots of one more pattern, with those that are left
 pub most_on : (all : List StoredGroups) (k : ℕ) (own : StoredGroups) (most next slots : ℕ)
@@ -126,4 +126,4 @@ pub most_on : (all : List StoredGroups) (k : ℕ) (own : StoredGroups) (most nex
     → max next (2 * most_groups (drop (k + 1) all)) ≡ max most (2 * most_groups (drop k all))
 most_on all k own most next slots there two is =
     let rest = most_groups (drop (k + 1) all) in
-    omega (arith, ap most_groups (behind all k own there), two, is)
+    omega (arith, ap most_groups (drop_at all k own there), two, is)

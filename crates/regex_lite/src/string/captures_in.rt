@@ -102,9 +102,9 @@ impl<T: Text> CapturesIn<T> {
         let mut parts = [whole; N];
         let mut next = 1;
         for i in 0..N {
-            let (text, behind) = self.next_text(next);
+            let (text, after) = self.next_text(next);
             parts[i] = text;
-            next = behind;
+            next = after;
         }
         (whole, parts)
     }

@@ -6,7 +6,7 @@ use Rattle.regex_lite_engine.proofs.Common.{Option, sym, refl, ap, ◌∙◌, su
 use Rattle.regex_lite_engine.proofs.Common.{length-map, set-get_or, slice_get_within, len_utf8}
 use Rattle.regex_lite_engine.proofs.Common.{in_ranges, Set, just, after, holds_between, ClassRange}
 use Rattle.regex_lite_engine.proofs.Common.{Pairs, pair_number, was_entered, Held, WayHolds}
-use Rattle.regex_lite_engine.proofs.Common.{SearchFrom, Arrow, with_arrows, behind, go, go_marking}
+use Rattle.regex_lite_engine.proofs.Common.{SearchFrom, Arrow, with_arrows, read_past, go, go_marking}
 use Rattle.regex_lite_engine.proofs.Common.{go_holding, go_reading, one_of, arrived, step_from}
 use Rattle.regex_lite_engine.proofs.Common.{arrow_count, place_of, Marks, marked, over, mark_of}
 use Rattle.regex_lite_engine.proofs.Common.{place_with, is_complete, numbered_step}
@@ -159,10 +159,10 @@ module _ (table : List (Place ℕ)) (search : SearchFrom) (pairs : Pairs) (held 
   walk_reads set to e = by_next (after haystack p) refl
     where
       first_step : numbered_step table haystack (q, p) 0
-          ≡ arrived to (behind set p (after haystack p))
+          ≡ arrived to (read_past set p (after haystack p))
       first_step = ap (λ x. step_from haystack x p 0) e
 
-      blocked : arrived {A = ℕ} to (behind set p (after haystack p)) ≡ None → (k : ℕ)
+      blocked : arrived {A = ℕ} to (read_past set p (after haystack p)) ≡ None → (k : ℕ)
           → numbered_step table haystack (q, p) k ≡ None
       blocked none zero = first_step ∙ none
       blocked none (suc k) = ap (λ x. step_from haystack x p (suc k)) e
@@ -170,14 +170,14 @@ module _ (table : List (Place ℕ)) (search : SearchFrom) (pairs : Pairs) (held 
       by_next : (o : Option ℕ) → after haystack p ≡ o → Walks row (read_on at set o to frames)
       by_next None none =
           walk_blocked (go_reading set to ∷ []) e
-          (blocked (ap (λ z. arrived to (behind set p z)) none))
+          (blocked (ap (λ z. arrived to (read_past set p z)) none))
       by_next (Some c) some = by_test (set c) refl
         where
           fits : (b : Bool) → set c ≡ b
-              → arrived {A = ℕ} to (behind set p (after haystack p))
+              → arrived {A = ℕ} to (read_past set p (after haystack p))
               ≡ arrived to (if b then Some (suc p) else None)
           fits b d =
-              ap (λ z. arrived to (behind set p z)) some
+              ap (λ z. arrived to (read_past set p z)) some
               ∙ ap (λ z. arrived to (if z then Some (suc p) else None)) d
 
           by_test : (b : Bool) → set c ≡ b

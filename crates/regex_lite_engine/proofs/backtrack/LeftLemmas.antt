@@ -146,12 +146,12 @@ module _ (table : List (Place ℕ)) (haystack : List ℕ) (utf8 : IsUtf8 haystac
     is_at = (position_is haystack at utf8 edge).1
 
     -- at a position after the pair's
-    from_behind : (p n : ℕ) → position_at haystack at < p → p + n ≤ length (chars haystack) + 1
+    from_beyond : (p n : ℕ) → position_at haystack at < p → p + n ≤ length (chars haystack) + 1
         → left_from table haystack f entered_now p n ≡ left_from table haystack f pairs p n
-    from_behind p zero behind within = refl
-    from_behind p (suc n) behind within =
+    from_beyond p zero beyond within = refl
+    from_beyond p (suc n) beyond within =
         let less =
-        offset_less (chars haystack) (position_at haystack at) p behind (omega (arith, within)) in
+        offset_less (chars haystack) (position_at haystack at) p beyond (omega (arith, within)) in
         let there = is_at in
         let before =
         pair_earlier pairs.places pairs.first q at (offset (chars haystack) p) inside low
@@ -159,7 +159,7 @@ module _ (table : List (Place ℕ)) (haystack : List ℕ) (utf8 : IsUtf8 haystac
         let same = stretch_other f pairs.entered pair
         (pair_number pairs.places pairs.first 0 (offset (chars haystack) p))
         table (inl before) in
-        let more = from_behind (suc p) n (omega (arith, behind)) (omega (arith, within)) in
+        let more = from_beyond (suc p) n (omega (arith, beyond)) (omega (arith, within)) in
         omega (arith, same, more)
 
     -- at positions of which one is the pair's
@@ -203,7 +203,7 @@ module _ (table : List (Place ℕ)) (haystack : List ℕ) (utf8 : IsUtf8 haystac
             = sym (ap (λ z. pair_number pairs.places pairs.first q z) same) ∙ omega arith in
             let short = pair_inside q at (slice_get_within table q x got) low edge.0 in
             let own = stretch_enter f pairs.entered pair from table q x got number short new in
-            let rest = from_behind (suc p) n (omega (arith, le)) (omega (arith, within)) in
+            let rest = from_beyond (suc p) n (omega (arith, le)) (omega (arith, within)) in
             omega (arith, own, rest)
 
     -- entering a new pair takes what its place counts

@@ -161,8 +161,8 @@ module _ (table : List (Place ℕ)) (haystack : List ℕ) (utf8 : IsUtf8 haystac
       p : ℕ
       p = position_at haystack at
 
-      behind : IsCharBoundary haystack (at + len_utf8 c)
-      behind =
+      next_boundary : IsCharBoundary haystack (at + len_utf8 c)
+      next_boundary =
           let is_at = (position_is haystack at utf8 edge).1 in
           let inside_text = slice_get_within (chars haystack) p c (sym there) in
           let next = offset_next (chars haystack) p c (sym there) in
@@ -173,7 +173,7 @@ module _ (table : List (Place ℕ)) (haystack : List ℕ) (utf8 : IsUtf8 haystac
           → frames' ≡ (if b then explore to (at + len_utf8 c) ∷ frames else frames) → Within
       by_test true e =
           within_row (explore to (at + len_utf8 c) ∷ frames) e same
-          (inside, omega (arith, low), behind, below)
+          (inside, omega (arith, low), next_boundary, below)
       by_test false e = within_row frames e same below
 
   within_class : (ranges : List ClassRange) (next : Option ℕ)

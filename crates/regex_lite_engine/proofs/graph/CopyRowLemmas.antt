@@ -63,10 +63,10 @@ module _ (pre : Address) (greedy : Bool) (enter : Address → Address)
       let moved = λ (m : ℕ). row n (suc k) (enter (part pre m)) (row 1 m after rest) c a in
       copies_before n (suc k) after rest c a ∙ ap moved same
 
-  pub behind_copies : (n k : ℕ) (after : Address) (rest : ℕ → Address → Content) (c : ℕ)
+  pub after_copies : (n k : ℕ) (after : Address) (rest : ℕ → Address → Content) (c : ℕ)
       (a : Address) → row n k after rest (n + c) a ≡ rest c a
-  behind_copies zero k after rest c a =
+  after_copies zero k after rest c a =
       let same : 0 + c ≡ c = omega arith in ap (λ m. rest m a) same
-  behind_copies (suc n) k after rest c a =
+  after_copies (suc n) k after rest c a =
       let same : suc n + c ≡ suc (n + c) = omega arith in
-      ap (λ m. row (suc n) k after rest m a) same ∙ behind_copies n (suc k) after rest c a
+      ap (λ m. row (suc n) k after rest m a) same ∙ after_copies n (suc k) after rest c a

@@ -133,10 +133,10 @@ module _ (pre : Address) (greedy : Bool) (enter : Address → Address)
       → In a (own_place 0 ∷ (in_part n list ++ copies n 0))
   listed_at_least n exit (zero ∷ zero ∷ []) place e = inl refl
   listed_at_least n exit (suc c ∷ a) place e =
-      let behind = row 1 (0 + n) (own pre 0) nowhere in
+      let copies_after = row 1 (0 + n) (own pre 0) nowhere in
       let split = copies_before pre greedy enter inside n 0 (own pre 0) nowhere c a in
       let last = enter (part pre (0 + n)) in
-      elim (listed_copies n 0 last behind c a place (sym split ∙ e)) [
+      elim (listed_copies n 0 last copies_after c a place (sym split ∙ e)) [
         | inl r ↦
             let here = from_0 (λ m. suc m ∷ a) (copies n 0) c r in
             inr (in_right (suc c ∷ a) (in_part n list) (copies n 0) here)

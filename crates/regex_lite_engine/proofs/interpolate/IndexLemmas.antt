@@ -34,9 +34,9 @@ value_of_digit c digit = ap (λ b. cond b (c - 48) (cond (is_lower c) (c - 87) (
 at_least : (n : ℕ) → 2 ^ 64 ≤ n → ltb n (2 ^ 64) ≡ false
 at_least n large = grind (arith, nat_tests)
 
-false_behind : (a : Bool) → (a && false) ≡ false
-false_behind true = refl
-false_behind false = refl
+false_after : (a : Bool) → (a && false) ≡ false
+false_after true = refl
+false_after false = refl
 
 -- too large a number is no index
 pub too_large : (xs : List ℕ) → 2 ^ 64 ≤ number_of 10 xs
@@ -45,7 +45,7 @@ too_large xs large =
     let none : is_index xs ≡ false =
     ap (λ b. (not (eqb (length xs) 0) && list_all is_digit xs) && b)
     (at_least (number_of 10 xs) large)
-    ∙ false_behind (not (eqb (length xs) 0) && list_all is_digit xs) in
+    ∙ false_after (not (eqb (length xs) 0) && list_all is_digit xs) in
     ap (λ b. cond b (Some (number_of 10 xs)) None) (sym none)
 
 all_pass : (p : ℕ → Bool) (xs : List ℕ)

@@ -24,8 +24,8 @@ leads_to_one {N} step (k ∷ ks) a b c (via, s, first) (other, t, second) =
     leads_to_one step ks other b c (subst (λ n. Leads N step n ks b) same first) second
 
 -- arrow k leads to `via`, and what is after it leads on from there
-pub leads_behind : {N : Type 0} (step : N → ℕ → Option N) (us : List ℕ) (a via b : N) (k l : ℕ)
+pub leads_after : {N : Type 0} (step : N → ℕ → Option N) (us : List ℕ) (a via b : N) (k l : ℕ)
     → step a k ≡ Some via → k ≡ l → Leads N step a (l ∷ us) b → Leads N step via us b
-leads_behind {N} step us a via b k l s e (next, t, along) =
+leads_after {N} step us a via b k l s e (next, t, along) =
     let one : next ≡ via = same_some (sym t ∙ ap (step a) (sym e) ∙ s) in
     subst (λ n. Leads N step n us b) one along

@@ -3,7 +3,7 @@ use Rattle.regex_lite_engine.proofs.Common.{◌≡◌, ℕ, ◌≢◌, ◌⊎◌
 use Rattle.regex_lite_engine.proofs.Common.{sym, refl, ap, ◌∙◌, subst, inl, inr, append_assoc}
 use Rattle.regex_lite_engine.proofs.Common.{Leads, NoneTwice, IsWay}
 use Rattle.regex_lite_syntax.proofs.ListLemmas.{same_head, same_tail}
-use Rattle.regex_lite_engine.proofs.laws.LeadsLemmas.{leads_append, leads_behind}
+use Rattle.regex_lite_engine.proofs.laws.LeadsLemmas.{leads_append, leads_after}
 
 module _ {N : Type 0} (step : N → ℕ → Option N) where
   -- the arrows lead by the node on their way
@@ -45,7 +45,7 @@ module _ {N : Type 0} (step : N → ℕ → Option N) where
       → NeverBy node via ks → NeverBy node start (k ∷ ks)
   never_later k ks node start via s apart never [] vs e there = apart there
   never_later k ks node start via s apart never (u ∷ us) vs e there =
-      never us vs (same_tail e) (leads_behind step us start via node k u s (same_head e) there)
+      never us vs (same_tail e) (leads_after step us start via node k u s (same_head e) there)
 
   once_in_place : (a : N) → NoneTwice N step a []
   once_in_place a [] [] ws m e f g = refl
@@ -53,9 +53,9 @@ module _ {N : Type 0} (step : N → ℕ → Option N) where
   once_in_place a (u ∷ us) vs ws m e f g = absurd cc
 
   -- what is left of a way is a way
-  once_behind : (us vs ks : List ℕ) (a b : N) → ks ≡ us ++ vs → Leads N step a us b
+  once_after : (us vs ks : List ℕ) (a b : N) → ks ≡ us ++ vs → Leads N step a us b
       → NoneTwice N step a ks → NoneTwice N step b vs
-  once_behind us vs ks a b e first once more loop rest m f g =
+  once_after us vs ks a b e first once more loop rest m f g =
       let parts = e ∙ ap (λ z. us ++ z) f ∙ sym (append_assoc us more (loop ++ rest)) in
       once (us ++ more) loop rest m parts (leads_append step us more a b m first g)
 
@@ -65,9 +65,9 @@ module _ {N : Type 0} (step : N → ℕ → Option N) where
   once_longer k ks a b s once never [] [] rest m e first loop = refl
   once_longer k ks a b s once never [] (v ∷ vs) rest m e first loop =
       let back = subst (λ n. Leads N step n (v ∷ vs) n) (sym first) loop in
-      absurd (never vs rest (same_tail e) (leads_behind step vs a b a k v s (same_head e) back))
+      absurd (never vs rest (same_tail e) (leads_after step vs a b a k v s (same_head e) back))
   once_longer k ks a b s once never (u ∷ us) loop rest m e first turn =
-      once us loop rest m (same_tail e) (leads_behind step us a b m k u s (same_head e) first) turn
+      once us loop rest m (same_tail e) (leads_after step us a b m k u s (same_head e) first) turn
 
   module _ (one_or_two : (a b : N) → (a ≡ b) ⊎ (a ≢ b)) where
     comes_by : (ks : List ℕ) (node start end : N) → Leads N step start ks end
@@ -91,7 +91,7 @@ module _ {N : Type 0} (step : N → ℕ → Option N) where
         let rest = without_loops ks via b along in
         elim (comes_by rest.0 a via b rest.1.0) [
           | inl by ↦
-              let once = once_behind by.before by.after rest.0 via a by.parts by.there rest.1.1 in
+              let once = once_after by.before by.after rest.0 via a by.parts by.there rest.1.1 in
               (by.after, (by.on, once))
           | inr never ↦
               (k ∷ rest.0, ((via, s, rest.1.0), once_longer k rest.0 a via s rest.1.1 never))

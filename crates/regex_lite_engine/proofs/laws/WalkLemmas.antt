@@ -1,7 +1,7 @@
 -- Walks in a graph of places: arrows that lead from one place and position to another.
 use Rattle.regex_lite_engine.proofs.Common.{◌≡◌, ℕ, suc, Bool, true, false, List, [], ◌∷◌, ◌++◌}
 use Rattle.regex_lite_engine.proofs.Common.{if◌then◌else◌, IsTrue, Some, None, Option, sym, refl}
-use Rattle.regex_lite_engine.proofs.Common.{ap, ◌∙◌, Set, Text, with_arrows, behind, go, choice}
+use Rattle.regex_lite_engine.proofs.Common.{ap, ◌∙◌, Set, Text, with_arrows, read_past, go, choice}
 use Rattle.regex_lite_engine.proofs.Common.{step_from, step, Leads}
 use Rattle.regex_lite_engine.specs.Graph.Places.{Place}
 use Rattle.regex_lite_engine.proofs.laws.LeadsLemmas.{leads_append}
@@ -53,7 +53,7 @@ pub if_test : (test : Bool) (i j : ℕ) → (if test then Some i else None) ≡ 
 if_test true i j e = (refl, same_some e)
 if_test false i j e = absurd cc
 
-pub was_read : (set : Set) (i j : ℕ) (next : Option ℕ) → behind set i next ≡ Some j
+pub was_read : (set : Set) (i j : ℕ) (next : Option ℕ) → read_past set i next ≡ Some j
     → (c : ℕ) × (next ≡ Some c) × IsTrue (set c) × (j ≡ suc i)
 was_read set i j None e = absurd cc
 was_read set i j (Some c) e =

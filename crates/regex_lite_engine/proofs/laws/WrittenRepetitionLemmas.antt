@@ -19,18 +19,18 @@ module _ (place : Address → Place Address) (pre : Address) (greedy : Bool)
       → ℕ → Address → Content
   copies = in_copies pre greedy enter inside
 
-  abbrev behind_copy : (left k : ℕ) → (exit : Address) → Address
-  behind_copy = next_copy pre greedy enter inside
+  abbrev after_copy : (left k : ℕ) → (exit : Address) → Address
+  after_copy = next_copy pre greedy enter inside
 
-  abbrev behind_choice : (left j : ℕ) → Address
-  behind_choice = next_choice pre greedy enter inside
+  abbrev after_choice : (left j : ℕ) → Address
+  after_choice = next_choice pre greedy enter inside
 
   row_stands : (left k : ℕ) (exit : Address) (rest : ℕ → Address → Content)
       → HasParts place pre k (copies left k exit rest)
-      → InRow Body left (behind_copy left k exit) exit
+      → InRow Body left (after_copy left k exit) exit
   row_stands zero k exit rest has = refl
   row_stands (suc left) k exit rest has =
-      let next = behind_copy left (suc k) exit in
+      let next = after_copy left (suc k) exit in
       let later = row_stands left (suc k) exit rest (later_parts has) in
       (next, stands (part pre k) next (first_part has), later)
 
@@ -45,8 +45,8 @@ module _ (place : Address → Place Address) (pre : Address) (greedy : Bool)
       (refl, stands (part pre k) exit (first_part has))
   row_and_last_stand (suc left) k last exit rest e has =
       let next = enter (part pre (suc k)) in
-      let behind : last ≡ suc k + left = omega (arith, e) in
-      let later = row_and_last_stand left (suc k) last exit rest behind (later_parts has) in
+      let last_is : last ≡ suc k + left = omega (arith, e) in
+      let later = row_and_last_stand left (suc k) last exit rest last_is (later_parts has) in
       ((next, stands (part pre k) next (first_part has), later.0), later.1)
 
   -- what comes after the copies
@@ -65,10 +65,10 @@ module _ (place : Address → Place Address) (pre : Address) (greedy : Bool)
 
   choices_stand : (left k j : ℕ) → HasChoices left k j
       → HasParts place pre k (in_choices pre greedy enter inside left k j)
-      → InChoices place greedy Body left (own pre 1) (behind_choice left j)
+      → InChoices place greedy Body left (own pre 1) (after_choice left j)
   choices_stand zero k j has bodies = refl
   choices_stand (suc left) k j has bodies =
-      let next = behind_choice left (suc j) in (
+      let next = after_choice left (suc j) in (
         enter (part pre k),
         next,
         has 0 j _ (omega arith) refl,
@@ -87,7 +87,7 @@ module _ (place : Address → Place Address) (pre : Address) (greedy : Bool)
 
   between_stands : (least d : ℕ) (exit : Address)
       → HasRow place pre (between_row pre greedy enter inside least d exit)
-      → IsBetween place greedy Body least (suc d) (behind_copy least 0 (own pre 2)) exit
+      → IsBetween place greedy Body least (suc d) (after_copy least 0 (own pre 2)) exit
   between_stands zero d exit has =
       let turns = has_choices (suc d) 0 (λ c p e. has.at (0 ∷ suc (suc c) ∷ []) e) in (
         own pre 2,

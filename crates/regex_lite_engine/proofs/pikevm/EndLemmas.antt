@@ -5,7 +5,7 @@ use Rattle.regex_lite_engine.proofs.Common.{slice_get, Some, None, Option, sym, 
 use Rattle.regex_lite_engine.proofs.Common.{subst, inl, inr, arith, mul-suc, nil_from_length}
 use Rattle.regex_lite_engine.proofs.Common.{slice_get_within, Text, after, holds_between, Condition}
 use Rattle.regex_lite_engine.proofs.Common.{free, holding, reading, Arrow, complete, with_arrows}
-use Rattle.regex_lite_engine.proofs.Common.{behind, taken, arrived, arrow_taken, step_from, Thread}
+use Rattle.regex_lite_engine.proofs.Common.{read_past, taken, arrived, arrow_taken, step_from, Thread}
 use Rattle.regex_lite_engine.proofs.Common.{IsComing, ThreadsHold, InStep, Found, IsGrown}
 use Rattle.regex_lite_engine.proofs.Common.{marks_along, place_with, numbered_step, is_end}
 use Rattle.regex_lite_engine.proofs.Common.{IsNumberedFound, StartsOf, Best, IsBestOutcome}
@@ -34,7 +34,7 @@ taken_in_text haystack (holding l) i j le e =
     go false e = absurd (not_there e)
 taken_in_text haystack (reading set) i j le e = go (after haystack i) refl e
   where
-    go : (o : Option ℕ) → after haystack i ≡ o → behind set i o ≡ Some j → j ≤ length haystack
+    go : (o : Option ℕ) → after haystack i ≡ o → read_past set i o ≡ Some j → j ≤ length haystack
     go None at e = absurd (not_there e)
     go (Some c) at e = fits (set c) e
       where

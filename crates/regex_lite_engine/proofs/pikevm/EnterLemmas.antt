@@ -5,7 +5,7 @@ use Rattle.regex_lite_engine.proofs.Common.{slice_get, slice_index, slice_index_
 use Rattle.regex_lite_engine.proofs.Common.{None, Option, sym, refl, ap, ◌∙◌, subst, inl, inr}
 use Rattle.regex_lite_engine.proofs.Common.{arith, length-map, set-get_or, in_ranges, Set, just}
 use Rattle.regex_lite_engine.proofs.Common.{after, holds_between, ClassRange, Arrow, with_arrows}
-use Rattle.regex_lite_engine.proofs.Common.{behind, go, go_marking, go_holding, go_reading, one_of}
+use Rattle.regex_lite_engine.proofs.Common.{read_past, go, go_marking, go_holding, go_reading, one_of}
 use Rattle.regex_lite_engine.proofs.Common.{arrived, step_from, arrow_count, place_of, reads}
 use Rattle.regex_lite_engine.proofs.Common.{pushing, reading_on, Thread, WayTold, ThreadsHold}
 use Rattle.regex_lite_engine.proofs.Common.{SearchAt, Told, Marks, marked, over, mark_of}
@@ -174,11 +174,11 @@ module _ (table : List (Place ℕ)) (at : SearchAt) (state : State) (i : Told) (
     settle_reads set to e = by_test (reads set here.after) refl
       where
         went : (o : Option ℕ) → reads set o ≡ true
-            → arrived {A = ℕ} to (behind set p o) ≡ Some (to, suc p)
+            → arrived {A = ℕ} to (read_past set p o) ≡ Some (to, suc p)
         went None d = cc
         went (Some c) d = ap (λ b. arrived to (if b then Some (suc p) else None)) d
 
-        stuck : (o : Option ℕ) → reads set o ≡ false → arrived {A = ℕ} to (behind set p o) ≡ None
+        stuck : (o : Option ℕ) → reads set o ≡ false → arrived {A = ℕ} to (read_past set p o) ≡ None
         stuck None d = refl
         stuck (Some c) d = ap (λ b. arrived to (if b then Some (suc p) else None)) d
 

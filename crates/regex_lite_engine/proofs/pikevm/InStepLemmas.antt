@@ -140,8 +140,8 @@ module _ (N : Type 0) (step : N → ℕ → Option N) (same : (x y : N) → (x �
       now_ordered =
           order.offers_ordered N step n w (width n) 0 rest known.now_ordered.1 known.now_ordered.0;
       next_ordered = known.next_ordered;
-      behind = λ m v l x i j.
-          by_behind m v l x i (order.in_either N step l x (offers n w (width n) 0) rest j);
+      now_after = λ m v l x i j.
+          by_now_after m v l x i (order.in_either N step l x (offers n w (width n) 0) rest j);
       ahead = λ m v l x i r q.
           by_ahead m v l x q (order.in_either N step m v (offers n w (width n) 0) rest i)
           (back l x r);
@@ -164,12 +164,12 @@ module _ (N : Type 0) (step : N → ℕ → Option N) (same : (x y : N) → (x �
             let r = order.offered N step n w (width n) 0 m v i in
             inr (n, w, r.0, extended_here, r.2, r.3)
 
-        by_behind : (m : N) (v : List ℕ) (l : N) (x : List ℕ) → In m v next
+        by_now_after : (m : N) (v : List ℕ) (l : N) (x : List ℕ) → In m v next
             → In l x (offers n w (width n) 0) ⊎ In l x rest → IsPreferred v x
-        by_behind m v l x i (inr j) = known.behind m v l x i (inr j)
-        by_behind m v l x i (inl j) = let r = order.offered N step n w (width n) 0 l x j in
+        by_now_after m v l x i (inr j) = known.now_after m v l x i (inr j)
+        by_now_after m v l x i (inl j) = let r = order.offered N step n w (width n) 0 l x j in
             subst (λ z. IsPreferred v z) (sym r.3)
-            (preferred_longer v w (r.0 ∷ []) (known.behind m v n w i here))
+            (preferred_longer v w (r.0 ∷ []) (known.now_after m v n w i here))
 
         by_ahead : (m : N) (v : List ℕ) (l : N) (x : List ℕ) → position l ≡ p
             → In m v (offers n w (width n) 0) ⊎ In m v rest
@@ -229,9 +229,9 @@ module _ (N : Type 0) (step : N → ℕ → Option N) (same : (x y : N) → (x �
       now_ordered = known.now_ordered.1;
       next_ordered =
           order.offers_after N step n w (width n) next known.next_ordered
-          (λ m v i. known.behind m v n w i here);
-      behind = λ m v l x i j.
-          by_behind m v l x j (order.in_either N step m v next (offers n w (width n) 0) i);
+          (λ m v i. known.now_after m v n w i here);
+      now_after = λ m v l x i j.
+          by_now_after m v l x j (order.in_either N step m v next (offers n w (width n) 0) i);
       ahead = λ m v l x i r q. by_ahead m v l x q i (back l x r);
       now_stands = λ m v i. known.now_stands m v (inr i);
       next_stands = λ m v i.
@@ -253,10 +253,10 @@ module _ (N : Type 0) (step : N → ℕ → Option N) (same : (x y : N) → (x �
             let r = order.offered N step n w (width n) 0 m v i in
             inr (n, w, r.0, extended_here, r.2, r.3)
 
-        by_behind : (m : N) (v : List ℕ) (l : N) (x : List ℕ) → In l x rest
+        by_now_after : (m : N) (v : List ℕ) (l : N) (x : List ℕ) → In l x rest
             → In m v next ⊎ In m v (offers n w (width n) 0) → IsPreferred v x
-        by_behind m v l x j (inl i) = known.behind m v l x i (inr j)
-        by_behind m v l x j (inr i) = let r = order.offered N step n w (width n) 0 m v i in
+        by_now_after m v l x j (inl i) = known.now_after m v l x i (inr j)
+        by_now_after m v l x j (inr i) = let r = order.offered N step n w (width n) 0 m v i in
             subst (λ z. IsPreferred z x) (sym r.3)
             (preferred_append w x (r.0 ∷ []) (known.now_ordered.0 l x j))
 

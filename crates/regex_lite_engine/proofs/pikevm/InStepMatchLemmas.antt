@@ -64,7 +64,7 @@ module _ (N : Type 0) (step : N → ℕ → Option N) (same : (x y : N) → (x �
       best_least = λ m v e r. (w, refl, by_end m v e (back m v r));
       now_ordered = tt;
       next_ordered = u.next_ordered;
-      behind = λ m v l x i j. absurd j;
+      now_after = λ m v l x i j. absurd j;
       ahead = λ m v l x i r q. absurd i;
       now_stands = λ m v i. absurd i;
       next_stands = u.next_stands;
@@ -75,7 +75,7 @@ module _ (N : Type 0) (step : N → ℕ → Option N) (same : (x y : N) → (x �
       best_below = λ b e. subst (λ z. StartsBelow from z) (same_some e) (u.now_below n w here);
       now_better = λ m v b i e. absurd i;
       next_better = λ m v b i e.
-          subst (λ z. IsPreferred v z) (same_some e) (u.behind m v n w i here);
+          subst (λ z. IsPreferred v z) (same_some e) (u.now_after m v n w i here);
     }
       where
         regrown : (m : N) (v : List ℕ) → IsGrown N step is_end IsStart extended best m v →

@@ -85,7 +85,7 @@ module _ (N : Type 0) (step : N → ℕ → Option N) (IsStart : List ℕ → N 
     best_least = λ m v e r. absurd (not_there (sym (nothing m) ∙ r));
     now_ordered = tt;
     next_ordered = tt;
-    behind = λ m v l x i j. absurd i;
+    now_after = λ m v l x i j. absurd i;
     ahead = λ m v l x i r q. absurd i;
     now_stands = λ m v i. absurd i;
     next_stands = λ m v i. absurd i;
@@ -114,7 +114,7 @@ module _ (N : Type 0) (step : N → ℕ → Option N) (IsStart : List ℕ → N 
     best_least = u.best_least;
     now_ordered = u.now_ordered;
     next_ordered = u.next_ordered;
-    behind = u.behind;
+    now_after = u.now_after;
     ahead = u.ahead;
     now_stands = u.now_stands;
     next_stands = u.next_stands;
@@ -146,7 +146,7 @@ module _ (N : Type 0) (step : N → ℕ → Option N) (IsStart : List ℕ → N 
     best_least = u.best_least;
     now_ordered = tt;
     next_ordered = tt;
-    behind = u.behind;
+    now_after = u.now_after;
     ahead = λ m v l x i r q. absurd i;
     now_stands = λ m v i. absurd i;
     next_stands = λ m v i. absurd i;
@@ -177,7 +177,7 @@ module _ (N : Type 0) (step : N → ℕ → Option N) (IsStart : List ℕ → N 
     best_least = u.best_least;
     now_ordered = joined now u.now_ordered u.now_below;
     next_ordered = tt;
-    behind = λ m v l x i j. absurd i;
+    now_after = λ m v l x i j. absurd i;
     ahead = λ m v l x i r q. absurd (too_far l x r q);
     now_stands = λ m v i.
         ⊎_elim (λ j. u.now_stands m v j) (λ j. (own m v j).1)
@@ -243,7 +243,7 @@ module _ (N : Type 0) (step : N → ℕ → Option N) (IsStart : List ℕ → N 
     best_least = u.best_least;
     now_ordered = u.next_ordered;
     next_ordered = tt;
-    behind = λ m v l x i j. absurd i;
+    now_after = λ m v l x i j. absurd i;
     ahead = λ m v l x i r q. absurd (too_far l x r q);
     now_stands = u.next_stands;
     next_stands = λ m v i. absurd i;

@@ -35,7 +35,7 @@ module _ (N : Type 0) (step : N → ℕ → Option N) (IsStart : List ℕ → N 
     best_least = u.best_least;
     now_ordered = u.now_ordered.1;
     next_ordered = u.next_ordered;
-    behind = λ m x l y i j. u.behind m x l y i (inr j);
+    now_after = λ m x l y i j. u.now_after m x l y i (inr j);
     ahead = λ m x l y i s q. u.ahead m x l y (inr i) s q;
     now_stands = λ m x i. u.now_stands m x (inr i);
     next_stands = u.next_stands;

@@ -4,7 +4,7 @@ use Rattle.regex_lite_engine.proofs.Common.{List, [], ◌∷◌, ◌++◌, lengt
 use Rattle.regex_lite_engine.proofs.Common.{slice_get, Some, None, Option, sym, refl, ap, ◌∙◌}
 use Rattle.regex_lite_engine.proofs.Common.{subst, inl, inr, arith, cases_lt, Text, after}
 use Rattle.regex_lite_engine.proofs.Common.{holds_between, Condition, free, holding, reading, Arrow}
-use Rattle.regex_lite_engine.proofs.Common.{complete, with_arrows, behind, taken, arrived}
+use Rattle.regex_lite_engine.proofs.Common.{complete, with_arrows, read_past, taken, arrived}
 use Rattle.regex_lite_engine.proofs.Common.{arrow_taken, step_from, Leads, NoneTwice, Thread}
 use Rattle.regex_lite_engine.proofs.Common.{IsComing, InStep, Told, IsDead, IsAnswered, place_with}
 use Rattle.regex_lite_engine.proofs.Common.{numbered_step, is_end, IsNumberedMatch, IsEntry}
@@ -35,7 +35,7 @@ taken_on haystack (holding test) i j e =
     by_test false e = absurd (not_there e)
 taken_on haystack (reading set) i j e = by_next (after haystack i) e
   where
-    by_next : (o : Option ℕ) → behind set i o ≡ Some j → i ≤ j
+    by_next : (o : Option ℕ) → read_past set i o ≡ Some j → i ≤ j
     by_next None e = absurd (not_there e)
     by_next (Some c) e = by_test (set c) e
       where

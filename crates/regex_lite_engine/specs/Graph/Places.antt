@@ -55,16 +55,16 @@ renamed name complete = complete
 renamed name (with_arrows arrows) = with_arrows (map (renamed_arrow name) arrows)
 
 -- the position after a character of the set
-abbrev pub behind : Set → ℕ → Option ℕ → Option ℕ
-behind set i None = None
-behind set i (Some c) = if set c then Some (suc i) else None
+abbrev pub read_past : Set → ℕ → Option ℕ → Option ℕ
+read_past set i None = None
+read_past set i (Some c) = if set c then Some (suc i) else None
 
 -- the position after such an arrow is taken at position i, if it fits there
 abbrev pub taken : Text → Condition → ℕ → Option ℕ
 taken haystack free i = Some i
 taken haystack (holding test) i =
     if holds_between test (before haystack i) (after haystack i) then Some i else None
-taken haystack (reading set) i = behind set i (after haystack i)
+taken haystack (reading set) i = read_past set i (after haystack i)
 
 module _ {A : Type 0} where
   abbrev pub go : A → Arrow A

@@ -35,7 +35,7 @@ module _ (N : Type 0) (step : N → ℕ → Option N) (IsStart : (front : List �
     -- ways are followed in the order of preference
     pub now_ordered : Ordered N now
     pub next_ordered : Ordered N next
-    pub behind : (n : N) (w : List ℕ) (m : N) (v : List ℕ) → In N n w next → In N m v now
+    pub now_after : (n : N) (w : List ℕ) (m : N) (v : List ℕ) → In N n w next → In N m v now
         → IsPreferred w v
     pub ahead : (n : N) (w : List ℕ) (m : N) (v : List ℕ) → In N n w now → recorded m ≡ Some v
         → position m ≡ p → NotAfter v w

@@ -73,7 +73,7 @@ pub record AreHeadsOfTrees (trees : List Tree) (heads : ListHeads) : Type 0 wher
 -- None is in the rows of two ASCII characters with which no match begins
 pub record IsWalkable (heads : ListHeads) : Type 0 where
   pub sized : IsSized heads.rows heads.count
-  pub none_behind : (row number : ℕ) → row < row_count → heads.count ≤ number
+  pub none_beyond : (row number : ℕ) → row < row_count → heads.count ≤ number
       → number < 64 * heads.rows.width → has heads.rows row number ≡ false
   pub all_pairs : length heads.pairs.items ≡ 128
   pub not_in_rows : (first second number : ℕ) → first < 128 → second < 128 → number < heads.count

@@ -17,13 +17,13 @@ abbrev pub Entry : Type 0
 Entry = ℕ × Marks
 
 -- the entry, with its marks over these
-abbrev pub behind_marks : Marks → Entry → Entry
-behind_marks marks entry = (entry.0, over entry.1 marks)
+abbrev pub after_marks : Marks → Entry → Entry
+after_marks marks entry = (entry.0, over entry.1 marks)
 
 -- on from the end of each entry in turn
 abbrev pub onward : List Entry → (next : ℕ → List Entry) → List Entry
 onward [] next = []
-onward (entry ∷ list) next = map (behind_marks entry.1) (next entry.0) ++ onward list next
+onward (entry ∷ list) next = map (after_marks entry.1) (next entry.0) ++ onward list next
 
 -- the empty match at position i, and that which marks a slot
 abbrev pub stop : ℕ → List Entry

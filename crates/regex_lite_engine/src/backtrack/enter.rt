@@ -70,9 +70,9 @@ fn read_char(c: char, to: u32, haystack: &str, at: usize) -> Onward
         (after (chars haystack.now) (position_at haystack.now at)) to result }
 {
     match next_char(haystack, at) {
-        Some((next, behind)) if next == c => Onward::To {
+        Some((next, past)) if next == c => Onward::To {
             place: to,
-            at: behind,
+            at: past,
         },
         _ => Onward::Back,
     }
@@ -85,9 +85,9 @@ fn read_class(set: &MappedClass, to: u32, haystack: &str, at: usize) -> Onward
         (after (chars haystack.now) (position_at haystack.now at)) to result }
 {
     match next_char(haystack, at) {
-        Some((next, behind)) if set.contains(next) => Onward::To {
+        Some((next, past)) if set.contains(next) => Onward::To {
             place: to,
-            at: behind,
+            at: past,
         },
         _ => Onward::Back,
     }

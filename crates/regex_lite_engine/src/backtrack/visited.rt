@@ -123,7 +123,7 @@ impl Visited {
         let pair = (at - self.first) * self.places + place as usize;
         match &mut self.words {
             Words::Few(words) => set_bit(words, pair),
-            Words::Many(words) => set_bit_behind(words, pair),
+            Words::Many(words) => set_bit_beyond(words, pair),
         }
     }
 }
@@ -145,7 +145,7 @@ fn set_bit(words: &mut [u64], k: usize) -> bool
 }
 
 /// Like `set_bit`, for words that may end before bit `k`: the missing ones count as 0.
-fn set_bit_behind(words: &mut Vec<u64>, k: usize) -> bool
+fn set_bit_beyond(words: &mut Vec<u64>, k: usize) -> bool
     requires { k < 64 * vec_capacity words.old }
     ensures fresh { (count : ℕ) → k < count
         → (IsTrue result ↔ (slice_index_or (bits_of words.old.items count) k false ≡ false)) }

@@ -40,8 +40,8 @@ impl Walk {
             match self.come_to(graph, haystack, place, at) {
                 Onward::To {
                     place: to,
-                    at: behind,
-                } => (place, at) = (to, behind),
+                    at: past,
+                } => (place, at) = (to, past),
                 Onward::Complete => return Some(at),
                 Onward::Back => (place, at) = self.go_back()?,
             }

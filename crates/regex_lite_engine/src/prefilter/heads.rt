@@ -138,7 +138,7 @@ impl Starts {
         for part in parts {
             head = match head {
                 Head::Nothing => self.add_second(part)?,
-                Head::One => self.add_behind_one(part),
+                Head::One => self.add_after_one(part),
                 Head::More => return Some(head),
             };
         }
@@ -146,7 +146,7 @@ impl Starts {
     }
 
     /// Adds those of a part that follows one character, and returns what both read together.
-    fn add_behind_one(&mut self, part: &Hir) -> Head
+    fn add_after_one(&mut self, part: &Hir) -> Head
         ensures grown { IsWider self.old self.new }
         ensures reads { (haystack : Text) (i k j : ℕ) → Reads self.old haystack i k One
             → Matches haystack (tree_of part.now) k j → Reads self.new haystack i j result }

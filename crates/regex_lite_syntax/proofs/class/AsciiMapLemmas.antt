@@ -30,7 +30,7 @@ bits_between start end c starts ends within =
       | inl before ↦ rw (bit_at_mask_below start 128 c before) (grind (arith, nat_tests))
       | inr at ↦ rw (bit_at_mask_inside start 128 c at within)
           (elim (cases_lt end c) [
-            | inl behind ↦
+            | inl past ↦
                 rw (bit_at_ones_above (end + 1) c (omega arith)) (grind (arith, nat_tests))
             | inr upto ↦ rw (bit_at_ones (end + 1) c (omega arith)) (grind (arith, nat_tests))
           ])
@@ -69,16 +69,16 @@ not_held false never = refl
 pub held_before : (n : ℕ) (ranges : List ClassRange) (i c : ℕ) (d : ClassRange) → AreRuns n ranges
     → i < length ranges → c < (get_or ranges i d).start
     → in_ranges ranges c ≡ in_ranges (take i ranges) c
-held_before n [] i c d runs inside behind = absurd (omega (arith, inside))
-held_before n (r ∷ ranges) zero c d runs inside behind =
+held_before n [] i c d runs inside below = absurd (omega (arith, inside))
+held_before n (r ∷ ranges) zero c d runs inside below =
     let later = runs_from (next_character r.end + 1) ranges c runs.4 in
     let above = next_above r.end in
     let rest : in_ranges ranges c ≡ false =
-    not_held (in_ranges ranges c) (λ held. omega (later held, above, behind, runs.3, arith)) in
+    not_held (in_ranges ranges c) (λ held. omega (later held, above, below, runs.3, arith)) in
     grind (arith, nat_tests)
-held_before n (r ∷ ranges) (suc i) c d runs inside behind =
+held_before n (r ∷ ranges) (suc i) c d runs inside below =
     ap (λ held. span r.start r.end c || held)
-    (held_before (next_character r.end + 1) ranges i c d runs.4 (omega (arith, inside)) behind)
+    (held_before (next_character r.end + 1) ranges i c d runs.4 (omega (arith, inside)) below)
 
 -- what is not ASCII stands after what is
 pub past_ascii : (c d : ℕ) → d < 128 → is_ascii c ≡ false → d < c

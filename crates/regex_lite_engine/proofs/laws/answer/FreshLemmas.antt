@@ -4,7 +4,7 @@ use Rattle.regex_lite_engine.proofs.Common.{length, Some, None, Option, sym, ref
 use Rattle.regex_lite_engine.proofs.Common.{inl, inr, arith, Leads, NoneTwice}
 use Rattle.regex_lite_syntax.proofs.ListLemmas.{same_head, same_tail}
 use Rattle.regex_lite_engine.proofs.InLemmas.{In}
-use Rattle.regex_lite_engine.proofs.laws.LeadsLemmas.{leads_behind}
+use Rattle.regex_lite_engine.proofs.laws.LeadsLemmas.{leads_after}
 use Rattle.regex_lite_engine.proofs.OptionLemmas.{same_some}
 
 -- with the item in front unless the test says no
@@ -110,7 +110,7 @@ module _ {N : Type 0} (one_or_two : (a b : N) → (a ≡ b) ⊎ (a ≢ b)) where
     fresh_in left n m [] (u ∷ us) vs fresh e there = absurd cc
     fresh_in left n m (k ∷ ks) (u ∷ us) vs (is, next, s, fresh) e there =
         let later = fresh_in (without n left) next m ks us vs fresh (same_tail e)
-        (leads_behind step us n next m k u s (same_head e) there) in
+        (leads_after step us n next m k u s (same_head e) there) in
         of_without n m left later
 
     pub fresh_once : (left : List N) (n : N) (ks : List ℕ) → Fresh left n ks → NoneTwice N step n ks
@@ -120,12 +120,12 @@ module _ {N : Type 0} (one_or_two : (a b : N) → (a ≡ b) ⊎ (a ≢ b)) where
     fresh_once left n (k ∷ ks) (is, next, s, fresh) [] [] ws m e f g = refl
     fresh_once left n (k ∷ ks) (is, next, s, fresh) [] (v ∷ vs) ws m e f g =
         let from_n = subst (λ z. Leads N step z (v ∷ vs) m) (sym f) g in
-        let back = leads_behind step vs n next m k v s (same_head e) from_n in
+        let back = leads_after step vs n next m k v s (same_head e) from_n in
         let again = fresh_in (without n left) next m ks vs ws fresh (same_tail e) back in
         absurd (not_without n left (subst (λ z. In z (without n left)) (sym f) again))
     fresh_once left n (k ∷ ks) (is, next, s, fresh) (u ∷ us) vs ws m e f g =
         fresh_once (without n left) next ks fresh us vs ws m (same_tail e)
-        (leads_behind step us n next m k u s (same_head e) f) g
+        (leads_after step us n next m k u s (same_head e) f) g
 
     pub once_fresh : (left : List N) (n b : N) (ks : List ℕ) → Leads N step n ks b
         → NoneTwice N step n ks

@@ -128,17 +128,17 @@ is_earlier tree haystack i j way other is before =
     }
 
 -- with the same arrows in front
-behind_shared : (shared way other : List ℕ) → IsPreferred way other
+after_shared : (shared way other : List ℕ) → IsPreferred way other
     → IsPreferred (shared ++ way) (shared ++ other)
-behind_shared [] way other before = before
-behind_shared (k ∷ shared) way other before = inr (refl, behind_shared shared way other before)
+after_shared [] way other before = before
+after_shared (k ∷ shared) way other before = inr (refl, after_shared shared way other before)
 
 pub earlier_is_preferred : (tree : Tree) (haystack : Text) (i : ℕ) (way other : List ℕ)
     → IsEarlier tree haystack i way other → IsPreferred way other
 earlier_is_preferred tree haystack i way other is =
     let first : IsPreferred (is.arrow ∷ is.rest) (is.later_arrow ∷ is.other_rest)
     = inl is.earlier in
-    let apart = behind_shared is.shared (is.arrow ∷ is.rest) (is.later_arrow ∷ is.other_rest)
+    let apart = after_shared is.shared (is.arrow ∷ is.rest) (is.later_arrow ∷ is.other_rest)
     first in
     subst (λ w. IsPreferred w other) (sym is.is_way)
     (subst (λ w. IsPreferred (is.shared ++ is.arrow ∷ is.rest) w) (sym is.is_other) apart)

@@ -4,7 +4,7 @@ use Rattle.regex_lite_engine.proofs.Common.{[], ◌∷◌, ◌++◌, length, if�
 use Rattle.regex_lite_engine.proofs.Common.{None, Option, unwrap_or, sym, refl, ap, subst, inl, inr}
 use Rattle.regex_lite_engine.proofs.Common.{arith, cases_eq, slice_get_within, Set, Text, after}
 use Rattle.regex_lite_engine.proofs.Common.{Tree, holds_between, Address, Condition, free, holding}
-use Rattle.regex_lite_engine.proofs.Common.{reading, Arrow, complete, with_arrows, behind, taken}
+use Rattle.regex_lite_engine.proofs.Common.{reading, Arrow, complete, with_arrows, read_past, taken}
 use Rattle.regex_lite_engine.proofs.Common.{arrived, arrow_taken, step_from, step, Leads}
 use Rattle.regex_lite_engine.proofs.Common.{end_address, start_address, written_out}
 use Rattle.regex_lite_engine.proofs.Common.{place_of_pattern, IsWayThrough}
@@ -44,7 +44,7 @@ in_pairs a (b ∷ list) n j (inr is) low =
 
 -- each step stays inside
 read_inside : (haystack : Text) (set : Set) (i j : ℕ) (next : Option ℕ) → after haystack i ≡ next
-    → behind set i next ≡ Some j → j ≤ length haystack
+    → read_past set i next ≡ Some j → j ≤ length haystack
 read_inside haystack set i j None there e = absurd cc
 read_inside haystack set i j (Some c) there e = by_test (set c) e
   where

@@ -12,8 +12,8 @@ use Rattle.regex_lite_engine.proofs.laws.groups.MarkedWalkLemmas.{Each, fewer, n
 use Rattle.regex_lite_engine.proofs.laws.groups.MarkedWalkLemmas.{weaken, by_go, by_choice}
 
 -- the property of marks that are laid over these
-abbrev pub Behind : (Marks → ℕ → Type 0) → Marks → Marks → ℕ → Type 0
-Behind P first later j = P (over later first) j
+abbrev pub Over : (Marks → ℕ → Type 0) → Marks → Marks → ℕ → Type 0
+Over P first later j = P (over later first) j
 
 both_passes : (Pass : ℕ → ℕ → Marks → Type 0) (m n i k j : ℕ) (first later : Marks)
     → MarkedPasses Pass m i k first → MarkedPasses Pass n k j later
@@ -34,47 +34,47 @@ both_passes Pass (suc m) n i k j first later (via, a, b, pass, made, e) others =
 module _ {A : Type 0} {haystack : Text} {place : A → Place A} {end : A}
     (final : place end ≡ complete) where
   pub plain : {n : ℕ} {a : A} {i : ℕ} (P : Marks → ℕ → Type 0)
-      → Each haystack place end n a i (Behind P no_marks) → Each haystack place end n a i P
+      → Each haystack place end n a i (Over P no_marks) → Each haystack place end n a i P
   plain {n} {a} {i} P each =
-      weaken final n a i (Behind P no_marks) P
+      weaken final n a i (Over P no_marks) P
       (λ marks j p. subst (λ m. P m j) (over_none marks) p) each
 
   pub together : {n : ℕ} {a : A} {i : ℕ} (P : Marks → ℕ → Type 0) (first later : Marks)
-      → Each haystack place end n a i (Behind P (over later first))
-      → Each haystack place end n a i (Behind (Behind P first) later)
+      → Each haystack place end n a i (Over P (over later first))
+      → Each haystack place end n a i (Over (Over P first) later)
   together {n} {a} {i} P first later each =
-      weaken final n a i (Behind P (over later first)) (Behind (Behind P first) later)
+      weaken final n a i (Over P (over later first)) (Over (Over P first) later)
       (λ marks j p. subst (λ m. P m j) (sym (over_assoc marks later first)) p) each
 
   module _ (greedy : Bool) (Pass : ℕ → ℕ → Marks → Type 0) (Body : A → A → Type 0)
       (inside : (enter exit : A) (i n : ℕ) (P : Marks → ℕ → Type 0) → Body enter exit
       → ((k : ℕ) (marks : Marks) → Pass i k marks
-      → Each haystack place end n exit k (Behind P marks))
+      → Each haystack place end n exit k (Over P marks))
       → Each haystack place end n enter i P) where
     in_row : (m : ℕ) {enter exit : A} (i n : ℕ) (P : Marks → ℕ → Type 0)
         → InRow Body m enter exit
         → ((k : ℕ) (marks : Marks) → MarkedPasses Pass m i k marks
-        → Each haystack place end n exit k (Behind P marks))
+        → Each haystack place end n exit k (Over P marks))
         → Each haystack place end n enter i P
     in_row zero i n P e follows =
         subst (λ a. Each haystack place end n a i P) (sym e)
         (plain P (follows i no_marks (refl, refl)))
     in_row (suc m) {enter} i n P (via, stands, row) follows =
-        inside enter via i n P stands (λ k first pass. in_row m k n (Behind P first) row
+        inside enter via i n P stands (λ k first pass. in_row m k n (Over P first) row
         (λ l later made. together P first later
         (follows l (over later first) (k, first, later, pass, made, refl))))
 
     in_loop : (n : ℕ) {turn first exit : A} (i : ℕ) (P : Marks → ℕ → Type 0)
         → place turn ≡ choice greedy first exit → Body first turn
         → ((k : ℕ) (marks : Marks) (count : ℕ) → MarkedPasses Pass count i k marks
-        → Each haystack place end n exit k (Behind P marks))
+        → Each haystack place end n exit k (Over P marks))
         → Each haystack place end n turn i P
     in_loop zero {turn} i P chosen stands follows = no_walk final turn i P
     in_loop (suc n) {turn} {first} {exit} i P chosen stands follows =
         let stopped = fewer final n exit i P (plain P (follows i no_marks 0 (refl, refl))) in
         let pass =
-        inside first turn i n P stands (λ k m made. in_loop n k (Behind P m) chosen stands
-        (λ l later count others. fewer final n exit l (Behind (Behind P m) later)
+        inside first turn i n P stands (λ k m made. in_loop n k (Over P m) chosen stands
+        (λ l later count others. fewer final n exit l (Over (Over P m) later)
         (together P m later
         (follows l (over later m) (suc count) (k, m, later, made, others, refl))))) in
         by_choice final n greedy turn first exit i P chosen pass stopped
@@ -82,14 +82,14 @@ module _ {A : Type 0} {haystack : Text} {place : A → Place A} {end : A}
     in_nullable_star : {enter exit : A} (i n : ℕ) (P : Marks → ℕ → Type 0)
         → IsNullableStar place greedy Body enter exit
         → ((k : ℕ) (marks : Marks) (count : ℕ) → MarkedPasses Pass count i k marks
-        → Each haystack place end n exit k (Behind P marks))
+        → Each haystack place end n exit k (Over P marks))
         → Each haystack place end n enter i P
     in_nullable_star {enter} {exit} i n P (first, plus, join, chosen, stands, again, joined)
         follows =
         let stopped = by_go final n join exit i P joined
         (plain P (follows i no_marks 0 (refl, refl))) in
-        let pass = inside first plus i n P stands (λ k m made. in_loop n k (Behind P m) again stands
-        (λ l later count others. by_go final n join exit l (Behind (Behind P m) later) joined
+        let pass = inside first plus i n P stands (λ k m made. in_loop n k (Over P m) again stands
+        (λ l later count others. by_go final n join exit l (Over (Over P m) later) joined
         (together P m later
         (follows l (over later m) (suc count) (k, m, later, made, others, refl))))) in
         fewer final n enter i P (by_choice final n greedy enter first join i P chosen pass stopped)
@@ -97,7 +97,7 @@ module _ {A : Type 0} {haystack : Text} {place : A → Place A} {end : A}
     in_choices : (d : ℕ) {join enter : A} (i n : ℕ) (P : Marks → ℕ → Type 0)
         → InChoices place greedy Body d join enter
         → ((k : ℕ) (marks : Marks) (count : ℕ) → count ≤ d → MarkedPasses Pass count i k marks
-        → Each haystack place end n join k (Behind P marks))
+        → Each haystack place end n join k (Over P marks))
         → Each haystack place end n enter i P
     in_choices zero i n P e follows =
         subst (λ a. Each haystack place end n a i P) (sym e)
@@ -105,7 +105,7 @@ module _ {A : Type 0} {haystack : Text} {place : A → Place A} {end : A}
     in_choices (suc d) {join} {enter} i n P (first, via, chosen, stands, later_choices) follows =
         let stopped = plain P (follows i no_marks 0 (omega arith) (refl, refl)) in
         let pass = inside first via i n P stands (λ k m made.
-        in_choices d k n (Behind P m) later_choices
+        in_choices d k n (Over P m) later_choices
         (λ l later count few others. together P m later
         (follows l (over later m) (suc count) (omega (arith, few))
         (k, m, later, made, others, refl)))) in
@@ -115,12 +115,12 @@ module _ {A : Type 0} {haystack : Text} {place : A → Place A} {end : A}
         → IsBetween place greedy Body least above enter exit
         → ((k : ℕ) (marks : Marks) (count : ℕ) → least ≤ count → count ≤ least + above
         → MarkedPasses Pass count i k marks
-        → Each haystack place end n exit k (Behind P marks))
+        → Each haystack place end n exit k (Over P marks))
         → Each haystack place end n enter i P
     in_between least above {enter} {exit} i n P (turn, join, row, choices, joined) follows =
-        in_row least i n P row (λ k first made. in_choices above k n (Behind P first) choices
+        in_row least i n P row (λ k first made. in_choices above k n (Over P first) choices
         (λ l later count few others.
-        by_go final n join exit l (Behind (Behind P first) later) joined (together P first later
+        by_go final n join exit l (Over (Over P first) later) joined (together P first later
         (follows l (over later first) (least + count) (omega arith) (omega (arith, few))
         (both_passes Pass least count i k l first later made others)))))
 
@@ -128,7 +128,7 @@ module _ {A : Type 0} {haystack : Text} {place : A → Place A} {end : A}
         → IsBounded place greedy Body least above enter exit
         → ((k : ℕ) (marks : Marks) (count : ℕ) → least ≤ count → count ≤ least + above
         → MarkedPasses Pass count i k marks
-        → Each haystack place end n exit k (Behind P marks))
+        → Each haystack place end n exit k (Over P marks))
         → Each haystack place end n enter i P
     in_bounded zero zero {enter} {exit} i n P joined follows =
         by_go final n enter exit i P joined
@@ -149,7 +149,7 @@ module _ {A : Type 0} {haystack : Text} {place : A → Place A} {end : A}
         → IsRepetition place greedy Body least most nullable_body enter exit
         → ((k : ℕ) (marks : Marks) (count : ℕ) → least ≤ count → AtMost count most
         → MarkedPasses Pass count i k marks
-        → Each haystack place end n exit k (Behind P marks))
+        → Each haystack place end n exit k (Over P marks))
         → Each haystack place end n enter i P
     in_repetition zero None true i n P order stands follows =
         in_nullable_star i n P stands
@@ -159,9 +159,9 @@ module _ {A : Type 0} {haystack : Text} {place : A → Place A} {end : A}
         (λ k marks count made. follows k marks count (omega arith) tt made)
     in_repetition (suc m) None nullable_body {enter} {exit} i n P order
         (first, turn, row, stands, chosen) follows =
-        in_row m i n P row (λ k a made. inside first turn k n (Behind P a) stands (λ l b pass.
-        in_loop n l (Behind (Behind P a) b) chosen stands (λ j c count others.
-        together (Behind P a) b c (together P a (over c b)
+        in_row m i n P row (λ k a made. inside first turn k n (Over P a) stands (λ l b pass.
+        in_loop n l (Over (Over P a) b) chosen stands (λ j c count others.
+        together (Over P a) b c (together P a (over c b)
         (follows j (over (over c b) a) (m + suc count) (omega arith) tt
         (both_passes Pass m (suc count) i k j a (over c b) made
         (l, b, c, pass, others, refl)))))))

@@ -19,7 +19,7 @@ use Rattle.regex_lite_engine.proofs.laws.list.EntryLemmas.{over_assoc}
 use Rattle.regex_lite_engine.proofs.laws.groups.MarkingLemmas.{Marking, MarkingChain, MarkingBranch}
 use Rattle.regex_lite_engine.proofs.laws.groups.MarkedWalkLemmas.{Each, fewer, by_go, by_test}
 use Rattle.regex_lite_engine.proofs.laws.groups.MarkedWalkLemmas.{by_mark, by_arrows, by_branches}
-use Rattle.regex_lite_engine.proofs.laws.groups.MarkedPassLemmas.{Behind, plain, together}
+use Rattle.regex_lite_engine.proofs.laws.groups.MarkedPassLemmas.{Over, plain, together}
 use Rattle.regex_lite_engine.proofs.laws.groups.MarkedPassLemmas.{in_repetition}
 use Rattle.regex_lite_engine.proofs.laws.WalkLemmas.{if_test, was_read}
 use Rattle.regex_lite_engine.proofs.OptionLemmas.{same_some}
@@ -29,7 +29,7 @@ module _ {A : Type 0} {haystack : Text} {place : A → Place A} {end : A}
   marked_class : (ranges : List ClassRange) (enter exit : A) (i n : ℕ) (P : Marks → ℕ → Type 0)
       → place enter ≡ one_of ranges exit
       → ((k : ℕ) (marks : Marks) → Marking haystack (class ranges) i k marks
-      → Each haystack place end n exit k (Behind P marks))
+      → Each haystack place end n exit k (Over P marks))
       → Each haystack place end n enter i P
   marked_class [] enter exit i n P stands follows =
       fewer final n enter i P (by_arrows final n enter i P [] stands (λ k next e. absurd cc))
@@ -44,36 +44,36 @@ module _ {A : Type 0} {haystack : Text} {place : A → Place A} {end : A}
       {P : Marks → ℕ → Type 0}
       → ((a b : A) (k m : ℕ) (Q : Marks → ℕ → Type 0) → Stands place body a b
       → ((j : ℕ) (marks : Marks) → Marking haystack body k j marks
-      → Each haystack place end m b j (Behind Q marks))
+      → Each haystack place end m b j (Over Q marks))
       → Each haystack place end m a k Q)
       → Stands place (capture index name body) enter exit
       → ((k : ℕ) (marks : Marks) → Marking haystack (capture index name body) i k marks
-      → Each haystack place end n exit k (Behind P marks))
+      → Each haystack place end n exit k (Over P marks))
       → Each haystack place end n enter i P
   marked_group index name body {enter} {exit} {i} {n} {P} inside
       (first, close, opened, stands, closed) follows =
       let open_marks = marked (Some (2 * index)) i in
       by_mark final n enter first i (2 * index) P opened
-      (inside first close i n (Behind P open_marks) stands (λ j inner m. (
+      (inside first close i n (Over P open_marks) stands (λ j inner m. (
       let close_marks = marked (Some (2 * index + 1)) j in
       let on = follows j (over close_marks (over inner open_marks)) (inner, m, refl) in
-      by_mark final n close exit j (2 * index + 1) (Behind (Behind P open_marks) inner) closed
-      (together final (Behind P open_marks) inner close_marks
+      by_mark final n close exit j (2 * index + 1) (Over (Over P open_marks) inner) closed
+      (together final (Over P open_marks) inner close_marks
       (together final P open_marks (over close_marks inner)
       (moved j inner open_marks close_marks on))))))
     where
       moved : (j : ℕ) (inner open_marks close_marks : Marks)
-          → Each haystack place end n exit j (Behind P (over close_marks (over inner open_marks)))
-          → Each haystack place end n exit j (Behind P (over (over close_marks inner) open_marks))
+          → Each haystack place end n exit j (Over P (over close_marks (over inner open_marks)))
+          → Each haystack place end n exit j (Over P (over (over close_marks inner) open_marks))
       moved j inner open_marks close_marks each =
-          subst (λ m. Each haystack place end n exit j (Behind P m))
+          subst (λ m. Each haystack place end n exit j (Over P m))
           (sym (over_assoc close_marks inner open_marks)) each
 
   mutual
     pub marked_tree : (tree : Tree) (enter exit : A) (i n : ℕ) (P : Marks → ℕ → Type 0)
         → IsRegular tree → Stands place tree enter exit
         → ((k : ℕ) (marks : Marks) → Marking haystack tree i k marks
-        → Each haystack place end n exit k (Behind P marks))
+        → Each haystack place end n exit k (Over P marks))
         → Each haystack place end n enter i P
     marked_tree empty enter exit i n P regular stands follows =
         by_go final n enter exit i P stands (plain final P (follows i no_marks (refl, refl)))
@@ -103,19 +103,19 @@ module _ {A : Type 0} {haystack : Text} {place : A → Place A} {end : A}
         let (firsts, join, chosen, stand, joined) = stands in
         fewer final n enter i P (by_branches final n enter i P firsts chosen (λ k first there.
         marked_branches branches firsts join k first i n P regular.1 stand there
-        (λ j marks m. by_go final n join exit j (Behind P marks) joined (follows j marks m))))
+        (λ j marks m. by_go final n join exit j (Over P marks) joined (follows j marks m))))
 
     marked_chain : (parts : Trees) (enter exit : A) (i n : ℕ) (P : Marks → ℕ → Type 0)
         → AreRegular parts → StandInChain place parts enter exit
         → ((k : ℕ) (marks : Marks) → MarkingChain haystack parts i k marks
-        → Each haystack place end n exit k (Behind P marks))
+        → Each haystack place end n exit k (Over P marks))
         → Each haystack place end n enter i P
     marked_chain none enter exit i n P regular e follows =
         subst (λ a. Each haystack place end n a i P) (sym e)
         (plain final P (follows i no_marks (refl, refl)))
     marked_chain (more a rest) enter exit i n P regular (via, stands, later_stand) follows =
         marked_tree a enter via i n P regular.0 stands (λ k first m.
-        marked_chain rest via exit k n (Behind P first) regular.1 later_stand
+        marked_chain rest via exit k n (Over P first) regular.1 later_stand
         (λ j later chain. together final P first later
         (follows j (over later first) (k, first, later, m, chain, refl))))
 
@@ -123,7 +123,7 @@ module _ {A : Type 0} {haystack : Text} {place : A → Place A} {end : A}
         (P : Marks → ℕ → Type 0) → AreRegular branches
         → StandAsBranches place branches firsts join → slice_get firsts c ≡ Some first
         → ((k : ℕ) (marks : Marks) → MarkingBranch haystack branches i k marks
-        → Each haystack place end n join k (Behind P marks))
+        → Each haystack place end n join k (Over P marks))
         → Each haystack place end n first i P
     marked_branches none [] join c first i n P regular stand e follows = absurd cc
     marked_branches none (b ∷ firsts) join c first i n P regular stand e follows = absurd stand
@@ -150,7 +150,7 @@ marked_walk tree haystack i j arrows regular along =
     place = place_of_pattern tree
 
     over_at_end : (k : ℕ) (marks : Marks) → Marking haystack (whole tree) i k marks
-        → Each haystack place end_address (suc (length arrows)) end_address k (Behind P marks)
+        → Each haystack place end_address (suc (length arrows)) end_address k (Over P marks)
     over_at_end k marks m = record { of = at_end }
       where
         at_end : (ks : List ℕ) (l : ℕ) → length ks < suc (length arrows)

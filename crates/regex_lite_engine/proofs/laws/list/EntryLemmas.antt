@@ -2,7 +2,7 @@
 use Rattle.regex_lite_engine.proofs.Common.{◌≡◌, ℕ, List, [], ◌∷◌, ◌++◌, map, Some, None, Option}
 use Rattle.regex_lite_engine.proofs.Common.{sym, refl, ap, ◌∙◌, append_assoc, append-nil}
 use Rattle.regex_lite_engine.proofs.Common.{map-append, option_or, Marks, no_marks, marked, over}
-use Rattle.regex_lite_engine.proofs.Common.{Entry, behind_marks, onward, stop}
+use Rattle.regex_lite_engine.proofs.Common.{Entry, after_marks, onward, stop}
 
 pub either_assoc : (a b c : Option ℕ) → option_or (option_or a b) c ≡ option_or a (option_or b c)
 either_assoc None b c = refl
@@ -22,50 +22,50 @@ pub over_unmarked : (a : Marks) (i : ℕ) → over a (marked None i) ≡ a
 over_unmarked a i = λ t slot. either_none (a slot) t
 
 -- marks of none change nothing
-pub behind_none : (marks : Marks) → ((a : Marks) → over a marks ≡ a) → (list : List Entry)
-    → map (behind_marks marks) list ≡ list
-behind_none marks none [] = refl
-behind_none marks none (e ∷ list) =
-    let first : behind_marks marks e ≡ e = ap (λ (m : Marks). (e.0, m)) (none e.1) in
-    let later = behind_none marks none list in
+pub after_none : (marks : Marks) → ((a : Marks) → over a marks ≡ a) → (list : List Entry)
+    → map (after_marks marks) list ≡ list
+after_none marks none [] = refl
+after_none marks none (e ∷ list) =
+    let first : after_marks marks e ≡ e = ap (λ (m : Marks). (e.0, m)) (none e.1) in
+    let later = after_none marks none list in
     cc (first, later)
 
-pub behind_both : (first later : Marks) (list : List Entry)
-    → map (behind_marks first) (map (behind_marks later) list)
-    ≡ map (behind_marks (over later first)) list
-behind_both first later [] = refl
-behind_both first later (e ∷ list) =
-    let here : behind_marks first (behind_marks later e) ≡ behind_marks (over later first) e
+pub after_both : (first later : Marks) (list : List Entry)
+    → map (after_marks first) (map (after_marks later) list)
+    ≡ map (after_marks (over later first)) list
+after_both first later [] = refl
+after_both first later (e ∷ list) =
+    let here : after_marks first (after_marks later e) ≡ after_marks (over later first) e
     = ap (λ (m : Marks). (e.0, m)) (over_assoc e.1 later first) in
-    let rest = behind_both first later list in
+    let rest = after_both first later list in
     cc (here, rest)
 
 pub onward_append : (xs ys : List Entry) (next : ℕ → List Entry)
     → onward (xs ++ ys) next ≡ onward xs next ++ onward ys next
 onward_append [] ys next = refl
 onward_append (e ∷ xs) ys next =
-    ap (λ list. map (behind_marks e.1) (next e.0) ++ list) (onward_append xs ys next)
-    ∙ sym (append_assoc (map (behind_marks e.1) (next e.0)) (onward xs next) (onward ys next))
+    ap (λ list. map (after_marks e.1) (next e.0) ++ list) (onward_append xs ys next)
+    ∙ sym (append_assoc (map (after_marks e.1) (next e.0)) (onward xs next) (onward ys next))
 
-pub onward_behind : (marks : Marks) (list : List Entry) (next : ℕ → List Entry)
-    → onward (map (behind_marks marks) list) next ≡ map (behind_marks marks) (onward list next)
-onward_behind marks [] next = refl
-onward_behind marks (e ∷ list) next =
-    let here = sym (behind_both marks e.1 (next e.0)) in
-    let parts = ap (λ first. first ++ onward (map (behind_marks marks) list) next) here in
-    let later = ap (λ rest. map (behind_marks marks) (map (behind_marks e.1) (next e.0)) ++ rest)
-    (onward_behind marks list next) in
+pub onward_after : (marks : Marks) (list : List Entry) (next : ℕ → List Entry)
+    → onward (map (after_marks marks) list) next ≡ map (after_marks marks) (onward list next)
+onward_after marks [] next = refl
+onward_after marks (e ∷ list) next =
+    let here = sym (after_both marks e.1 (next e.0)) in
+    let parts = ap (λ first. first ++ onward (map (after_marks marks) list) next) here in
+    let later = ap (λ rest. map (after_marks marks) (map (after_marks e.1) (next e.0)) ++ rest)
+    (onward_after marks list next) in
     parts ∙ later
-    ∙ sym (map-append (behind_marks marks) (map (behind_marks e.1) (next e.0)) (onward list next))
+    ∙ sym (map-append (after_marks marks) (map (after_marks e.1) (next e.0)) (onward list next))
 
 pub onward_assoc : (list : List Entry) (next further : ℕ → List Entry)
     → onward (onward list next) further ≡ onward list (λ j. onward (next j) further)
 onward_assoc [] next further = refl
 onward_assoc (e ∷ list) next further =
-    let first = map (behind_marks e.1) (next e.0) in
+    let first = map (after_marks e.1) (next e.0) in
     onward_append first (onward list next) further
-    ∙ ap (λ xs. xs ++ onward (onward list next) further) (onward_behind e.1 (next e.0) further)
-    ∙ ap (λ xs. map (behind_marks e.1) (onward (next e.0) further) ++ xs)
+    ∙ ap (λ xs. xs ++ onward (onward list next) further) (onward_after e.1 (next e.0) further)
+    ∙ ap (λ xs. map (after_marks e.1) (onward (next e.0) further) ++ xs)
     (onward_assoc list next further)
 
 -- where nothing follows
@@ -75,7 +75,7 @@ onward_nothing (e ∷ list) = onward_nothing list
 
 pub onward_stop : (i : ℕ) (next : ℕ → List Entry) → onward (stop i) next ≡ next i
 onward_stop i next =
-    append-nil (map (behind_marks no_marks) (next i)) ∙ behind_none no_marks over_none (next i)
+    append-nil (map (after_marks no_marks) (next i)) ∙ after_none no_marks over_none (next i)
 
 -- where it stops, nothing changes
 pub onward_stops : (list : List Entry) → onward list stop ≡ list

@@ -2,13 +2,13 @@
 use Rattle.regex_lite_engine.proofs.Common.{◌≡◌, ℕ, suc, Bool, true, false, List, [], ◌∷◌, ◌++◌}
 use Rattle.regex_lite_engine.proofs.Common.{map, if◌then◌else◌, Some, None, Option, sym, refl, ap}
 use Rattle.regex_lite_engine.proofs.Common.{◌∙◌, subst, append-nil, Set, Text, after, holds_between}
-use Rattle.regex_lite_engine.proofs.Common.{Look, Arrow, complete, with_arrows, behind, taken, go}
+use Rattle.regex_lite_engine.proofs.Common.{Look, Arrow, complete, with_arrows, read_past, taken, go}
 use Rattle.regex_lite_engine.proofs.Common.{go_marking, go_holding, go_reading, choice, marked}
-use Rattle.regex_lite_engine.proofs.Common.{Entry, behind_marks, onward, stop}
+use Rattle.regex_lite_engine.proofs.Common.{Entry, after_marks, onward, stop}
 use Rattle.regex_lite_syntax.specs.Text.{before}
 use Rattle.regex_lite_engine.specs.Graph.Places.{Place}
 use Rattle.regex_lite_engine.specs.Search.PreferenceList.{read}
-use Rattle.regex_lite_engine.proofs.laws.list.EntryLemmas.{over_unmarked, behind_none, onward_stop}
+use Rattle.regex_lite_engine.proofs.laws.list.EntryLemmas.{over_unmarked, after_none, onward_stop}
 
 mutual
   -- the walks from the place at position i to where a match is complete have, in the order of
@@ -32,7 +32,7 @@ mutual
         (j : ℕ) (here there : List Entry)
         → taken haystack arrow.condition i ≡ Some j → Listed haystack place end arrow.to j here
         → ListedBy haystack place end arrows i there
-        → list ≡ map (behind_marks (marked arrow.mark i)) here ++ there
+        → list ≡ map (after_marks (marked arrow.mark i)) here ++ there
         → ListedBy haystack place end (arrow ∷ arrows) i list
 
 -- the empty match at the position, if it is there
@@ -41,7 +41,7 @@ stop_at None = []
 stop_at (Some j) = stop j
 
 stop_read : (set : Set) (i : ℕ) (next : Option ℕ)
-    → stop_at (behind set i next) ≡ read set i next
+    → stop_at (read_past set i next) ≡ read set i next
 stop_read set i None = refl
 stop_read set i (Some c) = by_test (set c)
   where
@@ -55,8 +55,8 @@ stop_if : (test : Bool) (i : ℕ)
 stop_if true i = refl
 stop_if false i = refl
 
-pub unmarked : (i : ℕ) (list : List Entry) → map (behind_marks (marked None i)) list ≡ list
-unmarked i list = behind_none (marked None i) (λ m. over_unmarked m i) list
+pub unmarked : (i : ℕ) (list : List Entry) → map (after_marks (marked None i)) list ≡ list
+unmarked i list = after_none (marked None i) (λ m. over_unmarked m i) list
 
 module _ {A : Type 0} {haystack : Text} {place : A → Place A} {end : A} where
   pub as_listed : {a : A} {i : ℕ} {xs ys : List Entry} → xs ≡ ys
@@ -67,9 +67,9 @@ module _ {A : Type 0} {haystack : Text} {place : A → Place A} {end : A} where
   by_one : {a : A} {i : ℕ} (arrow : Arrow A) (j : ℕ) (list : List Entry)
       → place a ≡ with_arrows (arrow ∷ []) → taken haystack arrow.condition i ≡ Some j
       → Listed haystack place end arrow.to j list
-      → Listed haystack place end a i (map (behind_marks (marked arrow.mark i)) list)
+      → Listed haystack place end a i (map (after_marks (marked arrow.mark i)) list)
   by_one {i = i} arrow j list e fits listed =
-      let all = sym (append-nil (map (behind_marks (marked arrow.mark i)) list)) in
+      let all = sym (append-nil (map (after_marks (marked arrow.mark i)) list)) in
       branching (arrow ∷ []) e (fitting j list [] fits listed (over_all refl) all)
 
   pub by_go : {a b : A} {i : ℕ} {list : List Entry} → place a ≡ with_arrows (go b ∷ [])
@@ -79,7 +79,7 @@ module _ {A : Type 0} {haystack : Text} {place : A → Place A} {end : A} where
 
   pub by_mark : {a b : A} {i : ℕ} {list : List Entry} (slot : ℕ)
       → place a ≡ with_arrows (go_marking slot b ∷ []) → Listed haystack place end b i list
-      → Listed haystack place end a i (map (behind_marks (marked (Some slot) i)) list)
+      → Listed haystack place end a i (map (after_marks (marked (Some slot) i)) list)
   by_mark {b = b} {i} {list} slot e listed = by_one (go_marking slot b) i list e refl listed
 
   -- by the only arrow, which marks nothing, if it fits
@@ -95,12 +95,12 @@ module _ {A : Type 0} {haystack : Text} {place : A → Place A} {end : A} where
       by_result None gone = branching (arrow ∷ []) e (blocked gone (over_all refl))
       by_result (Some j) fits =
           let one = by_one arrow j (next j) e fits (later j fits) in
-          let none = ap (λ mark. map (behind_marks (marked mark i)) (next j)) plain in
+          let none = ap (λ mark. map (after_marks (marked mark i)) (next j)) plain in
           as_listed (none ∙ unmarked i (next j) ∙ sym (onward_stop j next)) one
 
   pub by_reading : {a : A} {i : ℕ} (set : Set) (exit : A) (next : ℕ → List Entry)
       → place a ≡ with_arrows (go_reading set exit ∷ [])
-      → ((j : ℕ) → behind set i (after haystack i) ≡ Some j
+      → ((j : ℕ) → read_past set i (after haystack i) ≡ Some j
       → Listed haystack place end exit j (next j))
       → Listed haystack place end a i (onward (read set i (after haystack i)) next)
   by_reading {i = i} set exit next e later =
@@ -123,7 +123,7 @@ module _ {A : Type 0} {haystack : Text} {place : A → Place A} {end : A} where
       → place a ≡ with_arrows (go first ∷ go second ∷ []) → Listed haystack place end first i xs
       → Listed haystack place end second i ys → Listed haystack place end a i (xs ++ ys)
   by_two {i = i} first second xs ys e one two =
-      let rest = map (behind_marks (marked None i)) ys in
+      let rest = map (after_marks (marked None i)) ys in
       let last = sym (append-nil rest) in
       let later = fitting {arrow = go second} i ys [] refl two (over_all refl) last in
       let both = fitting {arrow = go first} i xs rest refl one later refl in

@@ -5,7 +5,7 @@ use Rattle.regex_lite_engine.proofs.Common.{in_ranges, just, Text, after, Tree, 
 use Rattle.regex_lite_engine.proofs.Common.{class, look, repetition, capture, concat, alternation}
 use Rattle.regex_lite_engine.proofs.Common.{Trees, none, more, holds_between, Matches, Chain}
 use Rattle.regex_lite_engine.proofs.Common.{SomeBranch, nullable, IsRegular, ClassRange, go, one_of}
-use Rattle.regex_lite_engine.proofs.Common.{marked, Entry, behind_marks, onward, preference_list}
+use Rattle.regex_lite_engine.proofs.Common.{marked, Entry, after_marks, onward, preference_list}
 use Rattle.regex_lite_engine.proofs.Common.{HasReadingLoops}
 use Rattle.std.proofs.lemmas.Bool.{eqb-true}
 use Rattle.regex_lite_syntax.specs.Text.{before}
@@ -30,11 +30,11 @@ none_read i (Some c) = refl
 
 -- where the list goes on after a mark
 after_marking : (slot i : ℕ) (next on : ℕ → List Entry)
-    → map (behind_marks (marked (Some slot) i)) (onward (next i) on)
+    → map (after_marks (marked (Some slot) i)) (onward (next i) on)
     ≡ onward (onward (marking slot i) next) on
 after_marking slot i next on =
     let first = onward_assoc (marking slot i) next on in
-    sym (first ∙ append-nil (map (behind_marks (marked (Some slot) i)) (onward (next i) on)))
+    sym (first ∙ append-nil (map (after_marks (marked (Some slot) i)) (onward (next i) on)))
 
 loop_reads : (haystack : Text) (most : Option ℕ) (body : Tree) → ReadsInPasses most body
     → LoopReads haystack (Matches haystack body) most (nullable body)
@@ -66,7 +66,7 @@ module _ {A : Type 0} {haystack : Text} {place : A → Place A} {end : A} where
   listed_group index body enter exit i next inside name (first, close, opened, stands, closed)
       follows =
       let last = 2 * index + 1 in
-      let on = λ (j : ℕ). map (behind_marks (marked (Some last) j)) (next j) in
+      let on = λ (j : ℕ). map (after_marks (marked (Some last) j)) (next j) in
       let marks_last : (j : ℕ) → on j ≡ onward (marking last j) next
       = λ j. sym (append-nil (on j)) in
       let listed = inside first close i on stands (λ j m. by_mark last closed (follows j m)) in

@@ -6,7 +6,7 @@ use Rattle.regex_lite_engine.proofs.Common.{taken, arrived, arrow_taken, step_fr
 use Rattle.regex_lite_engine.proofs.Common.{whole, end_address, start_address, place_of_pattern}
 use Rattle.regex_lite_engine.proofs.Common.{IsWayThrough, Marks, no_marks, marked, over}
 use Rattle.regex_lite_engine.proofs.Common.{mark_of_arrow, mark_of, marks_along, Entry}
-use Rattle.regex_lite_engine.proofs.Common.{behind_marks, stop, preference_list, HasReadingLoops}
+use Rattle.regex_lite_engine.proofs.Common.{after_marks, stop, preference_list, HasReadingLoops}
 use Rattle.regex_lite_engine.proofs.Common.{IsBefore}
 use Rattle.regex_lite_engine.specs.Graph.Places.{Place}
 use Rattle.regex_lite_engine.specs.SearchLaws.{AreRanked}
@@ -107,12 +107,12 @@ module _ {A : Type 0} (haystack : Text) (place : A → Place A) (end : A) where
   with_first : (arrow : Arrow A) (arrows : List (Arrow A)) (i j : ℕ) (here there : List Entry)
       → taken haystack arrow.condition i ≡ Some j → IsRanking (arrow.to, j) here
       → IsRankingBy arrows i there
-      → IsRankingBy (arrow ∷ arrows) i (map (behind_marks (marked arrow.mark i)) here ++ there)
+      → IsRankingBy (arrow ∷ arrows) i (map (after_marks (marked arrow.mark i)) here ++ there)
   with_first arrow arrows i j here there fits r others = record {
     ways = map (λ ks. 0 ∷ ks) r.ways ++ map greater others.ways;
     rank = rank_both (CompletesBy (arrow ∷ arrows) i)
         (marks_by (arrow ∷ arrows) i) (map (λ ks. 0 ∷ ks) r.ways)
-        (map greater others.ways) (map (behind_marks (marked arrow.mark i)) here) there first
+        (map greater others.ways) (map (after_marks (marked arrow.mark i)) here) there first
         (later_rank arrow arrows i others.ways there others.rank)
         (first_before r.ways others.ways arrows i there others.rank);
     all = each;
@@ -132,13 +132,13 @@ module _ {A : Type 0} (haystack : Text) (place : A → Place A) (end : A) where
 
       first : Rank (CompletesBy (arrow ∷ arrows) i)
           (marks_by (arrow ∷ arrows) i) (map (λ ks. 0 ∷ ks) r.ways)
-          (map (behind_marks (marked arrow.mark i)) here)
+          (map (after_marks (marked arrow.mark i)) here)
       first =
           rank_map (Completes (arrow.to, j))
           (CompletesBy (arrow ∷ arrows) i)
           (λ ks. marks_along haystack place (Some (arrow.to, j)) ks)
           (marks_by (arrow ∷ arrows) i) (λ ks. 0 ∷ ks)
-          (behind_marks (marked arrow.mark i))
+          (after_marks (marked arrow.mark i))
           (λ a b before. inr (refl, before)) walk same r.ways here
           r.rank
 

@@ -26,11 +26,11 @@ cut_snoc [] b c k e = inr (c, e, refl)
 cut_snoc (x ∷ a) b [] k e =
     let none = both_empty a b (same_tail e) in
     inl (none.1, (λ t. same_head e t ∷ none.0 t))
-cut_snoc (x ∷ a) b (y ∷ c) k e = behind_head (cut_snoc a b c k (same_tail e))
+cut_snoc (x ∷ a) b (y ∷ c) k e = after_head (cut_snoc a b c k (same_tail e))
   where
-    behind_head : ((b ≡ []) × (a ≡ c ++ k ∷ []))
+    after_head : ((b ≡ []) × (a ≡ c ++ k ∷ []))
         ⊎ ((d : List ℕ) × (b ≡ d ++ k ∷ []) × (a ++ d ≡ c))
         → ((b ≡ []) × (x ∷ a ≡ y ∷ (c ++ k ∷ [])))
         ⊎ ((d : List ℕ) × (b ≡ d ++ k ∷ []) × (x ∷ (a ++ d) ≡ y ∷ c))
-    behind_head (inl (none, all)) = inl (none, λ t. same_head e t ∷ all t)
-    behind_head (inr (d, last, all)) = inr (d, last, λ t. same_head e t ∷ all t)
+    after_head (inl (none, all)) = inl (none, λ t. same_head e t ∷ all t)
+    after_head (inr (d, last, all)) = inr (d, last, λ t. same_head e t ∷ all t)

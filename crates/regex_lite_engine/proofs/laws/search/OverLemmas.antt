@@ -44,10 +44,10 @@ module _ {A : Type 0} (haystack : Text) (place : A → Place A) where
       inr (e, before_preferred a b next x y before p over moved)
 
 -- after one start
-pub behind_start : (i : ℕ) (a b : List ℕ) → NotAfter (i ∷ a) (i ∷ b) → (a ≡ b) ⊎ Before a b
-behind_start i a b (inl e) = inl (same_tail e)
-behind_start i a b (inr (inl less)) = absurd (omega (arith, less))
-behind_start i a b (inr (inr (e, before))) = inr before
+pub after_start : (i : ℕ) (a b : List ℕ) → NotAfter (i ∷ a) (i ∷ b) → (a ≡ b) ⊎ Before a b
+after_start i a b (inl e) = inl (same_tail e)
+after_start i a b (inr (inl less)) = absurd (omega (arith, less))
+after_start i a b (inr (inr (e, before))) = inr before
 
 no_later_start : (i j : ℕ) (a b : List ℕ) → NotAfter (i ∷ a) (j ∷ b) → i ≤ j
 no_later_start i j a b (inl e) = let same : i ≡ j = same_head e in omega (arith, same)
@@ -122,7 +122,7 @@ module _ (table : List (Place ℕ)) (haystack : Text) (start s : ℕ) where
     last = q;
     is_way = is_way;
     preferred = λ other p j m. by_order other p j m
-        (behind_start found.start way other
+        (after_start found.start way other
         (least (found.start ∷ other) (whole_of found.start p j other (from_here other p j m))));
     marks = marks;
   }

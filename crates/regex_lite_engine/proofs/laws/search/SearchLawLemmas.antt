@@ -51,13 +51,13 @@ module _ {N : Type 0} {step : N → ℕ → Option N} {is_end : N → Bool}
     along : (vs us : List ℕ) (m : N) (other : List ℕ) → ks ≡ us ++ vs → Leads N step start us m
         → Leads N step m vs end → recorded m ≡ Some other → NotAfter other (front ++ us)
         → IsBestBy (front ++ ks)
-    along [] us m other e before behind r le =
-        let b = x.best_least end other ends (subst (λ n. recorded n ≡ Some other) behind r) in
+    along [] us m other e before recorded_end r le =
+        let b = x.best_least end other ends (subst (λ n. recorded n ≡ Some other) recorded_end r) in
         let all = ap (λ z. front ++ z) (e ∙ append-nil us) in
         let less = NotAfter-trans b.0 other (front ++ us) b.2 le in
         (b.0, b.1, subst (λ z. NotAfter b.0 z) (sym all) less)
-    along (k ∷ vs) us m other e before (l, s, behind) r le =
-        by_order (λ w p q. along vs (us ++ k ∷ []) l w further there behind p q)
+    along (k ∷ vs) us m other e before (l, s, recorded_end) r le =
+        by_order (λ w p q. along vs (us ++ k ∷ []) l w further there recorded_end p q)
         (NotAfter-snoc other (front ++ us) k le)
       where
         further : ks ≡ (us ++ k ∷ []) ++ vs

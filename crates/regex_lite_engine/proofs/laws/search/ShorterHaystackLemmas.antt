@@ -4,7 +4,7 @@ use Rattle.regex_lite_engine.proofs.Common.{◌≡◌, ℕ, zero, suc, ◌<◌, 
 use Rattle.regex_lite_engine.proofs.Common.{length, take, Some, None, Option, sym, refl, ap, ◌∙◌}
 use Rattle.regex_lite_engine.proofs.Common.{subst, arith, length-take-le, Text, after, Tree}
 use Rattle.regex_lite_engine.proofs.Common.{IsRegular, Address, RequiresNoLook, Condition, free}
-use Rattle.regex_lite_engine.proofs.Common.{holding, reading, Arrow, complete, with_arrows, behind}
+use Rattle.regex_lite_engine.proofs.Common.{holding, reading, Arrow, complete, with_arrows, read_past}
 use Rattle.regex_lite_engine.proofs.Common.{taken, arrived, arrow_taken, step_from, step, Leads}
 use Rattle.regex_lite_engine.proofs.Common.{NoneTwice, IsWay, end_address, start_address}
 use Rattle.regex_lite_engine.proofs.Common.{place_of_pattern, IsWayThrough, IsMatchFrom, Found}
@@ -50,7 +50,7 @@ module _ (haystack : Text) (end i j : ℕ) where
   taken_in_whole (reading set) plain s =
       let read = was_read set i j (after (take end haystack) i) s in
       let less = before_end haystack end i read.0 read.1 in
-      ap (behind set i) (sym (after_kept haystack end i less)) ∙ s
+      ap (read_past set i) (sym (after_kept haystack end i less)) ∙ s
 
   taken_up_to : j ≤ end → (condition : Condition) → IsNoLook condition
       → taken haystack condition i ≡ Some j → taken (take end haystack) condition i ≡ Some j
@@ -58,7 +58,7 @@ module _ (haystack : Text) (end i j : ℕ) where
   taken_up_to low (holding test) plain s = absurd plain
   taken_up_to low (reading set) plain s =
       let read = was_read set i j (after haystack i) s in
-      ap (behind set i) (after_kept haystack end i (omega (arith, low, read.3))) ∙ s
+      ap (read_past set i) (after_kept haystack end i (omega (arith, low, read.3))) ∙ s
 
 taken_onward : (haystack : Text) (i j : ℕ) (condition : Condition) → IsNoLook condition
     → taken haystack condition i ≡ Some j → i ≤ j

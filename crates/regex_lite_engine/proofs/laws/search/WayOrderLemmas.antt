@@ -38,11 +38,11 @@ NotAfter-snoc a b k (inl e) = inl (inl (ap (λ x. x ++ k ∷ []) e))
 NotAfter-snoc a [] k (inr p) = absurd p
 NotAfter-snoc [] (y ∷ b) k (inr p) = inr (record { next = y; rest = b; parts = refl })
 NotAfter-snoc (x ∷ a) (y ∷ b) k (inr (inl p)) = inl (inr (inl p))
-NotAfter-snoc (x ∷ a) (y ∷ b) k (inr (inr p)) = behind_head (NotAfter-snoc a b k (inr p.1))
+NotAfter-snoc (x ∷ a) (y ∷ b) k (inr (inr p)) = after_head (NotAfter-snoc a b k (inr p.1))
   where
-    behind_head : NotAfter (a ++ k ∷ []) (b ++ k ∷ []) ⊎ GoesOn a b
+    after_head : NotAfter (a ++ k ∷ []) (b ++ k ∷ []) ⊎ GoesOn a b
         → NotAfter (x ∷ (a ++ k ∷ [])) (y ∷ (b ++ k ∷ [])) ⊎ GoesOn (x ∷ a) (y ∷ b)
-    behind_head (inl (inl e)) = inl (inl (λ t. p.0 t ∷ e t))
-    behind_head (inl (inr q)) = inl (inr (inr (p.0, q)))
-    behind_head (inr on) =
+    after_head (inl (inl e)) = inl (inl (λ t. p.0 t ∷ e t))
+    after_head (inl (inr q)) = inl (inr (inr (p.0, q)))
+    after_head (inr on) =
         inr (record { next = on.next; rest = on.rest; parts = λ t. sym p.0 t ∷ on.parts t })

@@ -36,16 +36,16 @@ module _ (groups : GroupTexts) where
       piece_and_rest (plain (b ∷ run)) rest more
       (no_dollar (b ∷ run) (λ e. cc) lacks refl refl) further refl
 
-  lacks_behind : (b : ℕ) (run : List ℕ) → ¬ (Contains (b ∷ run) 36) → ¬ (Contains run 36)
-  lacks_behind b run lacks (k, inside, is) = lacks (suc k, omega (arith, inside), is)
+  lacks_after : (b : ℕ) (run : List ℕ) → ¬ (Contains (b ∷ run) 36) → ¬ (Contains run 36)
+  lacks_after b run lacks (k, inside, is) = lacks (suc k, omega (arith, inside), is)
 
-  abbrev Behind : (b : ℕ) (t text : List ℕ) → Type 0
-  Behind b t text = (more : List ℕ) × IsInterpolation groups t more × (text ≡ b ∷ more)
+  abbrev AfterByte : (b : ℕ) (t text : List ℕ) → Type 0
+  AfterByte b t text = (more : List ℕ) × IsInterpolation groups t more × (text ≡ b ∷ more)
 
   begun : (template t text rest more : List ℕ) (b : ℕ) (piece : Piece) → b ≢ 36 → template ≡ b ∷ t
       → BeginsWith template piece rest → IsInterpolation groups rest more
       → text ≡ piece_text groups piece ++ more
-      → Behind b t text
+      → AfterByte b t text
   begun template t text rest more b piece other starts (no_dollar [] some lacks cut is) further
       given = absurd (some refl)
   begun template t text rest more b piece other starts (no_dollar (c ∷ run) some lacks cut is)
@@ -53,7 +53,7 @@ module _ (groups : GroupTexts) where
       let same = sym cut ∙ starts in (
         run ++ more,
         subst (λ u. IsInterpolation groups u (run ++ more)) (same_tail same)
-            (less run rest more (lacks_behind c run lacks) further),
+            (less run rest more (lacks_after c run lacks) further),
         given ∙ ap (λ p. piece_text groups p ++ more) is
             ∙ ap (λ d. d ∷ (run ++ more)) (same_head same),
       )
@@ -66,11 +66,11 @@ module _ (groups : GroupTexts) where
       further given =
       absurd (other (same_head (sym starts ∙ cut)))
 
-  behind : (template t text : List ℕ) (b : ℕ) → b ≢ 36 → template ≡ b ∷ t
+  after_byte : (template t text : List ℕ) (b : ℕ) → b ≢ 36 → template ≡ b ∷ t
       → IsInterpolation groups template text
-      → Behind b t text
-  behind template t text b other starts (nothing empty given) = absurd (cc)
-  behind template t text b other starts (piece_and_rest piece rest more begins further given) =
+      → AfterByte b t text
+  after_byte template t text b other starts (nothing empty given) = absurd (cc)
+  after_byte template t text b other starts (piece_and_rest piece rest more begins further given) =
       begun template t text rest more b piece other starts begins further given
 
   abbrev OneText : List ℕ → Type 0
@@ -82,7 +82,7 @@ module _ (groups : GroupTexts) where
   one_more b t other (text, is, only) = (
     b ∷ text,
     less (b ∷ []) t text lacks is,
-    λ x i. let left = behind (b ∷ t) t x b other refl i in
+    λ x i. let left = after_byte (b ∷ t) t x b other refl i in
         left.2 ∙ ap (λ u. b ∷ u) (only left.0 left.1),
   )
     where
@@ -90,9 +90,9 @@ module _ (groups : GroupTexts) where
       lacks (zero, inside, e) = other e
       lacks (suc k, inside, e) = absurd (omega (arith, inside))
 
-  one_behind_dollar : (template after rest : List ℕ) (piece : Piece) → template ≡ 36 ∷ after
+  one_after_dollar : (template after rest : List ℕ) (piece : Piece) → template ≡ 36 ∷ after
       → BeginsWith template piece rest → OneText rest → OneText template
-  one_behind_dollar template after rest piece starts begins (text, is, only) =
+  one_after_dollar template after rest piece starts begins (text, is, only) =
       (piece_text groups piece ++ text, piece_and_rest piece rest text begins is refl, same)
     where
       same : (x : List ℕ) → IsInterpolation groups template x → x ≡ piece_text groups piece ++ text
@@ -110,7 +110,7 @@ module _ (groups : GroupTexts) where
   one_within (suc n) [] short = ([], nothing refl refl, λ x i. from_nothing [] x refl i)
   one_within (suc n) (b ∷ t) short = ⊎_elim
       (λ is. let some = some_piece t in let starts = ap (λ c. c ∷ t) is in
-      one_behind_dollar (b ∷ t) t some.1 some.0 starts
+      one_after_dollar (b ∷ t) t some.1 some.0 starts
       (begins_at_dollar (b ∷ t) t some.1 some.0 starts some.2)
       (one_within n some.1 (omega (arith, some.3, short))))
       (λ other. one_more b t other (one_within n t (omega (arith, short))))

@@ -26,7 +26,7 @@ at_dollar template after rest piece starts (no_dollar (b ∷ run) some lacks cut
     absurd (lacks (0, omega arith, same_head (sym cut ∙ starts)))
 at_dollar template after rest piece starts (two_dollars cut is) =
     doubled (same_tail (sym starts ∙ cut)) is
-at_dollar template after rest piece starts (reference behind name cut refer is) =
+at_dollar template after rest piece starts (reference later name cut refer is) =
     refers name (subst (λ t. IsReference t name rest) (same_tail (sym cut ∙ starts)) refer) is
 at_dollar template after rest piece starts (one_dollar cut single none is) =
     let same = same_tail (sym cut ∙ starts) in

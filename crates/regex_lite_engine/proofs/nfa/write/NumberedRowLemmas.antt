@@ -14,10 +14,10 @@ use Rattle.regex_lite_engine.proofs.graph.AddressLemmas.{choices_addresses, boun
 use Rattle.regex_lite_engine.proofs.graph.AddressLemmas.{repetition_addresses}
 use Rattle.regex_lite_engine.proofs.graph.CopyRowLemmas.{PartsAre, parts_from_0, first_part}
 use Rattle.regex_lite_engine.proofs.graph.CopyRowLemmas.{later_parts, copy_last, next_before}
-use Rattle.regex_lite_engine.proofs.graph.CopyRowLemmas.{copies_before, behind_copies}
+use Rattle.regex_lite_engine.proofs.graph.CopyRowLemmas.{copies_before, after_copies}
 use Rattle.regex_lite_engine.proofs.nfa.write.NumberingLemmas.{Numbering, Body, Stands, InRow}
 use Rattle.regex_lite_engine.proofs.nfa.write.NumberingLemmas.{AreAt, Fits, both_at, row_first}
-use Rattle.regex_lite_engine.proofs.nfa.write.NumberingLemmas.{row_behind, fits_part}
+use Rattle.regex_lite_engine.proofs.nfa.write.NumberingLemmas.{row_after, fits_part}
 use Rattle.regex_lite_engine.proofs.nfa.write.NumberingLemmas.{fits_before, fits_last}
 use Rattle.regex_lite_engine.proofs.nfa.write.NumberedPlaceLemmas.{go_at, chosen_at}
 
@@ -115,7 +115,7 @@ module _ (by : Numbering) (pre : Address) (greedy : Bool) (b : Body by) where
       let choices_later = later_choices content j (choices (suc n) k) e_choices in
       let ends = fits_choices n (suc k) (suc j) content base join choices_later e_later in
       let later = ends stands in_row_later in
-      let in_row_here = row_behind by pre base content others here rest.0 later.1 in_row in
+      let in_row_here = row_after by pre base content others here rest.0 later.1 in_row in
       let now = base + length rest.0 in
       let after = next_choice pre greedy b.enter b.inside n (suc j) in
       let e_here = first_part content (turns (suc n) k j) k e in
@@ -190,15 +190,15 @@ module _ (by : Numbering) (pre : Address) (greedy : Bool) (b : Body by) where
       let optional = turns (suc d) (suc n) 0 in
       let written = choices_layout greedy b.layout (suc d) (base + 1) base in
       let e_choices = choices_from_0 content (choices (suc d) (suc n)) (λ i. refl) in
-      let e = behind_copies pre greedy b.enter b.inside (suc n) 0 (own pre 2) optional in
+      let e = after_copies pre greedy b.enter b.inside (suc n) 0 (own pre 2) optional in
       let in_row_first = row_first by pre (base + 1) list needed in_row.1 in
       let ends = fits_choices (suc d) (suc n) 0 content (base + 1) base e_choices e in
       let all = ends in_row.0 in_row_first in
       let now = base + 1 + length written.0 in
-      let behind = row_behind by pre (base + 1) content list needed written.0 all.1 in
+      let others_in_row = row_after by pre (base + 1) content list needed written.0 all.1 in
       let e_needed = parts_from_0 content (row (suc n) 0 (own pre 2) optional) (λ c a. refl) in
       let begins = fits_copies (suc n) 0 (own pre 2) optional content now written.1 e_needed in
-      let copies = begins all.0 (behind in_row.1) in
+      let copies = begins all.0 (others_in_row in_row.1) in
       (copies.0, (join, both_at by content list needed written.0 _ all.1 copies.1))
 
   fits_bounded : (least above : ℕ) (after : Address) (base exit : ℕ) → Stands by exit after
@@ -261,12 +261,12 @@ module _ (by : Numbering) (pre : Address) (greedy : Bool) (b : Body by) where
       let now = base + length written.0 in
       let inner = (b.layout (base + 1) base).1 in
       let last = b.enter (part pre (0 + n)) in
-      let behind = row 1 (0 + n) (own pre 0) nowhere in
+      let last_row = row 1 (0 + n) (own pre 0) nowhere in
       let before_it = copies_before pre greedy b.enter b.inside n 0 (own pre 0) nowhere in
-      let e = parts_from_0 content (row n 0 last behind) before_it in
+      let e = parts_from_0 content (row n 0 last last_row) before_it in
       let enters = subst (λ m. Stands by inner (b.enter (part pre m))) (sym same) star.0 in
-      let in_row_others = row_behind by pre base content list others written.0 star.1.1 in_row in
-      let copies = fits_copies n 0 last behind content now inner e enters in_row_others in
+      let in_row_others = row_after by pre base content list others written.0 star.1.1 in_row in
+      let copies = fits_copies n 0 last last_row content now inner e enters in_row_others in
       let entered = sym (next_before pre greedy b.enter b.inside n 0 (own pre 0)) in
       let first = (copies_layout b.layout n now inner).1 in (
         subst (λ a. Stands by first a) entered copies.0,

@@ -14,7 +14,7 @@ use Rattle.regex_lite_engine.proofs.graph.CopyRowLemmas.{PartsAre, parts_from_0}
 use Rattle.regex_lite_engine.proofs.graph.CopyRowLemmas.{first_part, later_parts}
 use Rattle.regex_lite_engine.proofs.nfa.write.NumberingLemmas.{Numbering, Body, Stands, InRow}
 use Rattle.regex_lite_engine.proofs.nfa.write.NumberingLemmas.{AreAt, Fits, both_at, row_first}
-use Rattle.regex_lite_engine.proofs.nfa.write.NumberingLemmas.{row_behind, fits_part}
+use Rattle.regex_lite_engine.proofs.nfa.write.NumberingLemmas.{row_after, fits_part}
 use Rattle.regex_lite_engine.proofs.nfa.write.NumberingLemmas.{fits_before, fits_last}
 use Rattle.regex_lite_engine.proofs.nfa.write.NumberedPlaceLemmas.{StandAll, arrow_at, go_at}
 use Rattle.regex_lite_engine.proofs.nfa.write.NumberedPlaceLemmas.{set_at, branches_at}
@@ -132,7 +132,7 @@ module _ (by : Numbering) where
         let first = body_of a (fits_tree a regular.0) in
         let e_here = first_part content inside k e in
         let one = fits_part by first pre after k base exit content e_here stands in_row_here in
-        let in_row_later = row_behind by pre base content list others written.0 one.1 in_row in
+        let in_row_later = row_after by pre base content list others written.0 one.1 in_row in
         let now = base + length written.0 in
         let e_later = later_parts content inside k e in
         let ends = fits_branches rest regular.1 pre (suc k) after content now exit e_later stands in

@@ -85,10 +85,10 @@ module _ (by : Numbering) where
   row_first pre n xs ys row = (row_split pre n xs ys row).0
 
   -- the addresses after others that have their places
-  pub row_behind : (pre : Address) (n : ℕ) (content : Address → Content) (xs ys : List Address)
+  pub row_after : (pre : Address) (n : ℕ) (content : Address → Content) (xs ys : List Address)
       (ps : List (Place ℕ)) → AreAt content xs ps → InRow pre n (xs ++ ys)
       → InRow pre (n + length ps) ys
-  row_behind pre n content xs ys ps r row =
+  row_after pre n content xs ys ps r row =
       let same = sym (as_many content xs ps r) in
       subst (λ m. InRow pre (n + m) ys) same (row_split pre n xs ys row).1
 
@@ -119,7 +119,7 @@ module _ (by : Numbering) where
   fits_before b pre after k base content later rest e fits row =
       let here = in_part k b.list in
       let now = base + length rest.0 in
-      let row_here = row_behind pre base content later here rest.0 fits.1 row in
+      let row_here = row_after pre base content later here rest.0 fits.1 row in
       let one = fits_part b pre after k now rest.1 content e fits.0 row_here in
       (one.0, both_at content later here rest.0 (b.layout now rest.1).0 fits.1 one.1)
 
@@ -129,5 +129,5 @@ module _ (by : Numbering) where
       → InRow pre base (list ++ a ∷ [])
       → Fits content (list ++ a ∷ []) (pre ++ a) (ps ++ p ∷ [], base + length ps)
   fits_last pre base content list a ps p others last row =
-      let row_here = row_behind pre base content list (a ∷ []) ps others row in
+      let row_here = row_after pre base content list (a ∷ []) ps others row in
       (row_here.0, both_at content list (a ∷ []) ps (p ∷ []) others (last, tt))

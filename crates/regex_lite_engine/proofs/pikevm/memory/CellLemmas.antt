@@ -64,9 +64,9 @@ pub row_fits : (s : Side) (room k : ℕ) → k < room → row_on s k < 2 * room 
 row_fits First room k lt = omega (arith, lt)
 row_fits Second room k lt = omega (arith, lt)
 
-pub row_behind_first : (s : Side) (room k : ℕ) → row_on s k ≡ 0 → ⊥
-row_behind_first First room k e = omega (arith, e)
-row_behind_first Second room k e = omega (arith, e)
+pub row_after_first : (s : Side) (room k : ℕ) → row_on s k ≡ 0 → ⊥
+row_after_first First room k e = omega (arith, e)
+row_after_first Second room k e = omega (arith, e)
 
 pub row_other : (s : Side) (j k : ℕ) → j < k → row_on s j ≡ row_on s k → ⊥
 row_other First j k lt e = omega (arith, lt, e)

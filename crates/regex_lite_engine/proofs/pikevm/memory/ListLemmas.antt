@@ -12,7 +12,7 @@ use Rattle.regex_lite_engine.specs.Pikevm.Cells.{with_thread}
 use Rattle.regex_lite_engine.specs.Pikevm.Cells.{thread_on}
 use Rattle.regex_lite_engine.proofs.pikevm.memory.CellLemmas.{own_place, own_start, other_place}
 use Rattle.regex_lite_engine.proofs.pikevm.memory.CellLemmas.{other_start, row_apart, row_other}
-use Rattle.regex_lite_engine.proofs.pikevm.memory.CellLemmas.{row_fits, row_behind_first}
+use Rattle.regex_lite_engine.proofs.pikevm.memory.CellLemmas.{row_fits, row_after_first}
 use Rattle.regex_lite_engine.proofs.pikevm.memory.CellLemmas.{not_told, same_round, same_frame}
 use Rattle.regex_lite_engine.proofs.pikevm.memory.CellLemmas.{told_at}
 use Rattle.regex_lite_engine.proofs.pikevm.rows.RowLemmas.{listed_alike}
@@ -49,7 +49,7 @@ first_row_alone told s cells rows room n row =
     listed_alike (thread_on told s cells (set rows 0 row) room)
     (thread_on told s cells rows room) 0 n
     (λ k low lt. (let a : nth_row (set rows 0 row) (row_on s k) ≡ nth_row rows (row_on s k) =
-    get_or-set_other rows 0 (row_on s k) row [] (row_behind_first s room k) in cc))
+    get_or-set_other rows 0 (row_on s k) row [] (row_after_first s room k) in cc))
 
 -- that row is replaced
 module _ (rows rows' : List Row) (row : Row) (put : rows' ≡ set rows 0 row) where
@@ -188,7 +188,7 @@ module _ {S : Type 0} (told : S → Told) (s t : Side) (apart : t ≡ other s) (
   pub row_stays : nth_row rows' 0 ≡ nth_row rows 0
   row_stays =
       ap (λ z. nth_row z 0) copied
-      ∙ get_or-set_other rows (row_on s n) 0 row [] (λ e. row_behind_first s room n (sym e))
+      ∙ get_or-set_other rows (row_on s n) 0 row [] (λ e. row_after_first s room n (sym e))
 
   pub own_list : threads_on told s (set cells n y) rows' room (n + 1)
       ≡ threads_on told s cells rows room n ++ (place, told start, row) ∷ []

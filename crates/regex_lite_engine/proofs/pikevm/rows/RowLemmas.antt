@@ -81,8 +81,8 @@ module _ (slots mid : Row) (w n : ℕ) (long : length mid ≡ w)
       drop_more i j xs ∙ ap (λ z. drop z (x ∷ xs)) same
 
   -- a row after it
-  row_behind : (k : ℕ) → n < k → row_at written w k ≡ row_at slots w k
-  row_behind k lt =
+  row_after : (k : ℕ) → n < k → row_at written w k ≡ row_at slots w k
+  row_after k lt =
       let room : suc n * w ≤ k * w = mul-le-mul_right w (omega (arith, lt)) in
       let later : n * w + w ≤ k * w = omega (arith, room, suc-mul n w) in
       let rest = drop (n * w + length mid) slots in
@@ -107,7 +107,7 @@ module _ (slots mid : Row) (w n : ℕ) (long : length mid ≡ w)
       by_order : (k : ℕ) → (k ≡ 0 + n → ⊥) → (k < n) ⊎ (n ≤ k)
           → row_at written w k ≡ row_at slots w k
       by_order k other (inl lt) = row_before k lt
-      by_order k other (inr le) = row_behind k (omega_apart k n other le)
+      by_order k other (inr le) = row_after k (omega_apart k n other le)
         where
           omega_apart : (k n : ℕ) → (k ≡ 0 + n → ⊥) → n ≤ k → n < k
           omega_apart k n other le = go (cases_eq k n)

@@ -16,9 +16,9 @@ use Rattle.regex_lite_engine.specs.Prefilter.Rows.{one_belongs}
 use Rattle.regex_lite_engine.proofs.OptionLemmas.{same_some}
 use Rattle.regex_lite_engine.proofs.LookupLemmas.{get_left, get_last}
 
-pub get_behind : {X : Type 0} (xs : List X) (x : X) (k : ℕ) → length xs < k
+pub get_beyond : {X : Type 0} (xs : List X) (x : X) (k : ℕ) → length xs < k
     → slice_get (xs ++ x ∷ []) k ≡ None
-get_behind xs x k lt =
+get_beyond xs x k lt =
     let more = length-append xs (x ∷ []) in
     slice_get_past (xs ++ x ∷ []) k (omega (arith, more, lt))
 
@@ -45,7 +45,7 @@ belongs_with parts part n row = elim (cases_eq n (length parts)) [
         → slice_get (parts ++ part ∷ []) n ≡ slice_get parts n
     same_get (inl lt) apart = get_left parts (part ∷ []) n lt
     same_get (inr le) apart =
-        get_behind parts part n (omega (arith, le, apart)) ∙ sym (slice_get_past parts n le)
+        get_beyond parts part n (omega (arith, le, apart)) ∙ sym (slice_get_past parts n le)
 
 -- with the heads of one tree more
 pub heads_of_more : (trees : List Tree) (parts : List Heads) (tree : Tree) (part : Heads)
@@ -85,9 +85,9 @@ pub walkable : (parts : List Heads) (heads : ListHeads) → IsIndexOf parts head
     → length parts ≡ heads.count → IsWalkable heads
 walkable parts heads w all = record {
   sized = w.sized;
-  none_behind = λ row n row_in behind n_in. (
+  none_beyond = λ row n row_in beyond n_in. (
       w.bits row n row_in n_in
-      ∙ ap (λ o. one_belongs o row) (slice_get_past parts n (omega (arith, behind, all))));
+      ∙ ap (λ o. one_belongs o row) (slice_get_past parts n (omega (arith, beyond, all))));
   all_pairs = w.all_pairs;
   not_in_rows = λ a b n a_in b_in n_in off. (
       let room : n < 64 * heads.rows.width = omega (arith, n_in, w.sized.enough) in

@@ -80,19 +80,19 @@ pub column_in : (c : ℕ) → column c < 129
 column_in c = grind (arith, nat_tests)
 
 -- no pattern is after the last
-pub none_starts_behind : (heads : ListHeads) → IsWalkable heads → (b : Option ℕ) (c : ℕ)
+pub none_starts_beyond : (heads : ListHeads) → IsWalkable heads → (b : Option ℕ) (c : ℕ)
     (second : Option ℕ) (n : ℕ) → heads.count ≤ n → n < 64 * heads.rows.width
     → may_start heads b (Some c) second n ≡ false
-none_starts_behind heads w b c second n low high = by_second second
+none_starts_beyond heads w b c second n low high = by_second second
   where
     first_off : has heads.rows (first_row c) n ≡ false
     first_off =
         let inside = column_in c in
-        w.none_behind (first_row c) n (omega (arith, inside)) low high
+        w.none_beyond (first_row c) n (omega (arith, inside)) low high
 
     start_off : (is_none b && has heads.rows start_row n) ≡ false
     start_off = and_right (is_none b) (has heads.rows start_row n)
-        (w.none_behind start_row n (omega arith) low high)
+        (w.none_beyond start_row n (omega arith) low high)
 
     by_second : (second : Option ℕ) → may_start heads b (Some c) second n ≡ false
     by_second None =

@@ -101,24 +101,24 @@ others_begin s c d past_c past_d e =
 held_before : (n : ℕ) (ranges : List ClassRange) (k c : ℕ) (none : ClassRange) → AreRuns n ranges
     → k < length ranges → c < (get_or ranges k none).start → in_ranges ranges c ≡ true
     → in_ranges (take k ranges) c ≡ true
-held_before n [] k c none runs within behind e = absurd (omega (arith, within))
-held_before n (r ∷ ranges) zero c none runs within behind e =
+held_before n [] k c none runs within below e = absurd (omega (arith, within))
+held_before n (r ∷ ranges) zero c none runs within below e =
     elim (one_is_true (span r.start r.end c) (in_ranges ranges c) e) [
       | inl first ↦
           let from : r.start ≤ c = grind (arith, nat_tests) in
-          absurd (omega (arith, from, behind))
+          absurd (omega (arith, from, below))
       | inr rest ↦
           let later = runs_from (next_character r.end + 1) ranges c runs.4 rest in
           let above = next_above r.end in
-          absurd (omega (arith, later, above, behind, runs.3))
+          absurd (omega (arith, later, above, below, runs.3))
     ]
-held_before n (r ∷ ranges) (suc k) c none runs within behind e =
+held_before n (r ∷ ranges) (suc k) c none runs within below e =
     elim (one_is_true (span r.start r.end c) (in_ranges ranges c) e) [
       | inl first ↦ ap (λ z. z || in_ranges (take k ranges) c) first
       | inr rest ↦
           or_right (span r.start r.end c) _
           (held_before (next_character r.end + 1) ranges k c none runs.4 (omega (arith, within))
-          behind rest)
+          below rest)
     ]
 
 -- the ranges after one that is not ASCII aren't either
@@ -132,8 +132,8 @@ past_ascii_begin s ranges k c none runs within past begins before inside = by_as
     by_ascii : (c < 128) ⊎ (128 ≤ c) → begins_with s c ≡ true
     by_ascii (inl lt) =
         let far : 128 ≤ (get_or ranges k none).start = grind (arith, nat_tests) in
-        let behind : c < (get_or ranges k none).start = omega (arith, lt, far) in
-        before (held_before 0 ranges k c none runs within behind inside)
+        let below : c < (get_or ranges k none).start = omega (arith, lt, far) in
+        before (held_before 0 ranges k c none runs within below inside)
     by_ascii (inr le) =
         let far : 128 ≤ (get_or ranges k none).start = grind (arith, nat_tests) in
         others_begin s (get_or ranges k none).start c far le begins

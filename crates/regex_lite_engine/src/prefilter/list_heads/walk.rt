@@ -33,7 +33,7 @@ impl ListHeads {
             return;
         }
         let first = first_row(first);
-        let second = row_behind(first, second);
+        let second = row_after(first, second);
         for k in 0..self.rows.width() {
             let word = self.word(before, first, second, k);
             add_set(word, 64 * k, numbers);
@@ -66,7 +66,7 @@ impl ListHeads {
         ensures { result ≡ may_start self.now before (Some first) second number }
     {
         let first = first_row(first);
-        let second = row_behind(first, second);
+        let second = row_after(first, second);
         let word = self.word(before, first, second, number / 64);
         word >> (number % 64) & 1 == 1
     }
@@ -91,7 +91,7 @@ impl ListHeads {
 }
 
 /// The row of the second character. Where there is none, all of the first row may start.
-fn row_behind(first: usize, second: Option<char>) -> usize
+fn row_after(first: usize, second: Option<char>) -> usize
     requires { first < row_count }
     ensures row { result ≡ unwrap_or (option_map second_row second) first }
     ensures inside { result < row_count }

@@ -16,7 +16,7 @@ loop-preserved g c =
             (take w.in-Ok.count c.loop.rest.now) held.appended w.in-Ok.ensures.bytes;
         parts = front_written c.args.bytes.now held.written c.loop.rest.now w.in-Ok.count held.parts
             ∙ ap (λ left. (held.written ++ take w.in-Ok.count c.loop.rest.now) ++ left)
-            (sym (ap (λ rest. rest.now) w.rest-is ∙ w.behind-rest.ensures));
+            (sym (ap (λ rest. rest.now) w.rest-is ∙ w.rest_after-rest.ensures));
       }
       | in-Err w ↦ record {
         written = held.written;

@@ -23,10 +23,10 @@ of_branches-loop-i-init t c =
     let branch = c.index-branches-last.result in
     let one =
     trees_more hirs last branch (omega (arith, c.in-Some.ensures)) c.index-branches-last.is in
-    let behind = ap trees_of (drop_all (last + 1) hirs (omega (arith, c.in-Some.ensures))) in (
+    let later = ap trees_of (drop_all (last + 1) hirs (omega (arith, c.in-Some.ensures))) in (
       tree_of branch,
       none,
-      one ∙ ap (λ rest. more (tree_of branch) rest) behind,
+      one ∙ ap (λ rest. more (tree_of branch) rest) later,
       c.alone-counts.ensures (tree_of branch) c.of.ensures,
     )
 
@@ -38,10 +38,10 @@ of_branches-loop-i-preserved t c =
     let known = c.loop-i.invariant in
     let one = trees_more hirs before branch (omega arith) c.index-branches-i.is in
     let same : before + 1 ≡ c.loop-i.i = omega (arith, c.loop-i-test.true) in
-    let behind = ap (λ i. trees_of (drop i hirs)) same ∙ known.2 in (
+    let later = ap (λ i. trees_of (drop i hirs)) same ∙ known.2 in (
       tree_of branch,
       more known.0 known.1,
-      one ∙ ap (λ rest. more (tree_of branch) rest) behind,
+      one ∙ ap (λ rest. more (tree_of branch) rest) later,
       c.or-counts.ensures (tree_of branch) known.0 known.1 c.of-in-loop-i.ensures known.3,
     )
 

@@ -17,7 +17,7 @@ pub returns-then-not-is_ascii : goal.returns-then-not-is_ascii
 returns-then-not-is_ascii c d within =
     let inside : c.loop-range.range-index < length c.args.ranges.now = c.loop-range-test.true in
     let none : ClassRange = record { start = 0; end = 0 } in
-    let behind : d < (get_or c.args.ranges.now c.loop-range.range-index none).start =
+    let below : d < (get_or c.args.ranges.now c.loop-range.range-index none).start =
     past_ascii _ d within (sym c.is_ascii.ensures ∙ c.if-not-is_ascii.true) in
     c.loop-range.invariant d within
-    ∙ sym (held_before 0 c.args.ranges.now c.loop-range.range-index d none c.requires inside behind)
+    ∙ sym (held_before 0 c.args.ranges.now c.loop-range.range-index d none c.requires inside below)

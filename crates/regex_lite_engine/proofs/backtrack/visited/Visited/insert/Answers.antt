@@ -28,8 +28,8 @@ set_bit-requires c =
     let words = ap room_of c.in-Few.is in
     omega (arith, inside, c.self.invariant, words)
 
-pub set_bit_behind-requires : goal.set_bit_behind-requires
-set_bit_behind-requires c =
+pub set_bit_beyond-requires : goal.set_bit_beyond-requires
+set_bit_beyond-requires c =
     let a = c.args in
     let inside =
     number_inside c.self.inside a.self.now c.self.view_is a.place a.at c.requires.inside in
@@ -49,8 +49,8 @@ returns-clause-fresh c =
       | in-Many w ↦
           rw w.result-is
           (found_in_pairs v a.self.now c.self.view_is a.place a.at w.in-Many.words.items
-          (ap words_of w.in-Many.is) w.set_bit_behind.result
-          (w.set_bit_behind.ensures.fresh v.count inside))
+          (ap words_of w.in-Many.is) w.set_bit_beyond.result
+          (w.set_bit_beyond.ensures.fresh v.count inside))
     ]
 
 pub returns-clause-added : goal.returns-clause-added
@@ -66,6 +66,6 @@ returns-clause-added c =
       | in-Many w ↦
           ap the_view w.self-inside-is
           ∙ set_in_pairs v a.self.now c.self.view_is a.place a.at w.in-Many.words.items
-          (ap words_of w.in-Many.is) w.set_bit_behind.new.words.items
-          (w.set_bit_behind.ensures.set v.count inside)
+          (ap words_of w.in-Many.is) w.set_bit_beyond.new.words.items
+          (w.set_bit_beyond.ensures.set v.count inside)
     ]

@@ -39,7 +39,7 @@ ways-preserved-in-To c =
       room = went.fit refl;
       on =
           goes_further t h first (with_frames w next)
-          (with_frames v (explore c.in-To.to c.in-To.behind ∷ v.stack.frames)) None
+          (with_frames v (explore c.in-To.to c.in-To.past ∷ v.stack.frames)) None
           c.ways.invariant.on went.on;
       counts = still_counted a.self.now.steps w.steps v.steps c.ways.invariant.counts
           c.come_to.ensures.counts;

@@ -7,11 +7,11 @@ use Rattle.regex_lite_engine.proofs.nfa.write.Writer.+write.Given as goal
 -- the parts from i on are written
 abbrev pub invariant-write_concat-loop-i : goal.invariant-write_concat-loop-i
 invariant-write_concat-loop-i l =
-    let behind = trees (map tree_of (drop l.i l.parts)) in
+    let later = trees (map tree_of (drop l.i l.parts)) in
     let old = l.initial.self in record {
       written : IsAdded (map place_of old) (map place_of l.self) l.next
-          (chain_layout behind (length old) l.initial.exit);
-      grown : length l.self ≡ length old + places_in behind;
+          (chain_layout later (length old) l.initial.exit);
+      grown : length l.self ≡ length old + places_in later;
     }
 
 -- with the branches that are left these are all

@@ -3,7 +3,7 @@ use Rattle.regex_lite_engine.proofs.Common.{refl, ap, ◌∙◌, arith, length-s
 use Rattle.regex_lite_engine.proofs.Common.{place_on, start_on, row_on, start_told, thread_at}
 use Rattle.regex_lite_engine.proofs.Common.{untold}
 use Rattle.regex_lite_engine.specs.Pikevm.Machine.{State}
-use Rattle.regex_lite_engine.proofs.pikevm.memory.CellLemmas.{row_behind_first, row_fits, told_at}
+use Rattle.regex_lite_engine.proofs.pikevm.memory.CellLemmas.{row_after_first, row_fits, told_at}
 use Rattle.regex_lite_engine.proofs.pikevm.memory.CellLemmas.{state_is}
 use Rattle.regex_lite_engine.proofs.pikevm.memory.ListLemmas.{first_put, list_kept, thread_is}
 use Rattle.regex_lite_engine.proofs.pikevm.memory.ListLemmas.{thread_told, threads_long}
@@ -111,4 +111,4 @@ invariant_of-self g c =
 
 pub copy-requires-clause-apart : goal.copy-requires-clause-apart
 copy-requires-clause-apart g c = λ same.
-    row_behind_first c.self.inside.side c.self.inside.room c.args.k (sym c.row_of.ensures ∙ same)
+    row_after_first c.self.inside.side c.self.inside.room c.args.k (sym c.row_of.ensures ∙ same)

@@ -2,7 +2,7 @@ use Rattle.regex_lite_engine.proofs.Common.{◌≡◌, ◌+◌, ◌<◌, [], ◌
 use Rattle.regex_lite_engine.proofs.Common.{set, sym, ap, ◌∙◌, subst, arith, length-set, nth_row}
 use Rattle.regex_lite_engine.proofs.Common.{other, row_on, threads_on, Row}
 use Rattle.regex_lite_engine.specs.Pikevm.Machine.{State}
-use Rattle.regex_lite_engine.proofs.pikevm.memory.CellLemmas.{back, row_behind_first, row_fits}
+use Rattle.regex_lite_engine.proofs.pikevm.memory.CellLemmas.{back, row_after_first, row_fits}
 use Rattle.regex_lite_engine.proofs.pikevm.memory.CellLemmas.{state_is}
 use Rattle.regex_lite_engine.proofs.pikevm.memory.ListLemmas.{threads_long, rounds_stay}
 use Rattle.regex_lite_engine.proofs.pikevm.memory.ListLemmas.{frames_stay, row_stays}
@@ -131,5 +131,5 @@ returns g c =
 
 pub copy-requires-clause-apart : goal.copy-requires-clause-apart
 copy-requires-clause-apart g c = λ same.
-    row_behind_first c.other-side.result c.self.inside.room c.self.inside.next_len
+    row_after_first c.other-side.result c.self.inside.room c.self.inside.next_len
     (sym (same ∙ c.row_of.ensures))

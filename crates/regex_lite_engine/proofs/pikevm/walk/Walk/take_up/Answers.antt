@@ -9,9 +9,9 @@ returns-clause-thread g c =
     let told = g.S.Beginning.told_of a.at in
     let starts = g.P.Patterns.starts a.patterns.now in
     let same = c.threads-threads.ensures.same in
-    let behind : length m.threads ≤ a.k = omega (arith, same, c.if-k-threads.false) in
+    let beyond : length m.threads ≤ a.k = omega (arith, same, c.if-k-threads.false) in
     let index : a.k - length m.threads ≡ a.k - c.threads-threads.result = omega (arith, same) in
     let there : slice_get starts (a.k - length m.threads) ≡ Some c.start-start.result
     = ap (slice_get starts) index ∙ c.start-start.ensures in
     begun_taken m c.clear_row.new.self told starts a.k c.start-start.result
-    (g.S.Beginning.told c.at.result) behind there c.at.ensures c.clear_row.ensures
+    (g.S.Beginning.told c.at.result) beyond there c.at.ensures c.clear_row.ensures

@@ -3,7 +3,7 @@ use Rattle.regex_lite_engine.proofs.Common.{arith, range_with_len, may_start, se
 use Rattle.std.specs.List.{filter}
 use Rattle.regex_lite_engine.proofs.prefilter.list_heads.WalkLemmas.{all_words, fits_word}
 use Rattle.regex_lite_engine.proofs.prefilter.list_heads.WalkLemmas.{none_listed}
-use Rattle.regex_lite_engine.proofs.prefilter.list_heads.WalkLemmas.{none_starts_behind}
+use Rattle.regex_lite_engine.proofs.prefilter.list_heads.WalkLemmas.{none_starts_beyond}
 use Rattle.regex_lite_engine.proofs.prefilter.list_heads.WalkLemmas.{word_more, word_tells}
 use Rattle.regex_lite_engine.proofs.prefilter.list_heads.ListHeads.list.Goals as goal
 
@@ -14,11 +14,11 @@ add_set-requires-clause-room c =
     let v = c.loop-k.invariant in
     let fits = fits_word (may_start heads c.args.before (Some c.args.first) c.args.second)
     heads.count heads.rows.width w.sized.enough
-    (none_starts_behind heads w c.args.before c.args.first c.args.second) c.loop-k.k
+    (none_starts_beyond heads w c.args.before c.args.first c.args.second) c.loop-k.k
     (omega (arith, c.loop-k-test.true, c.width-k-end.ensures)) in
     let here = ap length (word_tells heads c.args.before c.args.first c.args.second c.loop-k.k
-    c.word-word.result c.first_row-first.result c.row_behind-second.result
-    c.first_row-first.ensures.row c.row_behind-second.ensures.row c.word-word.ensures) in
+    c.word-word.result c.first_row-first.result c.row_after-second.result
+    c.first_row-first.ensures.row c.row_after-second.ensures.row c.word-word.ensures) in
     let before = ap length v.listed in
     omega (arith, fits, here, before, v.capacity, c.requires.room)
 
@@ -34,10 +34,10 @@ loop-k-preserved c =
           ∙ ap (λ z. z ++ set_from (64 * k) c.word-word.result) v.listed
           ∙ ap (λ z. filter test (range_with_len 0 (64 * k)) ++ z)
           (word_tells heads c.args.before c.args.first c.args.second k
-          c.word-word.result c.first_row-first.result c.row_behind-second.result
-          c.first_row-first.ensures.row c.row_behind-second.ensures.row c.word-word.ensures)
+          c.word-word.result c.first_row-first.result c.row_after-second.result
+          c.first_row-first.ensures.row c.row_after-second.ensures.row c.word-word.ensures)
           ∙ sym (word_more test heads.count heads.rows.width w.sized.enough
-          (none_starts_behind heads w c.args.before c.args.first c.args.second) k
+          (none_starts_beyond heads w c.args.before c.args.first c.args.second) k
           (omega (arith, c.loop-k-test.true, c.width-k-end.ensures)));
       capacity = omega (arith, v.capacity, c.add_set.ensures.capacity);
       same = refl;
@@ -60,4 +60,4 @@ returns-clause-listed c =
     c.loop-k.invariant.listed
     ∙ ap (λ k. filter test (range_with_len 0 (64 * k))) end
     ∙ all_words test heads.count heads.rows.width w.sized.enough
-    (none_starts_behind heads w c.args.before c.args.first c.args.second)
+    (none_starts_beyond heads w c.args.before c.args.first c.args.second)

@@ -16,10 +16,10 @@ returns c =
     let tells = c.word-word.ensures number (omega arith) (omega arith) in
     ap (λ bit. bit == 1) (shr_and_one word (number % 64))
     ∙ ap (λ k. bit_at word k == 1) rest ∙ tells
-    ∙ ap (λ r. (has rows r number && has rows c.row_behind-second.result number)
+    ∙ ap (λ r. (has rows r number && has rows c.row_after-second.result number)
     || (is_none before && has rows start_row number)) c.first_row-first.ensures.row
-    ∙ by_second c.args.second c.row_behind-second.result
-    (c.row_behind-second.ensures.row
+    ∙ by_second c.args.second c.row_after-second.result
+    (c.row_after-second.ensures.row
     ∙ ap (unwrap_or (option_map second_row c.args.second)) c.first_row-first.ensures.row)
   where
     by_second : (second : Option ℕ) (row : ℕ)

@@ -39,11 +39,11 @@ add_second_of_parts-loop-part-preserved t c =
                 (subst (Reads added h i n) (sym w.head-is)
                 (subst (λ z. Reads added h z n w.in_ok-head-in-Nothing.head)
                 (sym (subst (Reads old h i l) w.in-Nothing.is read)) (told.reads h l n here))))
-                (behind old h i j before one (v.left h i j m));
+                (chained old h i j before one (v.left h i j m));
           }
       | add_second_of_parts-in-One w ↦
-          let added = w.add_behind_one-head.new.self in
-          let told = w.add_behind_one-head.ensures in
+          let added = w.add_after_one-head.new.self in
+          let told = w.add_after_one-head.ensures in
           record {
             grown = subst (IsWider c.args.self.now) (sym w.self-is)
                 (grown_on c.args.self.now old added v.grown told.grown);
@@ -51,14 +51,14 @@ add_second_of_parts-loop-part-preserved t c =
                 (λ l n read here. subst (λ z. Reads z h i n after) (sym w.self-is)
                 (subst (Reads added h i n) (sym w.head-is)
                 (told.reads h i l n (subst (Reads old h i l) w.in-One.is read) here)))
-                (behind old h i j before one (v.left h i j m));
+                (chained old h i j before one (v.left h i j m));
           }
     ]
   where
-    behind : {these those : Trees} (s : Starts) (h : Text) (i j : ℕ) (head : Head) → these ≡ those
+    chained : {these those : Trees} (s : Starts) (h : Text) (i j : ℕ) (head : Head) → these ≡ those
         → (k : ℕ) × Reads s h i k head × Chain h these k j
         → (k : ℕ) × Reads s h i k head × Chain h those k j
-    behind s h i j head same (k, read, on) = (k, read, subst (λ z. Chain h z k j) same on)
+    chained s h i j head same (k, read, on) = (k, read, subst (λ z. Chain h z k j) same on)
 
 pub add_second_of_branches-loop-branch-preserved : goal.add_second_of_branches-loop-branch-preserved
 add_second_of_branches-loop-branch-preserved t c =

@@ -3,8 +3,8 @@ use Rattle.regex_lite_engine.proofs.Common.{slice_index_or, slice_set, ap, ◌�
 use Rattle.regex_lite_engine.proofs.Common.{bits_of}
 use Rattle.std.proofs.lemmas.List.{with_items_is}
 use Rattle.regex_lite_engine.proofs.backtrack.BitLemmas.{bits_before_zeros}
-use Rattle.regex_lite_engine.proofs.backtrack.visited.set_bit_behind.Goals.{then-len-k, else-len-k}
-use Rattle.regex_lite_engine.proofs.backtrack.visited.set_bit_behind.Goals as goal
+use Rattle.regex_lite_engine.proofs.backtrack.visited.set_bit_beyond.Goals.{then-len-k, else-len-k}
+use Rattle.regex_lite_engine.proofs.backtrack.visited.set_bit_beyond.Goals as goal
 
 -- what was added changes no bit
 same_bits : (c : goal.After-words-1) (count : ℕ)
