@@ -61,7 +61,7 @@ pub use Rattle.regex_lite_syntax.specs.Tree.Views.{tree_of}
 pub use Rattle.regex_lite_syntax.specs.declared.error.Error.{Error}
 pub use Rattle.regex_lite_engine.specs.Graph.PlaceCounts.{whole_places}
 pub use Rattle.regex_lite_engine.specs.Graph.Renumbered.{IsGraphOf}
-pub use Rattle.regex_lite_engine.specs.Graph.SideBySide.{HasTree, AreRegular, places_of_all}
+pub use Rattle.regex_lite_engine.specs.Graph.SideBySide.{HasTree, AreRegularPatterns, places_of_all}
 pub use Rattle.regex_lite_engine.specs.Graph.StoredList.{StoredGroups, IsGraphOfList}
 pub use Rattle.regex_lite_engine.specs.Interpolation.{IsInterpolation}
 pub use Rattle.regex_lite_engine.specs.Search.Answer.{HasMatchFrom, Found, IsFound}

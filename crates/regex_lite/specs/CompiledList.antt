@@ -2,7 +2,7 @@
 -- share with what found it.
 use Rattle.std.specs.Prelude.{◌≡◌, ◌<◌, ◌^◌, ℕ, List, [], None, length, slice_get, unwrap_or}
 use Rattle.regex_lite_syntax.specs.Tree.{Tree}
-use Rattle.regex_lite_engine.specs.Graph.SideBySide.{AreRegular, places_of_all}
+use Rattle.regex_lite_engine.specs.Graph.SideBySide.{AreRegularPatterns, places_of_all}
 use Rattle.regex_lite_engine.specs.Graph.StoredList.{HasGroupsOfList, IsGraphOfList, StoredGroups}
 use Rattle.regex_lite.specs.Compiled.{stored_groups}
 use Rattle.regex_lite.specs.RegexList.{AreTrees}
@@ -15,7 +15,7 @@ use Rattle.regex_lite.specs.declared.string.source.Finder.TheVariants.{Regex, Li
 pub record IsBuiltList (compiled : CompiledList) : Type 0 where
   pub trees : List Tree
   pub given : AreTrees compiled.patterns.items trees
-  pub regular : AreRegular trees
+  pub regular : AreRegularPatterns trees
   pub fit : places_of_all trees < 2 ^ 32
   -- the graph is that of the trees
   pub graph : IsGraphOfList trees compiled.graph

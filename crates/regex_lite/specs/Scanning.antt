@@ -3,7 +3,7 @@ use Rattle.std.specs.Prelude.{◌≡◌, ℕ, List, [], ◌∷◌, Option, Some}
 use Rattle.std.specs.Prelude.{IfSome, IsTrue, chars, max}
 use Rattle.regex_lite_syntax.specs.Tree.{Tree}
 use Rattle.regex_lite_syntax.specs.Tree.Properties.{captures_len}
-use Rattle.regex_lite_engine.specs.Graph.SideBySide.{AreRegular}
+use Rattle.regex_lite_engine.specs.Graph.SideBySide.{AreRegularPatterns}
 use Rattle.regex_lite_engine.specs.Graph.StoredList.{IsGraphOfList}
 use Rattle.regex_lite_engine.specs.Search.Answer.{Found}
 use Rattle.regex_lite_engine.specs.Search.Offsets.{HasSlots, search_start}
@@ -48,7 +48,7 @@ seen_by sought scan = record {
 -- what is searched is the graph of the patterns' trees
 abbrev pub SearchesForList : List Expression → engine.ListSearching → Type 0
 SearchesForList list searcher =
-    OfTrees list (λ trees. AreRegular trees × IsGraphOfList trees searcher.graph)
+    OfTrees list (λ trees. AreRegularPatterns trees × IsGraphOfList trees searcher.graph)
 
 -- what is returned is the span of what was found, with the number of its pattern, and these are
 -- its slots

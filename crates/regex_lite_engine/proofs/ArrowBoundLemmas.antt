@@ -11,7 +11,7 @@ use Rattle.regex_lite_syntax.specs.Tree.Regular.{AreRegular}
 use Rattle.regex_lite_engine.specs.Graph.PlaceCounts.{arrows_in}
 use Rattle.regex_lite_engine.specs.Graph.PlaceCounts.{own_arrows}
 use Rattle.regex_lite_engine.specs.Graph.PlaceCounts.{bounded_places, bounded_arrows}
-use Rattle.regex_lite_engine.specs.Graph.SideBySide as patterns
+use Rattle.regex_lite_engine.specs.Graph.SideBySide.{AreRegularPatterns}
 
 own_few : (least above : ℕ)
     → bounded_arrows least above + 1 ≤ 2 * bounded_places least above + (least + above)
@@ -58,7 +58,7 @@ mutual
       omega (arith, arrows_few a regular.0, arrows_in_few rest regular.1)
 
 -- so do several patterns
-pub arrows_all_few : (trees : List Tree) → patterns.AreRegular trees
+pub arrows_all_few : (trees : List Tree) → AreRegularPatterns trees
     → arrows_of_all trees ≤ 2 * places_of_all trees
 arrows_all_few [] regular = omega arith
 arrows_all_few (tree ∷ trees) regular =

@@ -4,7 +4,7 @@ use Rattle.regex_lite.proofs.Common.{◌++◌, map, length, get_or, take, slice_
 use Rattle.regex_lite.proofs.Common.{sym, refl, ap, ◌∙◌, inl, inr, add-one, arith, slice_get-get_or}
 use Rattle.regex_lite.proofs.Common.{Refusal, syntax_error, too_deep, too_many_groups, passed_limit}
 use Rattle.regex_lite.proofs.Common.{out_of_memory, refused_replacement, kind_of, IsTree, Tree}
-use Rattle.regex_lite.proofs.Common.{Error, HasTree, AreRegular, places_of_all}
+use Rattle.regex_lite.proofs.Common.{Error, HasTree, AreRegularPatterns, places_of_all}
 use Rattle.regex_lite.proofs.Common.{IsPatternTree, Expression, expression_of, IsAccepted, IsDue}
 use Rattle.regex_lite.proofs.Common.{AreAcceptedAs, AreAccepted, AreTrees, Settings}
 use Rattle.std.proofs.Common.{◌^◌, All, take-suc, slice_index_or}
@@ -52,7 +52,7 @@ pattern_tree list trees given number tree there =
     (own.0.flags, _, own.2)
 
 pub regular_trees : (list : List Expression) (trees : List Tree) → AreTrees list trees
-    → AreRegular trees
+    → AreRegularPatterns trees
 regular_trees list trees given = λ number tree there.
     regular_tree tree (pattern_tree list trees given number tree there)
 

@@ -1,7 +1,7 @@
 -- From the outcome of a search for several patterns to what is returned of it.
 use Rattle.regex_lite.proofs.Common.{◌≡◌, ℕ, Bool, ◌↔◌, List, is_some, IsTrue, slice_get, Some}
 use Rattle.regex_lite.proofs.Common.{None, IsUtf8, Option, chars, sym, refl, ◌∙◌, subst, false≢true}
-use Rattle.regex_lite.proofs.Common.{Tree, AreRegular, IsGraphOfList, Found, IsFoundInList}
+use Rattle.regex_lite.proofs.Common.{Tree, AreRegularPatterns, IsGraphOfList, Found, IsFoundInList}
 use Rattle.regex_lite.proofs.Common.{search_start, IsOutcomeOfList, IsPatternTree, Outcome}
 use Rattle.regex_lite.proofs.Common.{Expression, LiesIn, haystack_of_match, span_of_match, AreTrees}
 use Rattle.regex_lite.proofs.Common.{AnyMatches, TellsMatchOfList, offsets, TellsAnswer, Match}
@@ -65,9 +65,9 @@ any_told list trees haystack start found given told = (
 
 -- what holds for the graph holds for the trees
 pub outcome_of_list : (trees : List Tree) (graph own : StoredList) (bytes : List ℕ) (start : ℕ)
-    (told : Option (ℕ × Outcome)) (number : ℕ) (outcome : Outcome) → AreRegular trees
+    (told : Option (ℕ × Outcome)) (number : ℕ) (outcome : Outcome) → AreRegularPatterns trees
     → IsGraphOfList trees own → graph ≡ own
-    → ((other : List Tree) → AreRegular other → IsGraphOfList other graph
+    → ((other : List Tree) → AreRegularPatterns other → IsGraphOfList other graph
     → IsOutcomeOfList other bytes start told)
     → told ≡ Some (number, outcome) → IsOutcomeOfList trees bytes start (Some (number, outcome))
 outcome_of_list trees graph own bytes start told number outcome regular is_graph same tells is =
@@ -77,7 +77,7 @@ outcome_of_list trees graph own bytes start told number outcome regular is_graph
 -- what a searcher returns holds for the patterns' trees
 pub span_of_list : (list : List Expression) (searcher : ListSearching) (bytes : List ℕ) (start : ℕ)
     (slots : List (Option ℕ)) (told : Option (ℕ × (ℕ × ℕ))) → SearchesForList list searcher
-    → ((trees : List Tree) → AreRegular trees → IsGraphOfList trees searcher.graph
+    → ((trees : List Tree) → AreRegularPatterns trees → IsGraphOfList trees searcher.graph
     → IsSpanOutcomeOfList trees bytes start slots told)
     → OfTrees list (λ trees. IsSpanOutcomeOfList trees bytes start slots told)
 span_of_list list searcher bytes start slots told (trees, given, (regular, is_graph)) tells =

@@ -8,7 +8,7 @@ use Rattle.regex_lite_engine.proofs.Common.{written_out, whole_layout, whole_tab
 use Rattle.regex_lite_engine.proofs.Common.{NeverBegins, MayBegin, numbered_step, IsEntry, IsDeadAt}
 use Rattle.regex_lite_engine.proofs.Common.{AreListHeadsOf, Heads, ListHeads, Starts}
 use Rattle.regex_lite_engine.specs.Graph.Places.{Place}
-use Rattle.regex_lite_engine.specs.Graph.SideBySide.{AreRegular}
+use Rattle.regex_lite_engine.specs.Graph.SideBySide.{AreRegularPatterns}
 use Rattle.regex_lite_engine.specs.Search.Starts.{AreHeadsOf}
 use Rattle.regex_lite_engine.specs.Prefilter.Heads.{AreSecondOfTree}
 use Rattle.regex_lite_engine.specs.Prefilter.ListHeads.{AreHeadsOfTrees}
@@ -64,7 +64,7 @@ written_heads tree regular table start table_is start_is heads of_tree haystack 
     none (inr off) j m = by_second heads.second of_tree.second off j m
 
 -- what the index of several trees says holds for their places in a table
-pub listed_heads : (trees : List Tree) → AreRegular trees → (name : ℕ → Address)
+pub listed_heads : (trees : List Tree) → AreRegularPatterns trees → (name : ℕ → Address)
     (table : List (Place ℕ)) (entries : List ℕ) → IsRenumbered (side_by_side trees) name table
     → AreEntries trees name table entries → length entries ≡ length trees → (heads : ListHeads)
     → AreHeadsOfTrees trees heads → AreListHeadsOf table entries heads

@@ -11,7 +11,7 @@ use Rattle.regex_lite_engine.proofs.Common.{IsBoundedBy, IsEntry, IsMatchOfAny, 
 use Rattle.regex_lite_engine.proofs.Common.{Best, IsBestOutcomeOf, IsNumberedEndOf, position_at}
 use Rattle.regex_lite_engine.proofs.Common.{search_start}
 use Rattle.regex_lite_engine.specs.declared.search.outcome.Outcome.{Outcome}
-use Rattle.regex_lite_engine.specs.Graph.SideBySide.{AreRegular}
+use Rattle.regex_lite_engine.specs.Graph.SideBySide.{AreRegularPatterns}
 use Rattle.regex_lite_engine.specs.Search.Outcomes.{HasCostOfList, IsOutcomeOfList}
 use Rattle.regex_lite_engine.specs.Search.Outcomes.{IsSpanOutcomeOfList}
 use Rattle.regex_lite_engine.specs.Search.NumberedOutcomes.{numbered_at, numbered_told}
@@ -60,7 +60,7 @@ module _ (trees : List Tree) (list : StoredList) (is : IsGraphOfList trees list)
       (chars haystack) (position_at haystack start) steps.tried steps.entered steps.looked)
       (length-map list.places place_of ∙ is.places) bounded))
 
-  module _ (regular : AreRegular trees) where
+  module _ (regular : AreRegularPatterns trees) where
     -- the answer over the numbers of places, as that of the list
     answer_told : (answer : Option (ℕ × Found))
         → IsNumberedAnswerOf (table_of_list list) (chars haystack) list.entries

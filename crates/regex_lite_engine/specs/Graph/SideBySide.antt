@@ -44,8 +44,8 @@ IsWayOfPattern trees number haystack i arrows j =
     (end_of number, j)
 
 -- each of the trees is as the grammar gives it
-abbrev pub AreRegular : List Tree → Type 0
-AreRegular trees =
+abbrev pub AreRegularPatterns : List Tree → Type 0
+AreRegularPatterns trees =
     (number : ℕ) (tree : Tree) → slice_get trees number ≡ Some tree → IsRegular tree
 
 -- how many places and arrows all patterns have together

@@ -3,7 +3,8 @@ ghost use Rattle.std.specs.Prelude.{◌≡◌, ◌<◌, ◌⊎◌, ◌+◌, ◌�
 ghost use Rattle.std.specs.Prelude.{IsCharBoundary, chars, false, length, slice_index_or};
 ghost use Rattle.regex_lite_syntax.specs.Tree.{Tree};
 ghost use Rattle.regex_lite_engine.specs.Graph.PlaceCounts.{whole_arrows, whole_places};
-ghost use Rattle.regex_lite_engine.specs.Graph.SideBySide.{AreRegular, places_of_all, tries_of_all};
+ghost use Rattle.regex_lite_engine.specs.Graph.SideBySide.{AreRegularPatterns, places_of_all};
+ghost use Rattle.regex_lite_engine.specs.Graph.SideBySide.{tries_of_all};
 ghost use Rattle.regex_lite_engine.specs.Graph.StoredList.{IsGraphOfList, table_of_list};
 ghost use Rattle.regex_lite_engine.specs.Search.Answer.{HasMatchFrom};
 ghost use Rattle.regex_lite_engine.specs.Search.AnswerOfList.{TellsWhich};
@@ -38,7 +39,7 @@ impl GraphList {
         start: usize,
     ) -> Result<(Vec<bool>, Steps), AllocError>
         requires { (length haystack.now < start) ⊎ IsCharBoundary haystack.now start }
-        ensures found { IfOk result (λ told. (trees : List Tree) → AreRegular trees
+        ensures found { IfOk result (λ told. (trees : List Tree) → AreRegularPatterns trees
             → IsGraphOfList trees self.now → TellsWhich trees (chars haystack.now)
             (search_start haystack.now start) told.0.items) }
         ensures cost { IfOk result (λ told. (trees : List Tree) → IsGraphOfList trees self.now
@@ -67,7 +68,8 @@ impl GraphList {
         requires ready { IsBetween (table_of_list self.now) cache.old }
         requires countable { IsCountable (table_of_list self.now) }
         requires all { length matched.old ≡ length self.now.entries }
-        ensures found { (trees : List Tree) → AreRegular trees → IsGraphOfList trees self.now
+        ensures found { (trees : List Tree) → AreRegularPatterns trees
+            → IsGraphOfList trees self.now
             → TellsWhich trees (chars haystack.now) (position_at haystack.now start)
             matched.new }
         ensures cost { (trees : List Tree) → IsGraphOfList trees self.now
@@ -97,7 +99,7 @@ impl GraphList {
         requires boundary { IsCharBoundary haystack.now start }
         requires ready { IsBetween (table_of_list self.now) cache.old }
         requires countable { IsCountable (table_of_list self.now) }
-        ensures found { (trees : List Tree) (tree : Tree) → AreRegular trees
+        ensures found { (trees : List Tree) (tree : Tree) → AreRegularPatterns trees
             → IsGraphOfList trees self.now → HasTree trees number tree → (IsTrue result
             ↔ HasMatchFrom tree (chars haystack.now) (position_at haystack.now start)) }
         ensures cost { (trees : List Tree) (tree : Tree) → IsGraphOfList trees self.now

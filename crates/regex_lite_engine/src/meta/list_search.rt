@@ -2,7 +2,7 @@
 ghost use Rattle.std.specs.Prelude.{◌≡◌, ◌<◌, ◌⊎◌, ◌↔◌, List, IfOk, IfSome};
 ghost use Rattle.std.specs.Prelude.{IsTrue, IsCharBoundary, chars, length};
 ghost use Rattle.regex_lite_syntax.specs.Tree.{Tree};
-ghost use Rattle.regex_lite_engine.specs.Graph.SideBySide.{AreRegular};
+ghost use Rattle.regex_lite_engine.specs.Graph.SideBySide.{AreRegularPatterns};
 ghost use Rattle.regex_lite_engine.specs.Graph.StoredList.{IsGraphOfList};
 ghost use Rattle.regex_lite_engine.specs.Search.AnswerOfList.{AnyMatchesFrom};
 ghost use Rattle.regex_lite_engine.specs.Search.Offsets.{search_start};
@@ -36,7 +36,7 @@ impl GraphList {
         slots: usize,
     ) -> Result<(Option<(usize, Outcome)>, Steps), AllocError>
         requires { (length haystack.now < start) ⊎ IsCharBoundary haystack.now start }
-        ensures found { IfOk result (λ told. (trees : List Tree) → AreRegular trees
+        ensures found { IfOk result (λ told. (trees : List Tree) → AreRegularPatterns trees
             → IsGraphOfList trees self.now → IsOutcomeOfList trees haystack.now start told.0) }
         ensures slots { IfOk result (λ told. IfSome told.0
             (λ found. length found.1.slots.items ≡ slots)) }
@@ -69,7 +69,7 @@ impl GraphList {
         start: usize,
     ) -> Result<(bool, Steps), AllocError>
         requires { (length haystack.now < start) ⊎ IsCharBoundary haystack.now start }
-        ensures found { IfOk result (λ told. (trees : List Tree) → AreRegular trees
+        ensures found { IfOk result (λ told. (trees : List Tree) → AreRegularPatterns trees
             → IsGraphOfList trees self.now → (IsTrue told.0
             ↔ AnyMatchesFrom trees (chars haystack.now) (search_start haystack.now start))) }
         ensures cost { IfOk result (λ told. (trees : List Tree) → IsGraphOfList trees self.now

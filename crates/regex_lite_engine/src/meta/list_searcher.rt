@@ -2,7 +2,7 @@
 ghost use Rattle.std.specs.Prelude.{◌≡◌, ◌<◌, ◌⊎◌, List, IfOk, IfSome, IsCharBoundary, None, chars};
 ghost use Rattle.std.specs.Prelude.{length, option_map};
 ghost use Rattle.regex_lite_syntax.specs.Tree.{Tree};
-ghost use Rattle.regex_lite_engine.specs.Graph.SideBySide.{AreRegular};
+ghost use Rattle.regex_lite_engine.specs.Graph.SideBySide.{AreRegularPatterns};
 ghost use Rattle.regex_lite_engine.specs.Graph.StoredList.{IsGraphOfList, table_of_list};
 ghost use Rattle.regex_lite_engine.specs.LazyDfa.Remembering.{IsRememberingList, RemembersFor};
 ghost use Rattle.regex_lite_engine.specs.LazyDfa.Scanning.{best_told};
@@ -111,7 +111,7 @@ impl<'g> ListSearcher<'g> {
     /// Condition: the start is above the haystack's length or on a character boundary.
     pub fn search(&mut self, haystack: &str, start: usize) -> Option<(usize, (usize, usize))>
         requires { (length haystack.now < start) ⊎ IsCharBoundary haystack.now start }
-        ensures found { (trees : List Tree) → AreRegular trees
+        ensures found { (trees : List Tree) → AreRegularPatterns trees
             → IsGraphOfList trees self.old.graph
             → IsSpanOutcomeOfList trees haystack.now start self.new.slots result }
         ensures graph { self.new.graph ≡ self.old.graph }

@@ -6,7 +6,7 @@ ghost use Rattle.regex_lite_syntax.specs.Errors.{kind_of, out_of_memory};
 ghost use Rattle.regex_lite_syntax.specs.Tree.Regular.{IsRegular};
 ghost use Rattle.regex_lite_syntax.specs.Tree.Views.{tree_of};
 ghost use Rattle.regex_lite_engine.specs.Graph.Renumbered.{arrows_of};
-ghost use Rattle.regex_lite_engine.specs.Graph.SideBySide.{AreRegular, places_of_all};
+ghost use Rattle.regex_lite_engine.specs.Graph.SideBySide.{AreRegularPatterns, places_of_all};
 ghost use Rattle.regex_lite_engine.specs.Graph.Size.{Fits, IsDueToTree};
 ghost use Rattle.regex_lite_engine.specs.Graph.StoredList.{HasGroupsOfList, IsGraphOfList};
 ghost use Rattle.regex_lite_engine.specs.Graph.StoredList.{TellGroupsOf, table_of_list};
@@ -87,7 +87,7 @@ impl GraphList {
     /// `Places` where the trees have more places together than can be numbered, and `Memory` if
     /// memory runs out or a set or a name has as many owners as can be counted.
     pub fn new(alloc: Global, hirs: &[Measured]) -> Result<GraphList, Error>
-        requires regular { AreRegular (map tree_of hirs.now) }
+        requires regular { AreRegularPatterns (map tree_of hirs.now) }
         requires fit { All (λ tree. (limit : ℕ) × Fits limit tree) (map tree_of hirs.now) }
         ensures ok { IfOk result (λ list. IsGraphOfList (map tree_of hirs.now) list) }
         ensures groups { IfOk result (λ list. HasGroupsOfList (map tree_of hirs.now) list) }
@@ -175,7 +175,7 @@ impl GraphList {
 /// `Places` where they have more places together than can be numbered, and `Memory` if memory runs
 /// out, or a name has as many owners as can be counted.
 fn totals_and_groups(alloc: Global, hirs: &[Measured]) -> Result<(Totals, Vec<Groups>), Error>
-    requires { AreRegular (map tree_of hirs.now) }
+    requires { AreRegularPatterns (map tree_of hirs.now) }
     ensures totals { IfOk result (λ told. AreTotalsOf (map tree_of hirs.now) told.0) }
     ensures all { IfOk result (λ told. length told.1.items ≡ length hirs.now) }
     ensures each { IfOk result (λ told. TellGroupsOf (map tree_of hirs.now) told.1.items) }

@@ -5,7 +5,7 @@ use Rattle.regex_lite_engine.proofs.Common.{IsNumberOf, side_by_side, HasTree, s
 use Rattle.regex_lite_engine.proofs.Common.{IsMatchFrom, Found, IsAnswerOfList, IsMatchOfAny}
 use Rattle.regex_lite_engine.proofs.Common.{IsNumberedAnswerOf}
 use Rattle.regex_lite_engine.specs.Graph.Places.{Place}
-use Rattle.regex_lite_engine.specs.Graph.SideBySide.{AreRegular}
+use Rattle.regex_lite_engine.specs.Graph.SideBySide.{AreRegularPatterns}
 use Rattle.regex_lite_engine.proofs.laws.search.NumberedAnswerLemmas.{
   numbered_match,
   match_of_numbers,
@@ -17,7 +17,8 @@ use Rattle.regex_lite_engine.proofs.laws.several.PartLemmas.{part_of_list, entry
 
 module _ (trees : List Tree) (haystack : Text) (table : List (Place ℕ)) (entries : List ℕ)
     (name : ℕ → Address) (r : IsRenumbered (side_by_side trees) name table)
-    (starts : AreEntries trees name table entries) (regular : AreRegular trees) (s : ℕ) where
+    (starts : AreEntries trees name table entries) (regular : AreRegularPatterns trees)
+    (s : ℕ) where
   -- a match of one of the patterns, over numbers
   pub any_numbered : (k i j : ℕ) (tree : Tree) → HasTree trees k tree
       → IsMatchFrom tree haystack s i j

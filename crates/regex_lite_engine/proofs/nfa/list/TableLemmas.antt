@@ -11,7 +11,7 @@ use Rattle.regex_lite_engine.proofs.Common.{pattern_table, patterns_table, patte
 use Rattle.regex_lite_engine.proofs.Common.{reading_of_all}
 use Rattle.std.proofs.lemmas.List.Sums.{sum_by-append}
 use Rattle.regex_lite_engine.specs.Graph.Parts.{HaveOwnParts}
-use Rattle.regex_lite_engine.specs.Graph.SideBySide.{AreRegular}
+use Rattle.regex_lite_engine.specs.Graph.SideBySide.{AreRegularPatterns}
 use Rattle.regex_lite_engine.specs.Graph.Stored.{IsClosed}
 use Rattle.regex_lite_engine.specs.declared.nfa.place.Place as code
 use Rattle.regex_lite_engine.proofs.count.KeptBackLemmas.{kept_back_pattern}
@@ -34,7 +34,7 @@ reading_adds_up (tree ∷ trees) base =
     omega (arith, both, sum, reading_pattern tree base, reading_adds_up trees later)
 
 -- in each pattern less is kept back than there are places
-kept_back_few : (trees : List Tree) → AreRegular trees → (base : ℕ)
+kept_back_few : (trees : List Tree) → AreRegularPatterns trees → (base : ℕ)
     → kept_back_of (patterns_table trees base) + length trees ≤ places_of_all trees
 kept_back_few [] regular base = omega arith
 kept_back_few (tree ∷ trees) regular base =
@@ -56,7 +56,7 @@ entry_for_each [] base = refl
 entry_for_each (tree ∷ trees) base =
     omega (arith, entry_for_each trees (base + whole_places tree))
 
-module _ (trees : List Tree) (regular : AreRegular trees) (places : List code.Place)
+module _ (trees : List Tree) (regular : AreRegularPatterns trees) (places : List code.Place)
     (table_is : map place_of places ≡ patterns_table trees 0) where
   as_many : length (map place_of places) ≡ length places
   as_many = length-map places place_of

@@ -1,5 +1,5 @@
 use Rattle.regex_lite.proofs.Common.{map, length, sym, ap, ◌∙◌, subst, err_from_is_err_and, tree_of}
-use Rattle.regex_lite.proofs.Common.{AreRegular, expression_of}
+use Rattle.regex_lite.proofs.Common.{AreRegularPatterns, expression_of}
 use Rattle.regex_lite.specs.RegexList.{IsAcceptedAs}
 use Rattle.regex_lite.proofs.string.ListBuildLemmas.{accepted_trees, each_fits, refused_before}
 use Rattle.regex_lite.proofs.string.ListBuildLemmas.{refused_together, regular_trees}
@@ -16,7 +16,7 @@ pub new-requires-clause-regular : goal.new-requires-clause-regular
 new-requires-clause-regular c =
     let all = c.args.builders.now in
     let trees = map tree_of c.in_ok-hirs.hirs.items in
-    subst (λ items. AreRegular (map tree_of items)) (sym c.deref.ensures.value)
+    subst (λ items. AreRegularPatterns (map tree_of items)) (sym c.deref.ensures.value)
     (regular_trees (map expression_of all) trees
     (accepted_trees all trees c.in_ok-hirs.ensures.accepted))
 

@@ -3,7 +3,7 @@ use Rattle.regex_lite_engine.proofs.Common.{IsTrue, slice_index_or, chars, Tree,
 use Rattle.regex_lite_engine.proofs.Common.{places_of_all, tries_of_all, table_of_list}
 use Rattle.regex_lite_engine.proofs.Common.{IsGraphOfList, IsBetween, HasMatchFrom, IsBoundedBy}
 use Rattle.regex_lite_engine.proofs.Common.{position_at}
-use Rattle.regex_lite_engine.specs.Graph.SideBySide.{AreRegular}
+use Rattle.regex_lite_engine.specs.Graph.SideBySide.{AreRegularPatterns}
 use Rattle.regex_lite_engine.proofs.nfa.list.GraphList.search_all.Given as goal
 
 abbrev pub invariant-loop-number : goal.invariant-loop-number
@@ -11,7 +11,7 @@ invariant-loop-number l = record {
   ready : IsBetween (table_of_list l.self) l.cache;
   within : l.number ≤ length l.self.entries;
   all : length l.matched ≡ length l.fn.matched;
-  found : (trees : List Tree) → AreRegular trees → IsGraphOfList trees l.self
+  found : (trees : List Tree) → AreRegularPatterns trees → IsGraphOfList trees l.self
       → (k : ℕ) (tree : Tree)
       → k < l.number → HasTree trees k tree → IsTrue (slice_index_or l.matched k false)
       ↔ HasMatchFrom tree (chars l.haystack) (position_at l.haystack l.start);
