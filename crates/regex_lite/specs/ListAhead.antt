@@ -10,7 +10,7 @@ use Rattle.regex_lite.specs.Ahead.{ahead_by, at_end, whole}
 use Rattle.regex_lite.specs.Expression.{Expression}
 use Rattle.regex_lite.specs.Groups.{Groups, whole_span}
 use Rattle.regex_lite.specs.Items.{AreGroupsFound}
-use Rattle.regex_lite.specs.MatchList.{AreWithinOfList, IsAnswerOfPatterns, IsNextOfList}
+use Rattle.regex_lite.specs.MatchList.{IsAnswerOfPatterns, IsNextOfList}
 use Rattle.regex_lite.specs.MatchViews.{span_of_match}
 use Rattle.regex_lite.specs.Scanning.{Scanning}
 use Rattle.regex_lite.specs.Searches.{IsMatchOf}
@@ -27,10 +27,6 @@ whole_list list haystack = whole list haystack None
 -- those after a match that ended at this offset, or all
 abbrev pub list_after : List Expression → (haystack : List ℕ) → (ended : Option ℕ) → ListAhead
 list_after list haystack ended = after list haystack ended
-
--- these are the matches ahead, each with the number of its pattern
-abbrev pub AreListAhead : ListAhead → List (ℕ × Found) → Type 0
-AreListAhead a = AreWithinOfList a.sought (chars a.haystack) a.limit a.ended
 
 -- this is the match that comes next, or there is none
 abbrev pub ListComesNext : ListAhead → Option (ℕ × Found) → Type 0

@@ -67,11 +67,6 @@ module _ {A : Type 0} (found_of : A → Found) (Answers : (s : ℕ) → Option A
       × AreSomeAnswersWithin (one_less limit) (Some (found_of answer).end) list
 
 -- The same for searches for a pattern, whose answers are what was found
-
--- there is a match, it is empty, and it stands at position e
-abbrev pub is_empty_at : (e : ℕ) → Option Found → Bool
-is_empty_at e found = is_empty_answer (λ own. own) e found
-
 module _ (re : Expression) (haystack : Text) where
   -- what comes after a match that ended at this position, or first
   abbrev pub IsNext : (ended : Option ℕ) → Option Found → Type 0
@@ -103,13 +98,3 @@ module _ (list : List Expression) (haystack : Text) where
   abbrev pub IsNextOfList : (ended : Option ℕ) → Option (ℕ × Found) → Type 0
   IsNextOfList ended answer =
       IsNextAnswer (λ own. own.1) (IsAnswerOfPatterns list haystack) ended answer
-
-  -- these are all matches after one that ended there
-  abbrev pub AreMatchesOfList : (ended : Option ℕ) → List (ℕ × Found) → Type 0
-  AreMatchesOfList ended answers =
-      AreAnswers (λ own. own.1) (IsAnswerOfPatterns list haystack) ended answers
-
-  -- these are the first of them up to a limit, where there is one, and else all
-  abbrev pub AreWithinOfList : (limit : Option ℕ) → (ended : Option ℕ) → List (ℕ × Found) → Type 0
-  AreWithinOfList limit ended answers =
-      AreAnswersWithin (λ own. own.1) (IsAnswerOfPatterns list haystack) limit ended answers

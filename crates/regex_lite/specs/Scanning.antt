@@ -89,20 +89,6 @@ IsMatchOfSearch found_of number_of Answers haystack slots answer told =
     (s : ℕ) × Answers s (Some answer)
     × IsMatchWithSlots found_of number_of haystack slots answer told
 
--- the same for searches for a pattern
-abbrev pub IsMatchOfRegex : Expression → (haystack : List ℕ) → (slots : List (Option ℕ)) → Found
-    → Unit {0} × Match → Type 0
-IsMatchOfRegex re haystack slots found told =
-    IsMatchOfSearch (λ own. own) (λ own. tt {0}) (IsAnswerOf re (chars haystack)) haystack slots
-    found told
-
--- and for searches for several patterns
-abbrev pub IsMatchOfPatterns : List Expression → (haystack : List ℕ) → (slots : List (Option ℕ))
-    → ℕ × Found → ℕ × Match → Type 0
-IsMatchOfPatterns list haystack slots answer told =
-    IsMatchOfSearch (λ own. own.1) (λ own. own.0) (IsAnswerOfPatterns list (chars haystack))
-    haystack slots answer told
-
 -- where the last match was empty, the answer from its end is empty there
 abbrev pub IsAfterAnswer : {A : Type 0} → (found_of : A → Found)
     → (Answers : (s : ℕ) → Option A → Type 0) → Cursor → Type 0

@@ -8,12 +8,19 @@ use Rattle.regex_lite.proofs.Common.{AreSlotsForAllGroups, offsets, kept_slots, 
 use Rattle.regex_lite.proofs.Common.{CompiledList, Match}
 use Rattle.regex_lite_engine.proofs.OptionLemmas.{same_some}
 use Rattle.regex_lite.specs.CompiledList.{IsBuiltList}
-use Rattle.regex_lite.specs.Scanning.{IsMatchOfPatterns}
+use Rattle.regex_lite.specs.Scanning.{IsMatchOfSearch}
 use Rattle.regex_lite.proofs.string.ListBuildLemmas.{one_list, own_tree}
 use Rattle.regex_lite.proofs.string.ListGroupLemmas.{found_groups_are, found_groups_in_list}
 use Rattle.regex_lite.proofs.string.ListGroupLemmas.{found_there}
 use Rattle.regex_lite.proofs.string.ListSlotLemmas.{most_are}
 use Rattle.regex_lite.proofs.string.ScanLemmas.{whole_of_groups}
+
+-- what is returned is this answer of some search for the patterns, and these are its slots
+abbrev pub IsMatchOfPatterns : List Expression → (haystack : List ℕ) → (slots : List (Option ℕ))
+    → ℕ × Found → ℕ × Match → Type 0
+IsMatchOfPatterns list haystack slots answer told =
+    IsMatchOfSearch (λ own. own.1) (λ own. own.0) (IsAnswerOfPatterns list (chars haystack))
+    haystack slots answer told
 
 -- the groups of what was found have its span
 whole_in_list : (list : List Expression) (bytes : List ℕ) (s : ℕ) (answer : ℕ × Found)

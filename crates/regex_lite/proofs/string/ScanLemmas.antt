@@ -13,11 +13,18 @@ use Rattle.regex_lite_engine.proofs.PositionLemmas.{position_of}
 use Rattle.regex_lite.specs.Ahead.{AheadOf, ahead_by}
 use Rattle.regex_lite.specs.Compiled.{AreOfRegex, SharesGroups}
 use Rattle.regex_lite.specs.Items.{Came, GroupsCame}
-use Rattle.regex_lite.specs.Scanning.{AreSlotsForGroups, IsMatchOfRegex, IsMatchOfSearch}
+use Rattle.regex_lite.specs.Scanning.{AreSlotsForGroups, IsMatchOfSearch}
 use Rattle.regex_lite.proofs.string.CapturedLemmas.{AreAllSlots, all_told, captured, captured_of}
 use Rattle.regex_lite.proofs.string.FoundLemmas.{group_0}
 use Rattle.regex_lite.proofs.string.NextLemmas.{next_answer}
 use Rattle.regex_lite.proofs.string.OneTreeLemmas.{one_tree}
+
+-- what is returned is this answer of some search for the pattern, and these are its slots
+abbrev pub IsMatchOfRegex : Expression → (haystack : List ℕ) → (slots : List (Option ℕ)) → Found
+    → Unit {0} × Match → Type 0
+IsMatchOfRegex re haystack slots found told =
+    IsMatchOfSearch (λ own. own) (λ own. tt {0}) (IsAnswerOf re (chars haystack)) haystack slots
+    found told
 
 module _ (bytes : List ℕ) (utf8 : IsUtf8 bytes) (re : Expression) (kept slots : List (Option ℕ))
     (room : AreSlotsForGroups re (length kept)) (shared : StoredGroups)
