@@ -100,11 +100,11 @@ pub use Rattle.regex_lite_engine.specs.LazyDfa.Scanning.{best_told, span_told, e
 pub use Rattle.regex_lite_engine.specs.LazyDfa.Scanning.{IsSince, IsScanning}
 pub use Rattle.regex_lite_engine.specs.LazyDfa.Spots.{IsSpotAt}
 pub use Rattle.regex_lite_engine.specs.LazyDfa.Stored.{way_in, hit_in, state_in, states_in}
-pub use Rattle.regex_lite_engine.specs.Nfa.Layout.{Fragment, IsAdded, copies_layout, choices_layout}
-pub use Rattle.regex_lite_engine.specs.Nfa.Layout.{star_layout, layout, chain_layout}
-pub use Rattle.regex_lite_engine.specs.Nfa.Layout.{branches_layout, pattern_layout, pattern_table}
-pub use Rattle.regex_lite_engine.specs.Nfa.Layout.{patterns_table, patterns_entries, whole_layout}
-pub use Rattle.regex_lite_engine.specs.Nfa.Layout.{whole_table}
+pub use Rattle.regex_lite_engine.specs.Nfa.Fragments.{Fragment}
+pub use Rattle.regex_lite_engine.specs.Nfa.Layout.{IsAdded, layout, chain_layout, branches_layout}
+pub use Rattle.regex_lite_engine.specs.Nfa.Layout.{pattern_layout, pattern_table, patterns_table}
+pub use Rattle.regex_lite_engine.specs.Nfa.Layout.{patterns_entries, whole_layout, whole_table}
+pub use Rattle.regex_lite_engine.specs.Nfa.Repetitions.{copies_layout, choices_layout, star_layout}
 pub use Rattle.regex_lite_engine.specs.Nfa.Totals.{reading_of_all}
 pub use Rattle.regex_lite_engine.specs.Pikevm.Again.{AreAlike, retold, all_retold, state_retold}
 pub use Rattle.regex_lite_engine.specs.Pikevm.Again.{best_again}

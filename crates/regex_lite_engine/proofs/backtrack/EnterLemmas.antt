@@ -6,10 +6,10 @@ use Rattle.regex_lite_engine.proofs.Common.{Option, sym, refl, ap, ◌∙◌, su
 use Rattle.regex_lite_engine.proofs.Common.{length-map, set-get_or, slice_get_within, len_utf8}
 use Rattle.regex_lite_engine.proofs.Common.{in_ranges, Set, just, after, holds_between, ClassRange}
 use Rattle.regex_lite_engine.proofs.Common.{Pairs, pair_number, was_entered, Held, WayHolds}
-use Rattle.regex_lite_engine.proofs.Common.{SearchFrom, Arrow, with_arrows, read_past, go, go_marking}
-use Rattle.regex_lite_engine.proofs.Common.{go_holding, go_reading, one_of, arrived, step_from}
-use Rattle.regex_lite_engine.proofs.Common.{arrow_count, place_of, Marks, marked, over, mark_of}
-use Rattle.regex_lite_engine.proofs.Common.{place_with, is_complete, numbered_step}
+use Rattle.regex_lite_engine.proofs.Common.{SearchFrom, Arrow, with_arrows, read_past, go}
+use Rattle.regex_lite_engine.proofs.Common.{go_marking, go_holding, go_reading, one_of, arrived}
+use Rattle.regex_lite_engine.proofs.Common.{step_from, arrow_count, place_of, Marks, marked, over}
+use Rattle.regex_lite_engine.proofs.Common.{mark_of, place_with, is_complete, numbered_step}
 use Rattle.regex_lite_engine.proofs.Common.{IsNumberedOutcome, Node, Offer, offset, IsOffset}
 use Rattle.regex_lite_engine.proofs.Common.{HasSlots, Row}
 use Rattle.std.proofs.lemmas.List.{set-set}

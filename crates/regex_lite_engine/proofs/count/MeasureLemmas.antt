@@ -13,7 +13,7 @@ use Rattle.regex_lite_engine.specs.Graph.Places.{Place}
 use Rattle.regex_lite_engine.specs.Graph.Places.{one_char}
 use Rattle.regex_lite_engine.specs.Graph.PlaceCounts.{own_arrows}
 use Rattle.regex_lite_engine.specs.Graph.PlaceCounts.{bounded_places, bounded_arrows}
-use Rattle.regex_lite_engine.specs.Nfa.Layout.{bounded_layout, repetition_layout}
+use Rattle.regex_lite_engine.specs.Nfa.Repetitions.{bounded_layout, repetition_layout}
 
 -- a place that has forgotten the numbers of those to which it leads
 abbrev pub forget : ℕ → ℕ

@@ -5,8 +5,8 @@ use Rattle.regex_lite_engine.proofs.Common.{slice_get, Some, None, Option, sym, 
 use Rattle.regex_lite_engine.proofs.Common.{subst, inl, inr, arith, mul-suc, nil_from_length}
 use Rattle.regex_lite_engine.proofs.Common.{slice_get_within, Text, after, holds_between, Condition}
 use Rattle.regex_lite_engine.proofs.Common.{free, holding, reading, Arrow, complete, with_arrows}
-use Rattle.regex_lite_engine.proofs.Common.{read_past, taken, arrived, arrow_taken, step_from, Thread}
-use Rattle.regex_lite_engine.proofs.Common.{IsComing, ThreadsHold, InStep, Found, IsGrown}
+use Rattle.regex_lite_engine.proofs.Common.{read_past, taken, arrived, arrow_taken, step_from}
+use Rattle.regex_lite_engine.proofs.Common.{Thread, IsComing, ThreadsHold, InStep, Found, IsGrown}
 use Rattle.regex_lite_engine.proofs.Common.{marks_along, place_with, numbered_step, is_end}
 use Rattle.regex_lite_engine.proofs.Common.{IsNumberedFound, StartsOf, Best, IsBestOutcome}
 use Rattle.regex_lite_engine.proofs.Common.{IsBestOutcomeOf, Node, Offer, StartsBelow}

@@ -5,20 +5,19 @@ use Rattle.regex_lite_engine.proofs.Common.{slice_get, slice_index, slice_index_
 use Rattle.regex_lite_engine.proofs.Common.{None, Option, sym, refl, ap, ◌∙◌, subst, inl, inr}
 use Rattle.regex_lite_engine.proofs.Common.{arith, length-map, set-get_or, in_ranges, Set, just}
 use Rattle.regex_lite_engine.proofs.Common.{after, holds_between, ClassRange, Arrow, with_arrows}
-use Rattle.regex_lite_engine.proofs.Common.{read_past, go, go_marking, go_holding, go_reading, one_of}
-use Rattle.regex_lite_engine.proofs.Common.{arrived, step_from, arrow_count, place_of, reads}
-use Rattle.regex_lite_engine.proofs.Common.{pushing, reading_on, Thread, WayTold, ThreadsHold}
-use Rattle.regex_lite_engine.proofs.Common.{SearchAt, Told, Marks, marked, over, mark_of}
-use Rattle.regex_lite_engine.proofs.Common.{place_with, is_complete, numbered_step, Best, Node}
-use Rattle.regex_lite_engine.proofs.Common.{Offer, HasSlots, Row, IsHere, Here}
+use Rattle.regex_lite_engine.proofs.Common.{read_past, go, go_marking, go_holding, go_reading}
+use Rattle.regex_lite_engine.proofs.Common.{one_of, arrived, step_from, arrow_count, place_of}
+use Rattle.regex_lite_engine.proofs.Common.{reads, pushing, reading_on, Thread, WayTold}
+use Rattle.regex_lite_engine.proofs.Common.{ThreadsHold, SearchAt, Told, Marks, marked, over}
+use Rattle.regex_lite_engine.proofs.Common.{mark_of, place_with, is_complete, numbered_step, Best}
+use Rattle.regex_lite_engine.proofs.Common.{Node, Offer, HasSlots, Row, IsHere, Here}
 use Rattle.std.proofs.lemmas.List.{set-set}
 use Rattle.regex_lite_engine.specs.declared.nfa.place.Place as code
 use Rattle.regex_lite_engine.specs.declared.nfa.place.Place.TheVariants as stored
 use Rattle.regex_lite_engine.specs.Graph.Places.{Place}
 use Rattle.regex_lite_engine.specs.Pikevm.Entering.{Enters}
 use Rattle.regex_lite_engine.specs.Pikevm.Machine.{Frame, explore, restore, State}
-use Rattle.regex_lite_engine.specs.Pikevm.Walking.{FramesHold}
-use Rattle.regex_lite_engine.specs.Pikevm.Walking.{IsWalking}
+use Rattle.regex_lite_engine.specs.Pikevm.Walking.{FramesHold, IsWalking}
 use Rattle.regex_lite_engine.proofs.search.MarkLemmas.{slots_set, slots_past}
 use Rattle.regex_lite_engine.proofs.OptionLemmas.{not_there, same_some}
 use Rattle.regex_lite_engine.proofs.search.PlaceLemmas.{free_stays, free_marks, hops, no_second}

@@ -4,9 +4,9 @@ use Rattle.regex_lite_engine.proofs.Common.{◌≡◌, ℕ, zero, suc, ◌<◌, 
 use Rattle.regex_lite_engine.proofs.Common.{length, take, Some, None, Option, sym, refl, ap, ◌∙◌}
 use Rattle.regex_lite_engine.proofs.Common.{subst, arith, length-take-le, Text, after, Tree}
 use Rattle.regex_lite_engine.proofs.Common.{IsRegular, Address, RequiresNoLook, Condition, free}
-use Rattle.regex_lite_engine.proofs.Common.{holding, reading, Arrow, complete, with_arrows, read_past}
-use Rattle.regex_lite_engine.proofs.Common.{taken, arrived, arrow_taken, step_from, step, Leads}
-use Rattle.regex_lite_engine.proofs.Common.{NoneTwice, IsWay, end_address, start_address}
+use Rattle.regex_lite_engine.proofs.Common.{holding, reading, Arrow, complete, with_arrows}
+use Rattle.regex_lite_engine.proofs.Common.{read_past, taken, arrived, arrow_taken, step_from, step}
+use Rattle.regex_lite_engine.proofs.Common.{Leads, NoneTwice, IsWay, end_address, start_address}
 use Rattle.regex_lite_engine.proofs.Common.{place_of_pattern, IsWayThrough, IsMatchFrom, Found}
 use Rattle.regex_lite_engine.proofs.Common.{IsFound, marked, over, mark_of, marks_along}
 use Rattle.std.proofs.Common.{le_trans}

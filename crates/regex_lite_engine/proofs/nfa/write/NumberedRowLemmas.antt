@@ -8,7 +8,7 @@ use Rattle.regex_lite_engine.proofs.Common.{copies_layout, choices_layout, star_
 use Rattle.regex_lite_engine.specs.Graph.Places.{Place}
 use Rattle.regex_lite_engine.specs.Graph.Addresses.{repetition_entry}
 use Rattle.regex_lite_engine.specs.Graph.Repetitions.{next_choice}
-use Rattle.regex_lite_engine.specs.Nfa.Layout.{bounded_layout, repetition_layout}
+use Rattle.regex_lite_engine.specs.Nfa.Repetitions.{bounded_layout, repetition_layout}
 use Rattle.regex_lite_engine.proofs.graph.AddressLemmas.{own_place, in_part, copies_addresses}
 use Rattle.regex_lite_engine.proofs.graph.AddressLemmas.{choices_addresses, bounded_addresses}
 use Rattle.regex_lite_engine.proofs.graph.AddressLemmas.{repetition_addresses}

@@ -3,7 +3,7 @@ use Rattle.regex_lite_engine.proofs.Common.{◌≡◌, ℕ, suc, ◌+◌, ◌<�
 use Rattle.regex_lite_engine.proofs.Common.{Some, sym, refl, ap, ◌∙◌, subst, append_assoc, arith}
 use Rattle.regex_lite_engine.proofs.Common.{Address, part, renamed, Content, LeadsInto, Fragment}
 use Rattle.regex_lite_engine.specs.Graph.Places.{Place}
-use Rattle.regex_lite_engine.specs.Nfa.Layout.{before}
+use Rattle.regex_lite_engine.specs.Nfa.Fragments.{before}
 use Rattle.regex_lite_engine.proofs.graph.AddressLemmas.{in_part}
 
 -- what the numbers from the first on to below the end stand for

@@ -10,7 +10,7 @@ use Rattle.regex_lite_syntax.specs.Tree.Views.{node_tree}
 use Rattle.regex_lite_syntax.specs.declared.hir.Hir.{Hir-F, fold-roll-Hir}
 use Rattle.regex_lite_syntax.specs.declared.hir.Hir.TheVariants as hir
 use Rattle.regex_lite_engine.specs.declared.nfa.place.Place.{Place}
-use Rattle.regex_lite_engine.specs.Nfa.Layout.{alone}
+use Rattle.regex_lite_engine.specs.Nfa.Fragments.{alone}
 
 pub tree_of-Empty : tree_of hir.Empty ≡ empty
 tree_of-Empty = ap tree_of (sym hir.rolls-Empty) ∙ fold-roll-Hir Tree node_tree Hir-F.Empty

@@ -5,9 +5,10 @@ ghost use Rattle.regex_lite_syntax.specs.Tree.Properties.{nullable, greatest_ind
 ghost use Rattle.regex_lite_engine.specs.Graph.Stored.{place_of};
 ghost use Rattle.regex_lite_engine.specs.Graph.PlaceCounts.{places, copies, own_places};
 ghost use Rattle.regex_lite_engine.specs.Graph.PlaceCounts.{bounded_places};
-ghost use Rattle.regex_lite_engine.specs.Nfa.Layout.{IsAdded, layout, copies_layout};
-ghost use Rattle.regex_lite_engine.specs.Nfa.Layout.{bounded_layout, choices_layout, star_layout};
-ghost use Rattle.regex_lite_engine.specs.Nfa.Layout.{repetition_layout};
+ghost use Rattle.regex_lite_engine.specs.Nfa.Layout.{IsAdded, layout};
+ghost use Rattle.regex_lite_engine.specs.Nfa.Repetitions.{bounded_layout, choices_layout};
+ghost use Rattle.regex_lite_engine.specs.Nfa.Repetitions.{copies_layout, repetition_layout};
+ghost use Rattle.regex_lite_engine.specs.Nfa.Repetitions.{star_layout};
 
 use super::{Writer, choice_of};
 use crate::nfa::place::Place;
