@@ -1,31 +1,25 @@
 //! A whole search that remembers its turns, and goes by those that it remembers.
-ghost use Rattle.std.specs.Prelude.{◌≡◌, ◌+◌, ◌<◌, ◌≤◌, ◌⊎◌, [], ℕ};
-ghost use Rattle.std.specs.Prelude.{All, IfErr, IfOk, IfSome, IsCharBoundary};
-ghost use Rattle.std.specs.Prelude.{MatchOption, None, Some, chars, length, true};
-ghost use Rattle.regex_lite_syntax.specs.Text.{Text};
-ghost use Rattle.regex_lite_engine.specs.declared.lazy_dfa.scan.Scanned.TheVariants.{Stuck};
+ghost use Rattle.std.specs.Prelude.{◌≡◌, ◌+◌, ◌≤◌, [], ℕ, IfErr, IfOk, IfSome, IsCharBoundary};
+ghost use Rattle.std.specs.Prelude.{MatchOption, chars, length};
 ghost use Rattle.regex_lite_engine.specs.Graph.Renumbered.{arrows_of};
 ghost use Rattle.regex_lite_engine.specs.LazyDfa.Automaton.{Remembers};
 ghost use Rattle.regex_lite_engine.specs.LazyDfa.Learning.{HasTurned, IsIn};
 ghost use Rattle.regex_lite_engine.specs.LazyDfa.Running.{Stands};
-ghost use Rattle.regex_lite_engine.specs.LazyDfa.Scanning.{best_told, ScansTo};
+ghost use Rattle.regex_lite_engine.specs.LazyDfa.Scanning.{best_told};
 ghost use Rattle.regex_lite_engine.specs.Search.Starts.{AreAllStarts};
 ghost use Rattle.regex_lite_engine.specs.Search.Bounds.{IsBoundedBy, characters_left};
 ghost use Rattle.regex_lite_engine.specs.Search.Offsets.{position_at};
 ghost use Rattle.regex_lite_engine.specs.Search.Counting.{CanCount};
 ghost use Rattle.regex_lite_engine.specs.Search.NumberedOutcomes.{IsBestOutcomeOf};
 ghost use Rattle.regex_lite_engine.specs.Pikevm.Searching.{IsFresh, IsBetween};
-ghost use Rattle.regex_lite_engine.specs.Pikevm.Turns.{best_of};
 
 use crate::lazy_dfa::automaton::LazyDfa;
 use crate::lazy_dfa::learn::Taken;
 use crate::lazy_dfa::run::Progress;
 use crate::lazy_dfa::scan::{Scanned, Standing};
-use crate::lazy_dfa::state::StoredWay;
 use crate::pikevm::beginning::Origin;
 use crate::pikevm::cache::Cache;
 use crate::pikevm::run::is_over;
-use crate::search::here::Here;
 use crate::search::patterns::Patterns;
 
 impl LazyDfa {
@@ -243,66 +237,4 @@ impl LazyDfa {
             }
         }
     }
-
-    /// Goes on where remembered turns end, if all ways there began at the first start; otherwise
-    /// after the last position at which there was nothing to go on from, or where the search was.
-    pub(super) fn resume<P: Patterns>(
-        &self,
-        patterns: &P,
-        cache: &mut Cache<Origin>,
-        at: &mut Progress,
-        stuck: Standing,
-        idle: Option<Here>,
-    )
-        requires remembers { Remembers (P.table patterns.now) (P.entries patterns.now) self.now }
-        requires state { stuck.state < length self.now.states }
-        requires stands { (haystack : Text) × (s : ℕ)
-            × (stands : Stands (P.table patterns.now) haystack (P.entries patterns.now) s self.now
-            at.old cache.old)
-            × ScansTo (P.table patterns.now) (P.entries patterns.now) haystack s stands.p self.now
-            (Stuck stuck idle) }
-        ensures stands { (haystack : Text) (s : ℕ) → (stands : Stands (P.table patterns.now)
-            haystack (P.entries patterns.now) s self.now at.old cache.old)
-            → ScansTo (P.table patterns.now) (P.entries patterns.now) haystack s stands.p self.now
-            (Stuck stuck idle)
-            → Stands (P.table patterns.now) haystack (P.entries patterns.now) s self.now at.new
-            cache.new }
-        ensures none { best_of cache.old.best ≡ None → best_of cache.new.best ≡ None }
-        ensures later { at.old.here.at ≤ at.new.here.at }
-    {
-        if stuck.here.at == at.here.at {
-            return;
-        }
-        let ways = self.ways(stuck.state as usize);
-        if stuck.best.is_none() && may_take_up(ways, stuck) {
-            cache.take_up_ways(ways, stuck.first);
-            at.state = Some(stuck.state);
-            at.first = stuck.first;
-            at.here = stuck.here;
-            return;
-        }
-        // The offset fits: no haystack has as many bytes.
-        at.until = stuck.here.at + 1;
-        if let Some(here) = idle {
-            if here.at > at.here.at {
-                cache.let_go();
-                at.state = self.empty_state(here.before);
-                at.first = here.at;
-                at.here = here;
-            }
-        }
-    }
-}
-
-/// Whether all ways began at the first start, which is before this position if there are any.
-fn may_take_up(ways: &[StoredWay], stuck: Standing) -> bool
-    ensures all { result ≡ true → All (λ way. way.is_first ≡ true) ways.now }
-    ensures before { result ≡ true → (ways.now ≡ []) ⊎ (stuck.first < stuck.here.at) }
-{
-    'ways: for k in 0..ways.len() {
-        if !ways[k].is_first {
-            return false;
-        }
-    }
-    ways.is_empty() || stuck.first < stuck.here.at
 }

@@ -1,0 +1,81 @@
+//! How a search goes on where the turns that it remembers end.
+ghost use Rattle.std.specs.Prelude.{◌≡◌, ◌<◌, ◌≤◌, ◌⊎◌, [], ℕ, All, None, length, true};
+ghost use Rattle.regex_lite_syntax.specs.Text.{Text};
+ghost use Rattle.regex_lite_engine.specs.declared.lazy_dfa.scan.Scanned.TheVariants.{Stuck};
+ghost use Rattle.regex_lite_engine.specs.LazyDfa.Automaton.{Remembers};
+ghost use Rattle.regex_lite_engine.specs.LazyDfa.Running.{Stands};
+ghost use Rattle.regex_lite_engine.specs.LazyDfa.Scanning.{ScansTo};
+ghost use Rattle.regex_lite_engine.specs.Pikevm.Turns.{best_of};
+
+use crate::lazy_dfa::automaton::LazyDfa;
+use crate::lazy_dfa::run::Progress;
+use crate::lazy_dfa::scan::Standing;
+use crate::lazy_dfa::state::StoredWay;
+use crate::pikevm::beginning::Origin;
+use crate::pikevm::cache::Cache;
+use crate::search::here::Here;
+use crate::search::patterns::Patterns;
+
+impl LazyDfa {
+    /// Goes on where remembered turns end, if all ways there began at the first start; otherwise
+    /// after the last position at which there was nothing to go on from, or where the search was.
+    pub(super) fn resume<P: Patterns>(
+        &self,
+        patterns: &P,
+        cache: &mut Cache<Origin>,
+        at: &mut Progress,
+        stuck: Standing,
+        idle: Option<Here>,
+    )
+        requires remembers { Remembers (P.table patterns.now) (P.entries patterns.now) self.now }
+        requires state { stuck.state < length self.now.states }
+        requires stands { (haystack : Text) × (s : ℕ)
+            × (stands : Stands (P.table patterns.now) haystack (P.entries patterns.now) s self.now
+            at.old cache.old)
+            × ScansTo (P.table patterns.now) (P.entries patterns.now) haystack s stands.p self.now
+            (Stuck stuck idle) }
+        ensures stands { (haystack : Text) (s : ℕ) → (stands : Stands (P.table patterns.now)
+            haystack (P.entries patterns.now) s self.now at.old cache.old)
+            → ScansTo (P.table patterns.now) (P.entries patterns.now) haystack s stands.p self.now
+            (Stuck stuck idle)
+            → Stands (P.table patterns.now) haystack (P.entries patterns.now) s self.now at.new
+            cache.new }
+        ensures none { best_of cache.old.best ≡ None → best_of cache.new.best ≡ None }
+        ensures later { at.old.here.at ≤ at.new.here.at }
+    {
+        if stuck.here.at == at.here.at {
+            return;
+        }
+        let ways = self.ways(stuck.state as usize);
+        if stuck.best.is_none() && may_take_up(ways, stuck) {
+            cache.take_up_ways(ways, stuck.first);
+            at.state = Some(stuck.state);
+            at.first = stuck.first;
+            at.here = stuck.here;
+            return;
+        }
+        // The offset fits: no haystack has as many bytes.
+        at.until = stuck.here.at + 1;
+        if let Some(here) = idle {
+            if here.at > at.here.at {
+                cache.let_go();
+                at.state = self.empty_state(here.before);
+                at.first = here.at;
+                at.here = here;
+            }
+        }
+    }
+}
+
+/// Whether all ways began at the first start, which is before this position if there are any.
+fn may_take_up(ways: &[StoredWay], stuck: Standing) -> bool
+    ensures all { result ≡ true → All (λ way. way.is_first ≡ true) ways.now }
+    ensures before { result ≡ true → (ways.now ≡ []) ⊎ (stuck.first < stuck.here.at) }
+{
+    'ways: for k in 0..ways.len() {
+        if !ways[k].is_first {
+            return false;
+        }
+    }
+    ways.is_empty() || stuck.first < stuck.here.at
+}
