@@ -35,23 +35,23 @@ module _ {S : Type 0} where
 
   -- what is ahead after this match
   abbrev pub ahead_after : AheadOf S → Found → AheadOf S
-  ahead_after a found = record a { limit = one_less a.limit; ended = Some found.end }
+  ahead_after ahead found = record ahead { limit = one_less ahead.limit; ended = Some found.end }
 
   -- the same haystack with nothing ahead
   abbrev pub at_end : AheadOf S → AheadOf S
-  at_end a = record a { limit = Some 0 }
+  at_end ahead = record ahead { limit = Some 0 }
 
 -- The answers of searches say what is ahead. What was found is a part of the answer
 module _ {S A : Type 0} (found_of : A → Found)
     (IsAnswerTo : S → Text → (s : ℕ) → Option A → Type 0) where
   -- this is the answer that comes next, or there is none
   abbrev pub AnswerComesNext : AheadOf S → Option A → Type 0
-  AnswerComesNext a answer =
-      IsNextAnswer found_of (IsAnswerTo a.sought (chars a.haystack)) a.ended answer
+  AnswerComesNext ahead answer =
+      IsNextAnswer found_of (IsAnswerTo ahead.sought (chars ahead.haystack)) ahead.ended answer
 
   -- none is ahead
   abbrev pub NoneIsAhead : AheadOf S → Type 0
-  NoneIsAhead a = (a.limit ≡ Some 0) ⊎ AnswerComesNext a None
+  NoneIsAhead ahead = (ahead.limit ≡ Some 0) ⊎ AnswerComesNext ahead None
 
   -- this one was passed
   pub record PassesAnswer (old : AheadOf S) (answer : A) (new : AheadOf S) : Type 0 where
@@ -71,19 +71,19 @@ Ahead = AheadOf Expression
 
 -- these are the matches ahead
 abbrev pub AreAhead : Ahead → List Found → Type 0
-AreAhead a = AreWithin a.sought (chars a.haystack) a.limit a.ended
+AreAhead ahead = AreWithin ahead.sought (chars ahead.haystack) ahead.limit ahead.ended
 
 -- these are some of the matches ahead, from the first on
 abbrev pub AreFirstAhead : Ahead → List Found → Type 0
-AreFirstAhead a = AreSomeWithin a.sought (chars a.haystack) a.limit a.ended
+AreFirstAhead ahead = AreSomeWithin ahead.sought (chars ahead.haystack) ahead.limit ahead.ended
 
 -- this is the match that comes next, or there is none
 abbrev pub ComesNext : Ahead → Option Found → Type 0
-ComesNext a = IsNext a.sought (chars a.haystack) a.ended
+ComesNext ahead = IsNext ahead.sought (chars ahead.haystack) ahead.ended
 
 -- no match is ahead
 abbrev pub IsOver : Ahead → Type 0
-IsOver a = NoneIsAhead (λ own. own) IsAnswerOf a
+IsOver ahead = NoneIsAhead (λ own. own) IsAnswerOf ahead
 
 -- this match was passed
 abbrev pub Passes : (old : Ahead) → Found → (new : Ahead) → Type 0
@@ -96,13 +96,13 @@ Ends old new = EndsAhead (λ own. own) IsAnswerOf old new
 -- a span that begins where the last match ended or later, and ends later
 abbrev pub IsOnward : (ended : Option ℕ) → ℕ × ℕ → Type 0
 IsOnward None span = Unit {0}
-IsOnward (Some e) span = (e ≤ span.0) × (e < span.1)
+IsOnward (Some end) span = (end ≤ span.0) × (end < span.1)
 
 -- at most this many are ahead, of a haystack of this length in bytes, where the last ended there
 abbrev pub most_left : (limit : Option ℕ) → (bytes : ℕ) → (ended : Option ℕ) → ℕ
 most_left (Some zero) bytes ended = 0
 most_left limit bytes None = bytes + 2
-most_left limit bytes (Some e) = (bytes + 1) - e
+most_left limit bytes (Some end) = (bytes + 1) - end
 
 -- What scans and iterators have ahead
 

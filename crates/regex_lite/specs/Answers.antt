@@ -8,7 +8,7 @@ use Rattle.regex_lite.specs.declared.string.matches.Match.{Match}
 use Rattle.regex_lite.specs.MatchList.{is_empty_answer}
 use Rattle.regex_lite.specs.MatchViews.{span_of_match}
 
--- what is found lies in the haystack, at or after the start of the search
+-- what is found lies in the haystack, at or after position s, from which the search starts
 pub record IsWithin (haystack : Text) (s : ℕ) (found : Found) : Type 0 where
   pub from : s ≤ found.start
   pub ordered : found.start ≤ found.end
@@ -22,7 +22,7 @@ pub record AreLawful {A : Type 0} (found_of : A → Found) (haystack : Text)
   -- it is also found from any later position on up to its start
   pub further : (s p : ℕ) (answer : A) → s ≤ p → p ≤ (found_of answer).start
       → Answers s (Some answer) → Answers p (Some answer)
-  pub one : (s : ℕ) (a b : Option A) → Answers s a → Answers s b → a ≡ b
+  pub one : (s : ℕ) (answer other : Option A) → Answers s answer → Answers s other → answer ≡ other
 
 -- what is returned of the answer from position s on: nothing if nothing is found, and otherwise a
 -- value of which `says` holds for the answer

@@ -56,10 +56,10 @@ OfTree re property = (tree : Tree) × IsTree re.flags (chars re.pattern) tree ×
 
 -- the name at this index, where there is one. The names are given as their bytes
 abbrev pub name_at : List (Option (List ℕ)) → ℕ → Option Text
-name_at names k = slice_index_or (map (option_map chars) names) k None
+name_at names index = slice_index_or (map (option_map chars) names) index None
 
 -- these are the names of the groups of the tree by index. Group 0 is the whole match and has none
 pub record AreNames (names : List (Option (List ℕ))) (tree : Tree) : Type 0 where
   pub each_group : length names ≡ captures_len tree
-  pub name : (k : ℕ) → name_at names k ≡ group_name tree k
+  pub name : (index : ℕ) → name_at names index ≡ group_name tree index
   pub whole_match : name_at names 0 ≡ None

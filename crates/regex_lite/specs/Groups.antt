@@ -37,19 +37,19 @@ pub record Groups : Type 0 where
   pub static_captures_len : Option ℕ
 
 -- the span of the group with this index, if it is there and took part
-abbrev pub span_at : List (Option (ℕ × ℕ)) → (k : ℕ) → Option (ℕ × ℕ)
-span_at spans k = option_flatten (slice_get spans k)
+abbrev pub span_at : List (Option (ℕ × ℕ)) → (index : ℕ) → Option (ℕ × ℕ)
+span_at spans index = option_flatten (slice_get spans index)
 
-abbrev pub group_span : Groups → (k : ℕ) → Option (ℕ × ℕ)
-group_span groups k = span_at groups.spans k
+abbrev pub group_span : Groups → (index : ℕ) → Option (ℕ × ℕ)
+group_span groups index = span_at groups.spans index
 
 -- the span of the whole match, which is there in the groups of each match
 abbrev pub whole_span : Groups → ℕ × ℕ
 whole_span groups = unwrap_or (group_span groups 0) (0, 0)
 
 -- the text of a group
-abbrev pub group_text : Groups → (k : ℕ) → Option (List ℕ)
-group_text groups k = option_map (text_at groups.haystack) (group_span groups k)
+abbrev pub group_text : Groups → (index : ℕ) → Option (List ℕ)
+group_text groups index = option_map (text_at groups.haystack) (group_span groups index)
 
 -- this is the group's name
 abbrev pub is_named : (name : List ℕ) → Option (List ℕ) → Bool
@@ -68,13 +68,13 @@ abbrev pub named_text : Groups → (name : List ℕ) → Option (List ℕ)
 named_text groups name = option_map (text_at groups.haystack) (named_span groups name)
 
 -- the texts of those that took part, from this index on
-abbrev pub texts_from : Groups → (k : ℕ) → List (List ℕ)
-texts_from groups k =
-    filter_map (option_map (text_at groups.haystack)) (drop k groups.spans)
+abbrev pub texts_from : Groups → (index : ℕ) → List (List ℕ)
+texts_from groups index =
+    filter_map (option_map (text_at groups.haystack)) (drop index groups.spans)
 
 -- what is so of the groups of each match
 pub record AreGroups (groups : Groups) : Type 0 where
-  pub inside : (k : ℕ) → IfSome (group_span groups k) (LiesIn groups.haystack)
+  pub inside : (index : ℕ) → IfSome (group_span groups index) (LiesIn groups.haystack)
   pub each : length groups.spans ≡ length groups.names
   pub whole : IsSome (group_span groups 0)
   pub enough : IfSome groups.static_captures_len (λ n. n ≤ length (texts_from groups 0))

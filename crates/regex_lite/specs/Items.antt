@@ -18,8 +18,8 @@ abbrev pub GivesMatch : (old : Scanning Expression) → Option Match → (new : 
     → Type 0
 GivesMatch old item new =
     MatchOption item (Ends (ahead_of old) (ahead_of new))
-    (λ m. (found : Found) × IsMatchOf old.haystack found m
-    × IsOnward old.ended (span_of_match m) × (new.ended ≡ Some (span_of_match m).1)
+    (λ told. (found : Found) × IsMatchOf old.haystack found told
+    × IsOnward old.ended (span_of_match told) × (new.ended ≡ Some (span_of_match told).1)
     × Passes (ahead_of old) found (ahead_of new))
 
 -- the same whatever finds it: it came with the number of its pattern, and its slots are kept

@@ -19,22 +19,22 @@ use Rattle.regex_lite.specs.Settings.{Settings, default_settings}
 
 -- a search for whether there is a match, one for the match, one for its groups and one for the
 -- least end agree
-pub record Agree (found : Bool) (m : Option Match) (groups : Option Groups) (end : Option ℕ)
+pub record Agree (found : Bool) (told : Option Match) (groups : Option Groups) (end : Option ℕ)
     : Type 0 where
-  pub with_match : is_some m ≡ found
+  pub with_match : is_some told ≡ found
   pub with_groups : is_some groups ≡ found
   pub with_end : is_some end ≡ found
   -- the match is group 0
-  pub whole : option_map span_of_match m ≡ option_and_then (λ own. group_span own 0) groups
+  pub whole : option_map span_of_match told ≡ option_and_then (λ own. group_span own 0) groups
 
 -- those for one pattern, in one haystack and from one offset on, do
 abbrev pub SearchesAgree : Type 0
 SearchesAgree =
-    (re : Expression) (haystack : List ℕ) (start : ℕ) (found : Bool) (m : Option Match)
+    (re : Expression) (haystack : List ℕ) (start : ℕ) (found : Bool) (told : Option Match)
     (groups : Option Groups) (end : Option ℕ)
-    → (IsTrue found ↔ MatchesFrom re haystack start) → TellsMatch re haystack start m
+    → (IsTrue found ↔ MatchesFrom re haystack start) → TellsMatch re haystack start told
     → TellsGroups re haystack start groups → TellsEnd re haystack start end
-    → Agree found m groups end
+    → Agree found told groups end
 
 -- a span lies inside that of the match, and in the haystack on character boundaries
 pub record LiesInside (haystack : List ℕ) (whole span : ℕ × ℕ) : Type 0 where
@@ -47,7 +47,7 @@ abbrev pub GroupsLieInside : Type 0
 GroupsLieInside =
     (re : Expression) (haystack : List ℕ) (start : ℕ) (groups : Groups) → IsUtf8 haystack
     → TellsGroups re haystack start (Some groups)
-    → (k : ℕ) → IfSome (group_span groups k) (LiesInside haystack (whole_span groups))
+    → (index : ℕ) → IfSome (group_span groups index) (LiesInside haystack (whole_span groups))
 
 -- at least as many of them took part as do in every match
 abbrev pub EnoughGroupsTakePart : Type 0
@@ -59,8 +59,8 @@ EnoughGroupsTakePart =
 -- two matches are equal exactly if the texts of their haystacks and their spans are
 abbrev pub MatchesAreTheirSpans : Type 0
 MatchesAreTheirSpans =
-    (m n : Match)
-    → Decides (is_same_match m n) (match_with_haystack m ≡ match_with_haystack n)
+    (one other : Match)
+    → Decides (is_same_match one other) (match_with_haystack one ≡ match_with_haystack other)
 
 -- an escaped text as a pattern, under the default settings
 abbrev pub escaped_settings : (text : List ℕ) → Settings

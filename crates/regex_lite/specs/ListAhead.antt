@@ -30,11 +30,11 @@ list_after list haystack ended = after list haystack ended
 
 -- this is the match that comes next, or there is none
 abbrev pub ListComesNext : ListAhead → Option (ℕ × Found) → Type 0
-ListComesNext a = IsNextOfList a.sought (chars a.haystack) a.ended
+ListComesNext ahead = IsNextOfList ahead.sought (chars ahead.haystack) ahead.ended
 
 -- no match is ahead
 abbrev pub IsListOver : ListAhead → Type 0
-IsListOver a = NoneIsAhead (λ (own : ℕ × Found). own.1) IsAnswerOfPatterns a
+IsListOver ahead = NoneIsAhead (λ (own : ℕ × Found). own.1) IsAnswerOfPatterns ahead
 
 -- this match was passed
 abbrev pub ListPasses : (old : ListAhead) → ℕ × Found → (new : ListAhead) → Type 0

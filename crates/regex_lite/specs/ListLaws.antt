@@ -8,7 +8,7 @@ use Rattle.regex_lite.specs.MatchList.{AreMatches}
 -- a match starts where the last one ended or later, and ends later
 abbrev pub Follows : (ended : Option ℕ) → Found → Type 0
 Follows None found = Unit {0}
-Follows (Some e) found = (e ≤ found.start) × (e < found.end)
+Follows (Some end) found = (end ≤ found.start) × (end < found.end)
 
 -- none of what was found overlaps the one before it, and the ends strictly grow
 abbrev pub AreAnswersApart : {A : Type 0} → (found_of : A → Found) → (ended : Option ℕ) → List A

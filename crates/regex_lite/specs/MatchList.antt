@@ -21,11 +21,11 @@ IsAnswerOfPatterns list haystack s answer =
 abbrev pub one_less : (limit : Option ℕ) → Option ℕ
 one_less limit = option_map (λ n. n - 1) limit
 
--- there is an answer, its match is empty, and it stands at position e
-abbrev pub is_empty_answer : {A : Type 0} → (found_of : A → Found) → (e : ℕ) → Option A → Bool
-is_empty_answer found_of e None = false
-is_empty_answer found_of e (Some answer) =
-    (found_of answer).start == e && (found_of answer).end == e
+-- there is an answer, its match is empty, and it stands at position p
+abbrev pub is_empty_answer : {A : Type 0} → (found_of : A → Found) → (p : ℕ) → Option A → Bool
+is_empty_answer found_of p None = false
+is_empty_answer found_of p (Some answer) =
+    (found_of answer).start == p && (found_of answer).end == p
 
 -- Searches of a haystack are known by their answers from each position on. What was found is a part
 -- of the answer
@@ -35,9 +35,9 @@ module _ {A : Type 0} (found_of : A → Found) (Answers : (s : ℕ) → Option A
   -- answer from the haystack's start
   abbrev pub IsNextAnswer : (ended : Option ℕ) → Option A → Type 0
   IsNextAnswer None answer = Answers 0 answer
-  IsNextAnswer (Some e) answer =
-      (from_end : Option A) × Answers e from_end
-      × MatchBool (is_empty_answer found_of e from_end) (Answers (suc e) answer)
+  IsNextAnswer (Some end) answer =
+      (from_end : Option A) × Answers end from_end
+      × MatchBool (is_empty_answer found_of end from_end) (Answers (suc end) answer)
       (answer ≡ from_end)
 
   -- these are all answers after a match that ended there

@@ -62,9 +62,9 @@ WholeMatchesGiveHaystack R =
 -- replacing it by what the template gives for its groups
 abbrev pub FixedTextIsTemplate : Type 0 → Type 0
 FixedTextIsTemplate R =
-    (template : R → List ℕ) (rep : R) (a : Ahead) (new other : List ℕ)
-    → ¬ (Contains (template rep) (the "$")) → IsReplacedBy (template rep) a new
-    → IsReplacedInTurn (TemplateFixed template) (TemplateAppends template) rep a other
+    (template : R → List ℕ) (rep : R) (ahead : Ahead) (new other : List ℕ)
+    → ¬ (Contains (template rep) (the "$")) → IsReplacedBy (template rep) ahead new
+    → IsReplacedInTurn (TemplateFixed template) (TemplateAppends template) rep ahead other
     → new ≡ other
 
 -- if the relations of a replacer that borrows another are those of the other, matches are replaced
@@ -73,8 +73,8 @@ module _ {R : Type 0} (Fixed : R → Option (List ℕ) → R → Type 0)
     (Appends : R → Groups → (text : List ℕ) → Answer → R → Type 0) where
   abbrev pub LentReplacersReplaceAlike : Type 0 → Type 0
   LentReplacersReplaceAlike Lent =
-      (lender : Lent → R) (rep : Lent) (a : Ahead) (new : List ℕ)
+      (lender : Lent → R) (rep : Lent) (ahead : Ahead) (new : List ℕ)
       → IsReplacement (λ old text after. Fixed (lender old) text (lender after))
       (λ old groups text answer after. Appends (lender old) groups text answer (lender after))
-      rep a new
-      → IsReplacement Fixed Appends (lender rep) a new
+      rep ahead new
+      → IsReplacement Fixed Appends (lender rep) ahead new

@@ -22,10 +22,10 @@ pieces haystack from (span ∷ spans) =
     slice_range haystack from span.0 ∷ pieces haystack span.1 spans
 
 -- the haystack from this offset on is cut at the matches ahead
-pub record IsCut (a : Ahead) (from : ℕ) (list : List (List ℕ)) : Type 0 where
+pub record IsCut (ahead : Ahead) (from : ℕ) (list : List (List ℕ)) : Type 0 where
   pub found : List Found
-  pub are_ahead : AreAhead a found
-  pub cut : list ≡ pieces a.haystack from (map (found_span (chars a.haystack)) found)
+  pub are_ahead : AreAhead ahead found
+  pub cut : list ≡ pieces ahead.haystack from (map (found_span (chars ahead.haystack)) found)
 
 -- these are the pieces of the haystack
 abbrev pub ArePieces : Expression → (haystack : List ℕ) → List (List ℕ) → Type 0

@@ -35,8 +35,8 @@ pub record IsDueToLowest (all : List Settings) (error : Error) : Type 0 where
   pub number : ℕ
   pub settings : Settings
   pub numbered : slice_get all number ≡ Some settings
-  pub lower : (k : ℕ) (other : Settings) → k < number → slice_get all k ≡ Some other
-      → IsAccepted other
+  pub lower : (earlier : ℕ) (other : Settings) → earlier < number
+      → slice_get all earlier ≡ Some other → IsAccepted other
   pub fails : IsAccepted settings → ⊥
   pub due : IsDue settings error
 

@@ -57,27 +57,28 @@ EmptyListFindsNothing = (haystack : List ℕ) (start : ℕ) → FindsNothing hay
 abbrev pub ListAnswersAreAnswers : Type 0
 ListAnswersAreAnswers =
     (list : List Expression) (haystack : List ℕ) (start number : ℕ)
-    → ((m : Match) → TellsMatchOfList list haystack start (Some (number, m))
-    → (re : Expression) × (slice_get list number ≡ Some re) × TellsMatch re haystack start (Some m))
+    → ((told : Match) → TellsMatchOfList list haystack start (Some (number, told))
+    → (re : Expression) × (slice_get list number ≡ Some re)
+    × TellsMatch re haystack start (Some told))
     × ((groups : Groups) → TellsGroupsOfList list haystack start (Some (number, groups))
     → (re : Expression) × (slice_get list number ≡ Some re)
     × TellsGroups re haystack start (Some groups))
 
 -- the searches for whether a pattern matches, for the match and for its groups agree
-pub record AgreeOnList (found : Bool) (m : Option (ℕ × Match)) (groups : Option (ℕ × Groups))
+pub record AgreeOnList (found : Bool) (told : Option (ℕ × Match)) (groups : Option (ℕ × Groups))
     : Type 0 where
-  pub with_match : is_some m ≡ found
+  pub with_match : is_some told ≡ found
   pub with_groups : is_some groups ≡ found
   -- both are of one pattern
-  pub number : option_map (λ told. told.0) m ≡ option_map (λ told. told.0) groups
+  pub number : option_map (λ own. own.0) told ≡ option_map (λ own. own.0) groups
   -- the match is group 0
-  pub whole : option_map (λ told. span_of_match told.1) m
+  pub whole : option_map (λ own. span_of_match own.1) told
       ≡ option_and_then (λ told. group_span told.1 0) groups
 
 -- the searches of one list in one haystack, from one offset on, agree
 abbrev pub ListSearchesAgree : Type 0
 ListSearchesAgree =
     (list : List Expression) (haystack : List ℕ) (start : ℕ) (found : Bool)
-    (m : Option (ℕ × Match)) (groups : Option (ℕ × Groups))
-    → (IsTrue found ↔ AnyMatches list haystack start) → TellsMatchOfList list haystack start m
-    → TellsGroupsOfList list haystack start groups → AgreeOnList found m groups
+    (told : Option (ℕ × Match)) (groups : Option (ℕ × Groups))
+    → (IsTrue found ↔ AnyMatches list haystack start) → TellsMatchOfList list haystack start told
+    → TellsGroupsOfList list haystack start groups → AgreeOnList found told groups

@@ -13,7 +13,7 @@ use Rattle.regex_lite.specs.Replacing.{Answer}
 -- how many matches are replaced: 0 stands for all
 abbrev pub limit_of : ℕ → Option ℕ
 limit_of zero = None
-limit_of (suc k) = Some (suc k)
+limit_of (suc n) = Some (suc n)
 
 -- these are the groups of each of the matches that were found
 abbrev pub AreGroupsOfEach : Expression → (haystack : List ℕ) → List Found → List Groups → Type 0
@@ -30,11 +30,11 @@ replaced_by text haystack from (span ∷ spans) =
     slice_range haystack from span.0 ++ text ++ replaced_by text haystack span.1 spans
 
 -- each match ahead is replaced by one text
-pub record IsReplacedBy (text : List ℕ) (a : Ahead) (new : List ℕ) : Type 0 where
+pub record IsReplacedBy (text : List ℕ) (ahead : Ahead) (new : List ℕ) : Type 0 where
   pub found : List Found
-  pub are_ahead : AreAhead a found
+  pub are_ahead : AreAhead ahead found
   pub replaced :
-      new ≡ replaced_by text a.haystack 0 (map (found_span (chars a.haystack)) found)
+      new ≡ replaced_by text ahead.haystack 0 (map (found_span (chars ahead.haystack)) found)
 
 -- A replacer is known by two relations: what it returns if it is asked for a fixed text, and what
 -- it appends and returns for groups
@@ -59,31 +59,32 @@ module _ {R : Type 0} (Fixed : R → Option (List ℕ) → R → Type 0)
       × IsRefusedAt after list error)
 
   -- each match ahead is replaced by what the replacer appends for its groups
-  pub record IsReplacedInTurn (rep : R) (a : Ahead) (new : List ℕ) : Type 0 where
+  pub record IsReplacedInTurn (rep : R) (ahead : Ahead) (new : List ℕ) : Type 0 where
     pub found : List Found
-    pub are_ahead : AreAhead a found
+    pub are_ahead : AreAhead ahead found
     pub groups : List Groups
-    pub each : AreGroupsOfEach a.sought a.haystack found groups
-    pub chain : IsChain a.haystack rep 0 groups new
+    pub each : AreGroupsOfEach ahead.sought ahead.haystack found groups
+    pub chain : IsChain ahead.haystack rep 0 groups new
 
   -- the replacer refused one of the first matches ahead
-  pub record IsRefused (rep : R) (a : Ahead) (error : Error) : Type 0 where
+  pub record IsRefused (rep : R) (ahead : Ahead) (error : Error) : Type 0 where
     pub found : List Found
-    pub are_first : AreFirstAhead a found
+    pub are_first : AreFirstAhead ahead found
     pub groups : List Groups
-    pub each : AreGroupsOfEach a.sought a.haystack found groups
+    pub each : AreGroupsOfEach ahead.sought ahead.haystack found groups
     pub refused : IsRefusedAt rep groups error
 
   abbrev pub IsReplaced : (fixed : Option (List ℕ)) → R → Ahead → List ℕ → Type 0
-  IsReplaced (Some text) rep a new = IsReplacedBy text a new
-  IsReplaced None rep a new = IsReplacedInTurn rep a new
+  IsReplaced (Some text) rep ahead new = IsReplacedBy text ahead new
+  IsReplaced None rep ahead new = IsReplacedInTurn rep ahead new
 
   -- The replacer is asked for a fixed text, once and first. If it has one, that text replaces each
   -- match; otherwise it is asked for each match in turn
   abbrev pub IsReplacement : R → Ahead → List ℕ → Type 0
-  IsReplacement rep a new =
-      (fixed : Option (List ℕ)) × (after : R) × Fixed rep fixed after × IsReplaced fixed after a new
+  IsReplacement rep ahead new =
+      (fixed : Option (List ℕ)) × (after : R) × Fixed rep fixed after
+      × IsReplaced fixed after ahead new
 
   -- it has no fixed text, and the error is one that it returns for a match that is to be replaced
   abbrev pub IsHandedOn : R → Ahead → Error → Type 0
-  IsHandedOn rep a error = (after : R) × Fixed rep None after × IsRefused after a error
+  IsHandedOn rep ahead error = (after : R) × Fixed rep None after × IsRefused after ahead error

@@ -54,9 +54,9 @@ TellsAnswer says re haystack start told =
     TellsOf (says tree) tree (chars haystack) (search_start haystack start) told)
 
 -- the match is the one that was found in the haystack
-pub record IsMatchOf (bytes : List ℕ) (found : Found) (m : Match) : Type 0 where
-  pub haystack : haystack_of_match m ≡ bytes
-  pub span : span_of_match m ≡ offsets (chars bytes) (found.start, found.end)
+pub record IsMatchOf (bytes : List ℕ) (found : Found) (told : Match) : Type 0 where
+  pub haystack : haystack_of_match told ≡ bytes
+  pub span : span_of_match told ≡ offsets (chars bytes) (found.start, found.end)
 
 -- the search returns the match
 abbrev pub TellsMatch : Expression → (haystack : List ℕ) → (start : ℕ) → Option Match → Type 0

@@ -22,7 +22,7 @@ frees = ghosts.dealloc_token (record { memory = record { seal = tt } })
 
 -- what a `&'static` to a value holds
 abbrev pub lent_static : (R : RattleType) → (place : Ptr) → R.Denot → Fml
-lent_static R place x = lent_at R place x []
+lent_static R place value = lent_at R place value []
 
 -- where a count stays
 abbrev pub top : ℕ
@@ -46,31 +46,31 @@ count_at place leaked n =
 abbrev pub only_one : ℕ → Fml
 only_one weak = fex (weak ≡ 1) (λ _. ftrue)
 
-module _ (R : RattleType) (place : Ptr) (x : R.Denot) where
+module _ (R : RattleType) (place : Ptr) (value : R.Denot) where
   abbrev pub Whole : RattleType
   Whole = the_row R
 
   -- the block with its first owner
   abbrev pub whole : Whole.Denot
-  whole = record { count = 1; value = x }
+  whole = record { count = 1; value = value }
 
   abbrev pub value_place : Ptr
   value_place = place +ₚ up (align (lone R.mir)) 8
 
   -- what each owner has for a time: the value, borrowed
   abbrev pub lends : Lft → Fml
-  lends = lent_at R value_place x
+  lends = lent_at R value_place value
 
   -- what the last owner has besides the value: the right to free the block, and that the count of
   -- one and the value make the block again
   abbrev pub block_back : Fml
   block_back =
       fsep (frees (raw (lone Whole.mir)) place)
-      (fwand (fsep (counter_at place 0 1) (lies_at R full_share value_place x))
+      (fwand (fsep (counter_at place 0 1) (lies_at R full_share value_place value))
       (lies_at Whole full_share place whole))
 
   abbrev pub owned : Fml
-  owned = fsep (lies_at R full_share value_place x) block_back
+  owned = fsep (lies_at R full_share value_place value) block_back
 
   -- of an owner by value, and of one by reference
   abbrev pub owner_owns : Fml
