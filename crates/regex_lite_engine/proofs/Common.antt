@@ -49,7 +49,7 @@ pub use Rattle.regex_lite_syntax.specs.declared.hir.look.Look.{Look}
 pub use Rattle.regex_lite_engine.specs.Backtrack.Bits.{bits_of}
 pub use Rattle.regex_lite_engine.specs.Backtrack.Machine.{Pairs, pair_number, was_entered, Held}
 pub use Rattle.regex_lite_engine.specs.Backtrack.Room.{searching}
-pub use Rattle.regex_lite_engine.specs.Backtrack.Searching.{Unwinds, taken_up}
+pub use Rattle.regex_lite_engine.specs.Backtrack.Searching.{Unwinds}
 pub use Rattle.regex_lite_engine.specs.Backtrack.Walking.{WayHolds, SearchFrom}
 pub use Rattle.regex_lite_engine.specs.Graph.Addresses.{Address, part, own, entry, branch_entries}
 pub use Rattle.regex_lite_engine.specs.Graph.NoLooks.{RequiresNoLook, HasNoLooks}
@@ -98,12 +98,11 @@ pub use Rattle.regex_lite_engine.specs.LazyDfa.Learning.{IsFirstStart, IsIn}
 pub use Rattle.regex_lite_engine.specs.LazyDfa.Running.{IsOnItsWay, Stands}
 pub use Rattle.regex_lite_engine.specs.LazyDfa.Scanning.{best_told, span_told, end_told, IsIdleAt}
 pub use Rattle.regex_lite_engine.specs.LazyDfa.Scanning.{IsSince, IsScanning}
-pub use Rattle.regex_lite_engine.specs.LazyDfa.Spots.{IsSpotAt}
 pub use Rattle.regex_lite_engine.specs.LazyDfa.Stored.{way_in, hit_in, state_in, states_in}
 pub use Rattle.regex_lite_engine.specs.Nfa.Fragments.{Fragment}
 pub use Rattle.regex_lite_engine.specs.Nfa.Layout.{IsAdded, layout, chain_layout, branches_layout}
 pub use Rattle.regex_lite_engine.specs.Nfa.Layout.{pattern_layout, pattern_table, patterns_table}
-pub use Rattle.regex_lite_engine.specs.Nfa.Layout.{patterns_entries, whole_layout, whole_table}
+pub use Rattle.regex_lite_engine.specs.Nfa.Layout.{patterns_entries}
 pub use Rattle.regex_lite_engine.specs.Nfa.Repetitions.{copies_layout, choices_layout, star_layout}
 pub use Rattle.regex_lite_engine.specs.Nfa.Totals.{reading_of_all}
 pub use Rattle.regex_lite_engine.specs.Pikevm.Again.{AreAlike, retold, all_retold, state_retold}
@@ -116,7 +115,7 @@ pub use Rattle.regex_lite_engine.specs.Pikevm.Machine.{Thread, thread_at, BestSt
 pub use Rattle.regex_lite_engine.specs.Pikevm.Room.{ThreadsBelow, KeepsPosition}
 pub use Rattle.regex_lite_engine.specs.Pikevm.Searching.{IsBetween}
 pub use Rattle.regex_lite_engine.specs.Pikevm.Turns.{best_of, Between, StepsTo, IsComing, begun}
-pub use Rattle.regex_lite_engine.specs.Pikevm.Turns.{Begun, with_starts}
+pub use Rattle.regex_lite_engine.specs.Pikevm.Turns.{with_starts}
 pub use Rattle.regex_lite_engine.specs.Pikevm.Walking.{WayTold, ThreadsHold, InStep, SearchAt}
 pub use Rattle.regex_lite_engine.specs.Prefilter.Bytes.{is_among, suits, StandsBelow}
 pub use Rattle.regex_lite_engine.specs.Prefilter.Heads.{Reads, ReadsEach, AreHeadsOfTree}
@@ -138,9 +137,8 @@ pub use Rattle.regex_lite_engine.specs.Search.Beginnings.{Told, untold}
 pub use Rattle.regex_lite_engine.specs.Search.Bounds.{StepCounts, StaysCounted, characters_left}
 pub use Rattle.regex_lite_engine.specs.Search.Bounds.{IsBoundedBy}
 pub use Rattle.regex_lite_engine.specs.Search.Counting.{lone, IsCountable, CanCount}
-pub use Rattle.regex_lite_engine.specs.Search.Explored.{Before, NotAfter, IsDead, StartsDiffer}
-pub use Rattle.regex_lite_engine.specs.Search.Explored.{IsWhole, IsFirst, IsAnswered, IsGrown}
-pub use Rattle.regex_lite_engine.specs.Search.Explored.{StartsAt}
+pub use Rattle.regex_lite_engine.specs.Search.Explored.{Before, NotAfter, IsDead, IsAnswered}
+pub use Rattle.regex_lite_engine.specs.Search.Explored.{IsGrown, StartsAt}
 pub use Rattle.regex_lite_engine.specs.Search.Marks.{Marks, no_marks, marked, over, mark_of_arrow}
 pub use Rattle.regex_lite_engine.specs.Search.Marks.{mark_of, marks_along, marks_of_way}
 pub use Rattle.regex_lite_engine.specs.Search.NumberedAnswer.{place_with, is_complete}

@@ -8,6 +8,7 @@ use Rattle.regex_lite_engine.specs.Backtrack.DepthFirst as walk
 use Rattle.regex_lite_engine.specs.Search.Explored as explored
 use Rattle.regex_lite_engine.specs.Search.Offers as offered
 use Rattle.regex_lite_engine.proofs.search.RecordLemmas.{or_dead}
+use Rattle.regex_lite_engine.proofs.laws.search.Explored as over
 use Rattle.regex_lite_engine.proofs.search.OfferLemmas.{preferred_before, below_front, below_up}
 use Rattle.regex_lite_engine.proofs.OptionLemmas.{not_there}
 
@@ -29,7 +30,7 @@ module _ (N : Type 0) (step : N → ℕ → Option N) (start : ℕ → N) (is_en
   IsAnswered = explored.IsAnswered N step is_end (StartsAt start first last)
 
   abbrev IsExplored : Recorded → Option (List ℕ) → Type 0
-  IsExplored = explored.IsExplored N step is_end (StartsAt start first last)
+  IsExplored = over.IsExplored N step is_end (StartsAt start first last)
 
   abbrev IsDepthFirst : ℕ → Recorded → List Offer → Type 0
   IsDepthFirst = walk.IsDepthFirst N step start is_end first last

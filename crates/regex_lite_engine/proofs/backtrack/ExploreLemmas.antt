@@ -1,7 +1,7 @@
 -- From one start to the end of its ways.
 use Rattle.regex_lite_engine.proofs.Common.{◌≡◌, ℕ, ◌+◌, ◌≤◌, List, [], ◌∷◌, length, Some, None}
 use Rattle.regex_lite_engine.proofs.Common.{Option, sym, refl, ◌∙◌, subst, arith, searching}
-use Rattle.regex_lite_engine.proofs.Common.{Unwinds, taken_up, kept_back_with, position_at}
+use Rattle.regex_lite_engine.proofs.Common.{Unwinds, kept_back_with, position_at}
 use Rattle.regex_lite_engine.specs.declared.backtrack.walk.Walk.{Walk}
 use Rattle.regex_lite_engine.specs.Backtrack.Machine.{Frame, explore}
 use Rattle.regex_lite_engine.specs.Backtrack.Room.{explores, with_frames, work, left_of}
@@ -9,7 +9,7 @@ use Rattle.regex_lite_engine.specs.Backtrack.Room.{FramesBelow, GoesOn, Went}
 use Rattle.regex_lite_engine.specs.Backtrack.Room.{IsFit, HasRoom, IsWalkingOrDone}
 use Rattle.regex_lite_engine.specs.Backtrack.Searching.{Explores}
 use Rattle.regex_lite_engine.specs.Graph.Places.{Place}
-use Rattle.regex_lite_engine.proofs.backtrack.UnwindLemmas.{none_left, unwinds_below}
+use Rattle.regex_lite_engine.proofs.backtrack.UnwindLemmas.{none_left, taken_up, unwinds_below}
 use Rattle.regex_lite_engine.proofs.backtrack.UnwindLemmas.{unwinds_explores, unwinds_fewer}
 use Rattle.regex_lite_engine.proofs.backtrack.WalkLemmas.{walk_unwinds}
 

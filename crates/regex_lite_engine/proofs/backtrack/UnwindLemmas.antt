@@ -1,11 +1,15 @@
 -- Frames that come off.
 use Rattle.regex_lite_engine.proofs.Common.{◌≡◌, ℕ, ◌≤◌, List, [], ◌∷◌, length, slice_set, None}
-use Rattle.regex_lite_engine.proofs.Common.{Option, sym, ap, ◌∙◌, subst, arith, Unwinds, taken_up}
-use Rattle.regex_lite_engine.proofs.Common.{Row}
+use Rattle.regex_lite_engine.proofs.Common.{Some, Option, sym, ap, ◌∙◌, subst, arith, Unwinds, Row}
 use Rattle.regex_lite_engine.specs.Backtrack.Machine.{Frame, explore, restore}
 use Rattle.regex_lite_engine.specs.Backtrack.Room.{explores, FramesBelow}
 use Rattle.regex_lite_engine.specs.Backtrack.Searching.{SlotsBelow}
 use Rattle.regex_lite_engine.specs.Graph.Places.{Place}
+
+-- what is left to do with the place that is taken up
+abbrev pub taken_up : Option (ℕ × ℕ) → List Frame → List Frame
+taken_up None frames = frames
+taken_up (Some next) frames = explore next.0 next.1 ∷ frames
 
 module _ (next : Option (ℕ × ℕ)) (row' : Row) (frames' : List Frame) where
   -- what comes next was among them

@@ -4,7 +4,7 @@ use Rattle.regex_lite_engine.proofs.Common.{◌++◌, length, replicate, IsTrue,
 use Rattle.regex_lite_engine.proofs.Common.{slice_set, Some, None, Option, sym, refl, ap, ◌∙◌}
 use Rattle.regex_lite_engine.proofs.Common.{subst, inl, inr, arith, cases_eq, get_or-set_other}
 use Rattle.regex_lite_engine.proofs.Common.{get_or-set_same, Pairs, pair_number, was_entered, Held}
-use Rattle.regex_lite_engine.proofs.Common.{Unwinds, taken_up, WayHolds, SearchFrom, place_with}
+use Rattle.regex_lite_engine.proofs.Common.{Unwinds, WayHolds, SearchFrom, place_with}
 use Rattle.regex_lite_engine.proofs.Common.{numbered_step, is_end, IsNumberedOutcome, Node, Offer}
 use Rattle.regex_lite_engine.proofs.Common.{offset, IsOffset, Row, IsBlank, IsDeadAt}
 use Rattle.std.proofs.lemmas.Bool.{both_ways}
@@ -22,8 +22,8 @@ use Rattle.regex_lite_engine.proofs.backtrack.DepthFirstLemmas.{
 use Rattle.regex_lite_engine.proofs.backtrack.NumberedLemmas.{numbered_over, numbered_entered}
 use Rattle.regex_lite_engine.proofs.backtrack.NumberedLemmas.{numbered_complete}
 use Rattle.regex_lite_engine.proofs.OffsetLemmas.{offset_grows}
-use Rattle.regex_lite_engine.proofs.backtrack.PairLemmas.{same_pair}
-use Rattle.regex_lite_engine.proofs.backtrack.PairLemmas.{none_entered}
+use Rattle.regex_lite_engine.proofs.backtrack.PairLemmas.{same_pair, none_entered}
+use Rattle.regex_lite_engine.proofs.backtrack.UnwindLemmas.{taken_up}
 use Rattle.regex_lite_engine.proofs.OptionLemmas.{not_there}
 use Rattle.regex_lite_engine.proofs.search.RecordLemmas as records
 use Rattle.regex_lite_engine.proofs.search.RecordLemmas.{same_node, none_or}

@@ -5,7 +5,7 @@ use Rattle.regex_lite_engine.proofs.Common.{class, look, repetition, capture, co
 use Rattle.regex_lite_engine.proofs.Common.{Trees, none, more, ClassRange, copies, class_arrows}
 use Rattle.regex_lite_engine.proofs.Common.{arrows, count, whole_arrows, Arrow, complete}
 use Rattle.regex_lite_engine.proofs.Common.{with_arrows, renamed_arrow, go, one_of, arrow_count}
-use Rattle.regex_lite_engine.proofs.Common.{arrows_of, pattern_table, whole_table}
+use Rattle.regex_lite_engine.proofs.Common.{arrows_of, pattern_table}
 use Rattle.regex_lite_engine.specs.Graph.Places.{Place}
 use Rattle.regex_lite_engine.specs.Graph.PlaceCounts.{arrows_in}
 use Rattle.regex_lite_engine.proofs.count.MeasureLemmas.{unnumbered, forget, measured}
@@ -43,5 +43,5 @@ pub arrows_pattern : (tree : Tree) (base : ℕ)
 arrows_pattern tree base =
     omega (arith, sum_pattern arrow_count arrows_alike tree base, arrows_measured tree)
 
-pub arrows_whole : (tree : Tree) → arrows_of (whole_table tree) ≡ whole_arrows tree
+pub arrows_whole : (tree : Tree) → arrows_of (pattern_table tree 0) ≡ whole_arrows tree
 arrows_whole tree = arrows_pattern tree 0

@@ -6,7 +6,7 @@ use Rattle.regex_lite_engine.proofs.Common.{repetition, capture, concat, alterna
 use Rattle.regex_lite_engine.proofs.Common.{more, nullable, IsRegular, ClassRange, copies, places}
 use Rattle.regex_lite_engine.proofs.Common.{places_in, count, whole_places, Arrow, complete}
 use Rattle.regex_lite_engine.proofs.Common.{with_arrows, renamed_arrow, go, one_of, kept_back}
-use Rattle.regex_lite_engine.proofs.Common.{kept_back_of, pattern_table, whole_table}
+use Rattle.regex_lite_engine.proofs.Common.{kept_back_of, pattern_table}
 use Rattle.regex_lite_syntax.specs.Tree.Regular.{AreRegular}
 use Rattle.regex_lite_engine.specs.Graph.Places.{Place}
 use Rattle.regex_lite_engine.proofs.ArrowBoundLemmas.{repeated_few}
@@ -55,5 +55,5 @@ kept_back_pattern tree regular base =
     omega (arith, sum_pattern kept_back kept_alike tree base, few_kept tree regular)
 
 pub kept_back_whole : (tree : Tree) → IsRegular tree
-    → kept_back_of (whole_table tree) < whole_places tree
+    → kept_back_of (pattern_table tree 0) < whole_places tree
 kept_back_whole tree regular = kept_back_pattern tree regular 0

@@ -8,9 +8,8 @@ use Rattle.regex_lite_engine.proofs.Common.{more, ClassRange, copies, class_arro
 use Rattle.regex_lite_engine.proofs.Common.{places_in, count, reading_places, Condition, free}
 use Rattle.regex_lite_engine.proofs.Common.{holding, reading, Arrow, complete, with_arrows}
 use Rattle.regex_lite_engine.proofs.Common.{renamed_arrow, go, one_of, reading_count, reading_of}
-use Rattle.regex_lite_engine.proofs.Common.{arrow_count, arrows_of, pattern_table, whole_table}
-use Rattle.regex_lite_engine.specs.Graph.Places.{Place, reading_arrows}
-use Rattle.regex_lite_engine.specs.Graph.Places.{condition_reads}
+use Rattle.regex_lite_engine.proofs.Common.{arrow_count, arrows_of, pattern_table}
+use Rattle.regex_lite_engine.specs.Graph.Places.{Place, reading_arrows, condition_reads}
 use Rattle.regex_lite_engine.specs.Graph.PlaceCounts.{reading_places_in}
 use Rattle.regex_lite_engine.proofs.count.MeasureLemmas.{unnumbered, forget, measured, measured_in}
 use Rattle.regex_lite_engine.proofs.count.MeasureLemmas.{sum_pattern}
@@ -55,7 +54,7 @@ pub reading_pattern : (tree : Tree) (base : ℕ)
 reading_pattern tree base =
     omega (arith, sum_pattern reading_count read_alike tree base, reading_measured tree)
 
-pub reading_whole : (tree : Tree) → reading_of (whole_table tree) ≡ reading_places tree
+pub reading_whole : (tree : Tree) → reading_of (pattern_table tree 0) ≡ reading_places tree
 reading_whole tree = reading_pattern tree 0
 
 -- no more places read than there are

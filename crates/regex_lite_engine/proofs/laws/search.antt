@@ -1,6 +1,7 @@
 -- the law of all searches, and answers over numbered places
 pub mod CutLemmas
 pub mod EachPlaceLemmas
+pub mod Explored
 pub mod NamedWayLemmas
 pub mod NoLookLemmas
 pub mod NumberedAnswerLemmas

@@ -4,9 +4,8 @@ use Rattle.regex_lite_engine.proofs.Common.{drop, IfSome, slice_get, Some, None,
 use Rattle.regex_lite_engine.proofs.Common.{chars, IsCharBoundary, sym, refl, ap, ◌∙◌, subst, inl}
 use Rattle.regex_lite_engine.proofs.Common.{inr, arith, len_utf8, Text, Automaton, threads_of}
 use Rattle.regex_lite_engine.proofs.Common.{best_left, class_of, side_of, best_told, IsIdleAt}
-use Rattle.regex_lite_engine.proofs.Common.{IsSince, IsScanning, IsSpotAt, IsComing}
-use Rattle.regex_lite_engine.proofs.Common.{IsBestOutcomeOf, IsOffset, position_at, IsHere}
-use Rattle.regex_lite_engine.proofs.Common.{Standing, Origin, Here}
+use Rattle.regex_lite_engine.proofs.Common.{IsSince, IsScanning, IsComing, IsBestOutcomeOf}
+use Rattle.regex_lite_engine.proofs.Common.{IsOffset, position_at, IsHere, Standing, Origin, Here}
 use Rattle.regex_lite_engine.specs.declared.lazy_dfa.spot.Spot.{Spot}
 use Rattle.regex_lite_engine.specs.declared.lazy_dfa.spot.Step.{Step}
 use Rattle.regex_lite_engine.specs.declared.lazy_dfa.spot.Step.TheVariants.{On, Over, Stuck}
@@ -20,6 +19,18 @@ use Rattle.regex_lite_engine.proofs.lazy_dfa.ScanLemmas.{led_step, scan_over, sc
 use Rattle.regex_lite_engine.proofs.OptionLemmas.{same_some}
 use Rattle.regex_lite_engine.proofs.OffsetLemmas.{boundary_at}
 use Rattle.regex_lite_engine.proofs.search.here.HereLemmas.{here_next, moved}
+
+-- a search from position `low` on stands there, at position p, with this first start and last match
+pub record IsSpotAt (table : List (Place ℕ)) (entries : List ℕ) (haystack : Text) (low p : ℕ)
+    (automaton : Automaton) (spot : Spot) (told : Standing) : Type 0 where
+  pub here : Here
+  pub at : here.at ≡ spot.at
+  pub scanning : IsScanning table entries haystack low p automaton (record {
+    here = here;
+    state = spot.state;
+    first = told.first;
+    best = told.best;
+  })
 
 module _ (table : List (Place ℕ)) (entries : List ℕ) (h : Text) (low : ℕ) where
   pub since_on : (p q a b c : ℕ) → p ≤ q → IsSince table entries h low p a b

@@ -4,9 +4,9 @@ use Rattle.regex_lite_engine.proofs.Common.{None, Option, MatchOption, sym, ◌�
 use Rattle.regex_lite_engine.proofs.Common.{arith, cases_eq, slice_get_within, Text, Tree, Matches}
 use Rattle.regex_lite_engine.proofs.Common.{IsRegular, Address, IsRenumbered, IsNumberOf}
 use Rattle.regex_lite_engine.proofs.Common.{side_by_side, start_of, AreEntries, start_address}
-use Rattle.regex_lite_engine.proofs.Common.{written_out, whole_layout, whole_table, AreHeadsOfTree}
-use Rattle.regex_lite_engine.proofs.Common.{NeverBegins, MayBegin, numbered_step, IsEntry, IsDeadAt}
-use Rattle.regex_lite_engine.proofs.Common.{AreListHeadsOf, Heads, ListHeads, Starts}
+use Rattle.regex_lite_engine.proofs.Common.{written_out, AreHeadsOfTree, NeverBegins, MayBegin}
+use Rattle.regex_lite_engine.proofs.Common.{numbered_step, IsEntry, IsDeadAt, AreListHeadsOf, Heads}
+use Rattle.regex_lite_engine.proofs.Common.{ListHeads, Starts, pattern_table, pattern_layout}
 use Rattle.regex_lite_engine.specs.Graph.Places.{Place}
 use Rattle.regex_lite_engine.specs.Graph.SideBySide.{AreRegularPatterns}
 use Rattle.regex_lite_engine.specs.Search.Starts.{AreHeadsOf}
@@ -14,8 +14,7 @@ use Rattle.regex_lite_engine.specs.Prefilter.Heads.{AreSecondOfTree}
 use Rattle.regex_lite_engine.specs.Prefilter.ListHeads.{AreHeadsOfTrees}
 use Rattle.regex_lite_engine.proofs.prefilter.list_heads.IndexLemmas.{walkable}
 use Rattle.regex_lite_engine.proofs.prefilter.list_heads.ThirdLemmas.{stuck_matches}
-use Rattle.regex_lite_engine.proofs.prefilter.list_heads.TreeLemmas.{left_out_matches}
-use Rattle.regex_lite_engine.proofs.prefilter.list_heads.TreeLemmas.{none_matches}
+use Rattle.regex_lite_engine.proofs.prefilter.list_heads.TreeLemmas.{left_out_matches, none_matches}
 use Rattle.regex_lite_engine.proofs.laws.several.PartLemmas.{name_in_pattern, InPattern}
 use Rattle.regex_lite_engine.proofs.laws.several.PartLemmas.{part_of_list, entry_of_part}
 use Rattle.regex_lite_engine.proofs.nfa.write.RenumberingLemmas.{whole_names, renumbered}
@@ -40,14 +39,14 @@ dead_without_match tree haystack table start name Part r first regular i none ar
 
 -- the heads of a tree are those of its written-out places
 pub written_heads : (tree : Tree) → IsRegular tree → (table : List (Place ℕ)) (start : ℕ)
-    → table ≡ whole_table tree → start ≡ (whole_layout tree).1 → (heads : Heads)
+    → table ≡ pattern_table tree 0 → start ≡ (pattern_layout tree 0).1 → (heads : Heads)
     → AreHeadsOfTree tree heads → AreHeadsOf table start heads
 written_heads tree regular table start table_is start_is heads of_tree haystack i never =
     let name = whole_names tree regular in
     let written = subst (λ t. IsRenumbered (written_out tree) name t) (sym table_is)
     (renumbered tree regular) in
     let first = subst (λ s. IsNumberOf name table start_address s) (sym start_is)
-    (subst (λ t. IsNumberOf name t start_address (whole_layout tree).1) (sym table_is)
+    (subst (λ t. IsNumberOf name t start_address (pattern_layout tree 0).1) (sym table_is)
     (starts_there tree regular)) in
     dead_without_match tree haystack table start name (λ q. q < length table)
     (whole_part (written_out tree) name table written)

@@ -13,10 +13,9 @@ use Rattle.regex_lite_engine.proofs.Common.{IsBestOutcomeOf, Node, Offer, Starts
 use Rattle.std.specs.Option.{IsSome}
 use Rattle.regex_lite_syntax.specs.Text.{before}
 use Rattle.regex_lite_engine.specs.Graph.Places.{Place}
-use Rattle.regex_lite_engine.specs.Search.NumberedList.{IsOverOf}
 use Rattle.regex_lite_engine.specs.Pikevm.Turns.{FromIs}
 use Rattle.regex_lite_engine.specs.Pikevm.Walking.{BestHolds}
-use Rattle.regex_lite_engine.proofs.laws.several.OverListLemmas.{list_answer_when_over}
+use Rattle.regex_lite_engine.proofs.laws.several.OverListLemmas.{IsOverOf, list_answer_when_over}
 use Rattle.regex_lite_engine.proofs.search.OneStartLemmas.{only_entry}
 use Rattle.regex_lite_engine.proofs.pikevm.WalkLemmas.{none_held}
 use Rattle.regex_lite_engine.proofs.OptionLemmas.{not_there, same_some}

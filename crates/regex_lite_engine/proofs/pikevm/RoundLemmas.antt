@@ -5,7 +5,7 @@ use Rattle.regex_lite_engine.proofs.Common.{Some, None, sum_by, sym, refl, ap, �
 use Rattle.regex_lite_engine.proofs.Common.{arith, length-append, cases_lt, sum_by-cons}
 use Rattle.regex_lite_engine.proofs.Common.{slice_get-get_or, reading_count, kept_back, arrow_count}
 use Rattle.regex_lite_engine.proofs.Common.{arrows_of, Thread, thread_at, BestState, ThreadsBelow}
-use Rattle.regex_lite_engine.proofs.Common.{begun, Begun, with_starts, Told, lone, Best, Start}
+use Rattle.regex_lite_engine.proofs.Common.{begun, with_starts, Told, lone, Best, Start}
 use Rattle.std.specs.List.{All}
 use Rattle.regex_lite_engine.specs.declared.pikevm.walk.Walk.{Walk}
 use Rattle.regex_lite_engine.specs.Graph.Places.{Place}
@@ -15,7 +15,8 @@ use Rattle.regex_lite_engine.specs.Pikevm.Turns.{IsReady}
 use Rattle.regex_lite_engine.proofs.OptionLemmas.{not_there}
 use Rattle.regex_lite_engine.proofs.pikevm.RoomLemmas.{left_most}
 use Rattle.regex_lite_engine.proofs.pikevm.StateLemmas.{BeginsRound}
-use Rattle.regex_lite_engine.proofs.pikevm.ThreadLemmas.{at_front, at_back, begun_at, begun_length}
+use Rattle.regex_lite_engine.proofs.pikevm.ThreadLemmas.{Begun, at_front, at_back, begun_at}
+use Rattle.regex_lite_engine.proofs.pikevm.ThreadLemmas.{begun_length}
 use Rattle.regex_lite_engine.proofs.search.MarkLemmas.{blank_row}
 
 pub sum_lone : (table : List (Place ℕ)) → sum_by lone table ≡ length table

@@ -14,13 +14,13 @@ use Rattle.regex_lite_syntax.specs.Text.{before}
 use Rattle.regex_lite_syntax.proofs.ListLemmas.{same_head, same_tail}
 use Rattle.regex_lite_engine.specs.Graph.Places.{Place}
 use Rattle.regex_lite_engine.specs.Search.Offers.{In}
-use Rattle.regex_lite_engine.specs.Search.NumberedOutcomes.{IsNumberedEnd}
 use Rattle.regex_lite_engine.specs.Pikevm.Turns.{EndsAt}
 use Rattle.regex_lite_engine.specs.Pikevm.Walking.{BestHolds}
 use Rattle.regex_lite_engine.proofs.laws.several.OverListLemmas.{differ}
 use Rattle.regex_lite_engine.proofs.laws.search.RecordedWayLemmas.{traced, recorded_once}
 use Rattle.regex_lite_engine.proofs.pikevm.EndLemmas.{step_in_text}
 use Rattle.regex_lite_engine.proofs.search.OneStartLemmas.{only_entry}
+use Rattle.regex_lite_engine.proofs.search.OutcomeLemmas.{IsNumberedEnd}
 use Rattle.regex_lite_engine.proofs.OptionLemmas.{not_there, same_some}
 use Rattle.regex_lite_engine.proofs.PositionLemmas.{same_position}
 

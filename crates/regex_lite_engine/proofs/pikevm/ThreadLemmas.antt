@@ -1,7 +1,8 @@
 -- The threads of a list, and those of the starts after them.
-use Rattle.regex_lite_engine.proofs.Common.{◌≡◌, ℕ, zero, suc, ◌-◌, ◌<◌, ◌≤◌, List, [], ◌∷◌, ◌++◌}
-use Rattle.regex_lite_engine.proofs.Common.{length, replicate, slice_get, Some, None, sym, refl, ap}
-use Rattle.regex_lite_engine.proofs.Common.{◌∙◌, arith, Thread, thread_at, begun, Told, Row, Start}
+use Rattle.regex_lite_engine.proofs.Common.{◌≡◌, ℕ, zero, suc, ◌-◌, ◌<◌, ◌≤◌, ◌⊎◌, List, [], ◌∷◌}
+use Rattle.regex_lite_engine.proofs.Common.{◌++◌, length, replicate, slice_get, Some, None, sym}
+use Rattle.regex_lite_engine.proofs.Common.{refl, ap, ◌∙◌, arith, Thread, thread_at, begun, Told}
+use Rattle.regex_lite_engine.proofs.Common.{Row, Start, Best, IsBlank}
 use Rattle.regex_lite_engine.specs.Pikevm.Machine.{State}
 use Rattle.regex_lite_engine.proofs.OptionLemmas.{not_there, same_some}
 
@@ -15,6 +16,13 @@ pub at_front : (ts more : List Thread) (k : ℕ) → k < length ts
 at_front [] more k lt = absurd (omega (arith, lt))
 at_front (t ∷ ts) more zero lt = refl
 at_front (t ∷ ts) more (suc k) lt = at_front ts more k (omega (arith, lt))
+
+-- The position's own starts are the last threads. They are left out where there is a match
+abbrev pub Begun : List Start → (told : ℕ → Told) → Best → (before after : List Thread) → Type 0
+Begun starts told best before after =
+    ((best ≡ None)
+    × ((blank : Row) × IsBlank blank × (after ≡ before ++ begun told blank starts)))
+    ⊎ ((best ≡ None → ⊥) × (after ≡ before))
 
 pub begun_length : (told : ℕ → Told) (blank : Row) (starts : List Start)
     → length (begun told blank starts) ≡ length starts

@@ -3,7 +3,7 @@ use Rattle.regex_lite_engine.proofs.Common.{◌≡◌, ℕ, suc, ◌+◌, ◌<�
 use Rattle.regex_lite_engine.proofs.Common.{length, slice_index, Some, None, Option, sym, refl, ap}
 use Rattle.regex_lite_engine.proofs.Common.{◌∙◌, subst, inl, inr, arith, cases_lt, IsWithin}
 use Rattle.regex_lite_engine.proofs.Common.{IsOwnPart, Thread, Between, StepsTo, IsComing, begun}
-use Rattle.regex_lite_engine.proofs.Common.{Begun, ThreadsHold, SearchAt, Told, IsDead}
+use Rattle.regex_lite_engine.proofs.Common.{ThreadsHold, SearchAt, Told, IsDead}
 use Rattle.regex_lite_engine.proofs.Common.{numbered_step, is_end, StartsOf, Best, Node, Offer}
 use Rattle.regex_lite_engine.proofs.Common.{StartsBelow, IsPreferred, Row, IsBlank, IsHere}
 use Rattle.regex_lite_engine.proofs.Common.{IsDeadAt, IsAmong, AreStartsAt, Here, Start}
@@ -15,6 +15,7 @@ use Rattle.regex_lite_engine.specs.Search.Starts.{AreFrom}
 use Rattle.regex_lite_engine.specs.Pikevm.Turns.{FromIs}
 use Rattle.regex_lite_engine.proofs.OptionLemmas.{not_there}
 use Rattle.regex_lite_engine.proofs.pikevm.OwnPartLemmas.{recorded_within}
+use Rattle.regex_lite_engine.proofs.pikevm.ThreadLemmas.{Begun}
 use Rattle.regex_lite_engine.proofs.pikevm.InStepNextLemmas as deep
 use Rattle.regex_lite_engine.proofs.pikevm.WalkLemmas.{held_append, none_held}
 use Rattle.regex_lite_engine.proofs.pikevm.ComingLemmas.{In_step}

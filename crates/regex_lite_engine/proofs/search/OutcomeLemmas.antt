@@ -6,7 +6,7 @@ use Rattle.regex_lite_engine.proofs.Common.{length-map, encodes-chars, Tree, IsR
 use Rattle.regex_lite_engine.proofs.Common.{whole_places, whole_arrows, arrows_of, StoredGraph}
 use Rattle.regex_lite_engine.proofs.Common.{place_of, table_of, IsAnswer, characters_left}
 use Rattle.regex_lite_engine.proofs.Common.{IsCountable, CanCount, Best, best_at, IsNumberedOutcome}
-use Rattle.regex_lite_engine.proofs.Common.{position_at, search_start, IsEndOutcome}
+use Rattle.regex_lite_engine.proofs.Common.{position_at, search_start, IsEndOutcome, Text, offset}
 use Rattle.std.proofs.lemmas.Str.{length-le-encodes}
 use Rattle.regex_lite_engine.specs.declared.search.outcome.Outcome.{Outcome}
 use Rattle.regex_lite_engine.specs.Graph.Places.{Place}
@@ -14,12 +14,19 @@ use Rattle.regex_lite_engine.specs.Graph.Renumbered.{IsGraphOf}
 use Rattle.regex_lite_engine.specs.Search.Bounds.{IsBounded}
 use Rattle.regex_lite_engine.specs.Search.Answer.{IsShortest}
 use Rattle.regex_lite_engine.specs.Search.Outcomes.{IsSpanOutcome, IsOutcome}
-use Rattle.regex_lite_engine.specs.Search.NumberedOutcomes.{IsNumberedEnd}
 use Rattle.regex_lite_engine.specs.Search.NumberedOutcomes.{match_told}
 use Rattle.regex_lite_engine.proofs.laws.search.NumberedAnswerLemmas.{
+  IsNumberedShortest,
   answer_of_numbers,
   shortest_of_numbers,
 }
+
+-- the match has the offset of the answer to a search for the shortest match, which is where it ends
+abbrev pub IsNumberedEnd : List (Place ℕ) → Text → (start s : ℕ) → Best → Type 0
+IsNumberedEnd table haystack start s None = IsNumberedShortest table haystack start s None
+IsNumberedEnd table haystack start s (Some best) =
+    (end : ℕ) × IsNumberedShortest table haystack start s (Some end)
+    × (best.1 ≡ offset haystack end)
 
 -- there are no more characters than bytes
 pub few_chars : (bytes : List ℕ) → IsUtf8 bytes → length (chars bytes) ≤ length bytes

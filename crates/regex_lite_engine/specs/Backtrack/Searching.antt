@@ -26,11 +26,6 @@ Unwinds row (explore q at ∷ frames) next row' frames' =
 Unwinds row (restore slot old ∷ frames) next row' frames' =
     Unwinds (slice_set row slot old) frames next row' frames'
 
--- what is left to do with the place that is taken up
-abbrev pub taken_up : Option (ℕ × ℕ) → List Frame → List Frame
-taken_up None frames = frames
-taken_up (Some next) frames = explore next.0 next.1 ∷ frames
-
 module _ (table : List (Place ℕ)) (haystack : List ℕ) where
   -- all ways from the start at this offset were followed, or a match ends at `end`
   pub record Explores (s start : ℕ) (walk walk' : Walk) (end : Option ℕ) : Type 0 where

@@ -1,28 +1,14 @@
 -- A search that goes by remembered turns from offset to offset, without the characters beside them.
 use Rattle.std.specs.Prelude.{◌≡◌, ◌⊎◌, ℕ, List, [], None, Some, slice_get, true}
-use Rattle.regex_lite_syntax.specs.Text.{Text}
 use Rattle.regex_lite_engine.specs.declared.lazy_dfa.scan.Standing.{Standing}
 use Rattle.regex_lite_engine.specs.declared.lazy_dfa.spot.Spot.{Spot}
 use Rattle.regex_lite_engine.specs.declared.lazy_dfa.spot.Step.{Step}
 use Rattle.regex_lite_engine.specs.declared.lazy_dfa.spot.Step.TheVariants.{On, Over, Stuck}
 use Rattle.regex_lite_engine.specs.declared.lazy_dfa.spot.Turn.{Turn}
-use Rattle.regex_lite_engine.specs.declared.search.here.Here.{Here}
 use Rattle.regex_lite_engine.specs.Graph.Places.{Place}
 use Rattle.regex_lite_engine.specs.LazyDfa.Automaton.{Automaton, LeadsOn, State, best_left}
 use Rattle.regex_lite_engine.specs.LazyDfa.Intervals.{IsAhead}
-use Rattle.regex_lite_engine.specs.LazyDfa.Scanning.{best_told, IsScanning}
-
--- a search from position low on stands there, at position p, with this first start and last match
-pub record IsSpotAt (table : List (Place ℕ)) (entries : List ℕ) (haystack : Text) (low p : ℕ)
-    (automaton : Automaton) (spot : Spot) (told : Standing) : Type 0 where
-  pub here : Here
-  pub at : here.at ≡ spot.at
-  pub scanning : IsScanning table entries haystack low p automaton (record {
-    here = here;
-    state = spot.state;
-    first = told.first;
-    best = told.best;
-  })
+use Rattle.regex_lite_engine.specs.LazyDfa.Scanning.{best_told}
 
 -- wherever a search in state x sees a character of the class of the one at this offset, its turn
 -- leads to that state, and here to that offset

@@ -78,10 +78,3 @@ abbrev pub patterns_entries : List Tree → (base : ℕ) → List ℕ
 patterns_entries [] base = []
 patterns_entries (tree ∷ trees) base =
     (pattern_layout tree base).1 ∷ patterns_entries trees (base + whole_places tree)
-
--- one pattern, the place where its match is complete with number 0
-abbrev pub whole_layout : Tree → Fragment
-whole_layout tree = pattern_layout tree 0
-
-abbrev pub whole_table : Tree → List (Place ℕ)
-whole_table tree = pattern_table tree 0

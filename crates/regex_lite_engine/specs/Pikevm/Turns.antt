@@ -9,7 +9,7 @@ use Rattle.regex_lite_engine.specs.Graph.Places.{Place, kept_back_of, reading_of
 use Rattle.regex_lite_engine.specs.Search.Bounds.{StepCounts}
 use Rattle.regex_lite_engine.specs.Search.Offers.{Offer, Node}
 use Rattle.regex_lite_engine.specs.Pikevm.Machine.{Thread, State, BestState}
-use Rattle.regex_lite_engine.specs.Search.Rows.{Row, IsBlank}
+use Rattle.regex_lite_engine.specs.Search.Rows.{Row}
 use Rattle.regex_lite_engine.specs.Search.Standing.{IsHere}
 use Rattle.regex_lite_engine.specs.Search.NumberedOutcomes.{Best, best_at}
 use Rattle.regex_lite_engine.specs.Pikevm.Walking.{SearchAt, ThreadsHold}
@@ -76,13 +76,6 @@ abbrev pub begun : (told : ℕ → Told) → Row → List Start → List Thread
 begun told blank [] = []
 begun told blank (start ∷ starts) =
     (start.place, told start.number, blank) ∷ begun told blank starts
-
--- The position's own starts are the last threads. They are left out where there is a match
-abbrev pub Begun : List Start → (told : ℕ → Told) → Best → (before after : List Thread) → Type 0
-Begun starts told best before after =
-    ((best ≡ None)
-    × ((blank : Row) × IsBlank blank × (after ≡ before ++ begun told blank starts)))
-    ⊎ ((best ≡ None → ⊥) × (after ≡ before))
 
 -- the threads, and the position's own starts after them unless they are left out
 abbrev pub with_starts : List Start → (told : ℕ → Told) → Best → (width : ℕ) → List Thread

@@ -1,14 +1,13 @@
 -- The answer of a search in a graph whose places have numbers.
 use Rattle.std.specs.Prelude.{◌≡◌, ◌≤◌, ◌⊎◌, ℕ, Bool, true, false, IsTrue, List, []}
-use Rattle.std.specs.Prelude.{◌∷◌, Option, Some, None, length, slice_get, unwrap_or}
+use Rattle.std.specs.Prelude.{Option, Some, None, slice_get, unwrap_or}
 use Rattle.regex_lite_syntax.specs.Text.{Text}
 use Rattle.regex_lite_syntax.specs.Tree.Matches.{IsPosition}
 use Rattle.regex_lite_engine.specs.Graph.Places.{Place, complete, with_arrows, step}
-use Rattle.regex_lite_engine.specs.Graph.Ways.{Leads, IsWay}
+use Rattle.regex_lite_engine.specs.Graph.Ways.{IsWay}
 use Rattle.regex_lite_engine.specs.Search.Marks.{marks_along}
 use Rattle.regex_lite_engine.specs.Search.Preference.{IsPreferred}
 use Rattle.regex_lite_engine.specs.Search.Answer.{Found}
-use Rattle.regex_lite_engine.specs.Search.Explored.{StartsAt, IsExplored}
 
 -- the place with a number. Where there is none, it has no arrow
 abbrev pub place_with : List (Place ℕ) → ℕ → Place ℕ
@@ -56,28 +55,3 @@ module _ (table : List (Place ℕ)) (haystack : Text) where
     IsNumberedAnswer s None =
         (i q j : ℕ) (way : List ℕ) → IsNumberedMatch s i way q j → ⊥
     IsNumberedAnswer s (Some found) = IsNumberedFound s found
-
-    -- what a search from position s on for the shortest match answers
-    abbrev pub IsNumberedShortest : (s : ℕ) → Option ℕ → Type 0
-    IsNumberedShortest s None =
-        (i q j : ℕ) (way : List ℕ) → IsNumberedMatch s i way q j → ⊥
-    IsNumberedShortest s (Some end) =
-        ((i : ℕ) × (q : ℕ) × (way : List ℕ) × IsNumberedMatch s i way q end)
-        × ((i q j : ℕ) (way : List ℕ) → IsNumberedMatch s i way q j → end ≤ j)
-
-    -- a search from position s on is over
-    abbrev pub SearchIsOver : (s : ℕ) → (recorded : ℕ × ℕ → Option (List ℕ))
-        → (best : Option (List ℕ)) → Type 0
-    SearchIsOver s recorded best =
-        IsExplored (ℕ × ℕ) numbered_step is_end (StartsAt (λ i. (start, i)) s (length haystack))
-        recorded best
-
-    -- the answer has the start, the end and the marks of this way
-    abbrev pub IsOfWay : Option (List ℕ) → Option Found → Type 0
-    IsOfWay None answer = answer ≡ None
-    IsOfWay (Some best) answer =
-        (found : Found) × (way : List ℕ) × (q : ℕ) × (answer ≡ Some found)
-        × (best ≡ found.start ∷ way)
-        × Leads (ℕ × ℕ) numbered_step (start, found.start) way (q, found.end)
-        × (found.marks
-        ≡ marks_along haystack (place_with table) (Some (start, found.start)) way)

@@ -1,14 +1,9 @@
 -- The answer of a search for several patterns in a graph whose places have numbers. Each pattern is
 -- entered at a place of its own.
-use Rattle.std.specs.Prelude.{◌≡◌, ◌≤◌, ◌<◌, ◌⊎◌, ℕ, List, [], ◌∷◌}
-use Rattle.std.specs.Prelude.{Option, Some, None, length, slice_get}
+use Rattle.std.specs.Prelude.{◌≡◌, ◌≤◌, ◌<◌, ◌⊎◌, ℕ, List, [], ◌∷◌, Option, Some, None, slice_get}
 use Rattle.regex_lite_syntax.specs.Text.{Text}
 use Rattle.regex_lite_engine.specs.Graph.Places.{Place}
-use Rattle.regex_lite_engine.specs.Graph.Ways.{Leads}
-use Rattle.regex_lite_engine.specs.Search.Marks.{marks_along}
 use Rattle.regex_lite_engine.specs.Search.Answer.{Found}
-use Rattle.regex_lite_engine.specs.Search.Explored.{IsExplored}
-use Rattle.regex_lite_engine.specs.Search.NumberedAnswer.{place_with, numbered_step, is_end}
 use Rattle.regex_lite_engine.specs.Search.NumberedAnswer.{IsNumberedMatch, IsNumberedFound}
 
 -- the pattern with this number is entered at this place
@@ -52,20 +47,3 @@ module _ (table : List (Place ℕ)) (haystack : Text) (entries : List ℕ) where
     pub last : ℕ
     pub is_match : IsMatchOfAny s start number way last end
     pub least : (i k : ℕ) (way : List ℕ) (q j : ℕ) → IsMatchOfAny s i k way q j → end ≤ j
-
-  -- a search from position s on is over
-  abbrev pub IsOverOf : (s : ℕ) → (recorded : ℕ × ℕ → Option (List ℕ)) → (best : Option (List ℕ))
-      → Type 0
-  IsOverOf s recorded best =
-      IsExplored (ℕ × ℕ) (numbered_step table haystack) (is_end table haystack)
-      (StartsOf entries s (length haystack)) recorded best
-
-  -- the answer has the number, the start, the end and the marks of this way
-  abbrev pub IsOfWayOf : Option (List ℕ) → Option (ℕ × Found) → Type 0
-  IsOfWayOf None answer = answer ≡ None
-  IsOfWayOf (Some best) answer =
-      (number : ℕ) × (entry : ℕ) × (found : Found) × (way : List ℕ) × (q : ℕ)
-      × (answer ≡ Some (number, found)) × IsEntry entries number entry
-      × (best ≡ found.start ∷ (number ∷ way))
-      × Leads (ℕ × ℕ) (numbered_step table haystack) (entry, found.start) way (q, found.end)
-      × (found.marks ≡ marks_along haystack (place_with table) (Some (entry, found.start)) way)

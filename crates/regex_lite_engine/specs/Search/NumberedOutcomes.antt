@@ -6,7 +6,7 @@ use Rattle.regex_lite_engine.specs.declared.search.outcome.Outcome.{Outcome}
 use Rattle.regex_lite_engine.specs.Graph.Places.{Place}
 use Rattle.regex_lite_engine.specs.Search.Answer.{Found}
 use Rattle.regex_lite_engine.specs.Search.Beginnings.{Told, IsTold, TellsStart}
-use Rattle.regex_lite_engine.specs.Search.NumberedAnswer.{IsNumberedAnswer, IsNumberedShortest}
+use Rattle.regex_lite_engine.specs.Search.NumberedAnswer.{IsNumberedAnswer}
 use Rattle.regex_lite_engine.specs.Search.NumberedList.{IsNumberedAnswerOf, IsNumberedShortestOf}
 use Rattle.regex_lite_engine.specs.Search.Offsets.{offset, HasSlots}
 use Rattle.regex_lite_engine.specs.Search.Rows.{Row}
@@ -81,14 +81,8 @@ abbrev pub IsNumberedOutcome : List (Place ℕ) → Text → (start s : ℕ) →
 IsNumberedOutcome table haystack start s found =
     IsBestOutcome table haystack start s (with_start_kept found)
 
--- the match has the offset of the answer to a search for the shortest match, which is where it ends
-abbrev pub IsNumberedEnd : List (Place ℕ) → Text → (start s : ℕ) → Best → Type 0
-IsNumberedEnd table haystack start s None = IsNumberedShortest table haystack start s None
-IsNumberedEnd table haystack start s (Some best) =
-    (end : ℕ) × IsNumberedShortest table haystack start s (Some end)
-    × (best.1 ≡ offset haystack end)
-
--- the same of a search for several patterns
+-- the match has the offset of the answer to a search of several patterns for the shortest match,
+-- which is where it ends
 abbrev pub IsNumberedEndOf : List (Place ℕ) → Text → (entries : List ℕ) → (s : ℕ) → Best → Type 0
 IsNumberedEndOf table haystack entries s None = IsNumberedAnswerOf table haystack entries s None
 IsNumberedEndOf table haystack entries s (Some best) =

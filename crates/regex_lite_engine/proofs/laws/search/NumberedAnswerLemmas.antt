@@ -3,15 +3,22 @@ use Rattle.regex_lite_engine.proofs.Common.{ℕ, ◌<◌, List, length, Some, No
 use Rattle.regex_lite_engine.proofs.Common.{Text, Tree, IsRegular, Address, IsRenumbered}
 use Rattle.regex_lite_engine.proofs.Common.{IsNumberOf, start_address, written_out}
 use Rattle.regex_lite_engine.proofs.Common.{place_of_pattern, IsMatchFrom, Found, IsAnswer}
-use Rattle.regex_lite_engine.proofs.Common.{marks_along, IsNumberedMatch}
+use Rattle.regex_lite_engine.proofs.Common.{marks_along, IsNumberedMatch, ◌≤◌}
 use Rattle.regex_lite_engine.specs.Graph.Places.{Place}
 use Rattle.regex_lite_engine.specs.Search.Answer.{IsShortest}
 use Rattle.regex_lite_engine.specs.Search.NumberedAnswer.{IsNumberedAnswer}
-use Rattle.regex_lite_engine.specs.Search.NumberedAnswer.{IsNumberedShortest}
 use Rattle.regex_lite_engine.proofs.laws.PatternWayLemmas.{match_way, walk_match}
 use Rattle.regex_lite_engine.proofs.laws.search.NumberedWayLemmas.{IsPart, IsPartNumber, whole_part}
 use Rattle.regex_lite_engine.proofs.laws.search.NumberedWayLemmas.{whole_number, marks_named}
 use Rattle.regex_lite_engine.proofs.laws.search.NumberedWayLemmas.{begins, in_numbers, in_addresses}
+
+-- what a search from position s on for the shortest match answers
+abbrev pub IsNumberedShortest : List (Place ℕ) → Text → (start s : ℕ) → Option ℕ → Type 0
+IsNumberedShortest table haystack start s None =
+    (i q j : ℕ) (way : List ℕ) → IsNumberedMatch table haystack start s i way q j → ⊥
+IsNumberedShortest table haystack start s (Some end) =
+    ((i : ℕ) × (q : ℕ) × (way : List ℕ) × IsNumberedMatch table haystack start s i way q end)
+    × ((i q j : ℕ) (way : List ℕ) → IsNumberedMatch table haystack start s i way q j → end ≤ j)
 
 module _ (tree : Tree) (haystack : Text) (table : List (Place ℕ)) (start : ℕ)
     (name : ℕ → Address) (Part : ℕ → Type 0) (r : IsPart (written_out tree) name table Part)

@@ -2,14 +2,15 @@
 use Rattle.regex_lite_engine.proofs.Common.{◌≡◌, ℕ, ◌≤◌, Bool, ◌⊎◌, List, [], ◌∷◌, ◌++◌, length}
 use Rattle.regex_lite_engine.proofs.Common.{IsTrue, Some, None, Option, sym, refl, ap, ◌∙◌, subst}
 use Rattle.regex_lite_engine.proofs.Common.{inl, inr, arith, Text, complete, with_arrows, step_from}
-use Rattle.regex_lite_engine.proofs.Common.{step, Leads, IsWay, Found, Before, NotAfter}
-use Rattle.regex_lite_engine.proofs.Common.{StartsDiffer, IsWhole, IsFirst, StartsAt, marks_along}
-use Rattle.regex_lite_engine.proofs.Common.{place_with, is_complete, numbered_step, is_end}
-use Rattle.regex_lite_engine.proofs.Common.{IsNumberedWay, IsNumberedMatch, IsPreferred}
+use Rattle.regex_lite_engine.proofs.Common.{step, Leads, IsWay, Found, Before, NotAfter, StartsAt}
+use Rattle.regex_lite_engine.proofs.Common.{marks_along, place_with, is_complete, numbered_step}
+use Rattle.regex_lite_engine.proofs.Common.{is_end, IsNumberedWay, IsNumberedMatch, IsPreferred}
 use Rattle.regex_lite_syntax.proofs.ListLemmas.{same_head, same_tail}
 use Rattle.regex_lite_engine.specs.Graph.Places.{Place}
-use Rattle.regex_lite_engine.specs.Search.NumberedAnswer.{IsNumberedAnswer, SearchIsOver, IsOfWay}
+use Rattle.regex_lite_engine.specs.Search.NumberedAnswer.{IsNumberedAnswer}
 use Rattle.regex_lite_engine.proofs.laws.LeadsLemmas.{leads_to_one}
+use Rattle.regex_lite_engine.proofs.laws.search.Explored.{StartsDiffer, IsWhole, IsFirst}
+use Rattle.regex_lite_engine.proofs.laws.search.Explored.{IsExplored}
 use Rattle.regex_lite_engine.proofs.laws.search.SearchLawLemmas.{search_law}
 use Rattle.regex_lite_engine.proofs.OptionLemmas.{same_some}
 
@@ -63,6 +64,19 @@ module _ (table : List (Place ℕ)) (haystack : Text) (start s : ℕ) where
 
   abbrev Whole : List ℕ → Type 0
   Whole = IsWhole (ℕ × ℕ) walks (is_end table haystack) Starts
+
+  -- a search from position s on is over
+  abbrev pub SearchIsOver : (ℕ × ℕ → Option (List ℕ)) → (best : Option (List ℕ)) → Type 0
+  SearchIsOver = IsExplored (ℕ × ℕ) walks (is_end table haystack) Starts
+
+  -- the answer has the start, the end and the marks of this way
+  abbrev pub IsOfWay : Option (List ℕ) → Option Found → Type 0
+  IsOfWay None answer = answer ≡ None
+  IsOfWay (Some best) answer =
+      (found : Found) × (way : List ℕ) × (q : ℕ) × (answer ≡ Some found)
+      × (best ≡ found.start ∷ way)
+      × Leads (ℕ × ℕ) walks (start, found.start) way (q, found.end)
+      × (found.marks ≡ marks_along haystack (place_with table) (Some (start, found.start)) way)
 
   -- a way over numbers, with its start in front
   whole_of : (i q j : ℕ) (way : List ℕ) → IsNumberedMatch table haystack start s i way q j
@@ -166,8 +180,8 @@ module _ (table : List (Place ℕ)) (haystack : Text) (start s : ℕ) where
           (q, found.end) (p, j) before along is_way.ends m.is_way.0)
 
   pub answer_when_over : (recorded : ℕ × ℕ → Option (List ℕ)) (best : Option (List ℕ))
-      (answer : Option Found) → SearchIsOver table haystack start s recorded best
-      → IsOfWay table haystack start best answer → IsNumberedAnswer table haystack start s answer
+      (answer : Option Found) → SearchIsOver recorded best
+      → IsOfWay best answer → IsNumberedAnswer table haystack start s answer
   answer_when_over recorded None answer x e =
       let none = search_law None
       (starts_differ walks (is_end table haystack) (λ i. (start, i)) s (length haystack)) x in

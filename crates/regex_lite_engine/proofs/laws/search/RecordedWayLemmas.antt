@@ -2,10 +2,11 @@
 use Rattle.regex_lite_engine.proofs.Common.{◌≡◌, ℕ, zero, suc, ◌<◌, Bool, ◌⊎◌, List, [], ◌∷◌, ◌++◌}
 use Rattle.regex_lite_engine.proofs.Common.{length, Some, Option, sym, refl, ap, ◌∙◌, subst, inl}
 use Rattle.regex_lite_engine.proofs.Common.{inr, append_assoc, append-nil, arith, length-append}
-use Rattle.regex_lite_engine.proofs.Common.{Leads, NoneTwice, StartsDiffer, IsGrown}
+use Rattle.regex_lite_engine.proofs.Common.{Leads, NoneTwice, IsGrown}
 use Rattle.regex_lite_engine.proofs.laws.LeadsLemmas.{leads_append, leads_to_one}
 use Rattle.regex_lite_engine.proofs.laws.search.CutLemmas.{rest_of, same_rest, no_rest}
 use Rattle.regex_lite_engine.proofs.laws.search.CutLemmas.{both_empty, cut_snoc}
+use Rattle.regex_lite_engine.proofs.laws.search.Explored.{StartsDiffer}
 use Rattle.regex_lite_engine.proofs.OptionLemmas.{same_some}
 
 module _ (N : Type 0) (step : N → ℕ → Option N) (is_end : N → Bool)

@@ -2,11 +2,11 @@
 use Rattle.regex_lite_engine.proofs.Common.{◌≡◌, ℕ, Bool, ◌⊎◌, List, [], ◌∷◌, ◌++◌, IsTrue, Some}
 use Rattle.regex_lite_engine.proofs.Common.{None, Option, sym, refl, ap, ◌∙◌, subst, inl, inr}
 use Rattle.regex_lite_engine.proofs.Common.{append_assoc, append-nil, Leads, NoneTwice, NotAfter}
-use Rattle.regex_lite_engine.proofs.Common.{IsDead, StartsDiffer, IsWhole, IsFirst, IsAnswered}
-use Rattle.regex_lite_engine.specs.Search.Explored.{IsExplored}
-use Rattle.regex_lite_engine.proofs.laws.LeadsLemmas.{leads_append}
-use Rattle.regex_lite_engine.proofs.laws.LeadsLemmas.{leads_split, leads_to_one}
+use Rattle.regex_lite_engine.proofs.Common.{IsDead, IsAnswered}
+use Rattle.regex_lite_engine.proofs.laws.LeadsLemmas.{leads_append, leads_split, leads_to_one}
 use Rattle.regex_lite_engine.proofs.laws.search.CutLemmas.{rest_of}
+use Rattle.regex_lite_engine.proofs.laws.search.Explored.{StartsDiffer, IsWhole, IsFirst}
+use Rattle.regex_lite_engine.proofs.laws.search.Explored.{IsExplored}
 use Rattle.regex_lite_engine.proofs.laws.search.RecordedWayLemmas.{Traced, traced, recorded_once}
 use Rattle.regex_lite_engine.proofs.laws.search.WayOrderLemmas.{NotAfter-trans, NotAfter-append}
 use Rattle.regex_lite_engine.proofs.laws.search.WayOrderLemmas.{GoesOn, NotAfter-snoc}

@@ -2,14 +2,15 @@
 use Rattle.regex_lite_engine.proofs.Common.{◌≡◌, ℕ, ◌<◌, ◌≤◌, ◌⊎◌, List, [], ◌∷◌, ◌++◌, length}
 use Rattle.regex_lite_engine.proofs.Common.{IsTrue, slice_get, Some, None, Option, sym, refl, ap}
 use Rattle.regex_lite_engine.proofs.Common.{◌∙◌, subst, inl, inr, arith, Text, Leads, IsWay, Found}
-use Rattle.regex_lite_engine.proofs.Common.{NotAfter, StartsDiffer, IsWhole, IsFirst, marks_along}
+use Rattle.regex_lite_engine.proofs.Common.{NotAfter, marks_along}
 use Rattle.regex_lite_engine.proofs.Common.{place_with, numbered_step, is_end, IsNumberedWay}
 use Rattle.regex_lite_engine.proofs.Common.{IsNumberedMatch, IsNumberedFound, IsEntry, StartsOf}
 use Rattle.regex_lite_engine.proofs.Common.{IsMatchOfAny, IsNumberedAnswerOf, IsPreferred}
 use Rattle.regex_lite_syntax.proofs.ListLemmas.{same_head, same_tail}
 use Rattle.regex_lite_engine.specs.Graph.Places.{Place}
-use Rattle.regex_lite_engine.specs.Search.NumberedList.{IsOverOf, IsOfWayOf}
 use Rattle.regex_lite_engine.proofs.laws.LeadsLemmas.{leads_to_one}
+use Rattle.regex_lite_engine.proofs.laws.search.Explored.{StartsDiffer, IsWhole, IsFirst}
+use Rattle.regex_lite_engine.proofs.laws.search.Explored.{IsExplored}
 use Rattle.regex_lite_engine.proofs.laws.search.OverLemmas.{before_preferred}
 use Rattle.regex_lite_engine.proofs.laws.search.SearchLawLemmas.{search_law}
 use Rattle.regex_lite_engine.proofs.OptionLemmas.{same_some}
@@ -34,6 +35,20 @@ module _ (table : List (Place ℕ)) (haystack : Text) (entries : List ℕ) (s : 
 
   abbrev Whole : List ℕ → Type 0
   Whole = IsWhole (ℕ × ℕ) walks (is_end table haystack) Starts
+
+  -- a search from position s on is over
+  abbrev pub IsOverOf : (ℕ × ℕ → Option (List ℕ)) → (best : Option (List ℕ)) → Type 0
+  IsOverOf = IsExplored (ℕ × ℕ) walks (is_end table haystack) Starts
+
+  -- the answer has the number, the start, the end and the marks of this way
+  abbrev pub IsOfWayOf : Option (List ℕ) → Option (ℕ × Found) → Type 0
+  IsOfWayOf None answer = answer ≡ None
+  IsOfWayOf (Some best) answer =
+      (number : ℕ) × (entry : ℕ) × (found : Found) × (way : List ℕ) × (q : ℕ)
+      × (answer ≡ Some (number, found)) × IsEntry entries number entry
+      × (best ≡ found.start ∷ (number ∷ way))
+      × Leads (ℕ × ℕ) walks (entry, found.start) way (q, found.end)
+      × (found.marks ≡ marks_along haystack (place_with table) (Some (entry, found.start)) way)
 
   same_entry : (k l a b : ℕ) → k ≡ l → IsEntry entries k a → IsEntry entries l b → a ≡ b
   same_entry k l a b e p q = same_some (sym p ∙ ap (slice_get entries) e ∙ q)
@@ -203,8 +218,8 @@ module _ (table : List (Place ℕ)) (haystack : Text) (entries : List ℕ) (s : 
     }
 
   pub list_answer_when_over : (recorded : ℕ × ℕ → Option (List ℕ)) (best : Option (List ℕ))
-      (answer : Option (ℕ × Found)) → IsOverOf table haystack entries s recorded best
-      → IsOfWayOf table haystack entries best answer
+      (answer : Option (ℕ × Found)) → IsOverOf recorded best
+      → IsOfWayOf best answer
       → IsNumberedAnswerOf table haystack entries s answer
   list_answer_when_over recorded None answer x e =
       let none = search_law None differ x in

@@ -8,7 +8,7 @@ use Rattle.regex_lite_engine.proofs.Common.{complete, with_arrows, reading_of, k
 use Rattle.regex_lite_engine.proofs.Common.{IsRenumbered, IsNumberOf, Content, place_of, LeadBelow}
 use Rattle.regex_lite_engine.proofs.Common.{LeadsBelow, LeadInto, LeadsInto, place_at, whole}
 use Rattle.regex_lite_engine.proofs.Common.{end_address, start_address, written_out, pattern_layout}
-use Rattle.regex_lite_engine.proofs.Common.{pattern_table, whole_layout, whole_table}
+use Rattle.regex_lite_engine.proofs.Common.{pattern_table}
 use Rattle.regex_lite_engine.specs.Graph.Places.{Place}
 use Rattle.regex_lite_engine.specs.Graph.Stored.{IsClosed}
 use Rattle.regex_lite_engine.specs.declared.nfa.place.Place as code
@@ -112,14 +112,14 @@ module _ (tree : Tree) (regular : IsRegular tree) where
   at_zero : (n : ℕ) → (by 0).address n ≡ get_or all n []
   at_zero n = let same : n - 0 ≡ n = omega arith in ap (λ m. get_or all m []) same
 
-  as_long : length (whole_table tree) ≡ length all
-  as_long = as_many (by 0) (written_out tree) all (whole_table tree) (pattern_is 0)
+  as_long : length (pattern_table tree 0) ≡ length all
+  as_long = as_many (by 0) (written_out tree) all (pattern_table tree 0) (pattern_is 0)
 
-  place_is : (q : ℕ) (place : Place ℕ) → slice_get (whole_table tree) q ≡ Some place
+  place_is : (q : ℕ) (place : Place ℕ) → slice_get (pattern_table tree 0) q ≡ Some place
       → IsAt (by 0) (written_out tree) (get_or all q []) place
-  place_is = is_at_number (by 0) (written_out tree) all (whole_table tree) (pattern_is 0)
+  place_is = is_at_number (by 0) (written_out tree) all (pattern_table tree 0) (pattern_is 0)
 
-  apart_numbers : (p q : ℕ) → p < length (whole_table tree) → q < length (whole_table tree)
+  apart_numbers : (p q : ℕ) → p < length (pattern_table tree 0) → q < length (pattern_table tree 0)
       → (by 0).address p ≡ (by 0).address q → p ≡ q
   apart_numbers p q l m same =
       let less_p : p < length all = omega (arith, as_long) in
@@ -127,22 +127,22 @@ module _ (tree : Tree) (regular : IsRegular tree) where
       apart_get all (apart_whole tree) p q less_p less_q (sym (at_zero p) ∙ same ∙ at_zero q)
 
   each_numbered : (a : Address) (place : Place Address) → written_out tree a ≡ Some place
-      → (q : ℕ) × (q < length (whole_table tree)) × ((by 0).address q ≡ a)
+      → (q : ℕ) × (q < length (pattern_table tree 0)) × ((by 0).address q ≡ a)
   each_numbered a place e =
       let number = address_number a all (listed_whole tree a place e) in
       (number.0, omega (arith, as_long, number.1), at_zero number.0 ∙ number.2)
 
-  arrows_inside : (q : ℕ) (place : Place ℕ) → slice_get (whole_table tree) q ≡ Some place
-      → LeadsBelow (length (whole_table tree)) place
+  arrows_inside : (q : ℕ) (place : Place ℕ) → slice_get (pattern_table tree 0) q ≡ Some place
+      → LeadsBelow (length (pattern_table tree 0)) place
   arrows_inside q place e =
-      let same : 0 + length all ≡ length (whole_table tree) = omega (arith, as_long) in
+      let same : 0 + length all ≡ length (pattern_table tree 0) = omega (arith, as_long) in
       subst (λ n. LeadsBelow n place) same
       (leads_below 0 (0 + length all) place (place_is q place e).1)
 
   pub whole_names : ℕ → Address
   whole_names = (by 0).address
 
-  pub renumbered : IsRenumbered (written_out tree) whole_names (whole_table tree)
+  pub renumbered : IsRenumbered (written_out tree) whole_names (pattern_table tree 0)
   unfolding whole_names
   renumbered = record {
     apart = apart_numbers;
@@ -151,21 +151,21 @@ module _ (tree : Tree) (regular : IsRegular tree) where
     inside = arrows_inside;
   }
 
-  pub starts : IsNumberOf whole_names (whole_table tree) start_address (whole_layout tree).1
+  pub starts : IsNumberOf whole_names (pattern_table tree 0) start_address (pattern_layout tree 0).1
   unfolding whole_names
   starts = record {
     inside = omega (arith, as_long, (pattern_fits 0).0.1.1);
     same = (pattern_fits 0).0.0;
   }
 
-  module _ (places : List code.Place) (table_is : map place_of places ≡ whole_table tree) where
-    as_many_places : length (whole_table tree) ≡ length places
+  module _ (places : List code.Place) (table_is : map place_of places ≡ pattern_table tree 0) where
+    as_many_places : length (pattern_table tree 0) ≡ length places
     as_many_places = ap length (sym table_is) ∙ length-map places place_of
 
     -- a table with these places leads to its own places
     pub closed : (arrows reading : ℕ) → length places < 2 ^ 32 → arrows < 2 ^ 34
-        → reading < length places → reading_of (whole_table tree) ≡ reading
-        → kept_back_of (whole_table tree) < length places → IsClosed places arrows reading
+        → reading < length places → reading_of (pattern_table tree 0) ≡ reading
+        → kept_back_of (pattern_table tree 0) < length places → IsClosed places arrows reading
     closed arrows reading few_places few_arrows few_reading each_reading few_kept_back = record {
       each_inside = λ q place e. (
           let stored = ap (λ table. slice_get table q) (sym table_is)
@@ -181,5 +181,5 @@ module _ (tree : Tree) (regular : IsRegular tree) where
     }
 
     -- and it has the place where the pattern starts
-    pub start_inside : (start : ℕ) → start ≡ (whole_layout tree).1 → start < length places
+    pub start_inside : (start : ℕ) → start ≡ (pattern_layout tree 0).1 → start < length places
     start_inside start start_is = omega (arith, start_is, starts.inside, as_many_places)

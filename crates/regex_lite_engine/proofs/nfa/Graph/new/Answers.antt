@@ -1,7 +1,7 @@
 use Rattle.regex_lite_engine.proofs.Common.{◌≡◌, ℕ, List, length, sym, ap, ◌∙◌, subst, arith}
 use Rattle.regex_lite_engine.proofs.Common.{tree_of, Address, arrows_of, IsRenumbered, IsNumberOf}
 use Rattle.regex_lite_engine.proofs.Common.{StoredTable, places_of, start_address, written_out}
-use Rattle.regex_lite_engine.proofs.Common.{whole_layout, whole_table}
+use Rattle.regex_lite_engine.proofs.Common.{pattern_table, pattern_layout}
 use Rattle.regex_lite_engine.specs.Graph.Places.{Place}
 use Rattle.regex_lite_engine.proofs.nfa.write.RenumberingLemmas.{whole_names, renumbered}
 use Rattle.regex_lite_engine.proofs.nfa.write.RenumberingLemmas.{starts, closed, start_inside}
@@ -17,9 +17,9 @@ returns-clause-ok c =
     let tree = tree_of c.args.hir.now in
     let table : List (Place ℕ) = places_of c.new-table.result in
     let name : ℕ → Address = whole_names tree c.requires in
-    let start_is : c.in_ok-places.start ≡ (whole_layout tree).1 =
+    let start_is : c.in_ok-places.start ≡ (pattern_layout tree 0).1 =
     c.in_ok-places.ensures.written.0 in
-    let table_is : table ≡ whole_table tree
+    let table_is : table ≡ pattern_table tree 0
     = ap places_of c.new-table.ensures ∙ c.in_ok-places.ensures.written.1 in
     let fits = (c.in_ok-count.ensures.ok tree c.of-counts.ensures).1 in
     record {
@@ -27,7 +27,7 @@ returns-clause-ok c =
       written = subst (λ t. IsRenumbered (written_out tree) name t) (sym table_is)
           (renumbered tree c.requires);
       start = subst (λ s. IsNumberOf name table start_address s) (sym start_is)
-          (subst (λ t. IsNumberOf name t start_address (whole_layout tree).1) (sym table_is)
+          (subst (λ t. IsNumberOf name t start_address (pattern_layout tree 0).1) (sym table_is)
           (starts tree c.requires));
       places = ap (λ (t : StoredTable). length t.places) c.new-table.ensures
           ∙ c.in_ok-places.ensures.length;
@@ -61,7 +61,7 @@ pub invariant_of-result : goal.invariant_of-result
 invariant_of-result c =
     let tree = tree_of c.args.hir.now in
     let written = c.in_ok-places.ensures.written in
-    let table_is : places_of c.new-table.result ≡ whole_table tree
+    let table_is : places_of c.new-table.result ≡ pattern_table tree 0
     = ap places_of c.new-table.ensures ∙ written.1 in (
       start_inside tree c.requires c.new-table.result.places table_is c.in_ok-places.start
           written.0,

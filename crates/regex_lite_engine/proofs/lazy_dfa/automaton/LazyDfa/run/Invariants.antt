@@ -1,6 +1,6 @@
 use Rattle.regex_lite_engine.proofs.Common.{ℕ, ◌-◌, ◌≤◌, length, chars, IsSince, IsScanning}
-use Rattle.regex_lite_engine.proofs.Common.{IsSpotAt}
 use Rattle.regex_lite_engine.specs.LazyDfa.Intervals.{IsInterval}
+use Rattle.regex_lite_engine.proofs.lazy_dfa.SpotLemmas.{IsSpotAt}
 use Rattle.regex_lite_engine.proofs.lazy_dfa.automaton.LazyDfa.run.Given as goal
 
 abbrev pub invariant-turns : goal.invariant-turns

@@ -1,6 +1,6 @@
 use Rattle.regex_lite_engine.proofs.Common.{◌≡◌, ℕ, ◌+◌, List, length, sym, ap, ◌∙◌, subst, arith}
 use Rattle.regex_lite_engine.proofs.Common.{Text, row_of, arrow_count, all_retold, state_retold}
-use Rattle.regex_lite_engine.proofs.Common.{best_again, ThreadsBelow, best_of, IsComing, Begun}
+use Rattle.regex_lite_engine.proofs.Common.{best_again, ThreadsBelow, best_of, IsComing}
 use Rattle.regex_lite_engine.proofs.Common.{with_starts, SearchAt, Told, lone}
 use Rattle.regex_lite_engine.specs.Pikevm.Room.{explores}
 use Rattle.regex_lite_engine.proofs.pikevm.AgainLemmas.{best_kept, start_retold}
@@ -9,6 +9,7 @@ use Rattle.regex_lite_engine.proofs.pikevm.RoomLemmas.{left_most}
 use Rattle.regex_lite_engine.proofs.pikevm.StateLemmas.{begins_round, turns_over}
 use Rattle.regex_lite_engine.proofs.pikevm.RoundLemmas.{begins_with, fit_first, none_entered}
 use Rattle.regex_lite_engine.proofs.pikevm.RoundLemmas.{sum_lone, begun_len, start_begun}
+use Rattle.regex_lite_engine.proofs.pikevm.ThreadLemmas.{Begun}
 use Rattle.regex_lite_engine.proofs.pikevm.TurnLemmas.{turned_all, turned_within}
 use Rattle.regex_lite_engine.proofs.pikevm.cache.Cache.turn.Goals as goal
 
