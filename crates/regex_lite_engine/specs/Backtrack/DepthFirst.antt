@@ -1,6 +1,7 @@
 -- A depth-first walk over a graph: what it has recorded, and the ways that it has still to follow.
 -- A start puts its position in front of each way from it, and the starts are offered in order, one
--- when nothing is left of those before it.
+-- when nothing is left of those before it. Below n and m are nodes, w and v the ways to them, i the
+-- position of a start, and k the number of an arrow.
 use Rattle.std.specs.Prelude.{◌≡◌, ◌<◌, ◌≤◌, ◌⊎◌, ℕ, Bool, IsTrue}
 use Rattle.std.specs.Prelude.{List, [], ◌∷◌, ◌++◌, Option, Some, None}
 use Rattle.regex_lite_engine.specs.Search.Explored.{NotAfter, StartsAt, IsAnswered, IsGrown, IsDead}

@@ -61,6 +61,8 @@ module _ (haystack : Text) (p at : ℕ) where
       (held' ≡ record held { frames = explore first at ∷ (explore second at ∷ held.frames) })
       × (done ≡ false)
   Enters (stored.Branches entries) held held' done =
-      (held' ≡ record held { frames = map (λ q. explore q at) entries.items ++ held.frames })
+      (held' ≡ record held {
+        frames = map (λ place. explore place at) entries.items ++ held.frames;
+      })
       × (done ≡ false)
   Enters stored.Match held held' done = (held' ≡ held) × (done ≡ true)

@@ -15,14 +15,14 @@ use Rattle.regex_lite_engine.specs.Search.Counting.{lone, weight}
 
 -- the sum over the places that were not entered, whose pairs have the numbers from `pair` on
 abbrev pub left_in : (Place ℕ → ℕ) → (entered : List Bool) → (pair : ℕ) → List (Place ℕ) → ℕ
-left_in f entered pair [] = 0
-left_in f entered pair (place ∷ table) =
-    (if slice_index_or entered pair false then 0 else f place)
-    + left_in f entered (suc pair) table
+left_in measure entered pair [] = 0
+left_in measure entered pair (place ∷ table) =
+    (if slice_index_or entered pair false then 0 else measure place)
+    + left_in measure entered (suc pair) table
 
 abbrev pub explores : List Frame → ℕ
 explores [] = 0
-explores (explore q at ∷ frames) = explores frames + 1
+explores (explore place at ∷ frames) = explores frames + 1
 explores (restore slot old ∷ frames) = explores frames
 
 -- the same walk with these frames to come
@@ -32,23 +32,23 @@ with_frames walk frames = record walk { stack = record walk.stack { frames = fra
 module _ (table : List (Place ℕ)) (haystack : List ℕ) where
   -- the same over n positions from p on
   abbrev pub left_from : (Place ℕ → ℕ) → Pairs → (p n : ℕ) → ℕ
-  left_from f pairs p zero = 0
-  left_from f pairs p (suc n) =
-      left_in f pairs.entered
+  left_from measure pairs p zero = 0
+  left_from measure pairs p (suc n) =
+      left_in measure pairs.entered
       (pair_number pairs.places pairs.first 0 (offset (chars haystack) p)) table
-      + left_from f pairs (suc p) n
+      + left_from measure pairs (suc p) n
 
   -- over all positions of the search
   abbrev pub left_of : (Place ℕ → ℕ) → Pairs → ℕ
-  left_of f pairs =
-      left_from f pairs (position_at haystack pairs.first)
+  left_of measure pairs =
+      left_from measure pairs (position_at haystack pairs.first)
       (characters_left (chars haystack) (position_at haystack pairs.first) + 1)
 
   -- the frames lead to pairs of the search, and to slots of a row of this width
   abbrev pub FramesBelow : (first width : ℕ) → List Frame → Type 0
   FramesBelow first width [] = Unit {0}
-  FramesBelow first width (explore q at ∷ frames) =
-      (q < length table) × (first ≤ at) × IsCharBoundary haystack at
+  FramesBelow first width (explore place at ∷ frames) =
+      (place < length table) × (first ≤ at) × IsCharBoundary haystack at
       × FramesBelow first width frames
   FramesBelow first width (restore slot old ∷ frames) =
       (slot < width) × FramesBelow first width frames
@@ -93,27 +93,28 @@ module _ (table : List (Place ℕ)) (haystack : List ℕ) where
     pub row : length walk'.stack.row ≡ length walk.stack.row
     pub room : walk'.stack.room ≡ walk.stack.room
 
-  abbrev pub searching : (s first from i : ℕ) → SearchFrom
-  searching s first from i = record {
+  abbrev pub searching : (entry first from start : ℕ) → SearchFrom
+  searching entry first from start = record {
     haystack = chars haystack;
-    entry = s;
+    entry = entry;
     first = first;
     from = from;
-    i = i;
+    i = start;
   }
 
   -- what is known of a walk stays known, or a match that ends there is complete: it is the answer
-  abbrev pub IsWalkingOrDone : (s first from i : ℕ) → Walk → (end : Option ℕ) → Type 0
-  IsWalkingOrDone s first from i walk None =
-      IsWalking table (searching s first from i) walk.visited walk.stack
-  IsWalkingOrDone s first from i walk (Some end) =
-      IsNumberedOutcome table (chars haystack) s first (Some (i, end, walk.stack.row))
+  abbrev pub IsWalkingOrDone : (entry first from start : ℕ) → Walk → (end : Option ℕ) → Type 0
+  IsWalkingOrDone entry first from start walk None =
+      IsWalking table (searching entry first from start) walk.visited walk.stack
+  IsWalkingOrDone entry first from start walk (Some end) =
+      IsNumberedOutcome table (chars haystack) entry first (Some (start, end, walk.stack.row))
 
   -- from one state of a walk to a later one, or to a match that ends there
   abbrev pub WalksTo : (walk walk' : Walk) → (end : Option ℕ) → Type 0
   WalksTo walk walk' end =
-      (s from i : ℕ) → IsWalkingOrDone s (position_at haystack walk.visited.first) from i walk None
-      → IsWalkingOrDone s (position_at haystack walk.visited.first) from i walk' end
+      (entry from start : ℕ)
+      → IsWalkingOrDone entry (position_at haystack walk.visited.first) from start walk None
+      → IsWalkingOrDone entry (position_at haystack walk.visited.first) from start walk' end
 
   -- a walk went on, or up to a match that ends there
   pub record GoesOn (walk walk' : Walk) (end : Option ℕ) : Type 0 where

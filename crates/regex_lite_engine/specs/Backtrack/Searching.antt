@@ -15,21 +15,21 @@ use Rattle.regex_lite_engine.specs.Search.Rows.{Row, IsBlank}
 -- each slot that a frame restores lies in a row of this width
 abbrev pub SlotsBelow : (width : ℕ) → List Frame → Type 0
 SlotsBelow width [] = Unit {0}
-SlotsBelow width (explore q at ∷ frames) = SlotsBelow width frames
+SlotsBelow width (explore place at ∷ frames) = SlotsBelow width frames
 SlotsBelow width (restore slot old ∷ frames) = (slot < width) × SlotsBelow width frames
 
 -- frames are popped, up to the first that has a place to explore
 abbrev pub Unwinds : Row → List Frame → (next : Option (ℕ × ℕ)) → Row → List Frame → Type 0
 Unwinds row [] next row' frames' = (next ≡ None) × (row' ≡ row) × (frames' ≡ [])
-Unwinds row (explore q at ∷ frames) next row' frames' =
-    (next ≡ Some (q, at)) × (row' ≡ row) × (frames' ≡ frames)
+Unwinds row (explore place at ∷ frames) next row' frames' =
+    (next ≡ Some (place, at)) × (row' ≡ row) × (frames' ≡ frames)
 Unwinds row (restore slot old ∷ frames) next row' frames' =
     Unwinds (slice_set row slot old) frames next row' frames'
 
 module _ (table : List (Place ℕ)) (haystack : List ℕ) where
   -- all ways from the start at this offset were followed, or a match ends at `end`
-  pub record Explores (s start : ℕ) (walk walk' : Walk) (end : Option ℕ) : Type 0 where
-    pub on : GoesOn table haystack (with_frames walk (explore s start ∷ []))
+  pub record Explores (entry start : ℕ) (walk walk' : Walk) (end : Option ℕ) : Type 0 where
+    pub on : GoesOn table haystack (with_frames walk (explore entry start ∷ []))
         (with_frames walk' []) end
     pub fit : end ≡ None → HasRoom table haystack walk' []
     pub empty : end ≡ None → walk'.stack.frames ≡ []
@@ -58,14 +58,15 @@ module _ (table : List (Place ℕ)) (haystack : List ℕ) where
 
     -- all ways from the starts below position p were followed. Those that are left are counted with
     -- what is due
-    pub record IsUnderWay (s p : ℕ) (walk : Walk) : Type 0 where
+    pub record IsUnderWay (entry p : ℕ) (walk : Walk) : Type 0 where
       pub low : position_at haystack start ≤ p
       pub first : walk.visited.first ≡ start
       pub fit : HasRoom table haystack walk []
       pub room : HasRoomForAll walk
       pub empty : walk.stack.frames ≡ []
-      pub walking : IsWalking table (searching table haystack s (position_at haystack start) p 0)
-          walk.visited (record walk.stack { frames = [] })
+      pub walking : IsWalking table
+          (searching table haystack entry (position_at haystack start) p 0) walk.visited
+          (record walk.stack { frames = [] })
       pub tries :
           due_tries table haystack walk + (length (chars haystack) + 1 - p)
           ≤ (arrows_of table + 1) * (characters_left (chars haystack) (position_at haystack start)

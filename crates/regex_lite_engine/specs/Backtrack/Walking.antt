@@ -14,24 +14,24 @@ use Rattle.regex_lite_engine.specs.Search.Offers.{Offer, Node}
 use Rattle.regex_lite_engine.specs.Search.Rows.{Row, IsBlank}
 use Rattle.regex_lite_engine.specs.Search.NumberedAnswer.{place_with, numbered_step, is_end}
 
-module _ (table : List (Place ℕ)) (haystack : Text) (s : ℕ) where
-  -- the way w leads to n from place s at the offset i, and the row has what it marks
-  abbrev pub WayHolds : (i : ℕ) → Row → Node → (w : List ℕ) → Type 0
-  WayHolds i row n w =
-      (j : ℕ) × (ks : List ℕ) × (i ≡ offset haystack j) × (w ≡ j ∷ ks)
-      × Leads Node (numbered_step table haystack) (s, j) ks n
-      × HasSlots haystack row (marks_along haystack (place_with table) (Some (s, j)) ks)
+module _ (table : List (Place ℕ)) (haystack : Text) (entry : ℕ) where
+  -- the way leads to the node from the entry at the offset `start`, and the row has what it marks
+  abbrev pub WayHolds : (start : ℕ) → Row → Node → (way : List ℕ) → Type 0
+  WayHolds start row node way =
+      (from : ℕ) × (arrows : List ℕ) × (start ≡ offset haystack from) × (way ≡ from ∷ arrows)
+      × Leads Node (numbered_step table haystack) (entry, from) arrows node
+      × HasSlots haystack row (marks_along haystack (place_with table) (Some (entry, from)) arrows)
 
   -- The frames hold the offers, the first on top. The row of each is the one that stands when its
   -- frame is popped, and when all have been popped no slot is marked
-  abbrev pub FramesHold : (i : ℕ) → Row → List Frame → List (Offer Node) → Type 0
-  FramesHold i row [] offers = (offers ≡ []) × IsBlank row
-  FramesHold i row (explore q at ∷ frames) offers =
-      (p : ℕ) × (w : List ℕ) × (rest : List (Offer Node)) × IsOffset haystack p at
-      × (offers ≡ ((q, p), w) ∷ rest) × WayHolds i row (q, p) w
-      × FramesHold i row frames rest
-  FramesHold i row (restore slot old ∷ frames) offers =
-      FramesHold i (slice_set row slot old) frames offers
+  abbrev pub FramesHold : (start : ℕ) → Row → List Frame → List (Offer Node) → Type 0
+  FramesHold start row [] offers = (offers ≡ []) × IsBlank row
+  FramesHold start row (explore place at ∷ frames) offers =
+      (p : ℕ) × (way : List ℕ) × (rest : List (Offer Node)) × IsOffset haystack p at
+      × (offers ≡ ((place, p), way) ∷ rest) × WayHolds start row (place, p) way
+      × FramesHold start row frames rest
+  FramesHold start row (restore slot old ∷ frames) offers =
+      FramesHold start (slice_set row slot old) frames offers
 
 -- A search from position `first` on, for the pattern that is entered at this place. The starts
 -- below position `from` were offered, and the ways of the start at the offset i are followed
@@ -51,10 +51,10 @@ pub record IsWalking (table : List (Place ℕ)) (search : SearchFrom) (pairs : P
       (λ p. (search.entry, p)) (is_end table search.haystack) search.first
       (length search.haystack) search.from recorded offers
   -- just the pairs with a record were entered
-  pub seen : (q p : ℕ) (way : List ℕ) → recorded (q, p) ≡ Some way
-      → was_entered pairs q (offset search.haystack p) ≡ true
-  pub met : (q p : ℕ) → q < length table → search.first ≤ p → IsPosition search.haystack p
-      → was_entered pairs q (offset search.haystack p) ≡ true
-      → (way : List ℕ) × (recorded (q, p) ≡ Some way)
+  pub seen : (place p : ℕ) (way : List ℕ) → recorded (place, p) ≡ Some way
+      → was_entered pairs place (offset search.haystack p) ≡ true
+  pub met : (place p : ℕ) → place < length table → search.first ≤ p → IsPosition search.haystack p
+      → was_entered pairs place (offset search.haystack p) ≡ true
+      → (way : List ℕ) × (recorded (place, p) ≡ Some way)
   pub frames_hold : FramesHold table search.haystack search.entry search.i held.row held.frames
       offers

@@ -13,9 +13,9 @@ use Rattle.regex_lite_engine.specs.Search.NumberedOutcomes.{Best}
 
 -- the condition is met between these neighbours
 abbrev pub is_met : Condition → (before after : Option ℕ) → Bool
-is_met free b a = true
-is_met (holding test) b a = holds_between test b a
-is_met (reading set) b a = reads set a
+is_met free before after = true
+is_met (holding test) before after = holds_between test before after
+is_met (reading set) before after = reads set after
 
 -- the conditions of the arrows are met here where they are met there
 abbrev pub FitAlike : List (Arrow ℕ) → (here there : Here) → Type 0
@@ -32,7 +32,8 @@ FitsAlike (with_arrows arrows) here there = FitAlike arrows here there
 -- no place distinguishes the two
 abbrev pub AreAlike : List (Place ℕ) → (here there : Here) → Type 0
 AreAlike table here there =
-    (q : ℕ) (place : Place ℕ) → slice_get table q ≡ Some place → FitsAlike place here there
+    (number : ℕ) (place : Place ℕ) → slice_get table number ≡ Some place
+    → FitsAlike place here there
 
 -- the thread, of which something else is known
 abbrev pub retold : (Told → Told) → Thread → Thread

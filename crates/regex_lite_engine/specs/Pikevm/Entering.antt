@@ -55,15 +55,16 @@ SlotMarked at slot to before after =
     }))))
     ⊎ ((length before.row ≤ slot) × (after ≡ pushing before (explore to ∷ [])))
 
-module _ (here : Here) (i : Told) where
-  -- i is kept of where the way to the place began; `done` says that a match is complete there
+module _ (here : Here) (told : Told) where
+  -- `told` is kept of where the way to the place began; `done` says that a match is complete there
   abbrev pub Enters : Place → (before after : State) → (done : Bool) → Type 0
   Enters (stored.Empty to) before after done =
       (after ≡ pushing before (explore to ∷ [])) × (done ≡ false)
   Enters (stored.Char c to) before after done =
-      (after ≡ reading_on (reads (just c) here.after) before (to, i, before.row)) × (done ≡ false)
+      (after ≡ reading_on (reads (just c) here.after) before (to, told, before.row))
+      × (done ≡ false)
   Enters (stored.Class to set) before after done =
-      (after ≡ reading_on (reads (in_ranges set) here.after) before (to, i, before.row))
+      (after ≡ reading_on (reads (in_ranges set) here.after) before (to, told, before.row))
       × (done ≡ false)
   Enters (stored.Look test to) before after done =
       (after ≡ (if holds_between test here.before here.after then pushing before (explore to ∷ [])

@@ -1,5 +1,6 @@
 -- A walk over a graph that goes from position to position: what it has recorded, and the ways that
--- it has still to follow. Nodes stand at positions, and a way has its start in front.
+-- it has still to follow. Nodes stand at positions, and a way has its start in front. Below n and m
+-- are nodes, w and v the ways to them, k the number of an arrow, and b the best way.
 use Rattle.std.specs.Prelude.{◌≡◌, ◌≤◌, ◌⊎◌, ℕ, suc, Bool, IsTrue}
 use Rattle.std.specs.Prelude.{List, [], ◌∷◌, ◌++◌, Option, Some}
 use Rattle.regex_lite_engine.specs.Search.Preference.{IsPreferred}

@@ -22,33 +22,33 @@ GoesOnAt table haystack entries threads best p here =
     ⊎ ((threads ≡ []) × (best ≡ None)
     × PassesTo (AreDeadAt table haystack entries) haystack p here)
 
-module _ (table : List (Place ℕ)) (haystack : Text) (starts : List ℕ) (s : ℕ) where
+module _ (table : List (Place ℕ)) (haystack : Text) (starts : List ℕ) (first : ℕ) where
   -- a search up to position p has cost no more than what is in this part of the table
   pub record HasSpentWithin {S : Type 0} (low len p : ℕ) (cache : Cache S) : Type 0 where
     pub tries :
         cache.walk.steps.tried + length cache.walk.memory.threads
-        ≤ (arrows_of (row_of table low len) + length starts) * (p - s)
-    pub entries : cache.walk.steps.entered ≤ len * (p - s)
+        ≤ (arrows_of (row_of table low len) + length starts) * (p - first)
+    pub entries : cache.walk.steps.entered ≤ len * (p - first)
 
-  -- a search from position s on has come to position p
+  -- a search from position `first` on has come to position p
   pub record IsUnderWay {S : Type 0} (p : ℕ) (cache : Cache S) : Type 0 where
-    pub low : s ≤ p
+    pub low : first ≤ p
     pub ready : IsBetween table cache
-    pub coming : IsComing table haystack starts s (length haystack) p cache.walk.memory.threads
+    pub coming : IsComing table haystack starts first (length haystack) p cache.walk.memory.threads
         (best_of cache.best)
     pub tries :
         cache.walk.steps.tried + length cache.walk.memory.threads
-        ≤ (arrows_of table + length starts) * (p - s)
-    pub entries : cache.walk.steps.entered ≤ length table * (p - s)
+        ≤ (arrows_of table + length starts) * (p - first)
+    pub entries : cache.walk.steps.entered ≤ length table * (p - first)
     pub own : (low len : ℕ) → IsOwnPart table starts low len → HasSpentWithin low len p cache
-    pub rounds : cache.walk.memory.now < 2 ^ 63 + (p - s)
+    pub rounds : cache.walk.memory.now < 2 ^ 63 + (p - first)
 
   -- it has gone over a position that is not before p
   pub record Passes {S : Type 0} (p : ℕ) (cache cache' : Cache S) (here : Here) : Type 0 where
     pub q : ℕ
     pub later : p ≤ q
     pub is : IsHere haystack q here
-    pub before : IsComing table haystack starts s (length haystack) q cache.walk.memory.threads
+    pub before : IsComing table haystack starts first (length haystack) q cache.walk.memory.threads
         (best_of cache.best)
     pub ends : EndsAt here.at (best_of cache.best) (best_of cache'.best)
     pub after : IsUnderWay (q + 1) cache'

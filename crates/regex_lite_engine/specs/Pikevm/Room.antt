@@ -17,19 +17,20 @@ use Rattle.regex_lite_engine.specs.Search.NumberedOutcomes.{Best}
 
 -- the sum over the places that were not entered in this round
 abbrev pub left_of : (Place ℕ → ℕ) → (now : ℕ) → (rounds : List ℕ) → List (Place ℕ) → ℕ
-left_of f now [] table = 0
-left_of f now (round ∷ rounds) [] = 0
-left_of f now (round ∷ rounds) (place ∷ table) =
-    (if round == now then 0 else f place) + left_of f now rounds table
+left_of measure now [] table = 0
+left_of measure now (round ∷ rounds) [] = 0
+left_of measure now (round ∷ rounds) (place ∷ table) =
+    (if round == now then 0 else measure place) + left_of measure now rounds table
 
 abbrev pub explores : List Frame → ℕ
 explores [] = 0
-explores (explore q ∷ frames) = explores frames + 1
+explores (explore place ∷ frames) = explores frames + 1
 explores (restore slot old ∷ frames) = explores frames
 
 abbrev pub FramesBelow : (places width : ℕ) → List Frame → Type 0
 FramesBelow places width [] = Unit {0}
-FramesBelow places width (explore q ∷ frames) = (q < places) × FramesBelow places width frames
+FramesBelow places width (explore place ∷ frames) =
+    (place < places) × FramesBelow places width frames
 FramesBelow places width (restore slot old ∷ frames) =
     (slot < width) × FramesBelow places width frames
 
@@ -59,7 +60,7 @@ module _ (table : List (Place ℕ)) where
 
   pub record IsFit {S : Type 0} (walk : Walk S) : Type 0 where
     pub all_seen : length walk.memory.rounds ≡ length table
-    pub old_rounds : (q : ℕ) → slice_index walk.memory.rounds q ≤ walk.memory.now
+    pub old_rounds : (place : ℕ) → slice_index walk.memory.rounds place ≤ walk.memory.now
     pub frames_below : FramesBelow (length table) (length walk.memory.row) walk.memory.frames
     pub threads_below : ThreadsBelow (length table) walk.memory.next
     pub stack_room :
@@ -75,32 +76,32 @@ module _ (table : List (Place ℕ)) where
     pub looked_entered : walk.steps.looked ≤ walk.steps.entered
 
   -- from one state to a later one, in whatever haystack it stands there
-  abbrev pub WalksTo : Here → (i : Told) → (before after : State) → (done : Bool) → Type 0
-  WalksTo here i before after done =
+  abbrev pub WalksTo : Here → (told : Told) → (before after : State) → (done : Bool) → Type 0
+  WalksTo here told before after done =
       (at : SearchAt) → IsHere at.haystack at.p here → (ways : List Thread) (best : Best)
-      → IsWalking table at before i ways best
-      → IsWalking table at after i (if done then [] else ways)
-      (if done then Some (i, here.at, after.row) else best)
+      → IsWalking table at before told ways best
+      → IsWalking table at after told (if done then [] else ways)
+      (if done then Some (told, here.at, after.row) else best)
 
   -- the same from wherever it looks the same, with something else kept
-  abbrev pub WalksAgain : Here → (i : Told) → (before after : State) → (done : Bool) → Type 0
-  WalksAgain here i before after done =
+  abbrev pub WalksAgain : Here → (told : Told) → (before after : State) → (done : Bool) → Type 0
+  WalksAgain here told before after done =
       (tell : Told → Told) (there : Here) → AreAlike table here there
-      → WalksTo there (tell i) (state_retold tell before) (state_retold tell after) done
+      → WalksTo there (tell told) (state_retold tell before) (state_retold tell after) done
 
   -- a walk went on, up to a complete match where it is done
-  pub record GoesOn {S : Type 0} (here : Here) (i : Told) (walk walk' : Walk S) (done : Bool)
+  pub record GoesOn {S : Type 0} (here : Here) (told : Told) (walk walk' : Walk S) (done : Bool)
       : Type 0 where
-    pub walks : WalksTo here i walk.memory walk'.memory done
-    pub again : WalksAgain here i walk.memory walk'.memory done
+    pub walks : WalksTo here told walk.memory walk'.memory done
+    pub again : WalksAgain here told walk.memory walk'.memory done
     pub spent : due_tries walk' ≤ due_tries walk
     pub spent_entries : due_entries walk' ≤ due_entries walk
 
   -- a frame was popped, or all of them if a match is complete
-  pub record Went {S : Type 0} (here : Here) (i : Told) (walk walk' : Walk S) (done : Bool)
+  pub record Went {S : Type 0} (here : Here) (told : Told) (walk walk' : Walk S) (done : Bool)
       : Type 0 where
     pub fit : IsFit walk'
-    pub on : GoesOn here i walk walk' done
+    pub on : GoesOn here told walk walk' done
     pub less : done ≡ false → work walk'.memory < work walk.memory
     pub cleared : done ≡ true → walk'.memory.frames ≡ []
 
@@ -109,16 +110,16 @@ module _ (table : List (Place ℕ)) where
   abbrev pub HasRoom : {S : Type 0} → Walk S → List Frame → Type 0
   HasRoom walk frames = IsFit (with_frames walk frames)
 
-  abbrev pub TakesFrame : {S : Type 0} → Here → (i : Told) → Walk S → List Frame → Walk S
+  abbrev pub TakesFrame : {S : Type 0} → Here → (told : Told) → Walk S → List Frame → Walk S
       → List Frame → (done : Bool) → Type 0
-  TakesFrame here i walk frames walk' frames' done =
-      Went here i (with_frames walk frames) (with_frames walk' frames') done
+  TakesFrame here told walk frames walk' frames' done =
+      Went here told (with_frames walk frames) (with_frames walk' frames') done
 
   -- all frames were popped
-  abbrev pub Explores : {S : Type 0} → Here → (i : Told) → (walk walk' : Walk S) → List Frame
+  abbrev pub Explores : {S : Type 0} → Here → (told : Told) → (walk walk' : Walk S) → List Frame
       → (done : Bool) → Type 0
-  Explores here i walk walk' frames done =
-      GoesOn here i (with_frames walk frames) (with_frames walk' []) done
+  Explores here told walk walk' frames done =
+      GoesOn here told (with_frames walk frames) (with_frames walk' []) done
 
 -- what a walk over the position leaves as it is
 pub record KeepsPosition (memory memory' : State) : Type 0 where

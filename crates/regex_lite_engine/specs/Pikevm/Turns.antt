@@ -28,7 +28,7 @@ FromIs p from (Some best) = Unit {0}
 -- the best match afterwards is that of before, or ends at the offset
 abbrev pub EndsAt : (at : ℕ) → (before after : Best) → Type 0
 EndsAt at before after =
-    (after ≡ before) ⊎ ((i : Told) × (row : Row) × (after ≡ Some (i, at, row)))
+    (after ≡ before) ⊎ ((told : Told) × (row : Row) × (after ≡ Some (told, at, row)))
 
 module _ (table : List (Place ℕ)) where
   -- nothing is on the stack
@@ -44,22 +44,22 @@ module _ (table : List (Place ℕ)) where
       → Between at after left best'
 
   -- all below position p is done; what is offered at p are the threads, without its own start
-  pub record IsComing (haystack : Text) (s : List ℕ) (first last p : ℕ)
+  pub record IsComing (haystack : Text) (entries : List ℕ) (first last p : ℕ)
       (threads : List Thread) (best : Best) : Type 0 where
     pub recorded : Node → Option (List ℕ)
     pub coming : List (Offer Node)
     pub way : Option (List ℕ)
     pub from : ℕ
-    pub in_step : InStep table haystack s first last p from recorded coming [] way
-    pub before : (n : Node) (v : List ℕ) → recorded n ≡ Some v → n.1 < p
-    pub hold : ThreadsHold table haystack s p threads coming
-    pub best_holds : BestHolds table haystack s best way
+    pub in_step : InStep table haystack entries first last p from recorded coming [] way
+    pub before : (node : Node) (own : List ℕ) → recorded node ≡ Some own → node.1 < p
+    pub hold : ThreadsHold table haystack entries p threads coming
+    pub best_holds : BestHolds table haystack entries best way
     pub from_is : FromIs p from best
 
   -- the memory of a search between two positions
   pub record IsReady (memory : State) (best : BestState) (counts : StepCounts) : Type 0 where
     pub all_seen : length memory.rounds ≡ length table
-    pub old_rounds : (q : ℕ) → slice_index memory.rounds q ≤ memory.now
+    pub old_rounds : (place : ℕ) → slice_index memory.rounds place ≤ memory.now
     pub cap : reading_of table < memory.room
     pub few : length memory.threads ≤ reading_of table
     pub below : ThreadsBelow (length table) memory.threads

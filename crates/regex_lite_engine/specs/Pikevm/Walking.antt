@@ -16,48 +16,51 @@ use Rattle.regex_lite_engine.specs.Search.NumberedOutcomes.{Best}
 use Rattle.regex_lite_engine.specs.Search.Offers.{Offer, Node}
 
 module _ (table : List (Place ℕ)) (haystack : Text) where
-  module _ (s : List ℕ) where
-    -- the way w leads to n from where a pattern is entered, of which i is kept, and the row has
-    -- what it marks. It begins with the position there, and then the pattern's number
-    abbrev pub WayTold : (i : Told) → Row → Node → (w : List ℕ) → Type 0
-    WayTold i row n w =
-        (j : ℕ) × (number : ℕ) × (entry : ℕ) × (ks : List ℕ)
-        × TellsStart i (offset haystack j) number × IsEntry s number entry × (w ≡ j ∷ (number ∷ ks))
-        × Leads Node (numbered_step table haystack) (entry, j) ks n
-        × HasSlots haystack row (marks_along haystack (place_with table) (Some (entry, j)) ks)
+  module _ (entries : List ℕ) where
+    -- the way leads to the node from where a pattern is entered, of which this is told, and the row
+    -- has what it marks. It begins with the position there, and then the pattern's number
+    abbrev pub WayTold : (told : Told) → Row → Node → (way : List ℕ) → Type 0
+    WayTold told row node way =
+        (from : ℕ) × (number : ℕ) × (entry : ℕ) × (arrows : List ℕ)
+        × TellsStart told (offset haystack from) number × IsEntry entries number entry
+        × (way ≡ from ∷ (number ∷ arrows))
+        × Leads Node (numbered_step table haystack) (entry, from) arrows node
+        × HasSlots haystack row
+        (marks_along haystack (place_with table) (Some (entry, from)) arrows)
 
     -- the frames hold the offers at position p, the first on top. The row of each is the one that
     -- stands when its frame is popped
-    abbrev pub FramesHold : (p : ℕ) → (i : Told) → Row → List Frame → List (Offer Node) → Type 0
-    FramesHold p i row [] os = os ≡ []
-    FramesHold p i row (explore q ∷ frames) os =
-        (w : List ℕ) × (rest : List (Offer Node)) × (os ≡ ((q, p), w) ∷ rest)
-        × WayTold i row (q, p) w × FramesHold p i row frames rest
-    FramesHold p i row (restore slot old ∷ frames) os =
-        FramesHold p i (slice_set row slot old) frames os
+    abbrev pub FramesHold : (p : ℕ) → (told : Told) → Row → List Frame → List (Offer Node) → Type 0
+    FramesHold p told row [] offers = offers ≡ []
+    FramesHold p told row (explore place ∷ frames) offers =
+        (way : List ℕ) × (rest : List (Offer Node)) × (offers ≡ ((place, p), way) ∷ rest)
+        × WayTold told row (place, p) way × FramesHold p told row frames rest
+    FramesHold p told row (restore slot old ∷ frames) offers =
+        FramesHold p told (slice_set row slot old) frames offers
 
     -- the threads hold the offers at position p, one each
     abbrev pub ThreadsHold : (p : ℕ) → List Thread → List (Offer Node) → Type 0
     ThreadsHold p [] [] = Unit {0}
-    ThreadsHold p (thread ∷ threads) (o ∷ os) =
-        (o.0 ≡ (thread.0, p)) × WayTold thread.1 thread.2 o.0 o.1 × ThreadsHold p threads os
-    ThreadsHold p [] (o ∷ os) = ⊥
+    ThreadsHold p (thread ∷ threads) (offer ∷ offers) =
+        (offer.0 ≡ (thread.0, p)) × WayTold thread.1 thread.2 offer.0 offer.1
+        × ThreadsHold p threads offers
+    ThreadsHold p [] (offer ∷ offers) = ⊥
     ThreadsHold p (thread ∷ threads) [] = ⊥
 
     -- the best match is that of the way
     abbrev pub BestHolds : Best → Option (List ℕ) → Type 0
     BestHolds None way = way ≡ None
-    BestHolds (Some b) way =
-        (w : List ℕ) × (way ≡ Some w)
-        × ((q : ℕ) × (e : ℕ) × (b.1 ≡ offset haystack e) × IsTrue (is_end table haystack (q, e))
-        × WayTold b.0 b.2 (q, e) w)
+    BestHolds (Some best) way =
+        (own : List ℕ) × (way ≡ Some own)
+        × ((place : ℕ) × (end : ℕ) × (best.1 ≡ offset haystack end)
+        × IsTrue (is_end table haystack (place, end)) × WayTold best.0 best.2 (place, end) own)
 
     module _ (first last : ℕ) where
       abbrev pub InStep : (p from : ℕ) → (recorded : Node → Option (List ℕ))
           → (offers next : List (Offer Node)) → (way : Option (List ℕ)) → Type 0
       InStep =
-          IsInStep Node (numbered_step table haystack) (StartsOf s first last)
-          (is_end table haystack) (λ n. n.1)
+          IsInStep Node (numbered_step table haystack) (StartsOf entries first last)
+          (is_end table haystack) (λ node. node.1)
 
 -- a search at position p: for the patterns that are entered at these places, by ways that start
 -- from `first` to `last`. Starts below `from` were offered
@@ -69,9 +72,9 @@ pub record SearchAt : Type 0 where
   pub p : ℕ
   pub from : ℕ
 
--- The frames belong to a thread of whose start i is kept. Left are the frames, then these ways; at
--- the next position there are so far the threads of `next`
-pub record IsWalking (table : List (Place ℕ)) (at : SearchAt) (state : State) (i : Told)
+-- The frames belong to a thread of whose start this is told. Left are the frames, then these ways;
+-- at the next position there are so far the threads of `next`
+pub record IsWalking (table : List (Place ℕ)) (at : SearchAt) (state : State) (told : Told)
     (ways : List Thread) (best : Best) : Type 0 where
   pub recorded : Node → Option (List ℕ)
   pub under : List (Offer Node)
@@ -81,11 +84,11 @@ pub record IsWalking (table : List (Place ℕ)) (at : SearchAt) (state : State) 
   pub in_step : InStep table at.haystack at.entries at.first at.last at.p at.from recorded
       (under ++ later) coming way
   -- just the places with a record at the position are in the set of those entered
-  pub seen : (q : ℕ) (v : List ℕ) → recorded (q, at.p) ≡ Some v
-      → slice_index state.rounds q ≡ state.now
-  pub met : (q : ℕ) → q < length state.rounds → slice_index state.rounds q ≡ state.now
-      → (v : List ℕ) × (recorded (q, at.p) ≡ Some v)
-  pub frames_hold : FramesHold table at.haystack at.entries at.p i state.row state.frames under
+  pub seen : (place : ℕ) (own : List ℕ) → recorded (place, at.p) ≡ Some own
+      → slice_index state.rounds place ≡ state.now
+  pub met : (place : ℕ) → place < length state.rounds → slice_index state.rounds place ≡ state.now
+      → (own : List ℕ) × (recorded (place, at.p) ≡ Some own)
+  pub frames_hold : FramesHold table at.haystack at.entries at.p told state.row state.frames under
   pub ways_hold : ThreadsHold table at.haystack at.entries at.p ways later
   pub coming_hold : ThreadsHold table at.haystack at.entries (suc at.p) state.next coming
   pub best_holds : BestHolds table at.haystack at.entries best way
