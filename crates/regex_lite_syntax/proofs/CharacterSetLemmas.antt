@@ -4,9 +4,8 @@ use Rattle.regex_lite_syntax.proofs.Common.{sym, subst, inl, inr, arith, and_par
 use Rattle.regex_lite_syntax.proofs.Common.{or_cases, nat_tests, is_character, is_letter, SetName}
 use Rattle.regex_lite_syntax.proofs.Common.{members, word, Set, just, span, union, complement}
 use Rattle.regex_lite_syntax.proofs.Common.{case_closure}
-use Rattle.regex_lite_syntax.specs.NamedSets.{alnum, alpha, ascii, blank}
-use Rattle.regex_lite_syntax.specs.NamedSets.{cntrl, digit, graph, lower, print, punct, space}
-use Rattle.regex_lite_syntax.specs.NamedSets.{upper, xdigit}
+use Rattle.regex_lite_syntax.specs.NamedSets.{alnum, alpha, ascii, blank, cntrl, digit, graph}
+use Rattle.regex_lite_syntax.specs.NamedSets.{lower, print, punct, space, upper, xdigit}
 
 -- the set holds characters alone
 abbrev pub HoldsCharacters : Set → Type 0

@@ -7,8 +7,7 @@ use Rattle.std.proofs.Common.{Vec, Box}
 use Rattle.regex_lite_syntax.specs.Tree.Views.{node_tree}
 use Rattle.regex_lite_syntax.specs.declared.hir.Hir.{Hir-F, fold-roll-Hir}
 use Rattle.regex_lite_syntax.specs.declared.hir.Hir.TheVariants.{Repetition, rolls-Repetition}
-use Rattle.regex_lite_syntax.specs.declared.hir.Hir.TheVariants.{Concat}
-use Rattle.regex_lite_syntax.specs.declared.hir.Hir.TheVariants.{rolls-Concat, Alternation}
+use Rattle.regex_lite_syntax.specs.declared.hir.Hir.TheVariants.{Concat, rolls-Concat, Alternation}
 use Rattle.regex_lite_syntax.specs.declared.hir.Hir.TheVariants.{rolls-Alternation}
 
 pub tree_of-Repetition : (least : ℕ) (most : Option ℕ) (greedy : Bool) (body : Box Hir Global)

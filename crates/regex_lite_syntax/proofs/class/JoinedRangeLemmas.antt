@@ -3,8 +3,7 @@ use Rattle.regex_lite_syntax.proofs.Common.{◌≡◌, ℕ, ◌+◌, ◌-◌, �
 use Rattle.regex_lite_syntax.proofs.Common.{length, get_or, take, drop, IsTrue, All, sym, ap, ◌∙◌}
 use Rattle.regex_lite_syntax.proofs.Common.{subst, arith, nat_tests, get_or-drop, is_character}
 use Rattle.regex_lite_syntax.proofs.Common.{in_ranges, next_character, AreRuns, span, ClassRange}
-use Rattle.std.proofs.Common.{add-zero}
-use Rattle.std.proofs.Common.{nat_cmp, slice_set}
+use Rattle.std.proofs.Common.{add-zero, nat_cmp, slice_set}
 use Rattle.std.specs.Ordering.{ord_max}
 use Rattle.std.proofs.lemmas.Grind.{common_steps}
 use Rattle.std.proofs.lemmas.List.{take_more, take_more_set, drop-drop}

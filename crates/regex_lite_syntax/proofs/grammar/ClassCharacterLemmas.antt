@@ -8,10 +8,8 @@ use Rattle.regex_lite_syntax.proofs.Common.{gives, word_boundary, hexadecimal, r
 use Rattle.regex_lite_syntax.proofs.Common.{Hexadecimal, fixed, braced, EscapeFrom, Escape, members}
 use Rattle.regex_lite_syntax.proofs.Common.{word, Set, just, union, case_closure, Text, the}
 use Rattle.regex_lite_syntax.specs.NamedSets.{digit, space}
-use Rattle.regex_lite_syntax.specs.Grammar.Escapes.{Primitive}
-use Rattle.regex_lite_syntax.specs.Grammar.Escapes.{is_escapable}
-use Rattle.regex_lite_syntax.specs.Grammar.Classes.{literal, escaped}
-use Rattle.regex_lite_syntax.specs.Grammar.Classes.{character}
+use Rattle.regex_lite_syntax.specs.Grammar.Escapes.{Primitive, is_escapable}
+use Rattle.regex_lite_syntax.specs.Grammar.Classes.{literal, escaped, character}
 use Rattle.regex_lite_syntax.proofs.CharacterSetLemmas.{HoldsCharacters, just_character}
 use Rattle.regex_lite_syntax.proofs.CharacterSetLemmas.{span_characters, complement_characters}
 use Rattle.regex_lite_syntax.proofs.CharacterSetLemmas.{named_characters, named_or_others}

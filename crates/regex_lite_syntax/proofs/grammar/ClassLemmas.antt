@@ -10,8 +10,7 @@ use Rattle.regex_lite_syntax.proofs.Common.{class_set, BracketedClass, one, some
 use Rattle.regex_lite_syntax.proofs.Common.{WholeGap, SetName, members, set_named, Lacks, Set, just}
 use Rattle.regex_lite_syntax.proofs.Common.{span, complement, Text, Begins, the}
 use Rattle.regex_lite_syntax.specs.Grammar.Escapes.{Primitive}
-use Rattle.regex_lite_syntax.specs.Grammar.Classes.{literal, escaped}
-use Rattle.regex_lite_syntax.specs.Grammar.Classes.{character}
+use Rattle.regex_lite_syntax.specs.Grammar.Classes.{literal, escaped, character}
 use Rattle.regex_lite_syntax.proofs.ListLemmas.{same_head, same_tail}
 use Rattle.regex_lite_syntax.proofs.grammar.GapLemmas.{whole_gap_once}
 use Rattle.regex_lite_syntax.proofs.grammar.EscapeLemmas.{escape_once}

@@ -7,14 +7,12 @@ use Rattle.regex_lite_syntax.proofs.Common.{Takes, takes, leaves, Dashes, FirstB
 use Rattle.regex_lite_syntax.proofs.Common.{ClassOpening, ClassItems, BracketedClass, WholeGap}
 use Rattle.regex_lite_syntax.proofs.Common.{SetName, EndsOpen, at_once, past_dash, Set, Text, the}
 use Rattle.regex_lite_syntax.specs.Grammar.Escapes.{Primitive}
-use Rattle.regex_lite_syntax.specs.Grammar.Classes.{literal, escaped}
-use Rattle.regex_lite_syntax.specs.Grammar.Classes.{character}
+use Rattle.regex_lite_syntax.specs.Grammar.Classes.{literal, escaped, character}
 use Rattle.regex_lite_syntax.proofs.ListLemmas.{same_head, same_tail}
 use Rattle.regex_lite_syntax.proofs.grammar.GapLemmas.{whole_gap_once, gap_to_end}
 use Rattle.regex_lite_syntax.proofs.grammar.LongerEscapeLemmas.{escape_longer}
-use Rattle.regex_lite_syntax.proofs.grammar.LongerGapLemmas.{some_gap, some_before}
-use Rattle.regex_lite_syntax.proofs.grammar.LongerGapLemmas.{whole_longer, longer_gap}
-use Rattle.regex_lite_syntax.proofs.grammar.LongerGapLemmas.{begins_longer, full_gap}
+use Rattle.regex_lite_syntax.proofs.grammar.LongerGapLemmas.{some_gap, some_before, whole_longer}
+use Rattle.regex_lite_syntax.proofs.grammar.LongerGapLemmas.{longer_gap, begins_longer, full_gap}
 use Rattle.regex_lite_syntax.proofs.parse.bracket.ClassItemLemmas.{open_past_dash, nothing_left}
 
 -- the first two characters of a part

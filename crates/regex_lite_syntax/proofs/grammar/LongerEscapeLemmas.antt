@@ -4,12 +4,9 @@ use Rattle.regex_lite_syntax.proofs.Common.{word_boundary, hexadecimal, refused,
 use Rattle.regex_lite_syntax.proofs.Common.{FixedDigits, BracedDigits, Hexadecimal, fixed, braced}
 use Rattle.regex_lite_syntax.proofs.Common.{BoundaryName, WordBoundary, alone, before_count}
 use Rattle.regex_lite_syntax.proofs.Common.{EscapeFrom, Escape, Text, Begins, the, Look}
-use Rattle.regex_lite_syntax.specs.Grammar.Escapes.{Primitive}
-use Rattle.regex_lite_syntax.specs.Grammar.Escapes.{BeginsCount}
-use Rattle.regex_lite_syntax.specs.Grammar.Escapes.{named}
+use Rattle.regex_lite_syntax.specs.Grammar.Escapes.{Primitive, BeginsCount, named}
 use Rattle.regex_lite_syntax.proofs.grammar.LongerGapLemmas.{gap_before, spaced_longer}
-use Rattle.regex_lite_syntax.proofs.grammar.LongerGapLemmas.{no_gap_longer}
-use Rattle.regex_lite_syntax.proofs.grammar.LongerGapLemmas.{goes_on_longer}
+use Rattle.regex_lite_syntax.proofs.grammar.LongerGapLemmas.{no_gap_longer, goes_on_longer}
 use Rattle.regex_lite_syntax.proofs.grammar.SpacedLemmas.{boundary_characters_end}
 
 module _ (more : Text) where

@@ -8,8 +8,7 @@ use Rattle.regex_lite_syntax.proofs.Common.{uncounted_lazy, counted, counted_laz
 use Rattle.regex_lite_syntax.proofs.Common.{Text, the, Flags}
 use Rattle.std.proofs.lemmas.List.{append_cancel_right}
 use Rattle.regex_lite_syntax.specs.Grammar.Heads.{named}
-use Rattle.regex_lite_syntax.proofs.grammar.LongerGapLemmas.{Settles}
-use Rattle.regex_lite_syntax.proofs.grammar.LongerGapLemmas.{gap_longer, gap_before}
+use Rattle.regex_lite_syntax.proofs.grammar.LongerGapLemmas.{Settles, gap_longer, gap_before}
 use Rattle.regex_lite_syntax.proofs.grammar.LongerNumberLemmas.{number_longer}
 
 -- the same point of a longer pattern

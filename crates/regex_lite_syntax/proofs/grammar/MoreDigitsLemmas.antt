@@ -3,8 +3,7 @@ use Rattle.regex_lite_syntax.proofs.Common.{ℕ, ◌+◌, ◌*◌, ◌/◌, ◌%
 use Rattle.regex_lite_syntax.proofs.Common.{[], subst, inl, inr, arith, Gap, GrowsTo, as_it_is}
 use Rattle.regex_lite_syntax.proofs.Common.{Becomes, Text}
 use Rattle.std.proofs.lemmas.Nat.{div-add-mod'}
-use Rattle.regex_lite_syntax.specs.Parser.Numbers.{with_digit}
-use Rattle.regex_lite_syntax.specs.Parser.Numbers.{CanReach}
+use Rattle.regex_lite_syntax.specs.Parser.Numbers.{with_digit, CanReach}
 
 -- more digits make no number smaller
 pub grows_from : {number n : ℕ} → GrowsTo number n → number ≤ n

@@ -6,8 +6,7 @@ use Rattle.regex_lite_syntax.proofs.Common.{not-true, not_from_false, drop_more,
 use Rattle.regex_lite_syntax.proofs.Common.{AllPass-from_list_all, list_all-from_AllPass, AllPass}
 use Rattle.regex_lite_syntax.proofs.Common.{list_all, is_no_end, NameWritten, Text, the}
 use Rattle.std.proofs.lemmas.List.Edits.{between_more}
-use Rattle.regex_lite_syntax.specs.Grammar.GroupNames.{begins_name, continues_name}
-use Rattle.regex_lite_syntax.specs.Grammar.GroupNames.{is_name}
+use Rattle.regex_lite_syntax.specs.Grammar.GroupNames.{begins_name, continues_name, is_name}
 use Rattle.regex_lite_syntax.proofs.ListLemmas.{same_head, same_tail}
 use Rattle.regex_lite_syntax.proofs.grammar.WordLemmas.{pass_push}
 

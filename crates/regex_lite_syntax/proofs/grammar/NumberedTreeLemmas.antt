@@ -6,8 +6,7 @@ use Rattle.regex_lite_syntax.proofs.Common.{Trees, more, trees, sequence_of, cho
 use Rattle.std.specs.Prelude.{slice_index}
 use Rattle.std.specs.List.Sorted.{IsStrictlyIncreasing}
 use Rattle.std.proofs.lemmas.List.Kept.{AllPairs-from_increasing}
-use Rattle.regex_lite_syntax.specs.Tree.{empty, character}
-use Rattle.regex_lite_syntax.specs.Tree.{capture, none}
+use Rattle.regex_lite_syntax.specs.Tree.{empty, character, capture, none}
 use Rattle.regex_lite_syntax.specs.Tree.Properties.{greatest_index, greatest_index_in}
 use Rattle.regex_lite_syntax.specs.Tree.Numbering.{indices, indices_in, IndicesDiffer}
 

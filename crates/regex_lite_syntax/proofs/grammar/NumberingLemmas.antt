@@ -12,8 +12,7 @@ use Rattle.regex_lite_syntax.specs.Grammar.Escapes.{Primitive}
 use Rattle.regex_lite_syntax.specs.Tree.{character}
 use Rattle.regex_lite_syntax.specs.Tree.Properties.{greatest_index}
 use Rattle.regex_lite_syntax.specs.Grammar.Heads.{named}
-use Rattle.regex_lite_syntax.specs.Grammar.{Item, atom}
-use Rattle.regex_lite_syntax.specs.Grammar.{further}
+use Rattle.regex_lite_syntax.specs.Grammar.{Item, atom, further}
 use Rattle.regex_lite_syntax.specs.Grammar.Branch.{operator}
 use Rattle.regex_lite_syntax.proofs.grammar.NumberedTreeLemmas.{IsNumbered, Within, AllWithin}
 use Rattle.regex_lite_syntax.proofs.grammar.NumberedTreeLemmas.{all_with, all_without, leaf}

@@ -7,11 +7,9 @@ use Rattle.regex_lite_syntax.proofs.Common.{Directive, Operator, Point, onward, 
 use Rattle.regex_lite_syntax.proofs.Common.{State, first_state, ended, LeadsOn, stay, go, Text, the}
 use Rattle.regex_lite_syntax.proofs.Common.{Tree, sequence_of, choice_of, repeated, Flags}
 use Rattle.regex_lite_syntax.specs.Grammar.Heads.{outside}
-use Rattle.regex_lite_syntax.specs.Grammar.{Item, atom}
-use Rattle.regex_lite_syntax.specs.Grammar.{further}
+use Rattle.regex_lite_syntax.specs.Grammar.{Item, atom, further}
 use Rattle.regex_lite_syntax.specs.Grammar.Branch.{operator}
-use Rattle.regex_lite_syntax.specs.Parser.Machine.{opened}
-use Rattle.regex_lite_syntax.specs.Parser.Machine.{closed, parted, with_items}
+use Rattle.regex_lite_syntax.specs.Parser.Machine.{opened, closed, parted, with_items}
 use Rattle.regex_lite_syntax.proofs.machine.OneStepLemmas.{leads_to, leads_as}
 use Rattle.regex_lite_syntax.proofs.machine.StepLemmas.{step_open, step_direct, step_close}
 use Rattle.regex_lite_syntax.proofs.machine.StepLemmas.{step_part, step_operate, step_atom}

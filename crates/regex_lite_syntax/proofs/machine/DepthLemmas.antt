@@ -5,9 +5,8 @@ use Rattle.regex_lite_syntax.proofs.Common.{Directive, sets, Point, PastGap, Sta
 use Rattle.regex_lite_syntax.proofs.Common.{Kind, stop, kind_at, Does, Step, LeadsOn, stay, go, bar}
 use Rattle.regex_lite_syntax.proofs.Common.{closing, paren, Text, the, Flags}
 use Rattle.regex_lite_syntax.specs.Grammar.Heads.{named}
-use Rattle.regex_lite_syntax.specs.Parser.Machine.{opened, closed}
-use Rattle.regex_lite_syntax.specs.Parser.Machine.{parted, with_items}
-use Rattle.regex_lite_syntax.specs.Parser.Machine.{operator, atom}
+use Rattle.regex_lite_syntax.specs.Parser.Machine.{opened, closed, parted, with_items, operator}
+use Rattle.regex_lite_syntax.specs.Parser.Machine.{atom}
 
 -- a head begins with a `(`
 pub head_opens : {level : ℕ} {p q : Point} {kind : GroupKind} → Head level p q kind

@@ -9,21 +9,18 @@ use Rattle.regex_lite_syntax.proofs.Common.{HasTree, Gap, WholeGap, NamesDiffer,
 use Rattle.regex_lite_syntax.proofs.Common.{State, first_state, ended, kind_at, LeadsOn, stay}
 use Rattle.regex_lite_syntax.proofs.Common.{StepsTo, CanRead, BeginsTooMany, NoReading, Refuses}
 use Rattle.regex_lite_syntax.proofs.Common.{Text, choice_of, SyntaxFault, Flags, Parser, Stop}
-use Rattle.std.proofs.Common.{MatchOption, option_to_list}
-use Rattle.std.proofs.Common.{length-drop}
+use Rattle.std.proofs.Common.{MatchOption, option_to_list, length-drop}
 use Rattle.std.proofs.lemmas.List.{length_push}
 use Rattle.regex_lite_syntax.proofs.machine.DepthLemmas.{head_opens}
 use Rattle.regex_lite_syntax.specs.declared.error.ErrorKind.TheVariants as kind
-use Rattle.regex_lite_syntax.specs.FaultPlaces.{IsStuckAt, IsUnclosedAt, IsFaultAt}
-use Rattle.regex_lite_syntax.specs.FaultPlaces.{IsUntold}
+use Rattle.regex_lite_syntax.specs.FaultPlaces.{IsStuckAt, IsUnclosedAt, IsFaultAt, IsUntold}
 use Rattle.regex_lite_syntax.specs.Parser.Starts.{Tracks}
 use Rattle.regex_lite_syntax.specs.Parser.States.{state}
 use Rattle.regex_lite_syntax.proofs.ListLemmas.{same_tail}
 use Rattle.regex_lite_syntax.proofs.grammar.GapLemmas.{whole_gap_once, gap_to_end}
 use Rattle.regex_lite_syntax.proofs.grammar.LongerGapLemmas.{settled, whole_longer}
 use Rattle.regex_lite_syntax.proofs.machine.LongerRunLemmas.{leads_longer}
-use Rattle.regex_lite_syntax.proofs.machine.OneStepLemmas.{step_over_gap, step_past_gap}
-use Rattle.regex_lite_syntax.proofs.machine.OneStepLemmas.{leads_step}
+use Rattle.regex_lite_syntax.proofs.machine.OneStepLemmas.{step_over_gap, step_past_gap, leads_step}
 use Rattle.regex_lite_syntax.proofs.machine.ReadOnLemmas.{reads_of, stuck_farthest, unclosed_at}
 use Rattle.regex_lite_syntax.proofs.machine.RunLemmas.{Reaches, frames_are, stuck_refused}
 use Rattle.regex_lite_syntax.proofs.machine.RunLemmas.{open_refused, number_refused}

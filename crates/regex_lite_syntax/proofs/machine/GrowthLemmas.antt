@@ -7,9 +7,8 @@ use Rattle.regex_lite_syntax.proofs.Common.{plain, Directive, sets, Point, PastG
 use Rattle.regex_lite_syntax.proofs.Common.{first_state, Kind, stop, kind_at, Does, LeadsOn, stay}
 use Rattle.regex_lite_syntax.proofs.Common.{go, bar, closing, paren, Text, the, Tree, Flags}
 use Rattle.regex_lite_syntax.specs.Grammar.Heads.{named}
-use Rattle.regex_lite_syntax.specs.Parser.Machine.{opened, closed, parted}
-use Rattle.regex_lite_syntax.specs.Parser.Machine.{with_items}
-use Rattle.regex_lite_syntax.specs.Parser.Machine.{operator, atom}
+use Rattle.regex_lite_syntax.specs.Parser.Machine.{opened, closed, parted, with_items, operator}
+use Rattle.regex_lite_syntax.specs.Parser.Machine.{atom}
 use Rattle.regex_lite_syntax.proofs.machine.OneStepLemmas.{meets, at_end, leads_step}
 use Rattle.regex_lite_syntax.proofs.machine.CompleteLemmas.{complete}
 use Rattle.regex_lite_syntax.proofs.machine.StepLemmas.{step_open}

@@ -4,13 +4,11 @@ use Rattle.regex_lite_syntax.proofs.Common.{IsReadTo, AtomKind, single, escape, 
 use Rattle.regex_lite_syntax.proofs.Common.{atom_kind, AtomFrom, Atom, Point, start, State, Kind}
 use Rattle.regex_lite_syntax.proofs.Common.{stop, kind_at, Does, Step, LeadsOn, stay, go, bar}
 use Rattle.regex_lite_syntax.proofs.Common.{closing, paren, Text, Tree, Flags}
-use Rattle.regex_lite_syntax.specs.Parser.Machine.{opened, closed, parted}
-use Rattle.regex_lite_syntax.specs.Parser.Machine.{with_items}
-use Rattle.regex_lite_syntax.specs.Parser.Machine.{operator, atom}
+use Rattle.regex_lite_syntax.specs.Parser.Machine.{opened, closed, parted, with_items, operator}
+use Rattle.regex_lite_syntax.specs.Parser.Machine.{atom}
 use Rattle.regex_lite_syntax.proofs.grammar.LongerClassLemmas.{class_longer}
 use Rattle.regex_lite_syntax.proofs.grammar.LongerEscapeLemmas.{NoBraceComes, escape_longer}
-use Rattle.regex_lite_syntax.proofs.grammar.LongerGapLemmas.{GoesOn, Settles, settled}
-use Rattle.regex_lite_syntax.proofs.grammar.LongerGapLemmas.{whole_longer}
+use Rattle.regex_lite_syntax.proofs.grammar.LongerGapLemmas.{GoesOn, Settles, settled, whole_longer}
 use Rattle.regex_lite_syntax.proofs.grammar.LongerHeadLemmas.{longer, operator_longer}
 use Rattle.regex_lite_syntax.proofs.grammar.LongerHeadLemmas.{head_longer, directive_longer}
 use Rattle.regex_lite_syntax.proofs.machine.OneStepLemmas.{at_end}

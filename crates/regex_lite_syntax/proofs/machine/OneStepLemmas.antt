@@ -3,8 +3,7 @@ use Rattle.regex_lite_syntax.proofs.Common.{◌≡◌, [], sym, refl, ap, ◌∙
 use Rattle.regex_lite_syntax.proofs.Common.{EndsGap, WholeGap, Point, onward, PastGap, State, Kind}
 use Rattle.regex_lite_syntax.proofs.Common.{stop, kind_at, Does, Step, LeadsOn, stay, go, bar}
 use Rattle.regex_lite_syntax.proofs.Common.{closing, paren, Text}
-use Rattle.regex_lite_syntax.specs.Parser.Machine.{opened, closed, parted, with_items}
-use Rattle.regex_lite_syntax.specs.Parser.Machine.{operator}
+use Rattle.regex_lite_syntax.specs.Parser.Machine.{opened, closed, parted, with_items, operator}
 use Rattle.regex_lite_syntax.specs.Parser.Machine.{atom}
 use Rattle.regex_lite_syntax.proofs.ListLemmas.{same_head, same_tail, snoc_same}
 use Rattle.regex_lite_syntax.proofs.grammar.GapLemmas.{empty_gap, gap_at_end}

@@ -18,10 +18,8 @@ use Rattle.regex_lite_syntax.proofs.Common.{Flags, Look}
 use Rattle.std.specs.List.{count_by}
 use Rattle.std.proofs.lemmas.List.Sums.{sum_by-cons}
 use Rattle.regex_lite_syntax.proofs.grammar.ScanLemmas.{Scan, scan_of_spacing}
-use Rattle.regex_lite_syntax.specs.Grammar.Escapes.{Primitive}
-use Rattle.regex_lite_syntax.specs.Grammar.Escapes.{named as boundary_named}
-use Rattle.regex_lite_syntax.specs.Grammar.Classes.{literal, escaped}
-use Rattle.regex_lite_syntax.specs.Grammar.Classes.{character}
+use Rattle.regex_lite_syntax.specs.Grammar.Escapes.{Primitive, named as boundary_named}
+use Rattle.regex_lite_syntax.specs.Grammar.Classes.{literal, escaped, character}
 
 -- how many `(` the text has
 abbrev pub parens : Text → ℕ

@@ -12,8 +12,7 @@ use Rattle.regex_lite_syntax.proofs.Common.{Parser}
 use Rattle.std.specs.Prelude.{max as greatest}
 use Rattle.regex_lite_syntax.specs.Parser.NameOpenings.{Unnamed}
 use Rattle.regex_lite_syntax.specs.Parser.Machine.{opened, with_items}
-use Rattle.regex_lite_syntax.specs.Parser.States.{state}
-use Rattle.regex_lite_syntax.specs.Parser.States.{OpensGroup, OpensCapture, Directs}
+use Rattle.regex_lite_syntax.specs.Parser.States.{state, OpensGroup, OpensCapture, Directs}
 use Rattle.regex_lite_syntax.proofs.grammar.NameLemmas.{differ_more, no_second}
 use Rattle.regex_lite_syntax.proofs.grammar.HeadLemmas.{numbered_head, named_head}
 use Rattle.regex_lite_syntax.proofs.grammar.NameOpeningLemmas.{opening_question}

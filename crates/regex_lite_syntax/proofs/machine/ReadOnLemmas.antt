@@ -7,9 +7,8 @@ use Rattle.regex_lite_syntax.proofs.Common.{start, Frame, State, first_state, Ki
 use Rattle.regex_lite_syntax.proofs.Common.{Does, Step, LeadsOn, stay, go, bar, closing, paren}
 use Rattle.regex_lite_syntax.proofs.Common.{Text, Tree, sequence_of, Flags}
 use Rattle.regex_lite_syntax.specs.FaultPlaces.{ReadsOn, outside, in_group, IsUnclosedAt}
-use Rattle.regex_lite_syntax.specs.Parser.Machine.{opened, closed}
-use Rattle.regex_lite_syntax.specs.Parser.Machine.{parted, with_items}
-use Rattle.regex_lite_syntax.specs.Parser.Machine.{operator, atom}
+use Rattle.regex_lite_syntax.specs.Parser.Machine.{opened, closed, parted, with_items, operator}
+use Rattle.regex_lite_syntax.specs.Parser.Machine.{atom}
 use Rattle.regex_lite_syntax.proofs.grammar.NameLemmas.{differ_before}
 use Rattle.regex_lite_syntax.proofs.machine.CompleteLemmas.{standing, frame_at, into_group}
 use Rattle.regex_lite_syntax.proofs.machine.CompleteLemmas.{alternatives_lead}

@@ -4,10 +4,8 @@ use Rattle.regex_lite_syntax.proofs.Common.{reverse, Some, Option, sym, refl, ap
 use Rattle.regex_lite_syntax.proofs.Common.{Counted, EndsGap, NamesDiffer, times, Operator, State}
 use Rattle.regex_lite_syntax.proofs.Common.{Step, frame_of, StepsTo, CanRead, Text, the, Tree}
 use Rattle.regex_lite_syntax.proofs.Common.{repeated, tree_of, Parser}
-use Rattle.regex_lite_syntax.specs.Parser.Machine.{closed, parted}
-use Rattle.regex_lite_syntax.specs.Parser.Machine.{with_items, BeginsAtom}
-use Rattle.regex_lite_syntax.specs.Parser.States.{state, FreshStep}
-use Rattle.regex_lite_syntax.specs.Parser.States.{Closes, EndsBranch, Adds}
+use Rattle.regex_lite_syntax.specs.Parser.Machine.{closed, parted, with_items, BeginsAtom}
+use Rattle.regex_lite_syntax.specs.Parser.States.{state, FreshStep, Closes, EndsBranch, Adds}
 use Rattle.regex_lite_syntax.proofs.machine.StepLemmas.{at_once, step_close, step_part}
 use Rattle.regex_lite_syntax.proofs.machine.StepLemmas.{step_operate, step_atom, no_close}
 use Rattle.regex_lite_syntax.proofs.machine.StepLemmas.{no_operand, no_counted_operand}

@@ -15,8 +15,7 @@ use Rattle.regex_lite_syntax.proofs.Common.{choice_of, repeated, IsRegular, Flag
 use Rattle.regex_lite_syntax.specs.Grammar.Escapes.{Primitive}
 use Rattle.regex_lite_syntax.specs.Tree.{character}
 use Rattle.regex_lite_syntax.specs.Grammar.Heads.{named}
-use Rattle.regex_lite_syntax.specs.Grammar.{Item, atom}
-use Rattle.regex_lite_syntax.specs.Grammar.{further}
+use Rattle.regex_lite_syntax.specs.Grammar.{Item, atom, further}
 use Rattle.regex_lite_syntax.specs.Grammar.Branch.{operator}
 use Rattle.regex_lite_syntax.specs.Tree.Regular.{InOrder, AreRegular}
 use Rattle.regex_lite_syntax.proofs.grammar.ClassCharacterLemmas.{OfCharacters, escape_gives}

@@ -11,8 +11,7 @@ use Rattle.regex_lite_syntax.proofs.Common.{IsRegular, Flags, Parser}
 use Rattle.std.proofs.lemmas.List.{length-reverse, length-map}
 use Rattle.regex_lite_syntax.specs.Limits.{IsAdmitted, IsDueToPattern, PassesNesting}
 use Rattle.regex_lite_syntax.specs.Limits.{PassesGroups, NestingRefused, GroupsRefused}
-use Rattle.regex_lite_syntax.specs.Parser.States.{state}
-use Rattle.regex_lite_syntax.specs.Parser.States.{Finishes, FinishesTooDeep}
+use Rattle.regex_lite_syntax.specs.Parser.States.{state, Finishes, FinishesTooDeep}
 use Rattle.regex_lite_syntax.proofs.grammar.GapLemmas.{gap_to_end}
 use Rattle.regex_lite_syntax.proofs.parse.DenialLemmas.{none_now}
 use Rattle.regex_lite_syntax.proofs.machine.OneStepLemmas.{step_over_gap, step_past_gap}

@@ -7,13 +7,11 @@ use Rattle.regex_lite_syntax.proofs.Common.{Directive, Operator, Point, onward, 
 use Rattle.regex_lite_syntax.proofs.Common.{Frame, State, first_state, ended, Kind, stop, kind_at}
 use Rattle.regex_lite_syntax.proofs.Common.{Does, LeadsOn, stay, go, bar, closing, paren, Text, the}
 use Rattle.regex_lite_syntax.proofs.Common.{Tree, sequence_of, choice_of, repeated, Flags}
-use Rattle.regex_lite_syntax.specs.Grammar.{Item}
-use Rattle.regex_lite_syntax.specs.Grammar.{further}
+use Rattle.regex_lite_syntax.specs.Grammar.{Item, further}
 use Rattle.regex_lite_syntax.specs.Grammar.Branch.{operator as operated}
 use Rattle.regex_lite_syntax.specs.Grammar.Item.{atom as atom_item}
-use Rattle.regex_lite_syntax.specs.Parser.Machine.{opened}
-use Rattle.regex_lite_syntax.specs.Parser.Machine.{closed, parted, with_items}
-use Rattle.regex_lite_syntax.specs.Parser.Machine.{operator, atom}
+use Rattle.regex_lite_syntax.specs.Parser.Machine.{opened, closed, parted, with_items, operator}
+use Rattle.regex_lite_syntax.specs.Parser.Machine.{atom}
 
 -- these branches have been read since that point, and these items of a further one
 pub data Partial (level : ℕ) (from p : Point) (branches items : List Tree) : Type 0 where

@@ -7,9 +7,8 @@ use Rattle.regex_lite_syntax.proofs.Common.{capturing, numbered_on, named_on, in
 use Rattle.regex_lite_syntax.proofs.Common.{Directive, times, Operator, Point, onward, PastGap}
 use Rattle.regex_lite_syntax.proofs.Common.{Frame, State, Kind, kind_at, Does, Step, bar, closing}
 use Rattle.regex_lite_syntax.proofs.Common.{paren, Text, the, Tree, repeated, Flags}
-use Rattle.regex_lite_syntax.specs.Parser.Machine.{opened, closed, parted}
-use Rattle.regex_lite_syntax.specs.Parser.Machine.{with_items}
-use Rattle.regex_lite_syntax.specs.Parser.Machine.{operator, atom}
+use Rattle.regex_lite_syntax.specs.Parser.Machine.{opened, closed, parted, with_items, operator}
+use Rattle.regex_lite_syntax.specs.Parser.Machine.{atom}
 use Rattle.regex_lite_syntax.proofs.ListLemmas.{no_last}
 use Rattle.regex_lite_syntax.proofs.grammar.GapLemmas.{empty_gap}
 use Rattle.regex_lite_syntax.proofs.grammar.OperatorLemmas.{counts_of}

@@ -3,8 +3,7 @@ use Rattle.regex_lite_syntax.proofs.Common.{◌≡◌, ℕ, ◌≤◌, false, �
 use Rattle.regex_lite_syntax.proofs.Common.{arith, ne_eqb, option_or, Text, Tree, class, look}
 use Rattle.regex_lite_syntax.proofs.Common.{repetition, concat, alternation, Trees, more}
 use Rattle.regex_lite_syntax.proofs.Common.{group_name, group_name_in, IsRegular}
-use Rattle.regex_lite_syntax.specs.Tree.{empty, character}
-use Rattle.regex_lite_syntax.specs.Tree.{capture, none}
+use Rattle.regex_lite_syntax.specs.Tree.{empty, character, capture, none}
 use Rattle.regex_lite_syntax.specs.Tree.Properties.{name_if}
 use Rattle.regex_lite_syntax.specs.Tree.Regular.{AreRegular}
 

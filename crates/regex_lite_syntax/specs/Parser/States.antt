@@ -1,7 +1,6 @@
 -- The parser as a state of the machine, and what each of its steps does to it.
-use Rattle.std.specs.Prelude.{◌≡◌, ℕ, ◌+◌, ◌<◌, ◌≤◌, List, [], ◌∷◌, ◌++◌}
-use Rattle.std.specs.Prelude.{Option, map, option_map, reverse, length, drop}
-use Rattle.std.specs.Prelude.{max as greatest}
+use Rattle.std.specs.Prelude.{◌≡◌, ℕ, ◌+◌, ◌<◌, ◌≤◌, List, [], ◌∷◌, ◌++◌, Option, map, option_map}
+use Rattle.std.specs.Prelude.{reverse, length, drop, max as greatest}
 use Rattle.regex_lite_syntax.specs.declared.flags.Flags.{Flags}
 use Rattle.regex_lite_syntax.specs.declared.parse.level.OpenGroup.{OpenGroup}
 use Rattle.regex_lite_syntax.specs.declared.parse.level.GroupKind.{GroupKind as Kind}

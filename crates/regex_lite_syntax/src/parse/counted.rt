@@ -1,7 +1,6 @@
 //! Counted operators: how often they repeat, in braces.
-ghost use Rattle.std.specs.Prelude.{◌≡◌, ◌↔◌, ℕ, ◌+◌, ◌-◌, ◌*◌, ◌^◌, ◌<◌, ◌≤◌};
-ghost use Rattle.std.specs.Prelude.{[], ◌∷◌, ◌++◌, drop, length};
-ghost use Rattle.std.specs.Prelude.{Option, IsTrue, IfOk, IfSome, IfNone, SomeIff, IfErr};
+ghost use Rattle.std.specs.Prelude.{◌≡◌, ◌↔◌, ℕ, ◌+◌, ◌-◌, ◌*◌, ◌^◌, ◌<◌, ◌≤◌, [], ◌∷◌, ◌++◌, drop};
+ghost use Rattle.std.specs.Prelude.{length, Option, IsTrue, IfOk, IfSome, IfNone, SomeIff, IfErr};
 ghost use Rattle.regex_lite_syntax.specs.Text.{Text};
 ghost use Rattle.regex_lite_syntax.specs.Characters.{is_digit, digit_value};
 ghost use Rattle.regex_lite_syntax.specs.Grammar.Gaps.{Gap};

@@ -8,10 +8,9 @@ ghost use Rattle.regex_lite_syntax.specs.Grammar.GroupNames.{NameOpening};
 ghost use Rattle.regex_lite_syntax.specs.Tree.Views.{text_of_name};
 ghost use Rattle.regex_lite_syntax.specs.Parser.NameOpenings.{Unnamed};
 ghost use Rattle.regex_lite_syntax.specs.Refusals.{Refuses, NoReading, IfCutShort};
-ghost use Rattle.regex_lite_syntax.specs.Parser.States.{group_kind, Advances, CanRead};
-ghost use Rattle.regex_lite_syntax.specs.Parser.States.{CanReadOn};
-ghost use Rattle.regex_lite_syntax.specs.Parser.States.{BeginsTooMany, OpensGroup};
-ghost use Rattle.regex_lite_syntax.specs.Parser.States.{OpensCapture, Closes, Directs};
+ghost use Rattle.regex_lite_syntax.specs.Parser.States.{group_kind, Advances, CanRead, CanReadOn};
+ghost use Rattle.regex_lite_syntax.specs.Parser.States.{BeginsTooMany, OpensGroup, OpensCapture};
+ghost use Rattle.regex_lite_syntax.specs.Parser.States.{Closes, Directs};
 
 use crate::error::{Error, SyntaxFault};
 use crate::flags::Flags;

@@ -1,7 +1,6 @@
 //! Flags that are written in a pattern.
 ghost use Rattle.std.specs.Prelude.{◌≡◌, ◌⊎◌, ◌<◌, ◌≤◌, ℕ, [], ◌∷◌, ◌++◌, IsTrue, true, false};
-ghost use Rattle.std.specs.Prelude.{drop, length, slice_range, codes};
-ghost use Rattle.std.specs.Prelude.{IfOk, IfErr, IfSome, IfNone};
+ghost use Rattle.std.specs.Prelude.{drop, length, slice_range, codes, IfOk, IfErr, IfSome, IfNone};
 ghost use Rattle.std.specs.List.{AllPass, list_all};
 ghost use Rattle.regex_lite_syntax.specs.declared.error.syntax.SyntaxFault.TheVariants.{
   FlagUnrecognized,

@@ -8,12 +8,9 @@ use Rattle.regex_lite_syntax.proofs.Common.{IsElement, element_set, RangeTo, End
 use Rattle.regex_lite_syntax.proofs.Common.{past_dash, name_of, Set, Text, Begins, the, Element}
 use Rattle.regex_lite_syntax.specs.declared.parse.bracket.item.Element.TheVariants as elements
 use Rattle.regex_lite_syntax.specs.Grammar.Escapes.{Primitive}
-use Rattle.regex_lite_syntax.specs.Grammar.Classes.{literal, escaped}
-use Rattle.regex_lite_syntax.specs.Grammar.Classes.{character}
-use Rattle.regex_lite_syntax.specs.Parser.ClassReadings.{element_primitive}
-use Rattle.regex_lite_syntax.specs.Parser.ClassReadings.{BeginsOperator}
-use Rattle.regex_lite_syntax.specs.Parser.ClassReadings.{HasItems, IsNamedSet}
-use Rattle.regex_lite_syntax.specs.Parser.ClassReadings.{HasNamedSet}
+use Rattle.regex_lite_syntax.specs.Grammar.Classes.{literal, escaped, character}
+use Rattle.regex_lite_syntax.specs.Parser.ClassReadings.{element_primitive, BeginsOperator}
+use Rattle.regex_lite_syntax.specs.Parser.ClassReadings.{HasItems, IsNamedSet, HasNamedSet}
 use Rattle.regex_lite_syntax.proofs.ListLemmas.{same_head, same_tail}
 use Rattle.regex_lite_syntax.proofs.grammar.GapLemmas.{empty_gap, ends_nothing, whole_gap_once}
 use Rattle.regex_lite_syntax.proofs.grammar.ClassLemmas.{begins, part_once, follows_once}

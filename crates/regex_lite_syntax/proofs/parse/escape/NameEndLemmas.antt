@@ -8,9 +8,8 @@ use Rattle.regex_lite_syntax.proofs.Common.{Begins, the, Look}
 use Rattle.regex_lite_syntax.proofs.ListLemmas.{same_head, same_tail}
 use Rattle.regex_lite_syntax.proofs.grammar.GapLemmas.{gap_once, gap_to_end}
 use Rattle.regex_lite_syntax.proofs.grammar.LongerGapLemmas.{gap_before, spaced_longer}
-use Rattle.regex_lite_syntax.proofs.grammar.SpacedLemmas.{boundary_characters_end}
-use Rattle.regex_lite_syntax.proofs.grammar.SpacedLemmas.{brace_or_other, next_spaced}
-use Rattle.regex_lite_syntax.proofs.grammar.SpacedLemmas.{spaced_begins}
+use Rattle.regex_lite_syntax.proofs.grammar.SpacedLemmas.{boundary_characters_end, brace_or_other}
+use Rattle.regex_lite_syntax.proofs.grammar.SpacedLemmas.{next_spaced, spaced_begins}
 use Rattle.regex_lite_syntax.proofs.grammar.CompletedGapLemmas.{spaced_on, spaced_further}
 use Rattle.regex_lite_syntax.proofs.grammar.CompletedGapLemmas.{gap_completed, all_characters}
 use Rattle.regex_lite_syntax.proofs.grammar.ResumedGapLemmas.{resumed, resumed_characters}

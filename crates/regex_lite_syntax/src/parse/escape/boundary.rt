@@ -5,12 +5,10 @@ ghost use Rattle.std.specs.List.{list_all};
 ghost use Rattle.regex_lite_syntax.specs.declared.hir.look.Look.{Look};
 ghost use Rattle.regex_lite_syntax.specs.Text.{Text, the};
 ghost use Rattle.regex_lite_syntax.specs.Grammar.Gaps.{Gap, Spaced};
-ghost use Rattle.regex_lite_syntax.specs.Grammar.Escapes.{is_boundary_character};
-ghost use Rattle.regex_lite_syntax.specs.Grammar.Escapes.{boundary_named};
+ghost use Rattle.regex_lite_syntax.specs.Grammar.Escapes.{is_boundary_character, boundary_named};
 ghost use Rattle.regex_lite_syntax.specs.Grammar.Escapes.{BoundaryName, WordBoundary};
 ghost use Rattle.regex_lite_syntax.specs.Parser.BoundaryNames.{EndsInName};
-ghost use Rattle.regex_lite_syntax.specs.Refusals.{MayFollow, NoReading};
-ghost use Rattle.regex_lite_syntax.specs.Refusals.{Completable, CanComplete};
+ghost use Rattle.regex_lite_syntax.specs.Refusals.{MayFollow, NoReading, Completable, CanComplete};
 
 use crate::error::{SyntaxFault, UnexpectedEof};
 use crate::hir::look::Look;

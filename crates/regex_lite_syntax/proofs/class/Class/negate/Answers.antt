@@ -2,9 +2,8 @@ use Rattle.regex_lite_syntax.proofs.Common.{◌≡◌, ◌+◌, ◌<◌, ◌≤�
 use Rattle.regex_lite_syntax.proofs.Common.{arith, drop_more, take_all, start_of, in_ranges}
 use Rattle.regex_lite_syntax.proofs.Common.{next_character, ClassRange}
 use Rattle.regex_lite_syntax.proofs.RangeLemmas.{next_above, in_ranges_more}
-use Rattle.regex_lite_syntax.proofs.class.BetweenRangeLemmas.{span_before, start_next}
-use Rattle.regex_lite_syntax.proofs.class.BetweenRangeLemmas.{before_next, gap_step, last_gap}
-use Rattle.regex_lite_syntax.proofs.class.BetweenRangeLemmas.{runs_sooner}
+use Rattle.regex_lite_syntax.proofs.class.BetweenRangeLemmas.{span_before, start_next, before_next}
+use Rattle.regex_lite_syntax.proofs.class.BetweenRangeLemmas.{gap_step, last_gap, runs_sooner}
 use Rattle.regex_lite_syntax.proofs.class.Class.negate.Goals as goal
 
 pub loop-range-preserved : goal.loop-range-preserved

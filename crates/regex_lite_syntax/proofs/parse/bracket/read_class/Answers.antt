@@ -9,8 +9,7 @@ use Rattle.regex_lite_syntax.proofs.parse.IndexLemmas.{left_at_end, some_at}
 use Rattle.regex_lite_syntax.proofs.parse.bracket.ClassItemLemmas.{nothing_left}
 use Rattle.regex_lite_syntax.proofs.parse.bracket.ClassOpeningLemmas.{class_from, class_items}
 use Rattle.regex_lite_syntax.proofs.parse.bracket.ClassSetLemmas.{holds_all, class_as}
-use Rattle.regex_lite_syntax.proofs.parse.bracket.CompletedClassLemmas.{ClassTo}
-use Rattle.regex_lite_syntax.proofs.parse.bracket.CompletedClassLemmas.{completes_opening}
+use Rattle.regex_lite_syntax.proofs.parse.bracket.CompletedClassLemmas.{ClassTo, completes_opening}
 use Rattle.regex_lite_syntax.proofs.parse.CompletionLemmas.{completes_part, cut_short_says}
 use Rattle.regex_lite_syntax.proofs.parse.bracket.read_class.Goals as goal
 use Rattle.regex_lite_syntax.proofs.parse.bracket.read_class.Goals.{In_ok-class}

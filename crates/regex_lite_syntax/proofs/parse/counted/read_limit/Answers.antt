@@ -5,9 +5,8 @@ use Rattle.regex_lite_syntax.proofs.ListLemmas.{same_head}
 use Rattle.regex_lite_syntax.proofs.grammar.NumberLemmas.{no_ender, nothing_left}
 use Rattle.regex_lite_syntax.proofs.grammar.CountLemmas.{limit_is_number}
 use Rattle.regex_lite_syntax.proofs.grammar.LongerNumberLemmas.{of_text, longer_limit_is_number}
-use Rattle.regex_lite_syntax.proofs.grammar.ResumedCountLemmas.{NumberTo, unlimited}
-use Rattle.regex_lite_syntax.proofs.grammar.ResumedCountLemmas.{greatest_limit, limit_reached}
-use Rattle.regex_lite_syntax.proofs.grammar.ResumedCountLemmas.{never_reached}
+use Rattle.regex_lite_syntax.proofs.grammar.ResumedCountLemmas.{NumberTo, unlimited, greatest_limit}
+use Rattle.regex_lite_syntax.proofs.grammar.ResumedCountLemmas.{limit_reached, never_reached}
 use Rattle.regex_lite_syntax.proofs.parse.EndLemmas.{end_refused}
 use Rattle.regex_lite_syntax.proofs.parse.counted.read_limit.Goals as goal
 

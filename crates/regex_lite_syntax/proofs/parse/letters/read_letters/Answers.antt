@@ -9,8 +9,7 @@ use Rattle.regex_lite_syntax.proofs.parse.IndexLemmas.{drop_char}
 use Rattle.regex_lite_syntax.proofs.parse.DenialLemmas.{none_at_end}
 use Rattle.regex_lite_syntax.specs.declared.error.syntax.SyntaxFault.TheVariants.{CutShort}
 use Rattle.regex_lite_syntax.specs.declared.error.unexpected_eof.UnexpectedEof.TheVariants.{Flag}
-use Rattle.regex_lite_syntax.proofs.parse.letters.SliceLemmas.{slice_more}
-use Rattle.regex_lite_syntax.proofs.parse.letters.SliceLemmas.{spelled_longer}
+use Rattle.regex_lite_syntax.proofs.parse.letters.SliceLemmas.{slice_more, spelled_longer}
 use Rattle.regex_lite_syntax.proofs.parse.letters.FlagRunLemmas.{with_flags_more}
 use Rattle.regex_lite_syntax.proofs.parse.letters.FlagRunLemmas.{differ_more, no_run_end}
 use Rattle.regex_lite_syntax.proofs.parse.letters.FlagRunLemmas.{no_run_other, no_run_twice}

@@ -1,8 +1,7 @@
 use Rattle.regex_lite_syntax.proofs.Common.{◌≡◌, ◌+◌, drop, sym, ap, ◌∙◌, subst, arith, Begins, the}
 use Rattle.regex_lite_syntax.proofs.ListLemmas.{same_tail}
 use Rattle.regex_lite_syntax.proofs.grammar.ClassLemmas.{begins}
-use Rattle.regex_lite_syntax.proofs.grammar.LongerOpeningLemmas.{none_opened, no_question}
-use Rattle.regex_lite_syntax.proofs.grammar.LongerOpeningLemmas.{no_less}
+use Rattle.regex_lite_syntax.proofs.grammar.LongerOpeningLemmas.{none_opened, no_question, no_less}
 use Rattle.regex_lite_syntax.proofs.parse.name.skip_name_opening.Goals as goal
 use Rattle.regex_lite_syntax.proofs.parse.name.skip_name_opening.Goals.{
   else-is_at-2-via-then-is_at-2+else-is_at-3,

@@ -2,8 +2,7 @@ use Rattle.regex_lite_syntax.proofs.Common.{◌+◌, drop, sym, refl, ◌∙◌,
 use Rattle.regex_lite_syntax.proofs.Common.{WholeGap, EndsOpen, past_dash}
 use Rattle.regex_lite_syntax.proofs.ListLemmas.{same_head}
 use Rattle.regex_lite_syntax.proofs.parse.IndexLemmas.{drop_char, left_at_end, some_at}
-use Rattle.regex_lite_syntax.proofs.parse.bracket.ClassItemLemmas.{no_dash, no_end}
-use Rattle.regex_lite_syntax.proofs.parse.bracket.ClassItemLemmas.{closed_by_other}
+use Rattle.regex_lite_syntax.proofs.parse.bracket.ClassItemLemmas.{no_dash, no_end, closed_by_other}
 use Rattle.regex_lite_syntax.proofs.parse.bracket.ClassItemLemmas.{closed_past_dash}
 use Rattle.regex_lite_syntax.proofs.parse.bracket.item.find_range_end.Goals as goal
 use Rattle.regex_lite_syntax.proofs.parse.bracket.item.find_range_end.Goals.{Else-last-chars}

@@ -17,11 +17,9 @@ use Rattle.regex_lite_syntax.proofs.parse.bracket.ClassItemLemmas.{item_part, it
 use Rattle.regex_lite_syntax.proofs.parse.bracket.ClassItemLemmas.{item_named, item_alone}
 use Rattle.regex_lite_syntax.proofs.parse.bracket.ClassItemLemmas.{item_range, item_range_to}
 use Rattle.regex_lite_syntax.proofs.parse.bracket.ClassItemLemmas.{open_items, some_past}
-use Rattle.regex_lite_syntax.proofs.parse.bracket.CompletedItemLemmas.{closed_named}
-use Rattle.regex_lite_syntax.proofs.parse.bracket.CompletedItemLemmas.{closed_escape, closed_range}
-use Rattle.regex_lite_syntax.proofs.parse.bracket.CompletedItemLemmas.{closed_ending}
-use Rattle.regex_lite_syntax.proofs.parse.bracket.LongerItemLemmas.{is_named_longer}
-use Rattle.regex_lite_syntax.proofs.parse.bracket.LongerItemLemmas.{element_before}
+use Rattle.regex_lite_syntax.proofs.parse.bracket.CompletedItemLemmas.{closed_named, closed_escape}
+use Rattle.regex_lite_syntax.proofs.parse.bracket.CompletedItemLemmas.{closed_range, closed_ending}
+use Rattle.regex_lite_syntax.proofs.parse.bracket.LongerItemLemmas.{is_named_longer, element_before}
 use Rattle.regex_lite_syntax.proofs.parse.bracket.LongerItemLemmas.{no_operator, range_longer}
 use Rattle.regex_lite_syntax.proofs.parse.bracket.item.read_item.Goals as goal
 use Rattle.regex_lite_syntax.proofs.parse.bracket.item.read_item.Goals.{

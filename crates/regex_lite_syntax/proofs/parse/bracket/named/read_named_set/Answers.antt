@@ -12,8 +12,7 @@ use Rattle.regex_lite_syntax.proofs.ExitLemmas.{at_exit}
 use Rattle.regex_lite_syntax.proofs.ListLemmas.{same_tail}
 use Rattle.regex_lite_syntax.proofs.grammar.ClassLemmas.{begins}
 use Rattle.regex_lite_syntax.proofs.CharacterLemmas.{joined_are}
-use Rattle.regex_lite_syntax.proofs.parse.bracket.CompletedNameLemmas.{name_starts}
-use Rattle.regex_lite_syntax.proofs.parse.bracket.CompletedNameLemmas.{completes_name}
+use Rattle.regex_lite_syntax.proofs.parse.bracket.CompletedNameLemmas.{name_starts, completes_name}
 use Rattle.regex_lite_syntax.proofs.parse.bracket.CompletedNameLemmas.{completes_bracket}
 use Rattle.regex_lite_syntax.proofs.parse.bracket.CompletedNameLemmas.{begun_at_end, ends_short}
 use Rattle.regex_lite_syntax.proofs.parse.bracket.CompletedNameLemmas.{stops, by_answer}

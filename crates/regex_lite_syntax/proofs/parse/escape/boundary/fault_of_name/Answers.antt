@@ -6,9 +6,8 @@ use Rattle.regex_lite_syntax.proofs.ListLemmas.{same_head, same_tail}
 use Rattle.regex_lite_syntax.proofs.grammar.GapLemmas.{gap_once}
 use Rattle.regex_lite_syntax.proofs.grammar.LongerGapLemmas.{gap_before, spaced_longer}
 use Rattle.regex_lite_syntax.proofs.grammar.LongerGapLemmas.{whole_before}
-use Rattle.regex_lite_syntax.proofs.grammar.SpacedLemmas.{boundary_characters_end}
-use Rattle.regex_lite_syntax.proofs.grammar.SpacedLemmas.{brace_or_other, brace_past}
-use Rattle.regex_lite_syntax.proofs.grammar.SpacedLemmas.{not_spaced, spaced_more}
+use Rattle.regex_lite_syntax.proofs.grammar.SpacedLemmas.{boundary_characters_end, brace_or_other}
+use Rattle.regex_lite_syntax.proofs.grammar.SpacedLemmas.{brace_past, not_spaced, spaced_more}
 use Rattle.regex_lite_syntax.proofs.grammar.SpacedLemmas.{spaced_to_brace_once}
 use Rattle.regex_lite_syntax.proofs.grammar.LongerNumberLemmas.{of_text}
 use Rattle.regex_lite_syntax.proofs.parse.EndLemmas.{at_end_or_never}
