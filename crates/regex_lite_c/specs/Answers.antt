@@ -3,8 +3,9 @@ use Rattle.std.specs.Prelude.{◌≡◌, ◌⊎◌, ◌↔◌, ◌≤◌, ℕ, L
 use Rattle.regex_lite_syntax.specs.declared.error.ErrorKind.{ErrorKind}
 use Rattle.regex_lite_syntax.specs.declared.error.ErrorKind.TheVariants as kind
 use Rattle.regex_lite_c.specs.declared.answer.TheConstants.{NO, YES, NOT_TEXT, BAD_OFFSET}
-use Rattle.regex_lite_c.specs.declared.answer.TheConstants.{OUT_OF_MEMORY, SYNTAX, NESTING}
-use Rattle.regex_lite_c.specs.declared.answer.TheConstants.{GROUPS, SIZE, PLACES, SLOTS, REPLACE}
+use Rattle.regex_lite_c.specs.declared.answer.TheConstants.{NO_ROOM, OUT_OF_MEMORY, SYNTAX}
+use Rattle.regex_lite_c.specs.declared.answer.TheConstants.{NESTING, GROUPS, SIZE, PLACES, SLOTS}
+use Rattle.regex_lite_c.specs.declared.answer.TheConstants.{REPLACE}
 
 -- the number of a refusal of a pattern
 abbrev pub number_of : ErrorKind → ℕ
@@ -27,6 +28,13 @@ IsRefusedText bytes start answer =
 pub record RefusesText (bytes : List ℕ) (start answer : ℕ) : Type 0 where
   pub not_text : (answer ≡ NOT_TEXT) ↔ (IsUtf8 bytes → ⊥)
   pub bad_offset : (answer ≡ BAD_OFFSET) ↔ (IsUtf8 bytes × (IsCharBoundary bytes start → ⊥))
+
+-- a call that writes what it finds in a text to the caller's room has failed: the text or the offset
+-- is refused, memory runs out, or the room is too small
+abbrev pub IsFailure : (answer : ℕ) → Type 0
+IsFailure answer =
+    (answer ≡ NOT_TEXT) ⊎ ((answer ≡ BAD_OFFSET) ⊎ ((answer ≡ OUT_OF_MEMORY)
+    ⊎ (answer ≡ NO_ROOM)))
 
 -- what a search of these bytes from this offset on returns, where 1 says the one and 0 the other
 pub record IsSearchAnswer (bytes : List ℕ) (start answer : ℕ) (yes no : Type 0) : Type 0 where

@@ -6,11 +6,10 @@ use Rattle.regex_lite.specs.Ahead.{Ahead, after}
 use Rattle.regex_lite.specs.Expression.{Expression}
 use Rattle.regex_lite.specs.MatchList.{AreFirst}
 use Rattle.regex_lite.specs.Pieces.{found_span}
-use Rattle.regex_lite_c.specs.Answers.{RefusesText}
+use Rattle.regex_lite_c.specs.Answers.{IsFailure, RefusesText}
 use Rattle.regex_lite_c.specs.Spans.{AreWritten}
 use Rattle.regex_lite_c.specs.Walks.{ended_of}
-use Rattle.regex_lite_c.specs.declared.answer.TheConstants.{NO, YES, NOT_TEXT, BAD_OFFSET}
-use Rattle.regex_lite_c.specs.declared.answer.TheConstants.{NO_ROOM, OUT_OF_MEMORY}
+use Rattle.regex_lite_c.specs.declared.answer.TheConstants.{NO, YES, NO_ROOM}
 use Rattle.regex_lite_c.specs.declared.types.Cut.{Cut}
 use Rattle.regex_lite_c.specs.declared.types.Span.{Span}
 
@@ -65,5 +64,4 @@ pub record IsCutAnswer (re : Expression) (bytes : List ℕ) (old_cut cut : Cut)
   pub same : answer ≢ YES → (cut ≡ old_cut) × (new ≡ old) × (count ≡ 0)
   pub no_room : answer ≡ NO_ROOM → length old ≡ 0
   pub refused : RefusesText bytes (unwrap_or (ended_of old_cut.walk) 0) answer
-  pub one_of : (answer ≤ YES) ⊎ ((answer ≡ NOT_TEXT) ⊎ ((answer ≡ BAD_OFFSET)
-      ⊎ ((answer ≡ OUT_OF_MEMORY) ⊎ (answer ≡ NO_ROOM))))
+  pub one_of : (answer ≤ YES) ⊎ IsFailure answer

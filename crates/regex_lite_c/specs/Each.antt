@@ -2,9 +2,9 @@
 use Rattle.std.specs.Prelude.{◌≡◌, ◌≢◌, ◌⊎◌, ◌↔◌, ◌<◌, ◌+◌, ℕ, List, [], ◌∷◌, Option}
 use Rattle.std.specs.Prelude.{IsCharBoundary, IsUtf8, length, slice_range}
 use Rattle.regex_lite.specs.Expression.{Expression}
+use Rattle.regex_lite_c.specs.Answers.{IsFailure}
 use Rattle.regex_lite_c.specs.Spans.{AreWritten, TellsSpan}
 use Rattle.regex_lite_c.specs.declared.answer.TheConstants.{YES, NOT_TEXT, BAD_OFFSET, NO_ROOM}
-use Rattle.regex_lite_c.specs.declared.answer.TheConstants.{OUT_OF_MEMORY}
 use Rattle.regex_lite_c.specs.declared.types.Span.{Span}
 
 -- from this offset on texts of these lengths come one after another, each of which ends between two
@@ -38,5 +38,4 @@ pub record IsEachAnswer (re : Expression) (bytes lens : List ℕ) (old new : Lis
   pub bad_offset : (answer ≡ BAD_OFFSET)
       ↔ (IsUtf8 bytes × (AreTextLengths bytes 0 lens → ⊥))
   pub no_room : answer ≡ NO_ROOM → length old < length lens
-  pub one_of : (answer ≡ YES) ⊎ ((answer ≡ NOT_TEXT) ⊎ ((answer ≡ BAD_OFFSET)
-      ⊎ ((answer ≡ OUT_OF_MEMORY) ⊎ (answer ≡ NO_ROOM))))
+  pub one_of : (answer ≡ YES) ⊎ IsFailure answer

@@ -8,11 +8,10 @@ use Rattle.regex_lite.specs.Groups.{Groups, whole_span}
 use Rattle.regex_lite.specs.Items.{AreGroupsFound}
 use Rattle.regex_lite.specs.MatchList.{AreFirst}
 use Rattle.regex_lite.specs.Replacements.{AreGroupsOfEach}
-use Rattle.regex_lite_c.specs.Answers.{RefusesText}
+use Rattle.regex_lite_c.specs.Answers.{IsFailure, RefusesText}
 use Rattle.regex_lite_c.specs.Spans.{AreWritten}
 use Rattle.regex_lite_c.specs.Walks.{WalkRoom, ended_of}
-use Rattle.regex_lite_c.specs.declared.answer.TheConstants.{NO, YES, NOT_TEXT, BAD_OFFSET}
-use Rattle.regex_lite_c.specs.declared.answer.TheConstants.{NO_ROOM, OUT_OF_MEMORY}
+use Rattle.regex_lite_c.specs.declared.answer.TheConstants.{NO, YES, NO_ROOM, OUT_OF_MEMORY}
 use Rattle.regex_lite_c.specs.declared.types.Span.{Span}
 
 -- the spans of all these groups in a row
@@ -55,5 +54,4 @@ pub record IsGroupWalkAnswer (re : Expression) (bytes : List ℕ) (old new : Wal
       → IsWithoutRoom (after re bytes (ended_of old.walk)) (length old.room)
   pub same : answer ≢ YES → (new.walk ≡ old.walk) × (new.room ≡ old.room) × (count ≡ 0)
   pub refused : RefusesText bytes (unwrap_or (ended_of old.walk) 0) answer
-  pub one_of : (answer ≤ YES) ⊎ ((answer ≡ NOT_TEXT) ⊎ ((answer ≡ BAD_OFFSET)
-      ⊎ ((answer ≡ OUT_OF_MEMORY) ⊎ (answer ≡ NO_ROOM))))
+  pub one_of : (answer ≤ YES) ⊎ IsFailure answer

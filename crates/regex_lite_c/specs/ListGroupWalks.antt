@@ -6,12 +6,11 @@ use Rattle.regex_lite.specs.Expression.{Expression}
 use Rattle.regex_lite.specs.Groups.{Groups, whole_span}
 use Rattle.regex_lite.specs.ListAhead.{AreGroupsFoundInList, ListAhead, ListComesNext, list_after}
 use Rattle.regex_lite.specs.MatchList.{AreFirstAnswers, IsAnswerOfPatterns}
-use Rattle.regex_lite_c.specs.Answers.{RefusesText}
+use Rattle.regex_lite_c.specs.Answers.{IsFailure, RefusesText}
 use Rattle.regex_lite_c.specs.GroupWalks.{spans_of_all}
 use Rattle.regex_lite_c.specs.Spans.{AreWritten, AreWrittenAs}
 use Rattle.regex_lite_c.specs.Walks.{ended_of}
-use Rattle.regex_lite_c.specs.declared.answer.TheConstants.{NO, YES, NOT_TEXT, BAD_OFFSET}
-use Rattle.regex_lite_c.specs.declared.answer.TheConstants.{NO_ROOM, OUT_OF_MEMORY}
+use Rattle.regex_lite_c.specs.declared.answer.TheConstants.{NO, YES, NO_ROOM, OUT_OF_MEMORY}
 use Rattle.regex_lite_c.specs.declared.list.types.ListGroups.{ListGroups}
 use Rattle.regex_lite_c.specs.declared.types.Span.{Span}
 use Rattle.regex_lite_c.specs.declared.types.Walk.{Walk}
@@ -95,5 +94,4 @@ pub record IsListGroupWalkAnswer (list : List Expression) (bytes : List ℕ)
   pub same : answer ≢ YES → (new.walk ≡ old.walk) × (new.told ≡ old.told) × (new.room ≡ old.room)
   pub no_count : answer ≢ YES → answer ≢ NO_ROOM → count ≡ 0
   pub refused : RefusesText bytes (unwrap_or (ended_of old.walk) 0) answer
-  pub one_of : (answer ≤ YES) ⊎ ((answer ≡ NOT_TEXT) ⊎ ((answer ≡ BAD_OFFSET)
-      ⊎ ((answer ≡ OUT_OF_MEMORY) ⊎ (answer ≡ NO_ROOM))))
+  pub one_of : (answer ≤ YES) ⊎ IsFailure answer

@@ -6,10 +6,9 @@ use Rattle.regex_lite.specs.Groups.{Groups}
 use Rattle.regex_lite.specs.RegexListSearches.{TellsAnswerOfList, TellsGroupsOfList}
 use Rattle.regex_lite.specs.RegexListSearches.{TellsWhichMatch}
 use Rattle.regex_lite.specs.Searches.{offsets}
-use Rattle.regex_lite_c.specs.Answers.{RefusesText}
+use Rattle.regex_lite_c.specs.Answers.{IsFailure, RefusesText}
 use Rattle.regex_lite_c.specs.Spans.{AreWritten, AreWrittenAs}
-use Rattle.regex_lite_c.specs.declared.answer.TheConstants.{NO, YES, NOT_TEXT, BAD_OFFSET}
-use Rattle.regex_lite_c.specs.declared.answer.TheConstants.{NO_ROOM, OUT_OF_MEMORY}
+use Rattle.regex_lite_c.specs.declared.answer.TheConstants.{NO, YES, NO_ROOM}
 use Rattle.regex_lite_c.specs.declared.list.types.ListGroups.{ListGroups}
 use Rattle.regex_lite_c.specs.declared.list.types.ListSpan.{ListSpan}
 use Rattle.regex_lite_c.specs.declared.types.Span.{Span}
@@ -46,8 +45,7 @@ pub record IsListGroupsAnswer (list : List Expression) (bytes : List ℕ) (start
   pub same : answer ≢ YES → new ≡ old
   pub same_told : answer ≢ YES → answer ≢ NO_ROOM → told ≡ old_told
   pub refused : RefusesText bytes start answer
-  pub one_of : (answer ≤ YES) ⊎ ((answer ≡ NOT_TEXT) ⊎ ((answer ≡ BAD_OFFSET)
-      ⊎ ((answer ≡ OUT_OF_MEMORY) ⊎ (answer ≡ NO_ROOM))))
+  pub one_of : (answer ≤ YES) ⊎ IsFailure answer
 
 -- a byte for a pattern: 1 if it matches, and 0 if not
 abbrev pub flag_of : Bool → ℕ
@@ -69,5 +67,4 @@ pub record IsFlagsAnswer (list : List Expression) (bytes : List ℕ) (start : �
   pub same : answer ≢ YES → new ≡ old
   pub same_count : answer ≢ YES → answer ≢ NO_ROOM → count ≡ old_count
   pub refused : RefusesText bytes start answer
-  pub one_of : (answer ≡ YES) ⊎ ((answer ≡ NOT_TEXT) ⊎ ((answer ≡ BAD_OFFSET)
-      ⊎ ((answer ≡ OUT_OF_MEMORY) ⊎ (answer ≡ NO_ROOM))))
+  pub one_of : (answer ≡ YES) ⊎ IsFailure answer

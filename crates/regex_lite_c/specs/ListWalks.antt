@@ -5,12 +5,11 @@ use Rattle.regex_lite.specs.Expression.{Expression}
 use Rattle.regex_lite.specs.ListAhead.{ListAhead, ListComesNext, list_after}
 use Rattle.regex_lite.specs.MatchList.{AreFirstAnswers, IsAnswerOfPatterns}
 use Rattle.regex_lite.specs.Pieces.{found_span}
-use Rattle.regex_lite_c.specs.Answers.{RefusesText}
+use Rattle.regex_lite_c.specs.Answers.{IsFailure, RefusesText}
 use Rattle.regex_lite_c.specs.ListSpans.{list_span_of}
 use Rattle.regex_lite_c.specs.Spans.{AreWrittenAs}
 use Rattle.regex_lite_c.specs.Walks.{GoesOnAfterLast, WalkRoom, ended_of}
-use Rattle.regex_lite_c.specs.declared.answer.TheConstants.{NO, YES, NOT_TEXT, BAD_OFFSET}
-use Rattle.regex_lite_c.specs.declared.answer.TheConstants.{NO_ROOM, OUT_OF_MEMORY}
+use Rattle.regex_lite_c.specs.declared.answer.TheConstants.{NO, YES, NO_ROOM}
 use Rattle.regex_lite_c.specs.declared.list.types.ListSpan.{ListSpan}
 
 -- the number of a pattern, and where its match starts and ends, as it is written
@@ -37,5 +36,4 @@ pub record IsListWalkAnswer (list : List Expression) (bytes : List ℕ)
   pub same : answer ≢ YES → (new.walk ≡ old.walk) × (new.room ≡ old.room) × (count ≡ 0)
   pub no_room : answer ≡ NO_ROOM → length old.room ≡ 0
   pub refused : RefusesText bytes (unwrap_or (ended_of old.walk) 0) answer
-  pub one_of : (answer ≤ YES) ⊎ ((answer ≡ NOT_TEXT) ⊎ ((answer ≡ BAD_OFFSET)
-      ⊎ ((answer ≡ OUT_OF_MEMORY) ⊎ (answer ≡ NO_ROOM))))
+  pub one_of : (answer ≤ YES) ⊎ IsFailure answer

@@ -4,9 +4,8 @@ use Rattle.std.specs.Prelude.{None, cond, chars, length, option_map, slice_get}
 use Rattle.regex_lite.specs.Expression.{Expression}
 use Rattle.regex_lite.specs.Groups.{Groups}
 use Rattle.regex_lite.specs.Searches.{TellsAnswer, TellsGroups, offsets}
-use Rattle.regex_lite_c.specs.Answers.{RefusesText}
-use Rattle.regex_lite_c.specs.declared.answer.TheConstants.{NO, YES, NOT_TEXT, BAD_OFFSET}
-use Rattle.regex_lite_c.specs.declared.answer.TheConstants.{NO_ROOM, OUT_OF_MEMORY}
+use Rattle.regex_lite_c.specs.Answers.{IsFailure, RefusesText}
+use Rattle.regex_lite_c.specs.declared.answer.TheConstants.{NO, YES, NO_ROOM}
 use Rattle.regex_lite_c.specs.declared.types.Span.{Span}
 
 -- where a part starts and ends, where there is one
@@ -54,5 +53,4 @@ pub record IsGroupsAnswer (re : Expression) (bytes : List ℕ) (start : ℕ) (ol
   pub same : answer ≢ YES → new ≡ old
   pub same_count : answer ≢ YES → answer ≢ NO_ROOM → count ≡ old_count
   pub refused : RefusesText bytes start answer
-  pub one_of : (answer ≤ YES) ⊎ ((answer ≡ NOT_TEXT) ⊎ ((answer ≡ BAD_OFFSET)
-      ⊎ ((answer ≡ OUT_OF_MEMORY) ⊎ (answer ≡ NO_ROOM))))
+  pub one_of : (answer ≤ YES) ⊎ IsFailure answer
