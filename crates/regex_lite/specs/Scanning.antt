@@ -1,6 +1,5 @@
 -- What is searched for again and again, and a haystack that is gone over match by match.
-use Rattle.std.specs.Prelude.{◌≡◌, ℕ, List, [], ◌∷◌, Option, Some}
-use Rattle.std.specs.Prelude.{IfSome, IsTrue, chars, max}
+use Rattle.std.specs.Prelude.{◌≡◌, ℕ, List, [], ◌∷◌, Option, Some, IfSome, IsTrue, chars, max}
 use Rattle.regex_lite_syntax.specs.Tree.{Tree}
 use Rattle.regex_lite_syntax.specs.Tree.Properties.{captures_len}
 use Rattle.regex_lite_engine.specs.Graph.SideBySide.{AreRegularPatterns}

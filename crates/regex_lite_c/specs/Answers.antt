@@ -2,10 +2,9 @@
 use Rattle.std.specs.Prelude.{◌≡◌, ◌⊎◌, ◌↔◌, ◌≤◌, ℕ, List, IsUtf8, IsCharBoundary}
 use Rattle.regex_lite_syntax.specs.declared.error.ErrorKind.{ErrorKind}
 use Rattle.regex_lite_syntax.specs.declared.error.ErrorKind.TheVariants as kind
-use Rattle.regex_lite_c.specs.declared.answer.TheConstants.{NO, YES, NOT_TEXT, BAD_OFFSET}
-use Rattle.regex_lite_c.specs.declared.answer.TheConstants.{NO_ROOM, OUT_OF_MEMORY, SYNTAX}
-use Rattle.regex_lite_c.specs.declared.answer.TheConstants.{NESTING, GROUPS, SIZE, PLACES, SLOTS}
-use Rattle.regex_lite_c.specs.declared.answer.TheConstants.{REPLACE}
+use Rattle.regex_lite_c.specs.declared.answer.TheConstants.{NO, YES, NOT_TEXT, BAD_OFFSET, NO_ROOM}
+use Rattle.regex_lite_c.specs.declared.answer.TheConstants.{OUT_OF_MEMORY, SYNTAX, NESTING, GROUPS}
+use Rattle.regex_lite_c.specs.declared.answer.TheConstants.{SIZE, PLACES, SLOTS, REPLACE}
 
 -- the number of a refusal of a pattern
 abbrev pub number_of : ErrorKind → ℕ

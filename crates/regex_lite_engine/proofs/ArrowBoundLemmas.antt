@@ -8,9 +8,8 @@ use Rattle.regex_lite_engine.proofs.Common.{ClassRange, copies, own_places, clas
 use Rattle.regex_lite_engine.proofs.Common.{places_in, arrows, count, whole_places, whole_arrows}
 use Rattle.regex_lite_engine.proofs.Common.{places_of_all, arrows_of_all}
 use Rattle.regex_lite_syntax.specs.Tree.Regular.{AreRegular}
-use Rattle.regex_lite_engine.specs.Graph.PlaceCounts.{arrows_in}
-use Rattle.regex_lite_engine.specs.Graph.PlaceCounts.{own_arrows}
-use Rattle.regex_lite_engine.specs.Graph.PlaceCounts.{bounded_places, bounded_arrows}
+use Rattle.regex_lite_engine.specs.Graph.PlaceCounts.{arrows_in, own_arrows, bounded_places}
+use Rattle.regex_lite_engine.specs.Graph.PlaceCounts.{bounded_arrows}
 use Rattle.regex_lite_engine.specs.Graph.SideBySide.{AreRegularPatterns}
 
 own_few : (least above : ℕ)

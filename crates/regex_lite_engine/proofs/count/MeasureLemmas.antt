@@ -9,10 +9,8 @@ use Rattle.regex_lite_engine.proofs.Common.{with_arrows, renamed_arrow, renamed,
 use Rattle.regex_lite_engine.proofs.Common.{go_holding, choice, one_of, whole, Fragment}
 use Rattle.regex_lite_engine.proofs.Common.{copies_layout, choices_layout, star_layout, layout}
 use Rattle.regex_lite_engine.proofs.Common.{chain_layout, branches_layout, pattern_table}
-use Rattle.regex_lite_engine.specs.Graph.Places.{Place}
-use Rattle.regex_lite_engine.specs.Graph.Places.{one_char}
-use Rattle.regex_lite_engine.specs.Graph.PlaceCounts.{own_arrows}
-use Rattle.regex_lite_engine.specs.Graph.PlaceCounts.{bounded_places, bounded_arrows}
+use Rattle.regex_lite_engine.specs.Graph.Places.{Place, one_char}
+use Rattle.regex_lite_engine.specs.Graph.PlaceCounts.{own_arrows, bounded_places, bounded_arrows}
 use Rattle.regex_lite_engine.specs.Nfa.Repetitions.{bounded_layout, repetition_layout}
 
 -- a place that has forgotten the numbers of those to which it leads

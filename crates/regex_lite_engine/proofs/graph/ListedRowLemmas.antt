@@ -9,11 +9,9 @@ use Rattle.regex_lite_engine.specs.Graph.Repetitions.{optional_row, star_row}
 use Rattle.regex_lite_engine.specs.Graph.Repetitions.{nullable_star_row, at_least_row}
 use Rattle.regex_lite_engine.proofs.graph.AddressLemmas.{own_place, in_part, framed}
 use Rattle.regex_lite_engine.proofs.graph.AddressLemmas.{copies_addresses, choices_addresses}
-use Rattle.regex_lite_engine.proofs.graph.AddressLemmas.{bounded_addresses}
-use Rattle.regex_lite_engine.proofs.graph.AddressLemmas.{repetition_addresses}
+use Rattle.regex_lite_engine.proofs.graph.AddressLemmas.{bounded_addresses, repetition_addresses}
 use Rattle.regex_lite_engine.proofs.graph.CopyRowLemmas.{copies_before}
-use Rattle.regex_lite_engine.proofs.graph.AmongLemmas.{from_0, from_first, from_later}
-use Rattle.regex_lite_engine.proofs.graph.AmongLemmas.{in_framed}
+use Rattle.regex_lite_engine.proofs.graph.AmongLemmas.{from_0, from_first, from_later, in_framed}
 use Rattle.regex_lite_engine.proofs.InLemmas.{In, in_left, in_right, in_last, in_map}
 
 -- the list has each address at which there is a place inside

@@ -3,8 +3,7 @@ use Rattle.std.specs.Prelude.{◌≡◌, ◌+◌, ◌-◌, ◌*◌, ◌^◌, ◌
 use Rattle.std.specs.Prelude.{Bool, false, List, [], ◌∷◌, length, chars, Option, Some, None}
 use Rattle.std.specs.Prelude.{IsCharBoundary, slice_index_or, if◌then◌else◌}
 use Rattle.regex_lite_engine.specs.declared.backtrack.walk.Walk.{Walk}
-use Rattle.regex_lite_engine.specs.Backtrack.Machine.{Frame, explore, restore}
-use Rattle.regex_lite_engine.specs.Backtrack.Machine.{Pairs, pair_number}
+use Rattle.regex_lite_engine.specs.Backtrack.Machine.{Frame, explore, restore, Pairs, pair_number}
 use Rattle.regex_lite_engine.specs.Backtrack.Walking.{IsWalking, SearchFrom}
 use Rattle.regex_lite_engine.specs.Graph.Places.{Place, kept_back_with}
 use Rattle.regex_lite_engine.specs.Graph.Renumbered.{arrow_count}

@@ -4,11 +4,10 @@ ghost use Rattle.std.specs.Prelude.{IsCharBoundary, chars, false, length, slice_
 ghost use Rattle.regex_lite_syntax.specs.Tree.{Tree};
 ghost use Rattle.regex_lite_engine.specs.Graph.PlaceCounts.{whole_arrows, whole_places};
 ghost use Rattle.regex_lite_engine.specs.Graph.SideBySide.{AreRegularPatterns, places_of_all};
-ghost use Rattle.regex_lite_engine.specs.Graph.SideBySide.{tries_of_all};
+ghost use Rattle.regex_lite_engine.specs.Graph.SideBySide.{tries_of_all, HasTree};
 ghost use Rattle.regex_lite_engine.specs.Graph.StoredList.{IsGraphOfList, table_of_list};
 ghost use Rattle.regex_lite_engine.specs.Search.Answer.{HasMatchFrom};
 ghost use Rattle.regex_lite_engine.specs.Search.AnswerOfList.{TellsWhich};
-ghost use Rattle.regex_lite_engine.specs.Graph.SideBySide.{HasTree};
 ghost use Rattle.regex_lite_engine.specs.Search.Bounds.{IsBoundedBy};
 ghost use Rattle.regex_lite_engine.specs.Search.Offsets.{position_at, search_start};
 ghost use Rattle.regex_lite_engine.specs.Search.Outcomes.{HasCostOfList};

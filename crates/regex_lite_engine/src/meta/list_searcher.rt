@@ -42,8 +42,7 @@ pub struct ListSearcher<'g> {
 }
 
 impl<'g> Model for ListSearcher<'g> {
-    ghost use Rattle.std.specs.Prelude.{◌≡◌};
-    ghost use Rattle.std.specs.Prelude.{IfSome, length, option_map};
+    ghost use Rattle.std.specs.Prelude.{◌≡◌, IfSome, length, option_map};
     ghost use Rattle.regex_lite_engine.specs.Graph.StoredList.{table_of_list};
     ghost use Rattle.regex_lite_engine.specs.LazyDfa.Remembering.{FindsSpansInList};
     ghost use Rattle.regex_lite_engine.specs.LazyDfa.Remembering.{IsRememberingList};

@@ -5,9 +5,8 @@ use Rattle.regex_lite_engine.proofs.Common.{Text, Tree, IsRegular, Arrow, comple
 use Rattle.regex_lite_engine.proofs.Common.{taken, arrived, arrow_taken, step_from, step, Leads}
 use Rattle.regex_lite_engine.proofs.Common.{whole, end_address, start_address, place_of_pattern}
 use Rattle.regex_lite_engine.proofs.Common.{IsWayThrough, Marks, no_marks, marked, over}
-use Rattle.regex_lite_engine.proofs.Common.{mark_of_arrow, mark_of, marks_along, Entry}
-use Rattle.regex_lite_engine.proofs.Common.{after_marks, stop, preference_list, HasReadingLoops}
-use Rattle.regex_lite_engine.proofs.Common.{IsBefore}
+use Rattle.regex_lite_engine.proofs.Common.{mark_of_arrow, mark_of, marks_along, Entry, after_marks}
+use Rattle.regex_lite_engine.proofs.Common.{stop, preference_list, HasReadingLoops, IsBefore}
 use Rattle.regex_lite_engine.specs.Graph.Places.{Place}
 use Rattle.regex_lite_engine.specs.SearchLaws.{AreRanked}
 use Rattle.regex_lite_engine.proofs.laws.list.ListedLemmas.{Listed, ListedBy, completed}

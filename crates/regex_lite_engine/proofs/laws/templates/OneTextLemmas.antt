@@ -6,8 +6,7 @@ use Rattle.regex_lite_engine.proofs.Common.{one_dollar}
 use Rattle.std.proofs.Common.{Contains}
 use Rattle.std.proofs.lemmas.List.{append-nil}
 use Rattle.regex_lite_syntax.proofs.ListLemmas.{same_head, same_tail}
-use Rattle.regex_lite_engine.specs.Interpolation.{Piece, two_dollars}
-use Rattle.regex_lite_engine.specs.Interpolation.{GroupTexts, piece_text}
+use Rattle.regex_lite_engine.specs.Interpolation.{Piece, two_dollars, GroupTexts, piece_text}
 use Rattle.regex_lite_engine.specs.Interpolation.{IsInterpolation, nothing, piece_and_rest}
 use Rattle.regex_lite_engine.proofs.laws.templates.PieceLemmas.{at_dollar, begins_at_dollar}
 use Rattle.regex_lite_engine.proofs.laws.templates.PieceLemmas.{one_piece, some_piece}

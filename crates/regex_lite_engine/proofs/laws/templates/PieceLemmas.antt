@@ -6,10 +6,8 @@ use Rattle.regex_lite_engine.proofs.Common.{BeginsWith, no_dollar, reference, on
 use Rattle.std.specs.List.{prefix_len, position_or_len, before_first, after_first}
 use Rattle.std.proofs.lemmas.List.{length-drop}
 use Rattle.regex_lite_syntax.proofs.ListLemmas.{same_head, same_tail}
-use Rattle.regex_lite_engine.specs.Interpolation.{Piece, is_closing}
-use Rattle.regex_lite_engine.specs.Interpolation.{IsBraced, IsReference, HasNoReference}
-use Rattle.regex_lite_engine.specs.Interpolation.{referred}
-use Rattle.regex_lite_engine.specs.Interpolation.{two_dollars}
+use Rattle.regex_lite_engine.specs.Interpolation.{Piece, is_closing, IsBraced, IsReference}
+use Rattle.regex_lite_engine.specs.Interpolation.{HasNoReference, referred, two_dollars}
 
 -- what follows the `$` of such a piece
 pub data AtDollar (after : List ℕ) (piece : Piece) (rest : List ℕ) : Type 0 where

@@ -3,8 +3,7 @@ use Rattle.regex_lite_engine.proofs.Common.{◌≡◌, ℕ, ◌+◌, List, [], �
 use Rattle.regex_lite_engine.proofs.Common.{option_map, sym, ap, ◌∙◌, length-append, map-append}
 use Rattle.regex_lite_engine.proofs.Common.{Tree, empty, character, look, capture, text_of_name}
 use Rattle.regex_lite_engine.proofs.Common.{tree_of, Hir, Look, place_of, Fragment, IsAdded}
-use Rattle.std.proofs.Common.{Result, Ok, Err, IfOk}
-use Rattle.std.proofs.Common.{Box, Global}
+use Rattle.std.proofs.Common.{Result, Ok, Err, IfOk, Box, Global}
 use Rattle.std.specs.declared.rc.RcStr.{RcStr}
 use Rattle.regex_lite_syntax.specs.Tree.Views.{node_tree}
 use Rattle.regex_lite_syntax.specs.declared.hir.Hir.{Hir-F, fold-roll-Hir}

@@ -7,13 +7,11 @@ use Rattle.regex_lite_engine.proofs.Common.{frame_in, round_in, other, place_on,
 use Rattle.regex_lite_engine.proofs.Common.{Thread, Row, Cell}
 use Rattle.std.specs.List.{AllByRecursion}
 use Rattle.std.proofs.Math.Seq.{map-set_same}
-use Rattle.std.proofs.lemmas.List.{length-reverse}
-use Rattle.std.proofs.lemmas.List.{reverse-append, take_more, take_more_set}
+use Rattle.std.proofs.lemmas.List.{length-reverse, reverse-append, take_more, take_more_set}
 use Rattle.regex_lite_engine.specs.declared.pikevm.cell.Frame as code
 use Rattle.regex_lite_engine.specs.declared.pikevm.cell.Side.{Side}
 use Rattle.regex_lite_engine.specs.declared.pikevm.cell.Side.TheVariants.{First, Second}
-use Rattle.regex_lite_engine.specs.Pikevm.Cells.{frames_in}
-use Rattle.regex_lite_engine.specs.Pikevm.Cells.{with_thread}
+use Rattle.regex_lite_engine.specs.Pikevm.Cells.{frames_in, with_thread}
 use Rattle.regex_lite_engine.specs.Pikevm.Machine.{Frame, State}
 
 -- a cell with a thread more

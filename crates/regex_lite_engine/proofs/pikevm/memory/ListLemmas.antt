@@ -8,13 +8,11 @@ use Rattle.regex_lite_engine.proofs.Common.{other, place_on, start_on, row_on, s
 use Rattle.regex_lite_engine.proofs.Common.{threads_on, Thread, thread_at, Told, untold, Row, Cell}
 use Rattle.std.proofs.lemmas.List.FromFn.{map-range_with_len_more}
 use Rattle.regex_lite_engine.specs.declared.pikevm.cell.Side.{Side}
-use Rattle.regex_lite_engine.specs.Pikevm.Cells.{with_thread}
-use Rattle.regex_lite_engine.specs.Pikevm.Cells.{thread_on}
+use Rattle.regex_lite_engine.specs.Pikevm.Cells.{with_thread, thread_on}
 use Rattle.regex_lite_engine.proofs.pikevm.memory.CellLemmas.{own_place, own_start, other_place}
 use Rattle.regex_lite_engine.proofs.pikevm.memory.CellLemmas.{other_start, row_apart, row_other}
-use Rattle.regex_lite_engine.proofs.pikevm.memory.CellLemmas.{row_fits, row_after_first}
-use Rattle.regex_lite_engine.proofs.pikevm.memory.CellLemmas.{not_told, same_round, same_frame}
-use Rattle.regex_lite_engine.proofs.pikevm.memory.CellLemmas.{told_at}
+use Rattle.regex_lite_engine.proofs.pikevm.memory.CellLemmas.{row_fits, row_after_first, not_told}
+use Rattle.regex_lite_engine.proofs.pikevm.memory.CellLemmas.{same_round, same_frame, told_at}
 use Rattle.regex_lite_engine.proofs.pikevm.rows.RowLemmas.{listed_alike}
 
 pub threads_long : {S : Type 0} (told : S → Told) (s : Side) (cells : List (Cell S))

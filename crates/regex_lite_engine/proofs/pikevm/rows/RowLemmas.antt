@@ -7,8 +7,7 @@ use Rattle.regex_lite_engine.proofs.Common.{take-append_seam, cases_eq, cases_lt
 use Rattle.regex_lite_engine.proofs.Common.{length-take-le, take-append-le, take-take}
 use Rattle.regex_lite_engine.proofs.Common.{get_or-map-range_with_len, length-map-range_with_len}
 use Rattle.regex_lite_engine.proofs.Common.{range_with_len, Row}
-use Rattle.std.proofs.lemmas.List.{drop-take}
-use Rattle.std.proofs.lemmas.List.{drop-set-lt}
+use Rattle.std.proofs.lemmas.List.{drop-take, drop-set-lt}
 use Rattle.std.proofs.Math.Seq.{take-set-lt, drop-append-add}
 use Rattle.regex_lite_engine.specs.Pikevm.Cells.{row_at, rows_in}
 

@@ -2,17 +2,15 @@
 use Rattle.regex_lite_engine.proofs.Common.{◌≡◌, ℕ, zero, suc, ◌+◌, ◌<◌, ◌≤◌, min, Bool, true}
 use Rattle.regex_lite_engine.proofs.Common.{false, ◌&&◌, ◌||◌, ◌⊎◌, List, [], ◌∷◌, length, get_or}
 use Rattle.regex_lite_engine.proofs.Common.{take, replicate, is_none, if◌then◌else◌, IsTrue, nat_lt}
-use Rattle.regex_lite_engine.proofs.Common.{slice_index_or, Some, None, Option, sym}
-use Rattle.regex_lite_engine.proofs.Common.{refl, ap, ◌∙◌, subst, inl, inr, arith, cases_lt}
-use Rattle.regex_lite_engine.proofs.Common.{nat_tests, in_ranges, Text, after, Tree, repetition}
-use Rattle.regex_lite_engine.proofs.Common.{Trees, more, Matches, Chain, SomeBranch, ClassRange}
-use Rattle.regex_lite_engine.proofs.Common.{begins_with, may_begin, MayBegin, IsWider}
-use Rattle.regex_lite_engine.proofs.Common.{BeginsOrPasses, Starts}
+use Rattle.regex_lite_engine.proofs.Common.{slice_index_or, Some, None, Option, sym, refl, ap, ◌∙◌}
+use Rattle.regex_lite_engine.proofs.Common.{subst, inl, inr, arith, cases_lt, nat_tests, in_ranges}
+use Rattle.regex_lite_engine.proofs.Common.{Text, after, Tree, repetition, Trees, more, Matches}
+use Rattle.regex_lite_engine.proofs.Common.{Chain, SomeBranch, ClassRange, begins_with, may_begin}
+use Rattle.regex_lite_engine.proofs.Common.{MayBegin, IsWider, BeginsOrPasses, Starts}
 use Rattle.std.specs.Char.{is_ascii}
 use Rattle.std.proofs.lemmas.Bool.{or_right}
 use Rattle.regex_lite_syntax.specs.Sets.{span}
-use Rattle.regex_lite_syntax.specs.Ranges.{AreRuns}
-use Rattle.regex_lite_syntax.specs.Ranges.{next_character}
+use Rattle.regex_lite_syntax.specs.Ranges.{AreRuns, next_character}
 use Rattle.regex_lite_syntax.proofs.RangeLemmas.{next_above, runs_from}
 use Rattle.regex_lite_syntax.specs.Text.{before}
 use Rattle.regex_lite_syntax.specs.Tree.Matches.{Passes}
