@@ -1,11 +1,11 @@
 //! Trees written out as a table of places. The last part of each is written first, so that the
 //! number of what follows is known.
 ghost use Rattle.std.specs.Prelude.{◌≡◌, ◌<◌, ◌≤◌, ◌+◌, ◌*◌, ◌^◌, [], ◌∷◌, ◌++◌, All};
-ghost use Rattle.std.specs.Prelude.{length, map, drop, slice_set, slice_index_or, IfOk};
+ghost use Rattle.std.specs.Prelude.{length, map, drop, slice_index_or, IfOk};
 ghost use Rattle.regex_lite_syntax.specs.Tree.{trees};
 ghost use Rattle.regex_lite_syntax.specs.Tree.Views.{tree_of};
 ghost use Rattle.regex_lite_syntax.specs.Tree.Properties.{greatest_index, greatest_index_in};
-ghost use Rattle.regex_lite_engine.specs.Graph.Places.{choice, complete, go_marking, with_arrows};
+ghost use Rattle.regex_lite_engine.specs.Graph.Places.{complete};
 ghost use Rattle.regex_lite_engine.specs.Graph.Stored.{place_of};
 ghost use Rattle.regex_lite_engine.specs.Graph.PlaceCounts.{places, places_in, whole_places};
 ghost use Rattle.regex_lite_engine.specs.Graph.SideBySide.{places_of_all};
@@ -14,10 +14,10 @@ ghost use Rattle.regex_lite_engine.specs.Nfa.Layout.{branches_layout, alternatio
 ghost use Rattle.regex_lite_engine.specs.Nfa.Layout.{pattern_layout, pattern_table, patterns_table};
 ghost use Rattle.regex_lite_engine.specs.Nfa.Layout.{patterns_entries};
 
+mod add;
 mod repetition;
 
 use crate::count::measured::Measured;
-use crate::nfa::class::MappedClass;
 use crate::nfa::place::Place;
 use regex_lite_syntax::Hir;
 use std::alloc::{AllocError, Global};
@@ -105,53 +105,6 @@ impl Writer {
         Ok(Writer { alloc, places })
     }
 
-    /// Adds a place, and returns its number.
-    fn add(&mut self, place: Place) -> Result<u32, AllocError>
-        requires { length self.old + 1 < 2 ^ 32 }
-        ensures number { IfOk result (λ number. number ≡ length self.old) }
-        ensures added { IfOk result (λ _. self.new ≡ self.old ++ place ∷ []) }
-    {
-        let number = self.places.len() as u32;
-        self.places.push(place)?;
-        Ok(number)
-    }
-
-    /// Puts another place at a number.
-    fn replace(&mut self, number: u32, place: Place)
-        requires { number < length self.old }
-        ensures { self.new ≡ slice_set self.old number place }
-    {
-        self.places[number as usize] = place;
-    }
-
-    /// Adds the place at which the group ends, and returns its number.
-    fn close_group(&mut self, index: u32, exit: u32) -> Result<u32, AllocError>
-        requires room { length self.old + 1 < 2 ^ 32 }
-        requires slot { index < 2 ^ 31 }
-        ensures number { IfOk result (λ number. number ≡ length self.old) }
-        ensures added { IfOk result (λ _. map place_of self.new ≡ map place_of self.old
-            ++ with_arrows (go_marking (2 * index + 1) exit ∷ []) ∷ []) }
-    {
-        self.add(Place::Slot {
-            slot: 2 * index + 1,
-            to: exit,
-        })
-    }
-
-    /// Adds the place at which the group begins, and returns its number.
-    fn open_group(&mut self, index: u32, body: u32) -> Result<u32, AllocError>
-        requires room { length self.old + 1 < 2 ^ 32 }
-        requires slot { index < 2 ^ 31 }
-        ensures number { IfOk result (λ number. number ≡ length self.old) }
-        ensures added { IfOk result (λ _. map place_of self.new ≡ map place_of self.old
-            ++ with_arrows (go_marking (2 * index) body ∷ []) ∷ []) }
-    {
-        self.add(Place::Slot {
-            slot: 2 * index,
-            to: body,
-        })
-    }
-
     /// Adds the places of a whole pattern: the one where its match is complete, and then the tree
     /// with those of group 0 around it. Returns where it is entered.
     fn write_pattern(&mut self, hir: &Hir) -> Result<u32, AllocError>
@@ -164,9 +117,7 @@ impl Writer {
             length self.new ≡ length self.old + whole_places (tree_of hir.now)) }
     {
         let end = self.add(Place::Match)?;
-        let close = self.close_group(0, end)?;
-        let inner = self.write(hir, close)?;
-        self.open_group(0, inner)
+        self.write_group(0, hir, end)
     }
 
     /// Adds the places of the tree, which lead on to `exit`, and returns where they are entered.
@@ -181,30 +132,38 @@ impl Writer {
             length self.new ≡ length self.old + places (tree_of hir.now)) }
     {
         match hir {
-            Hir::Empty => self.add(Place::Empty { to: exit }),
-            Hir::Char(c) => self.add(Place::Char { c: *c, to: exit }),
-            Hir::Class(class) => {
-                let set = MappedClass::new(class)?;
-                self.add(Place::Class { set, to: exit })
-            }
-            Hir::Look(look) => self.add(Place::Look {
-                look: *look,
-                to: exit,
-            }),
+            Hir::Empty => self.add_empty(exit),
+            Hir::Char(c) => self.add_char(*c, exit),
+            Hir::Class(class) => self.add_class(class, exit),
+            Hir::Look(look) => self.add_look(*look, exit),
             Hir::Repetition {
                 least,
                 most,
                 greedy,
                 body,
             } => self.write_repetition(body, *least, *most, *greedy, exit),
-            Hir::Capture { index, body, .. } => {
-                let close = self.close_group(*index, exit)?;
-                let inner = self.write(body, close)?;
-                self.open_group(*index, inner)
-            }
+            Hir::Capture { index, body, .. } => self.write_group(*index, body, exit),
             Hir::Concat(parts) => self.write_concat(parts, exit),
             Hir::Alternation(branches) => self.write_alternation(branches, exit),
         }
+    }
+
+    /// Writes the place where a group ends, its body, and the place where it begins. Returns the
+    /// latter.
+    #[cycle(write)]
+    fn write_group(&mut self, index: u32, body: &Hir, exit: u32) -> Result<u32, AllocError>
+        requires room { length self.old + (places (tree_of body.now) + 2) < 2 ^ 32 }
+        requires slot { index < 2 ^ 31 }
+        requires slots { greatest_index (tree_of body.now) < 2 ^ 31 }
+        ensures written { IfOk result (λ entry. IsAdded
+            (map place_of self.old) (map place_of self.new) entry
+            (capture_layout index (layout (tree_of body.now)) (length self.old) exit)) }
+        ensures grown { IfOk result (λ _.
+            length self.new ≡ length self.old + (places (tree_of body.now) + 2)) }
+    {
+        let close = self.close_group(index, exit)?;
+        let inner = self.write(body, close)?;
+        self.open_group(index, inner)
     }
 
     /// Writes the parts of a concatenation, the last one first. Returns the place where the
@@ -239,12 +198,31 @@ impl Writer {
         ensures grown { let parts = trees (map tree_of branches.now) in
             IfOk result (λ _. length self.new ≡ length self.old + (places_in parts + 2)) }
     {
+        let join = self.add_empty(exit)?;
+        let entries = self.write_branches(branches, join)?;
+        self.add(Place::Branches(entries))
+    }
+
+    /// Writes alternatives in order, each of which leads to the join. Returns where they are
+    /// entered.
+    #[cycle(write)]
+    fn write_branches(&mut self, branches: &[Hir], join: u32) -> Result<Vec<u32>, AllocError>
+        requires room { length self.old + places_in (trees (map tree_of branches.now)) < 2 ^ 32 }
+        requires slots { greatest_index_in (trees (map tree_of branches.now)) < 2 ^ 31 }
+        ensures written { let parts = trees (map tree_of branches.now) in
+            IfOk result (λ _. map place_of self.new
+            ≡ map place_of self.old ++ (branches_layout parts (length self.old) join).0) }
+        ensures entries { let parts = trees (map tree_of branches.now) in
+            IfOk result (λ entries.
+            entries.items ≡ (branches_layout parts (length self.old) join).1) }
+        ensures grown { IfOk result (λ _.
+            length self.new ≡ length self.old + places_in (trees (map tree_of branches.now))) }
+    {
         let mut entries = Vec::with_capacity(self.alloc, branches.len())?;
-        let join = self.add(Place::Empty { to: exit })?;
         for branch in branches {
             entries.push(self.write(branch, join)?)?;
         }
-        self.add(Place::Branches(entries))
+        Ok(entries)
     }
 }
 
@@ -260,21 +238,4 @@ fn part_at(parts: &[Hir], i: usize) -> &Hir
         ≤ greatest_index_in (trees (map tree_of parts.now)) }
 {
     &parts[i]
-}
-
-/// A choice between the body of a repetition and what else there is.
-fn choice_of(greedy: bool, body: u32, other: u32) -> Place
-    ensures { place_of result ≡ choice greedy body other }
-{
-    if greedy {
-        Place::Choice {
-            first: body,
-            second: other,
-        }
-    } else {
-        Place::Choice {
-            first: other,
-            second: body,
-        }
-    }
 }

@@ -1,14 +1,17 @@
 -- The trees that are written as one place, and what is written for them.
 use Rattle.regex_lite_engine.proofs.Common.{◌≡◌, ℕ, ◌+◌, List, [], ◌∷◌, ◌++◌, map, length, Option}
-use Rattle.regex_lite_engine.proofs.Common.{option_map, sym, ap, ◌∙◌, length-append, map-append}
-use Rattle.regex_lite_engine.proofs.Common.{Tree, empty, character, look, capture, text_of_name}
+use Rattle.regex_lite_engine.proofs.Common.{option_map, sym, ap, ◌∙◌}
+use Rattle.regex_lite_engine.proofs.Common.{Tree, empty, character, class, look, capture, text_of_name}
 use Rattle.regex_lite_engine.proofs.Common.{tree_of, Hir, Look, place_of, Fragment, IsAdded}
 use Rattle.std.proofs.Common.{Result, Ok, Err, IfOk, Box, Global}
+use Rattle.std.specs.declared.rc.Rc.{Rc}
 use Rattle.std.specs.declared.rc.RcStr.{RcStr}
+use Rattle.regex_lite_syntax.specs.declared.class.ClassRange.{ClassRange}
 use Rattle.regex_lite_syntax.specs.Tree.Views.{node_tree}
 use Rattle.regex_lite_syntax.specs.declared.hir.Hir.{Hir-F, fold-roll-Hir}
 use Rattle.regex_lite_syntax.specs.declared.hir.Hir.TheVariants as hir
-use Rattle.regex_lite_engine.specs.declared.nfa.place.Place.{Place}
+use Rattle.regex_lite_engine.specs.declared.nfa.place.Place as code
+use Rattle.regex_lite_engine.specs.Graph.Places.{Place}
 use Rattle.regex_lite_engine.specs.Nfa.Fragments.{alone}
 
 pub tree_of-Empty : tree_of hir.Empty ≡ empty
@@ -17,6 +20,9 @@ tree_of-Empty = ap tree_of (sym hir.rolls-Empty) ∙ fold-roll-Hir Tree node_tre
 pub tree_of-Char : (c : ℕ) → tree_of (hir.Char c) ≡ character c
 tree_of-Char c =
     ap tree_of (sym (hir.rolls-Char c)) ∙ fold-roll-Hir Tree node_tree (Hir-F.Char c)
+
+pub tree_of-Class : (set : Rc (List ClassRange) Global) → tree_of (hir.Class set) ≡ class set.value
+tree_of-Class set = ap tree_of (sym (hir.rolls-Class set)) ∙ fold-roll-Hir Tree node_tree (Hir-F.Class set)
 
 pub tree_of-Look : (test : Look) → tree_of (hir.Look test) ≡ look test
 tree_of-Look test =
@@ -30,21 +36,20 @@ tree_of-Capture index name body =
     ∙ fold-roll-Hir Tree node_tree (Hir-F.Capture index name body)
 
 -- the place is added, and entered
-pub one_added : {E : Type 0} (result : Result ℕ E) (old new : List Place) (place : Place)
-    (written : Fragment) → written ≡ alone (place_of place) (length old)
-    → IfOk result (λ number. number ≡ length old) → IfOk result (λ _. new ≡ old ++ place ∷ [])
+pub one_added : {E : Type 0} (result : Result ℕ E) (old new : List code.Place) (place : Place ℕ)
+    (written : Fragment) → written ≡ alone place (length old)
+    → IfOk result (λ number. number ≡ length old)
+    → IfOk result (λ _. map place_of new ≡ map place_of old ++ place ∷ [])
     → IfOk result (λ entry. IsAdded (map place_of old) (map place_of new) entry written)
 one_added (Ok number) old new place written is at added = (
   at ∙ ap (λ (part : Fragment). part.1) (sym is),
-  ap (map place_of) added ∙ map-append place_of old (place ∷ [])
-      ∙ ap (λ (part : Fragment). map place_of old ++ part.0) (sym is),
+  added ∙ ap (λ (part : Fragment). map place_of old ++ part.0) (sym is),
 )
 one_added (Err e) old new place written is at added = tt
 
 -- and there is one place more
-pub one_more_place : {E : Type 0} (result : Result ℕ E) (old new : List Place) (place : Place)
-    (n : ℕ) → n ≡ 1 → IfOk result (λ _. new ≡ old ++ place ∷ [])
+pub one_more_place : {E : Type 0} (result : Result ℕ E) (old new : List code.Place) (n : ℕ)
+    → n ≡ 1 → IfOk result (λ _. length new ≡ length old + 1)
     → IfOk result (λ _. length new ≡ length old + n)
-one_more_place (Ok number) old new place n one added =
-    ap length added ∙ length-append old (place ∷ []) ∙ ap (λ k. length old + k) (sym one)
-one_more_place (Err e) old new place n one added = tt
+one_more_place (Ok number) old new n one grown = grown ∙ ap (λ k. length old + k) (sym one)
+one_more_place (Err e) old new n one grown = tt

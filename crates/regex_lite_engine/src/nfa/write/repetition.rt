@@ -10,8 +10,7 @@ ghost use Rattle.regex_lite_engine.specs.Nfa.Repetitions.{bounded_layout, choice
 ghost use Rattle.regex_lite_engine.specs.Nfa.Repetitions.{copies_layout, repetition_layout};
 ghost use Rattle.regex_lite_engine.specs.Nfa.Repetitions.{star_layout};
 
-use super::{Writer, choice_of};
-use crate::nfa::place::Place;
+use super::Writer;
 use regex_lite_syntax::Hir;
 use std::alloc::AllocError;
 
@@ -70,9 +69,9 @@ impl Writer {
             let (choice, _) = self.write_loop(body, greedy, exit)?;
             return Ok(choice);
         }
-        let join = self.add(Place::Empty { to: exit })?;
+        let join = self.add_empty(exit)?;
         let (_, inner) = self.write_loop(body, greedy, join)?;
-        self.add(choice_of(greedy, inner, join))
+        self.add_choice(greedy, inner, join)
     }
 
     /// The required copies, and where more are allowed, the optional ones and a join after them.
@@ -99,18 +98,18 @@ impl Writer {
     {
         if most <= least {
             if least == 0 {
-                return self.add(Place::Empty { to: exit });
+                return self.add_empty(exit);
             }
             return self.write_copies(body, least, exit);
         }
-        let join = self.add(Place::Empty { to: exit })?;
+        let join = self.add_empty(exit)?;
         let choices = self.write_choices(body, most - least, greedy, join)?;
         if least > 0 {
             self.write_copies(body, least, choices)
         } else if most == 1 {
             Ok(choices)
         } else {
-            self.add(Place::Empty { to: choices })
+            self.add_empty(choices)
         }
     }
 
@@ -152,7 +151,7 @@ impl Writer {
         let mut next = join;
         for _i in 0..count {
             let inner = self.write(body, next)?;
-            next = self.add(choice_of(greedy, inner, join))?;
+            next = self.add_choice(greedy, inner, join)?;
         }
         Ok(next)
     }
@@ -172,9 +171,9 @@ impl Writer {
         ensures grown { IfOk result (λ _.
             length self.new ≡ length self.old + (places (tree_of body.now) + 1)) }
     {
-        let choice = self.add(Place::Empty { to: exit })?;
+        let choice = self.add_empty(exit)?;
         let inner = self.write(body, choice)?;
-        self.replace(choice, choice_of(greedy, inner, exit));
+        self.put_choice(choice, greedy, inner, exit);
         Ok((choice, inner))
     }
 }

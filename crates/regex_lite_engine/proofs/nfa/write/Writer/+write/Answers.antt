@@ -1,17 +1,19 @@
-use Rattle.regex_lite_engine.proofs.Common.{◌≡◌, ◌+◌, ◌*◌, map, length, set, sym, ap, ◌∙◌, subst}
-use Rattle.regex_lite_engine.proofs.Common.{arith, length-append, rules, length-map, map-append}
-use Rattle.regex_lite_engine.proofs.Common.{map-set, Tree, repetition, concat, alternation, trees}
-use Rattle.regex_lite_engine.proofs.Common.{nullable, greatest_index, tree_of, copies, own_places}
-use Rattle.regex_lite_engine.proofs.Common.{places, place_of, IsAdded, layout}
+use Rattle.regex_lite_engine.proofs.Common.{◌≡◌, ◌+◌, ◌*◌, map, length, sym, ap, ◌∙◌, subst}
+use Rattle.regex_lite_engine.proofs.Common.{arith, rules, length-map, []}
+use Rattle.regex_lite_engine.proofs.Common.{Tree, repetition, concat, alternation, trees, ◌∷◌}
+use Rattle.regex_lite_engine.proofs.Common.{nullable, tree_of, copies, own_places}
+use Rattle.regex_lite_engine.proofs.Common.{places, place_of, IsAdded, layout, Hir}
 use Rattle.std.proofs.Common.{IfOk}
+use Rattle.regex_lite_engine.specs.Nfa.Layout.{capture_layout}
 use Rattle.std.proofs.lemmas.Grind.{common_steps}
 use Rattle.regex_lite_syntax.proofs.TreeLemmas.{tree_of-Repetition}
 use Rattle.regex_lite_engine.proofs.nfa.write.RoomLemmas.{loop_room}
 use Rattle.regex_lite_engine.proofs.nfa.write.WrittenOverLemmas.{loop_written}
 use Rattle.regex_lite_syntax.proofs.TreeLemmas.{tree_of-Concat, tree_of-Alternation}
-use Rattle.regex_lite_engine.specs.declared.nfa.place.Place.TheVariants as stored
 use Rattle.regex_lite_engine.proofs.nfa.write.OnePlaceLemmas.{tree_of-Empty, tree_of-Char}
-use Rattle.regex_lite_engine.proofs.nfa.write.OnePlaceLemmas.{tree_of-Look, tree_of-Capture}
+use Rattle.regex_lite_engine.proofs.nfa.write.OnePlaceLemmas.{tree_of-Class, tree_of-Look}
+use Rattle.regex_lite_engine.proofs.nfa.write.OnePlaceLemmas.{tree_of-Capture}
+use Rattle.regex_lite_engine.specs.Graph.Places.{go, go_holding, one_char, one_of, with_arrows}
 use Rattle.regex_lite_engine.proofs.nfa.write.OnePlaceLemmas.{one_added, one_more_place}
 use Rattle.regex_lite_engine.proofs.nfa.write.Writer.+write.Goals as goal
 
@@ -27,110 +29,6 @@ write-returns-in-Repetition-clause-written t c =
     subst (λ (tree : Tree). IfOk c.write_repetition.result (λ entry. IsAdded
     (map place_of old) (map place_of new) entry (layout tree (length old) c.args.exit)))
     (sym same) c.write_repetition.ensures.written
-
-pub write_loop-returns-clause-written : goal.write_loop-returns-clause-written
-write_loop-returns-clause-written t c =
-    let old = c.args.self.now in
-    let whole = c.write.new.self in
-    let choice = c.in_ok-choice in
-    let inner = c.in_ok-inner in
-    let put = ap (map place_of) c.replace.ensures
-    ∙ map-set place_of whole choice.choice c.choice_of.result
-    ∙ ap (λ place. set (map place_of whole) choice.choice place) c.choice_of.ensures in
-    loop_written c.args.greedy (layout (tree_of c.args.body.now))
-    (map place_of old) (map place_of c.add.new.self)
-    (map place_of whole) (map place_of c.replace.new.self) _
-    (length old) choice.choice (length c.add.new.self) inner.inner c.args.exit
-    (sym (length-map old place_of)) choice.ensures.number
-    (ap length choice.ensures.added ∙ length-append old _)
-    (ap (map place_of) choice.ensures.added ∙ map-append place_of old _)
-    inner.ensures.written.0 inner.ensures.written.1 put
-
-pub write_repetition-write_loop-requires : goal.write_repetition-write_loop-requires
-write_repetition-write_loop-requires t c =
-    let least = c.args.least in
-    let body = tree_of c.args.body.now in
-    let endless = ap (λ most. copies least most * places body
-    + own_places least most (nullable body)) c.in-None.is in
-    let parts = loop_room least (places body) (nullable body) (search rules) in
-    (search rules, (omega (arith, endless, parts, c.requires.room), c.requires.slots))
-
-pub write-add-requires : goal.write-add-requires
-write-add-requires t c =
-    omega (arith, c.requires.room, ap places (ap tree_of c.in-Empty.is ∙ tree_of-Empty))
-
-pub write-returns-in-Empty-clause-written : goal.write-returns-in-Empty-clause-written
-write-returns-in-Empty-clause-written t c =
-    let base = length c.args.self.now in
-    one_added c.add.result c.args.self.now c.add.new.self (stored.Empty c.args.exit) _
-    (ap (λ tree. layout tree base c.args.exit) (ap tree_of c.in-Empty.is ∙ tree_of-Empty))
-    c.add.ensures.number c.add.ensures.added
-
-pub write-returns-in-Empty-clause-grown : goal.write-returns-in-Empty-clause-grown
-write-returns-in-Empty-clause-grown t c =
-    one_more_place c.add.result c.args.self.now c.add.new.self (stored.Empty c.args.exit) _
-    (ap places (ap tree_of c.in-Empty.is ∙ tree_of-Empty)) c.add.ensures.added
-
-pub write-add-requires-in-Char : goal.write-add-requires-in-Char
-write-add-requires-in-Char t c =
-    omega (arith, c.requires.room, ap places (ap tree_of c.in-Char.is ∙ tree_of-Char c.in-Char.c))
-
-pub write-returns-in-Char-clause-written : goal.write-returns-in-Char-clause-written
-write-returns-in-Char-clause-written t c =
-    let base = length c.args.self.now in
-    one_added c.add-in-Char.result c.args.self.now c.add-in-Char.new.self
-    (stored.Char c.in-Char.c c.args.exit) _
-    (ap (λ tree. layout tree base c.args.exit) (ap tree_of c.in-Char.is ∙ tree_of-Char c.in-Char.c))
-    c.add-in-Char.ensures.number c.add-in-Char.ensures.added
-
-pub write-returns-in-Char-clause-grown : goal.write-returns-in-Char-clause-grown
-write-returns-in-Char-clause-grown t c =
-    one_more_place c.add-in-Char.result c.args.self.now c.add-in-Char.new.self
-    (stored.Char c.in-Char.c c.args.exit) _
-    (ap places (ap tree_of c.in-Char.is ∙ tree_of-Char c.in-Char.c)) c.add-in-Char.ensures.added
-
-pub write-add-requires-in-Look : goal.write-add-requires-in-Look
-write-add-requires-in-Look t c =
-    let r = c.in-Look in
-    omega (arith, c.requires.room, ap places (ap tree_of r.is ∙ tree_of-Look r.look))
-
-pub write-returns-in-Look-clause-written : goal.write-returns-in-Look-clause-written
-write-returns-in-Look-clause-written t c =
-    let base = length c.args.self.now in
-    one_added c.add-in-Look.result c.args.self.now c.add-in-Look.new.self
-    (stored.Look c.in-Look.look c.args.exit) _
-    (ap (λ tree. layout tree base c.args.exit)
-    (ap tree_of c.in-Look.is ∙ tree_of-Look c.in-Look.look))
-    c.add-in-Look.ensures.number c.add-in-Look.ensures.added
-
-pub write-returns-in-Look-clause-grown : goal.write-returns-in-Look-clause-grown
-write-returns-in-Look-clause-grown t c =
-    one_more_place c.add-in-Look.result c.args.self.now c.add-in-Look.new.self
-    (stored.Look c.in-Look.look c.args.exit) _
-    (ap places (ap tree_of c.in-Look.is ∙ tree_of-Look c.in-Look.look)) c.add-in-Look.ensures.added
-
-pub write-close_group-requires-clause-room : goal.write-close_group-requires-clause-room
-write-close_group-requires-clause-room t c =
-    let r = c.in-Capture in
-    omega (arith, c.requires.room, ap places (ap tree_of r.is ∙ tree_of-Capture r.index _ r.body))
-
-pub write-close_group-requires-clause-slot : goal.write-close_group-requires-clause-slot
-write-close_group-requires-clause-slot t c =
-    let r = c.in-Capture in
-    omega (
-      arith,
-      c.requires.slots,
-      ap greatest_index (ap tree_of r.is ∙ tree_of-Capture r.index _ r.body),
-    )
-
-pub write-open_group-requires-clause-slot : goal.write-open_group-requires-clause-slot
-write-open_group-requires-clause-slot t c =
-    let r = c.in-Capture in
-    omega (
-      arith,
-      c.requires.slots,
-      ap greatest_index (ap tree_of r.is ∙ tree_of-Capture r.index _ r.body),
-    )
 
 pub write-returns-in-Concat-clause-written : goal.write-returns-in-Concat-clause-written
 write-returns-in-Concat-clause-written t c =
@@ -185,14 +83,118 @@ write-returns-in-Repetition-clause-grown t c =
     subst (λ (tree : Tree). IfOk c.write_repetition.result (λ _. length c.write_repetition.new.self
     ≡ length c.args.self.now + places tree)) (sym same) c.write_repetition.ensures.grown
 
+pub write-add_empty-requires : goal.write-add_empty-requires
+write-add_empty-requires t c =
+    omega (arith, c.requires.room, ap places (ap tree_of c.in-Empty.is ∙ tree_of-Empty))
+
+pub write-returns-in-Empty-clause-written : goal.write-returns-in-Empty-clause-written
+write-returns-in-Empty-clause-written t c =
+    let base = length c.args.self.now in
+    one_added c.add_empty.result c.args.self.now c.add_empty.new.self (with_arrows (go c.args.exit ∷ [])) _
+    (ap (λ tree. layout tree base c.args.exit) (ap tree_of c.in-Empty.is ∙ tree_of-Empty))
+    c.add_empty.ensures.number c.add_empty.ensures.added
+
+pub write-returns-in-Empty-clause-grown : goal.write-returns-in-Empty-clause-grown
+write-returns-in-Empty-clause-grown t c =
+    one_more_place c.add_empty.result c.args.self.now c.add_empty.new.self _ (ap places (ap tree_of c.in-Empty.is ∙ tree_of-Empty))
+    c.add_empty.ensures.grown
+
+pub write-add_char-requires : goal.write-add_char-requires
+write-add_char-requires t c =
+    omega (arith, c.requires.room, ap places (ap tree_of c.in-Char.is ∙ tree_of-Char c.in-Char.c))
+
+pub write-returns-in-Char-clause-written : goal.write-returns-in-Char-clause-written
+write-returns-in-Char-clause-written t c =
+    let base = length c.args.self.now in
+    one_added c.add_char.result c.args.self.now c.add_char.new.self (one_char c.in-Char.c c.args.exit) _
+    (ap (λ tree. layout tree base c.args.exit) (ap tree_of c.in-Char.is ∙ tree_of-Char c.in-Char.c))
+    c.add_char.ensures.number c.add_char.ensures.added
+
+pub write-returns-in-Char-clause-grown : goal.write-returns-in-Char-clause-grown
+write-returns-in-Char-clause-grown t c =
+    one_more_place c.add_char.result c.args.self.now c.add_char.new.self _ (ap places (ap tree_of c.in-Char.is ∙ tree_of-Char c.in-Char.c))
+    c.add_char.ensures.grown
+
+pub write-add_class-requires : goal.write-add_class-requires
+write-add_class-requires t c =
+    omega (arith, c.requires.room, ap places (ap tree_of c.in-Class.is ∙ tree_of-Class c.in-Class.class))
+
+pub write-returns-in-Class-clause-written : goal.write-returns-in-Class-clause-written
+write-returns-in-Class-clause-written t c =
+    let base = length c.args.self.now in
+    one_added c.add_class.result c.args.self.now c.add_class.new.self (one_of c.in-Class.class.value c.args.exit) _
+    (ap (λ tree. layout tree base c.args.exit) (ap tree_of c.in-Class.is ∙ tree_of-Class c.in-Class.class))
+    c.add_class.ensures.number c.add_class.ensures.added
+
+pub write-returns-in-Class-clause-grown : goal.write-returns-in-Class-clause-grown
+write-returns-in-Class-clause-grown t c =
+    one_more_place c.add_class.result c.args.self.now c.add_class.new.self _ (ap places (ap tree_of c.in-Class.is ∙ tree_of-Class c.in-Class.class))
+    c.add_class.ensures.grown
+
+pub write-add_look-requires : goal.write-add_look-requires
+write-add_look-requires t c =
+    omega (arith, c.requires.room, ap places (ap tree_of c.in-Look.is ∙ tree_of-Look c.in-Look.look))
+
+pub write-returns-in-Look-clause-written : goal.write-returns-in-Look-clause-written
+write-returns-in-Look-clause-written t c =
+    let base = length c.args.self.now in
+    one_added c.add_look.result c.args.self.now c.add_look.new.self (with_arrows (go_holding c.in-Look.look c.args.exit ∷ [])) _
+    (ap (λ tree. layout tree base c.args.exit) (ap tree_of c.in-Look.is ∙ tree_of-Look c.in-Look.look))
+    c.add_look.ensures.number c.add_look.ensures.added
+
+pub write-returns-in-Look-clause-grown : goal.write-returns-in-Look-clause-grown
+write-returns-in-Look-clause-grown t c =
+    one_more_place c.add_look.result c.args.self.now c.add_look.new.self _ (ap places (ap tree_of c.in-Look.is ∙ tree_of-Look c.in-Look.look))
+    c.add_look.ensures.grown
+
+pub write-returns-in-Capture-clause-written : goal.write-returns-in-Capture-clause-written
+write-returns-in-Capture-clause-written t c =
+    let r = c.in-Capture in
+    let old = c.args.self.now in
+    let new = c.write_group.new.self in
+    let same = ap tree_of r.is ∙ tree_of-Capture r.index _ r.body in
+    subst (λ (tree : Tree). IfOk c.write_group.result (λ entry. IsAdded
+    (map place_of old) (map place_of new) entry (layout tree (length old) c.args.exit)))
+    (sym same) (subst (λ (hir : Hir). IfOk c.write_group.result (λ entry. IsAdded
+    (map place_of old) (map place_of new) entry
+    (capture_layout r.index (layout (tree_of hir)) (length old) c.args.exit)))
+    c.deref-in-Capture.ensures c.write_group.ensures.written)
+
+pub write-returns-in-Capture-clause-grown : goal.write-returns-in-Capture-clause-grown
+write-returns-in-Capture-clause-grown t c =
+    let r = c.in-Capture in
+    let old = c.args.self.now in
+    let new = c.write_group.new.self in
+    let same = ap tree_of r.is ∙ tree_of-Capture r.index _ r.body in
+    subst (λ (tree : Tree). IfOk c.write_group.result (λ _. length new ≡ length old + places tree))
+    (sym same) (subst (λ (hir : Hir). IfOk c.write_group.result (λ _. length new
+    ≡ length old + (places (tree_of hir) + 2))) c.deref-in-Capture.ensures
+    c.write_group.ensures.grown)
+
+pub write_repetition-write_loop-requires : goal.write_repetition-write_loop-requires
+write_repetition-write_loop-requires t c =
+    let least = c.args.least in
+    let body = tree_of c.args.body.now in
+    let endless = ap (λ most. copies least most * places body
+    + own_places least most (nullable body)) c.in-None.is in
+    let parts = loop_room least (places body) (nullable body) (search rules) in
+    (search rules, (omega (arith, endless, parts, c.requires.room), c.requires.slots))
+
+pub write_loop-returns-clause-written : goal.write_loop-returns-clause-written
+write_loop-returns-clause-written t c =
+    let old = c.args.self.now in
+    let whole = c.write.new.self in
+    let choice = c.in_ok-choice in
+    let inner = c.in_ok-inner in
+    loop_written c.args.greedy (layout (tree_of c.args.body.now))
+    (map place_of old) (map place_of c.add_empty.new.self)
+    (map place_of whole) (map place_of c.put_choice.new.self) _
+    (length old) choice.choice (length c.add_empty.new.self) inner.inner c.args.exit
+    (sym (length-map old place_of)) choice.ensures.number choice.ensures.grown
+    choice.ensures.added inner.ensures.written.0 inner.ensures.written.1 c.put_choice.ensures.put
+
 -- The goals from here on need no lemma of their own. They have answers because the prover would
 -- try other calls first, which takes long
-pub write_alternation-loop-branch-preserved : goal.write_alternation-loop-branch-preserved
-write_alternation-loop-branch-preserved t c = grind (arith, common_steps)
-
-pub write_alternation-add-requires-2 : goal.write_alternation-add-requires-2
-write_alternation-add-requires-2 t c = grind (arith, common_steps)
-
 pub write_bounded-returns-then-least-eq0-clause-written :
     goal.write_bounded-returns-then-least-eq0-clause-written
 write_bounded-returns-then-least-eq0-clause-written t c = grind (arith, common_steps)
@@ -207,9 +209,6 @@ write_bounded-write_choices-requires t c = grind (arith, common_steps)
 pub write_bounded-write_copies-requires-then-least-gt0 :
     goal.write_bounded-write_copies-requires-then-least-gt0
 write_bounded-write_copies-requires-then-least-gt0 t c = grind (arith, common_steps)
-
-pub write_bounded-add-requires-else-most-eq1 : goal.write_bounded-add-requires-else-most-eq1
-write_bounded-add-requires-else-most-eq1 t c = grind (arith, common_steps)
 
 pub write_bounded-returns-then-least-gt0-clause-written :
     goal.write_bounded-returns-then-least-gt0-clause-written
@@ -250,9 +249,6 @@ write_copies-loop-i-preserved t c = grind (arith, common_steps)
 pub write_loop-write-requires : goal.write_loop-write-requires
 write_loop-write-requires t c = grind (arith, common_steps)
 
-pub write_loop-replace-requires : goal.write_loop-replace-requires
-write_loop-replace-requires t c = grind (arith, common_steps)
-
 pub write_loop-returns-clause-body : goal.write_loop-returns-clause-body
 write_loop-returns-clause-body t c = grind (arith, common_steps)
 
@@ -265,9 +261,6 @@ write_repetition-returns-in_ok-inner-in-None-clause-written t c = grind (arith, 
 
 pub write_star-write_loop-requires-2 : goal.write_star-write_loop-requires-2
 write_star-write_loop-requires-2 t c = grind (arith, common_steps)
-
-pub write_star-add-requires-2 : goal.write_star-add-requires-2
-write_star-add-requires-2 t c = grind (arith, common_steps)
 
 pub write_star-returns-clause-written : goal.write_star-returns-clause-written
 write_star-returns-clause-written t c = grind (arith, common_steps)

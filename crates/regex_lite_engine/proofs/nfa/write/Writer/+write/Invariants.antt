@@ -15,8 +15,8 @@ invariant-write_concat-loop-i l =
     }
 
 -- with the branches that are left these are all
-abbrev pub invariant-write_alternation-loop-branch : goal.invariant-write_alternation-loop-branch
-invariant-write_alternation-loop-branch l =
+abbrev pub invariant-write_branches-loop-branch : goal.invariant-write_branches-loop-branch
+invariant-write_branches-loop-branch l =
     let left = trees (map tree_of (drop l.branch-index l.branches)) in
     let all = trees (map tree_of l.branches) in
     let old = l.initial.self in record {
