@@ -7,11 +7,13 @@ ghost use Rattle.regex_lite_engine.specs.Graph.NoLooks.{HasNoLooks};
 ghost use Rattle.regex_lite_engine.specs.LazyDfa.Remembering.{FindsSpansIn, IsKnown};
 ghost use Rattle.regex_lite_engine.specs.LazyDfa.Remembering.{NoneStartsBefore, RemembersAll};
 ghost use Rattle.regex_lite_engine.specs.LazyDfa.Scanning.{span_told};
+ghost use Rattle.regex_lite_engine.specs.Search.Counting.{IsCountable};
 ghost use Rattle.regex_lite_engine.specs.Search.Offsets.{position_at};
 ghost use Rattle.regex_lite_engine.specs.Search.NumberedAnswer.{IsNumberedAnswer};
 ghost use Rattle.regex_lite_engine.specs.Search.NumberedOutcomes.{IsBestOutcomeOf};
 ghost use Rattle.regex_lite_engine.specs.Search.NumberedOutcomes.{IsNumberedOutcome, best_at};
 ghost use Rattle.regex_lite_engine.specs.Backtrack.Short.{SearchesShort};
+ghost use Rattle.regex_lite_engine.specs.Pikevm.Searching.{IsBetween, IsFresh};
 
 use crate::Graph;
 use crate::backtrack::short::ShortSearcher;
@@ -77,13 +79,8 @@ impl SpanSearcher {
             → FindsSpansIn graph.now slots self.new }
     {
         restart(&mut self.cache);
-        // Its place is one of the graph.
-        let _start = graph.start();
-        let pattern = OnePattern {
-            graph,
-            may_start: true,
-        };
-        span_of(self.dfa.find(&pattern, &mut self.cache, haystack, start, 0))
+        self.dfa
+            .find_in_graph(graph, &mut self.cache, haystack, start)
     }
 
     /// Sets the row to the slots of the match between these offsets, if they can be found depth
@@ -110,6 +107,37 @@ impl SpanSearcher {
             Some(short) => find_short(short, graph, haystack, span, best),
             None => None,
         }
+    }
+}
+
+impl LazyDfa {
+    /// Where the most preferred match from the least start at or after this offset starts and
+    /// ends, in a graph whose turns this remembers.
+    pub(crate) fn find_in_graph(
+        &mut self,
+        graph: &Graph,
+        cache: &mut Cache<Origin>,
+        haystack: &str,
+        start: usize,
+    ) -> Option<(usize, usize)>
+        requires boundary { IsCharBoundary haystack.now start }
+        requires remembers { RemembersAll graph.now self.old }
+        requires fresh { IsFresh (table_of graph.now) cache.old }
+        requires countable { IsCountable (table_of graph.now) }
+        requires width { length cache.old.walk.memory.row ≡ 0 }
+        ensures found { IsBestOutcomeOf (table_of graph.now) (chars haystack.now)
+            (graph.now.start ∷ []) (position_at haystack.now start) (span_told result) }
+        ensures remembers { RemembersAll graph.now self.new }
+        ensures between { IsBetween (table_of graph.now) cache.new }
+        ensures width { length cache.new.walk.memory.row ≡ 0 }
+    {
+        // Its place is one of the graph.
+        let _start = graph.start();
+        let pattern = OnePattern {
+            graph,
+            may_start: true,
+        };
+        span_of(self.find(&pattern, cache, haystack, start, 0))
     }
 }
 

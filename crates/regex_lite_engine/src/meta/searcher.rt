@@ -1,16 +1,21 @@
 //! Searches in one graph, one after another, in the same working memory.
-ghost use Rattle.std.specs.Prelude.{◌≡◌, ◌<◌, ◌⊎◌, IfOk, IfSome, IsCharBoundary, length};
+ghost use Rattle.std.specs.Prelude.{◌≡◌, ◌<◌, ◌⊎◌, ℕ, IfOk, IfSome, IsCharBoundary, chars, length};
 ghost use Rattle.regex_lite_syntax.specs.Tree.{Tree};
 ghost use Rattle.regex_lite_syntax.specs.Tree.Regular.{IsRegular};
 ghost use Rattle.regex_lite_engine.specs.Graph.Renumbered.{IsGraphOf};
-ghost use Rattle.regex_lite_engine.specs.LazyDfa.Remembering.{RemembersAll};
+ghost use Rattle.regex_lite_engine.specs.Graph.Stored.{table_of};
+ghost use Rattle.regex_lite_engine.specs.LazyDfa.Remembering.{FindsSpansIn, IsKnown};
+ghost use Rattle.regex_lite_engine.specs.LazyDfa.Remembering.{NoneStartsBefore, RemembersAll};
+ghost use Rattle.regex_lite_engine.specs.Search.Counting.{IsCountable};
+ghost use Rattle.regex_lite_engine.specs.Search.NumberedOutcomes.{IsNumberedOutcome, best_at};
+ghost use Rattle.regex_lite_engine.specs.Search.Offsets.{position_at};
 ghost use Rattle.regex_lite_engine.specs.Search.Outcomes.{IsSpanOutcome};
-ghost use Rattle.regex_lite_engine.specs.Pikevm.Searching.{IsBetween};
+ghost use Rattle.regex_lite_engine.specs.Pikevm.Searching.{IsBetween, IsFresh};
 
 use crate::Graph;
 use crate::lazy_dfa::automaton::LazyDfa;
 use crate::lazy_dfa::remembering::{pays, pays_with_slots};
-use crate::lazy_dfa::spans::{SpanSearcher, find_slots, pass_to_match, weigh};
+use crate::lazy_dfa::spans::{Passed, SpanSearcher, find_slots, pass_to_match, weigh};
 use crate::pikevm::beginning::Origin;
 use crate::pikevm::best::span_of;
 use crate::pikevm::cache::{Cache, cache_for, restart};
@@ -107,34 +112,16 @@ impl<'g> Searcher<'g> {
         }
         restart(&mut self.cache);
         if let Some(dfa) = &mut self.dfa {
-            // Its place is one of the graph.
-            let _start = self.graph.start();
-            let pattern = OnePattern {
-                graph: self.graph,
-                may_start: true,
-            };
-            return span_of(dfa.find(&pattern, &mut self.cache, haystack, start, 0));
+            return dfa.find_in_graph(self.graph, &mut self.cache, haystack, start);
         }
         let passed = pass_to_match(&mut self.spans, self.graph, haystack, start)?;
-        let best = &mut self.cache.best;
-        if let Some((span, tried)) = find_slots(
+        find_passed(
             &mut self.spans,
             self.graph,
+            &mut self.cache,
             haystack,
             passed,
-            best,
-        ) {
-            weigh(&mut self.spans, Some(span), tried);
-            return Some(span);
-        }
-        let mut pattern = OnePattern {
-            graph: self.graph,
-            may_start: false,
-        };
-        run(&mut self.cache, &mut pattern, haystack, passed.from);
-        let found = span_of(self.cache.best.found());
-        weigh(&mut self.spans, found, self.cache.walk.steps.tried());
-        found
+        )
     }
 
     /// The slots of the last match that was found, none of them marked before the first. Slots 2k
@@ -155,4 +142,65 @@ fn automaton_for(alloc: Global, graph: &Graph) -> Option<Box<LazyDfa>>
 {
     let dfa = LazyDfa::for_graph(alloc, graph)?;
     Box::new(alloc, dfa).ok()
+}
+
+/// What a search finds from where another one has passed to, and counts for the automaton: depth
+/// first if the end is known and the match is short, and else by ordered sets.
+fn find_passed(
+    spans: &mut Option<Box<SpanSearcher>>,
+    graph: &Graph,
+    cache: &mut Cache<Origin>,
+    haystack: &str,
+    passed: Passed,
+) -> Option<(usize, usize)>
+    requires finds { IfSome spans.old
+        (λ boxed. FindsSpansIn graph.now (length cache.old.best.row) boxed.value) }
+    requires fresh { IsFresh (table_of graph.now) cache.old }
+    requires countable { IsCountable (table_of graph.now) }
+    requires boundary { IsCharBoundary haystack.now passed.from }
+    requires first { (s : ℕ) × NoneStartsBefore (table_of graph.now) (chars haystack.now)
+        graph.now.start s (position_at haystack.now passed.from)
+        × IsKnown (table_of graph.now) (chars haystack.now) graph.now.start s passed }
+    ensures finds { IfSome spans.new
+        (λ boxed. FindsSpansIn graph.now (length cache.new.best.row) boxed.value) }
+    ensures found { (s : ℕ) → NoneStartsBefore (table_of graph.now) (chars haystack.now)
+        graph.now.start s (position_at haystack.now passed.from)
+        → IsKnown (table_of graph.now) (chars haystack.now) graph.now.start s passed
+        → IsNumberedOutcome (table_of graph.now) (chars haystack.now) graph.now.start s
+        (best_at result cache.new.best.row) }
+    ensures between { IsBetween (table_of graph.now) cache.new }
+    ensures width { length cache.new.best.row ≡ length cache.old.best.row }
+{
+    let best = &mut cache.best;
+    if let Some((span, tried)) = find_slots(spans, graph, haystack, passed, best) {
+        weigh(spans, Some(span), tried);
+        return Some(span);
+    }
+    let found = find_in_step(graph, cache, haystack, passed.from);
+    weigh(spans, found, cache.walk.steps.tried());
+    found
+}
+
+/// Where a search by ordered sets finds that the most preferred match from the least start at or
+/// after this offset starts and ends.
+fn find_in_step(
+    graph: &Graph,
+    cache: &mut Cache<Origin>,
+    haystack: &str,
+    start: usize,
+) -> Option<(usize, usize)>
+    requires fresh { IsFresh (table_of graph.now) cache.old }
+    requires countable { IsCountable (table_of graph.now) }
+    requires boundary { IsCharBoundary haystack.now start }
+    ensures found { IsNumberedOutcome (table_of graph.now) (chars haystack.now) graph.now.start
+        (position_at haystack.now start) (best_at result cache.new.best.row) }
+    ensures between { IsBetween (table_of graph.now) cache.new }
+    ensures width { length cache.new.best.row ≡ length cache.old.best.row }
+{
+    let mut pattern = OnePattern {
+        graph,
+        may_start: false,
+    };
+    run(cache, &mut pattern, haystack, start);
+    span_of(cache.best.found())
 }

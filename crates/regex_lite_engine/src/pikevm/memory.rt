@@ -1,6 +1,6 @@
 //! All that a search works in.
 ghost use Rattle.std.specs.Prelude.{◌≡◌, ◌+◌, ◌*◌, ◌^◌, ◌≤◌, ◌<◌, [], ℕ, IfOk, length};
-ghost use Rattle.std.specs.Prelude.{map, slice_index, slice_set, vec_capacity};
+ghost use Rattle.std.specs.Prelude.{map, slice_index, slice_index_or, slice_set, vec_capacity};
 ghost use Rattle.regex_lite_engine.specs.Pikevm.Cells.{round_in};
 
 use crate::pikevm::beginning::Beginning;
@@ -84,10 +84,8 @@ impl<S: Beginning> Memory<S> {
         ensures next { IfOk result (λ memory. memory.next ≡ []) }
         ensures room { IfOk result (λ memory. memory.room ≡ room) }
     {
-        let count = room.checked_mul(2).ok_or(AllocError)?;
-        let count = count.checked_add(1).ok_or(AllocError)?;
         let cells = cells_for(alloc, places)?;
-        let rows = Rows::blank(alloc, count, width)?;
+        let rows = rows_for(alloc, room, width)?;
         let low = places - cells.len();
         Ok(Memory {
             cells,
@@ -162,6 +160,16 @@ fn cells_for<S: Beginning>(alloc: Global, places: usize) -> Result<Vec<Cell<S>>,
         return Ok(cells);
     }
     Vec::with_capacity(alloc, places)
+}
+
+/// Rows of this width for the way that is followed and for the threads of both lists.
+fn rows_for(alloc: Global, room: usize, width: usize) -> Result<Rows, AllocError>
+    ensures count { IfOk result (λ rows. length rows ≡ 2 * room + 1) }
+    ensures width { IfOk result (λ rows. length (slice_index_or rows 0 []) ≡ width) }
+{
+    let count = room.checked_mul(2).ok_or(AllocError)?;
+    let count = count.checked_add(1).ok_or(AllocError)?;
+    Rows::blank(alloc, count, width)
 }
 
 /// Forgets in which rounds the places were entered.

@@ -1,7 +1,8 @@
 -- The trees that are written as one place, and what is written for them.
 use Rattle.regex_lite_engine.proofs.Common.{◌≡◌, ℕ, ◌+◌, List, [], ◌∷◌, ◌++◌, map, length, Option}
 use Rattle.regex_lite_engine.proofs.Common.{option_map, sym, ap, ◌∙◌}
-use Rattle.regex_lite_engine.proofs.Common.{Tree, empty, character, class, look, capture, text_of_name}
+use Rattle.regex_lite_engine.proofs.Common.{Tree, empty, character, class, look, capture}
+use Rattle.regex_lite_engine.proofs.Common.{text_of_name}
 use Rattle.regex_lite_engine.proofs.Common.{tree_of, Hir, Look, place_of, Fragment, IsAdded}
 use Rattle.std.proofs.Common.{Result, Ok, Err, IfOk, Box, Global}
 use Rattle.std.specs.declared.rc.Rc.{Rc}
@@ -22,7 +23,8 @@ tree_of-Char c =
     ap tree_of (sym (hir.rolls-Char c)) ∙ fold-roll-Hir Tree node_tree (Hir-F.Char c)
 
 pub tree_of-Class : (set : Rc (List ClassRange) Global) → tree_of (hir.Class set) ≡ class set.value
-tree_of-Class set = ap tree_of (sym (hir.rolls-Class set)) ∙ fold-roll-Hir Tree node_tree (Hir-F.Class set)
+tree_of-Class set =
+    ap tree_of (sym (hir.rolls-Class set)) ∙ fold-roll-Hir Tree node_tree (Hir-F.Class set)
 
 pub tree_of-Look : (test : Look) → tree_of (hir.Look test) ≡ look test
 tree_of-Look test =

@@ -85,66 +85,86 @@ write-returns-in-Repetition-clause-grown t c =
 
 pub write-add_empty-requires : goal.write-add_empty-requires
 write-add_empty-requires t c =
-    omega (arith, c.requires.room, ap places (ap tree_of c.in-Empty.is ∙ tree_of-Empty))
+    let is = ap tree_of c.in-Empty.is ∙ tree_of-Empty in
+    omega (arith, c.requires.room, ap places is)
 
 pub write-returns-in-Empty-clause-written : goal.write-returns-in-Empty-clause-written
 write-returns-in-Empty-clause-written t c =
-    let base = length c.args.self.now in
-    one_added c.add_empty.result c.args.self.now c.add_empty.new.self (with_arrows (go c.args.exit ∷ [])) _
-    (ap (λ tree. layout tree base c.args.exit) (ap tree_of c.in-Empty.is ∙ tree_of-Empty))
+    let is = ap tree_of c.in-Empty.is ∙ tree_of-Empty in
+    let old = c.args.self.now in
+    let base = length old in
+    one_added c.add_empty.result old c.add_empty.new.self
+    (with_arrows (go c.args.exit ∷ [])) _
+    (ap (λ tree. layout tree base c.args.exit) is)
     c.add_empty.ensures.number c.add_empty.ensures.added
 
 pub write-returns-in-Empty-clause-grown : goal.write-returns-in-Empty-clause-grown
 write-returns-in-Empty-clause-grown t c =
-    one_more_place c.add_empty.result c.args.self.now c.add_empty.new.self _ (ap places (ap tree_of c.in-Empty.is ∙ tree_of-Empty))
+    let is = ap tree_of c.in-Empty.is ∙ tree_of-Empty in
+    one_more_place c.add_empty.result c.args.self.now c.add_empty.new.self _ (ap places is)
     c.add_empty.ensures.grown
 
 pub write-add_char-requires : goal.write-add_char-requires
 write-add_char-requires t c =
-    omega (arith, c.requires.room, ap places (ap tree_of c.in-Char.is ∙ tree_of-Char c.in-Char.c))
+    let is = ap tree_of c.in-Char.is ∙ tree_of-Char c.in-Char.c in
+    omega (arith, c.requires.room, ap places is)
 
 pub write-returns-in-Char-clause-written : goal.write-returns-in-Char-clause-written
 write-returns-in-Char-clause-written t c =
-    let base = length c.args.self.now in
-    one_added c.add_char.result c.args.self.now c.add_char.new.self (one_char c.in-Char.c c.args.exit) _
-    (ap (λ tree. layout tree base c.args.exit) (ap tree_of c.in-Char.is ∙ tree_of-Char c.in-Char.c))
+    let is = ap tree_of c.in-Char.is ∙ tree_of-Char c.in-Char.c in
+    let old = c.args.self.now in
+    let base = length old in
+    one_added c.add_char.result old c.add_char.new.self
+    (one_char c.in-Char.c c.args.exit) _
+    (ap (λ tree. layout tree base c.args.exit) is)
     c.add_char.ensures.number c.add_char.ensures.added
 
 pub write-returns-in-Char-clause-grown : goal.write-returns-in-Char-clause-grown
 write-returns-in-Char-clause-grown t c =
-    one_more_place c.add_char.result c.args.self.now c.add_char.new.self _ (ap places (ap tree_of c.in-Char.is ∙ tree_of-Char c.in-Char.c))
+    let is = ap tree_of c.in-Char.is ∙ tree_of-Char c.in-Char.c in
+    one_more_place c.add_char.result c.args.self.now c.add_char.new.self _ (ap places is)
     c.add_char.ensures.grown
 
 pub write-add_class-requires : goal.write-add_class-requires
 write-add_class-requires t c =
-    omega (arith, c.requires.room, ap places (ap tree_of c.in-Class.is ∙ tree_of-Class c.in-Class.class))
+    let is = ap tree_of c.in-Class.is ∙ tree_of-Class c.in-Class.class in
+    omega (arith, c.requires.room, ap places is)
 
 pub write-returns-in-Class-clause-written : goal.write-returns-in-Class-clause-written
 write-returns-in-Class-clause-written t c =
-    let base = length c.args.self.now in
-    one_added c.add_class.result c.args.self.now c.add_class.new.self (one_of c.in-Class.class.value c.args.exit) _
-    (ap (λ tree. layout tree base c.args.exit) (ap tree_of c.in-Class.is ∙ tree_of-Class c.in-Class.class))
+    let is = ap tree_of c.in-Class.is ∙ tree_of-Class c.in-Class.class in
+    let old = c.args.self.now in
+    let base = length old in
+    one_added c.add_class.result old c.add_class.new.self
+    (one_of c.in-Class.class.value c.args.exit) _
+    (ap (λ tree. layout tree base c.args.exit) is)
     c.add_class.ensures.number c.add_class.ensures.added
 
 pub write-returns-in-Class-clause-grown : goal.write-returns-in-Class-clause-grown
 write-returns-in-Class-clause-grown t c =
-    one_more_place c.add_class.result c.args.self.now c.add_class.new.self _ (ap places (ap tree_of c.in-Class.is ∙ tree_of-Class c.in-Class.class))
+    let is = ap tree_of c.in-Class.is ∙ tree_of-Class c.in-Class.class in
+    one_more_place c.add_class.result c.args.self.now c.add_class.new.self _ (ap places is)
     c.add_class.ensures.grown
 
 pub write-add_look-requires : goal.write-add_look-requires
 write-add_look-requires t c =
-    omega (arith, c.requires.room, ap places (ap tree_of c.in-Look.is ∙ tree_of-Look c.in-Look.look))
+    let is = ap tree_of c.in-Look.is ∙ tree_of-Look c.in-Look.look in
+    omega (arith, c.requires.room, ap places is)
 
 pub write-returns-in-Look-clause-written : goal.write-returns-in-Look-clause-written
 write-returns-in-Look-clause-written t c =
-    let base = length c.args.self.now in
-    one_added c.add_look.result c.args.self.now c.add_look.new.self (with_arrows (go_holding c.in-Look.look c.args.exit ∷ [])) _
-    (ap (λ tree. layout tree base c.args.exit) (ap tree_of c.in-Look.is ∙ tree_of-Look c.in-Look.look))
+    let is = ap tree_of c.in-Look.is ∙ tree_of-Look c.in-Look.look in
+    let old = c.args.self.now in
+    let base = length old in
+    one_added c.add_look.result old c.add_look.new.self
+    (with_arrows (go_holding c.in-Look.look c.args.exit ∷ [])) _
+    (ap (λ tree. layout tree base c.args.exit) is)
     c.add_look.ensures.number c.add_look.ensures.added
 
 pub write-returns-in-Look-clause-grown : goal.write-returns-in-Look-clause-grown
 write-returns-in-Look-clause-grown t c =
-    one_more_place c.add_look.result c.args.self.now c.add_look.new.self _ (ap places (ap tree_of c.in-Look.is ∙ tree_of-Look c.in-Look.look))
+    let is = ap tree_of c.in-Look.is ∙ tree_of-Look c.in-Look.look in
+    one_more_place c.add_look.result c.args.self.now c.add_look.new.self _ (ap places is)
     c.add_look.ensures.grown
 
 pub write-returns-in-Capture-clause-written : goal.write-returns-in-Capture-clause-written

@@ -4,14 +4,14 @@ use Rattle.regex_lite_engine.proofs.Common.{position_at}
 use Rattle.regex_lite_engine.proofs.lazy_dfa.OnceLemmas.{spanned}
 use Rattle.regex_lite_engine.proofs.lazy_dfa.RunLemmas.{all_of_one}
 use Rattle.regex_lite_engine.proofs.search.OutcomeLemmas.{can_count}
-use Rattle.regex_lite_engine.proofs.lazy_dfa.spans.SpanSearcher.find.Goals as goal
+use Rattle.regex_lite_engine.proofs.lazy_dfa.automaton.LazyDfa.find_in_graph.Goals as goal
 
 pub find-requires-clause-counts : goal.find-requires-clause-counts
 find-requires-clause-counts c =
     let haystack = c.args.haystack.now in
     let short : length haystack < 2 ^ 63 = search rules in
     can_count (table_of c.args.graph.now) haystack (position_at haystack c.args.start)
-    c.utf8.haystack short c.requires.finds.1.countable 1 (omega arith)
+    c.utf8.haystack short c.requires.countable 1 (omega arith)
 
 pub find-requires-clause-all : goal.find-requires-clause-all
 find-requires-clause-all c = all_of_one c.args.graph.now c.start-start.result

@@ -1,0 +1,18 @@
+use Rattle.regex_lite_engine.proofs.Common.{chars, table_of, best_at, with_start_kept, position_at}
+use Rattle.regex_lite_engine.proofs.lazy_dfa.PassedLemmas.{answer_from}
+use Rattle.regex_lite_engine.proofs.meta.searcher.find_passed.Goals as goal
+
+pub find_slots-requires-clause-known : goal.find_slots-requires-clause-known
+find_slots-requires-clause-known c = (c.requires.first.0, c.requires.first.2)
+
+pub returns-in-Some-clause-found : goal.returns-in-Some-clause-found
+returns-in-Some-clause-found c = λ s _ known. c.in-Some.ensures.found s known
+
+pub returns-clause-found : goal.returns-clause-found
+returns-clause-found c = λ s first _.
+    let graph = c.args.graph.now in
+    let haystack = c.args.haystack.now in
+    answer_from (table_of graph) (chars haystack) graph.start s
+    (position_at haystack c.args.passed.from) first
+    (with_start_kept (best_at c.find_in_step-found.result c.find_in_step-found.new.cache.best.row))
+    c.find_in_step-found.ensures.found
