@@ -3,6 +3,7 @@ use Rattle.regex_lite_engine.proofs.Common.{arith, rules, take_all, is_digit, nu
 use Rattle.regex_lite_engine.proofs.interpolate.IndexLemmas.{number_of_first}
 use Rattle.regex_lite_engine.proofs.interpolate.IndexLemmas.{number_of_one_more, value_of_digit}
 use Rattle.regex_lite_engine.proofs.interpolate.IndexLemmas.{too_large, digits_are_index}
+use Rattle.std.proofs.lemmas.Grind.{common_steps}
 use Rattle.regex_lite_engine.proofs.interpolate.parse_index.Goals as goal
 
 pub returns-in_err-index : goal.returns-in_err-index
@@ -32,3 +33,11 @@ returns c =
     digits_are_index name c.loop-byte.index some
     (λ k l. c.loop-byte.invariant.digits k (omega (arith, l, c.loop-byte-test.false))) number
     c.loop-byte.invariant.fits
+
+-- The goals from here on need no lemma of their own. They have answers because the prover would
+-- try other calls first, which takes long
+pub returns-then-not-is_ascii_digit : goal.returns-then-not-is_ascii_digit
+returns-then-not-is_ascii_digit c = grind (arith, common_steps)
+
+pub loop-byte-preserved : goal.loop-byte-preserved
+loop-byte-preserved c = grind (arith, common_steps)

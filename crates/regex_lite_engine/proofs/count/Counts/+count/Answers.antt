@@ -3,6 +3,7 @@ use Rattle.regex_lite_engine.proofs.Common.{repetition, alternation, Trees, none
 use Rattle.std.proofs.lemmas.List.{drop_all}
 use Rattle.regex_lite_engine.specs.Nfa.Saturation.{AreCountsOf}
 use Rattle.regex_lite_syntax.proofs.TreeLemmas.{tree_of-Repetition, trees_of, trees_more}
+use Rattle.std.proofs.lemmas.Grind.{common_steps}
 use Rattle.regex_lite_engine.proofs.count.Counts.+count.Goals as goal
 
 pub of-returns-in-Repetition : goal.of-returns-in-Repetition
@@ -53,3 +54,14 @@ of_branches-returns t c =
     let whole = ap (λ i. trees_of (drop i hirs)) (sym first) ∙ known.2 in
     subst (λ (branches : Trees). AreCountsOf (alternation branches) c.loop-i.counts)
     (sym whole) known.3
+
+-- The goals from here on need no lemma of their own. They have answers because the prover would
+-- try other calls first, which takes long
+pub of_branches-returns-in_default : goal.of_branches-returns-in_default
+of_branches-returns-in_default t c = grind (arith, common_steps)
+
+pub of_parts-loop-i-init : goal.of_parts-loop-i-init
+of_parts-loop-i-init t c = grind (arith, common_steps)
+
+pub of_parts-loop-i-preserved : goal.of_parts-loop-i-preserved
+of_parts-loop-i-preserved t c = grind (arith, common_steps)

@@ -4,6 +4,7 @@ use Rattle.regex_lite_engine.proofs.Common.{IsEndOutcome}
 use Rattle.regex_lite_engine.specs.Pikevm.Searching.{IsFresh}
 use Rattle.regex_lite_engine.proofs.pikevm.ShortestLemmas.{one_end}
 use Rattle.regex_lite_engine.proofs.search.OutcomeLemmas.{can_count, cost_told, end_told}
+use Rattle.std.proofs.lemmas.Grind.{common_steps}
 use Rattle.regex_lite_engine.proofs.nfa.Graph.search_shortest.Goals as goal
 
 pub run_shortest-requires-clause-counts : goal.run_shortest-requires-clause-counts
@@ -35,3 +36,7 @@ pub run_shortest-requires-clause-fresh : goal.run_shortest-requires-clause-fresh
 run_shortest-requires-clause-fresh c =
     subst (λ table. IsFresh table c.in_ok-cache.cache) (ap places_of c.table.ensures.same)
     c.in_ok-cache.ensures.fresh
+
+-- It has an answer because the prover would try other calls first, which takes long
+pub returns-then-start-haystack-clause-found : goal.returns-then-start-haystack-clause-found
+returns-then-start-haystack-clause-found c = grind (arith, common_steps)

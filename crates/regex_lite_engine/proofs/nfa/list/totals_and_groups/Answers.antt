@@ -6,6 +6,7 @@ use Rattle.regex_lite_engine.proofs.Common.{TellGroupsOf, reading_of_all}
 use Rattle.regex_lite_engine.specs.Graph.StoredList.{StoredGroups}
 use Rattle.regex_lite_engine.proofs.count.TotalLemmas.{tree_there, trees_left}
 use Rattle.regex_lite_engine.proofs.nfa.list.GroupLemmas.{told_more}
+use Rattle.std.proofs.lemmas.Grind.{common_steps}
 use Rattle.regex_lite_engine.proofs.nfa.list.totals_and_groups.Goals as goal
 
 pub with-requires-clause-counted : goal.with-requires-clause-counted
@@ -76,3 +77,11 @@ loop-hir-preserved c =
           (told_more trees before tree c.in_ok-of.field-0 next (rw (← c.hir.ensures)
           c.in_ok-of.ensures) v.each);
     }
+
+-- The goals from here on need no lemma of their own. They have answers because the prover would
+-- try other calls first, which takes long
+pub returns-in_err-totals-clause-refused : goal.returns-in_err-totals-clause-refused
+returns-in_err-totals-clause-refused c = grind (arith, common_steps)
+
+pub returns-clause-totals : goal.returns-clause-totals
+returns-clause-totals c = grind (arith, common_steps)

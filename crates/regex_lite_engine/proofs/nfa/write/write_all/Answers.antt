@@ -5,6 +5,7 @@ use Rattle.regex_lite_engine.proofs.Common.{whole_places, places_of_all, place_o
 use Rattle.regex_lite_engine.proofs.Common.{pattern_table, patterns_table, patterns_entries}
 use Rattle.std.proofs.Math.ListN.{get_or-map}
 use Rattle.std.proofs.lemmas.List.{drop_more}
+use Rattle.std.proofs.lemmas.Grind.{common_steps}
 use Rattle.regex_lite_engine.proofs.nfa.write.write_all.Goals as goal
 
 pub write_pattern-requires-clause-slots : goal.write_pattern-requires-clause-slots
@@ -56,3 +57,17 @@ loop-hir-preserved c =
         c.loop-hir.invariant.grown,
       );
     }
+
+-- The goals from here on need no lemma of their own. They have answers because the prover would
+-- try other calls first, which takes long
+pub write_pattern-requires-clause-room : goal.write_pattern-requires-clause-room
+write_pattern-requires-clause-room c = grind (arith, common_steps)
+
+pub returns-clause-written : goal.returns-clause-written
+returns-clause-written c = grind (arith, common_steps)
+
+pub returns-clause-entries : goal.returns-clause-entries
+returns-clause-entries c = grind (arith, common_steps)
+
+pub returns-clause-length : goal.returns-clause-length
+returns-clause-length c = grind (arith, common_steps)

@@ -1,5 +1,6 @@
 use Rattle.regex_lite_engine.proofs.Common.{◌≡◌, ◌+◌, ◌-◌, ◌++◌, length, replicate, subst, arith}
 use Rattle.regex_lite_engine.proofs.pikevm.ready.RaiseLemmas.{end_blank, made_ready}
+use Rattle.std.proofs.lemmas.Grind.{common_steps}
 use Rattle.regex_lite_engine.proofs.pikevm.ready.make_ready.Goals as goal
 
 pub raise-requires-clause-blank : goal.raise-requires-clause-blank
@@ -21,3 +22,11 @@ returns-clause-made g c =
     c.fill.ensures.filled)
     c.args.low c.raise.new.cells.items
     (omega (arith, c.min.ensures)) c.raise.ensures.raised c.raise.ensures.kept
+
+-- The goals from here on need no lemma of their own. They have answers because the prover would
+-- try other calls first, which takes long
+pub raise-requires-clause-few : goal.raise-requires-clause-few
+raise-requires-clause-few g c = grind (arith, common_steps)
+
+pub returns-clause-ready : goal.returns-clause-ready
+returns-clause-ready g c = grind (arith, common_steps)

@@ -2,6 +2,7 @@ use Rattle.regex_lite_engine.proofs.Common.{◌≡◌, ◌+◌, ◌-◌, map, le
 use Rattle.regex_lite_engine.proofs.Common.{arith, length-map, length-take-le, round_in}
 use Rattle.regex_lite_engine.proofs.Common.{without_round}
 use Rattle.regex_lite_engine.proofs.pikevm.ready.RaiseLemmas.{gap, round_raised, rest_kept}
+use Rattle.std.proofs.lemmas.Grind.{common_steps}
 use Rattle.regex_lite_engine.proofs.pikevm.ready.raise.Goals as goal
 
 pub cells-preserved : goal.cells-preserved
@@ -29,3 +30,7 @@ cells-preserved g c =
       capacity = v.capacity;
       below = omega (arith, next, v.below);
     }
+
+-- It has an answer because the prover would try other calls first, which takes long
+pub cells-init : goal.cells-init
+cells-init g c = grind (arith, common_steps)

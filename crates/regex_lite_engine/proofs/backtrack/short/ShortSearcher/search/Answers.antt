@@ -5,6 +5,7 @@ use Rattle.regex_lite_engine.proofs.Common.{length-replicate, kept_back_with, pl
 use Rattle.regex_lite_engine.proofs.Common.{position_at, IsBlank}
 use Rattle.regex_lite_engine.proofs.search.MarkLemmas.{blank_row}
 use Rattle.regex_lite_engine.proofs.search.OutcomeLemmas.{can_count}
+use Rattle.std.proofs.lemmas.Grind.{common_steps}
 use Rattle.regex_lite_engine.proofs.backtrack.short.ShortSearcher.search.Goals as goal
 
 pub run-requires-clause-counts : goal.run-requires-clause-counts
@@ -69,3 +70,11 @@ returns-clause-searches c =
       few_pairs = c.requires.searches.few_pairs;
       countable = c.requires.searches.countable;
     }
+
+-- The goals from here on need no lemma of their own. They have answers because the prover would
+-- try other calls first, which takes long
+pub few-requires-clause-few : goal.few-requires-clause-few
+few-requires-clause-few c = grind (arith, common_steps)
+
+pub returns-clause-width : goal.returns-clause-width
+returns-clause-width c = grind (arith, common_steps)

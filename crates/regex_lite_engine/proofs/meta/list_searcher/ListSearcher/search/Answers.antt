@@ -7,6 +7,7 @@ use Rattle.regex_lite_engine.specs.Search.Outcomes.{IsSpanOutcomeOfList}
 use Rattle.regex_lite_engine.specs.Search.Searching.{ListSearching}
 use Rattle.regex_lite_engine.proofs.search.ListOutcomeLemmas.{list_span_told}
 use Rattle.regex_lite_engine.proofs.search.OutcomeLemmas.{can_count}
+use Rattle.std.proofs.lemmas.Grind.{common_steps}
 use Rattle.regex_lite_engine.proofs.meta.list_searcher.ListSearcher.search.Goals as goal
 
 pub run-requires-clause-counts : goal.run-requires-clause-counts
@@ -103,3 +104,7 @@ returns-clause-found c = λ trees regular is.
     c.run.new.cache.best.row
     (subst (λ own. IsBestOutcomeOf (table_of_list list) (chars haystack) list.entries s own)
     c.numbered_span.ensures found)
+
+-- It has an answer because the prover would try other calls first, which takes long
+pub returns-then-start-haystack-clause-found : goal.returns-then-start-haystack-clause-found
+returns-then-start-haystack-clause-found c = grind (arith, common_steps)

@@ -5,6 +5,8 @@ use Rattle.regex_lite_engine.specs.Search.Outcomes.{IsSpanOutcome}
 use Rattle.regex_lite_engine.specs.Search.Searching.{Searching}
 use Rattle.regex_lite_engine.proofs.pikevm.EndLemmas.{one_best}
 use Rattle.regex_lite_engine.proofs.search.OutcomeLemmas as outcome
+use Rattle.regex_lite_engine.proofs.Common.{arith}
+use Rattle.std.proofs.lemmas.Grind.{common_steps}
 use Rattle.regex_lite_engine.proofs.meta.searcher.Searcher.search.Goals as goal
 
 pub returns-in-Some-clause-found : goal.returns-in-Some-clause-found
@@ -50,3 +52,7 @@ returns-clause-found c = λ tree regular is.
     c.if-start-haystack.false c.find_passed.result c.find_passed.new.cache.best.row
     (c.find_passed.ensures.found (position_at haystack c.args.start) c.in_ok-passed.ensures.first
     c.in_ok-passed.ensures.known)
+
+-- It has an answer because the prover would try other calls first, which takes long
+pub returns-then-start-haystack-clause-found : goal.returns-then-start-haystack-clause-found
+returns-then-start-haystack-clause-found c = grind (arith, common_steps)

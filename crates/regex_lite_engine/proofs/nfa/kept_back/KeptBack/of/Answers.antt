@@ -1,6 +1,7 @@
 use Rattle.regex_lite_engine.proofs.Common.{◌≡◌, map, get_or, ap, ◌∙◌, arith, kept_back_with}
 use Rattle.regex_lite_engine.proofs.Common.{place_of}
 use Rattle.regex_lite_engine.proofs.nfa.kept_back.SumLemmas.{few_without_slots, next_left}
+use Rattle.std.proofs.lemmas.Grind.{common_steps}
 use Rattle.regex_lite_engine.proofs.nfa.kept_back.KeptBack.of.Goals as goal
 
 pub overflow_add-kept : goal.overflow_add-kept
@@ -14,3 +15,14 @@ overflow_add-kept c =
     let so_far = c.loop-place.invariant.0 in
     let few = few_without_slots (map place_of places) in
     omega (arith, next, own, so_far, few, c.requires)
+
+-- The goals from here on need no lemma of their own. They have answers because the prover would
+-- try other calls first, which takes long
+pub overflow_add-kept-in-loop-place : goal.overflow_add-kept-in-loop-place
+overflow_add-kept-in-loop-place c = grind (arith, common_steps)
+
+pub loop-place-preserved : goal.loop-place-preserved
+loop-place-preserved c = grind (arith, common_steps)
+
+pub returns : goal.returns
+returns c = grind (arith, common_steps)

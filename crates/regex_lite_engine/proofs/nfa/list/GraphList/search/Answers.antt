@@ -5,6 +5,7 @@ use Rattle.regex_lite_engine.proofs.Common.{CanCount, IsBestOutcomeOf, position_
 use Rattle.regex_lite_engine.specs.Pikevm.Searching.{IsFresh}
 use Rattle.regex_lite_engine.proofs.search.ListOutcomeLemmas.{cost_of_list, outcome_told}
 use Rattle.regex_lite_engine.proofs.search.OutcomeLemmas.{can_count}
+use Rattle.std.proofs.lemmas.Grind.{common_steps}
 use Rattle.regex_lite_engine.proofs.nfa.list.GraphList.search.Goals as goal
 
 pub cache_for-requires : goal.cache_for-requires
@@ -54,3 +55,7 @@ returns-clause-cost c = λ trees is.
     (arrows_of (table_of_list l) + length l.entries) (chars haystack)
     (position_at haystack c.args.start) steps.tried steps.entered steps.looked)
     c.in_ok-patterns.ensures.list c.run.ensures.bounded)
+
+-- It has an answer because the prover would try other calls first, which takes long
+pub returns-then-start-haystack-clause-found : goal.returns-then-start-haystack-clause-found
+returns-then-start-haystack-clause-found c = grind (arith, common_steps)

@@ -6,6 +6,7 @@ use Rattle.regex_lite_engine.proofs.Common.{IsNumberedEndOf, position_at, search
 use Rattle.regex_lite_engine.specs.Pikevm.Searching.{IsFresh}
 use Rattle.regex_lite_engine.proofs.search.ListOutcomeLemmas.{cost_of_list, any_told}
 use Rattle.regex_lite_engine.proofs.search.OutcomeLemmas.{can_count}
+use Rattle.std.proofs.lemmas.Grind.{common_steps}
 use Rattle.regex_lite_engine.proofs.nfa.list.GraphList.search_any.Goals as goal
 
 pub cache_for-requires : goal.cache_for-requires
@@ -57,3 +58,7 @@ returns-clause-cost c = λ trees is.
     (arrows_of (table_of_list l) + length l.entries) (chars haystack)
     (position_at haystack c.args.start) steps.tried steps.entered steps.looked)
     c.in_ok-patterns.ensures.list c.run_shortest.ensures.bounded)
+
+-- It has an answer because the prover would try other calls first, which takes long
+pub returns-then-start-haystack-clause-found : goal.returns-then-start-haystack-clause-found
+returns-then-start-haystack-clause-found c = grind (arith, common_steps)

@@ -4,6 +4,7 @@ use Rattle.regex_lite_engine.proofs.Common.{take-append_seam, places_of_all, tri
 use Rattle.regex_lite_engine.proofs.Common.{IsBoundedBy, search_start}
 use Rattle.regex_lite_engine.specs.Search.AnswerOfList.{TellsWhich}
 use Rattle.regex_lite_engine.proofs.search.ListOutcomeLemmas.{at_position}
+use Rattle.std.proofs.lemmas.Grind.{common_steps}
 use Rattle.regex_lite_engine.proofs.nfa.list.GraphList.search_each.Goals as goal
 
 pub returns-clause-found : goal.returns-clause-found
@@ -50,3 +51,11 @@ returns-clause-cost c = λ trees is.
     (λ s. IsBoundedBy (places_of_all trees) (tries_of_all trees) (chars haystack) s
     steps.tried steps.entered steps.looked)
     (c.search_all-steps.ensures.cost trees is)
+
+-- The goals from here on need no lemma of their own. They have answers because the prover would
+-- try other calls first, which takes long
+pub returns-then-start-haystack-clause-found : goal.returns-then-start-haystack-clause-found
+returns-then-start-haystack-clause-found c = grind (arith, common_steps)
+
+pub returns-then-start-haystack-clause-entered : goal.returns-then-start-haystack-clause-entered
+returns-then-start-haystack-clause-entered c = grind (arith, common_steps)

@@ -287,3 +287,24 @@ write_star-returns-clause-written t c = grind (arith, common_steps)
 
 pub write_star-returns-clause-grown : goal.write_star-returns-clause-grown
 write_star-returns-clause-grown t c = grind (arith, common_steps)
+
+pub write_alternation-returns-clause-written : goal.write_alternation-returns-clause-written
+write_alternation-returns-clause-written t c = grind (arith, common_steps)
+
+pub write_alternation-returns-clause-grown : goal.write_alternation-returns-clause-grown
+write_alternation-returns-clause-grown t c = grind (arith, common_steps)
+
+pub write_branches-loop-branch-preserved : goal.write_branches-loop-branch-preserved
+write_branches-loop-branch-preserved t c = grind (arith, common_steps)
+
+pub write_branches-returns-clause-written : goal.write_branches-returns-clause-written
+write_branches-returns-clause-written t c = grind (arith, common_steps)
+
+pub write_branches-returns-clause-entries : goal.write_branches-returns-clause-entries
+write_branches-returns-clause-entries t c = grind (arith, common_steps)
+
+pub write_branches-returns-clause-grown : goal.write_branches-returns-clause-grown
+write_branches-returns-clause-grown t c = grind (arith, common_steps)
+
+pub write_group-returns-clause-written : goal.write_group-returns-clause-written
+write_group-returns-clause-written t c = grind (arith, common_steps)

@@ -1,5 +1,6 @@
 use Rattle.regex_lite_engine.proofs.Common.{◌≡◌, ◌-◌, ◌≤◌, length, slice_get, Some, ap, ◌∙◌, arith}
 use Rattle.regex_lite_engine.proofs.pikevm.ThreadLemmas.{begun_taken}
+use Rattle.std.proofs.lemmas.Grind.{common_steps}
 use Rattle.regex_lite_engine.proofs.pikevm.walk.Walk.take_up.Goals as goal
 
 pub returns-clause-thread : goal.returns-clause-thread
@@ -15,3 +16,11 @@ returns-clause-thread g c =
     = ap (slice_get starts) index ∙ c.start-start.ensures in
     begun_taken m c.clear_row.new.self told starts a.k c.start-start.result
     (g.S.Beginning.told c.at.result) beyond there c.at.ensures c.clear_row.ensures
+
+-- The goals from here on need no lemma of their own. They have answers because the prover would
+-- try other calls first, which takes long
+pub returns-then-k-threads-clause-thread : goal.returns-then-k-threads-clause-thread
+returns-then-k-threads-clause-thread g c = grind (arith, common_steps)
+
+pub returns-clause-row : goal.returns-clause-row
+returns-clause-row g c = grind (arith, common_steps)

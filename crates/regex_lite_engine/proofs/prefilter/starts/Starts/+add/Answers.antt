@@ -6,6 +6,8 @@ use Rattle.regex_lite_syntax.proofs.TreeLemmas.{tree_of-Repetition, tree_of-Conc
 use Rattle.regex_lite_syntax.proofs.TreeLemmas.{tree_of-Alternation, trees_of, trees_more}
 use Rattle.regex_lite_engine.proofs.prefilter.starts.StartLemmas.{grown_on, repetition_begins}
 use Rattle.regex_lite_engine.proofs.prefilter.starts.StartLemmas.{part_more, branch_more}
+use Rattle.regex_lite_engine.proofs.Common.{arith}
+use Rattle.std.proofs.lemmas.Grind.{common_steps}
 use Rattle.regex_lite_engine.proofs.prefilter.starts.Starts.+add.Goals as goal
 use Rattle.regex_lite_engine.proofs.prefilter.starts.Starts.+add.Goals.{
   add_branches-then-add,
@@ -120,3 +122,11 @@ add_branches-loop-branch-preserved t c =
           (subst (λ (z : Trees). MayBegin c.loop-branch.self h i
           ⊎ ((IsTrue before × (i ≡ j)) ⊎ SomeBranch h z i j)) one (v.left h i j m));
     }
+
+-- The goals from here on need no lemma of their own. They have answers because the prover would
+-- try other calls first, which takes long
+pub add_branches-returns-clause-begins : goal.add_branches-returns-clause-begins
+add_branches-returns-clause-begins t c = grind (arith, common_steps)
+
+pub add_parts-returns-clause-begins : goal.add_parts-returns-clause-begins
+add_parts-returns-clause-begins t c = grind (arith, common_steps)

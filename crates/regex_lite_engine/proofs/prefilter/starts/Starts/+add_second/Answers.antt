@@ -7,6 +7,8 @@ use Rattle.regex_lite_engine.specs.declared.prefilter.heads.Head.{Head}
 use Rattle.regex_lite_engine.proofs.prefilter.starts.StartLemmas.{grown_on}
 use Rattle.regex_lite_engine.proofs.prefilter.heads.HeadLemmas.{as_one, branch_read, of_more}
 use Rattle.regex_lite_engine.proofs.prefilter.heads.HeadLemmas.{part_read, reads_grown}
+use Rattle.regex_lite_engine.proofs.Common.{arith}
+use Rattle.std.proofs.lemmas.Grind.{common_steps}
 use Rattle.regex_lite_engine.proofs.prefilter.starts.Starts.+add_second.Goals as goal
 use Rattle.regex_lite_engine.proofs.prefilter.starts.Starts.+add_second.Goals.{
   add_second_of_parts-in-Nothing+in_ok-head-in-Nothing,
@@ -101,3 +103,11 @@ add_second_of_branches-loop-branch-preserved t c =
                 (subst (λ z. Reads old h i j before ⊎ SomeBranch h z i j) one (v.left h i j m));
           }
     ]
+
+-- The goals from here on need no lemma of their own. They have answers because the prover would
+-- try other calls first, which takes long
+pub add_second_of_branches-returns-clause-reads : goal.add_second_of_branches-returns-clause-reads
+add_second_of_branches-returns-clause-reads t c = grind (arith, common_steps)
+
+pub add_second_of_parts-returns-clause-reads : goal.add_second_of_parts-returns-clause-reads
+add_second_of_parts-returns-clause-reads t c = grind (arith, common_steps)

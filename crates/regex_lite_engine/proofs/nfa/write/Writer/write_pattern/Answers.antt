@@ -1,0 +1,14 @@
+use Rattle.regex_lite_engine.proofs.Common.{arith}
+use Rattle.std.proofs.lemmas.Grind.{common_steps}
+use Rattle.regex_lite_engine.proofs.nfa.write.Writer.write_pattern.Goals as goal
+
+-- The goals from here on need no lemma of their own. They have answers because the prover would
+-- try other calls first, which takes long
+pub write_group-requires-clause-room : goal.write_group-requires-clause-room
+write_group-requires-clause-room c = grind (arith, common_steps)
+
+pub returns-clause-written : goal.returns-clause-written
+returns-clause-written c = grind (arith, common_steps)
+
+pub returns-clause-grown : goal.returns-clause-grown
+returns-clause-grown c = grind (arith, common_steps)
