@@ -73,10 +73,7 @@ pub(crate) fn write_all(
         length graph.0.items ≡ places_of_all (map tree_of hirs.now)) }
 {
     let mut writer = Writer::new(alloc, count)?;
-    let mut entries = Vec::with_capacity(alloc, hirs.len())?;
-    for hir in hirs {
-        entries.push(writer.write_pattern(hir.hir())?)?;
-    }
+    let entries = writer.write_patterns(hirs)?;
     Ok((writer.places, entries))
 }
 
@@ -118,6 +115,24 @@ impl Writer {
     {
         let end = self.add(Place::Match)?;
         self.write_group(0, hir, end)
+    }
+
+    /// Adds the places of whole patterns, one after another. Returns where they are entered.
+    fn write_patterns(&mut self, hirs: &[Measured]) -> Result<Vec<u32>, AllocError>
+        requires room { length self.old + places_of_all (map tree_of hirs.now) < 2 ^ 32 }
+        requires slots { All (λ tree. greatest_index tree < 2 ^ 31) (map tree_of hirs.now) }
+        ensures written { IfOk result (λ _. map place_of self.new ≡ map place_of self.old
+            ++ patterns_table (map tree_of hirs.now) (length self.old)) }
+        ensures entries { IfOk result (λ entries.
+            entries.items ≡ patterns_entries (map tree_of hirs.now) (length self.old)) }
+        ensures grown { IfOk result (λ _.
+            length self.new ≡ length self.old + places_of_all (map tree_of hirs.now)) }
+    {
+        let mut entries = Vec::with_capacity(self.alloc, hirs.len())?;
+        for hir in hirs {
+            entries.push(self.write_pattern(hir.hir())?)?;
+        }
+        Ok(entries)
     }
 
     /// Adds the places of the tree, which lead on to `exit`, and returns where they are entered.

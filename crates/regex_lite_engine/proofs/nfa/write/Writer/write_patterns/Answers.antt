@@ -6,7 +6,7 @@ use Rattle.regex_lite_engine.proofs.Common.{pattern_table, patterns_table, patte
 use Rattle.std.proofs.Math.ListN.{get_or-map}
 use Rattle.std.proofs.lemmas.List.{drop_more}
 use Rattle.std.proofs.lemmas.Grind.{common_steps}
-use Rattle.regex_lite_engine.proofs.nfa.write.write_all.Goals as goal
+use Rattle.regex_lite_engine.proofs.nfa.write.Writer.write_patterns.Goals as goal
 
 pub write_pattern-requires-clause-slots : goal.write_pattern-requires-clause-slots
 write_pattern-requires-clause-slots c =
@@ -29,9 +29,9 @@ loop-hir-preserved c =
     = subst (λ h. h ≡ get_or hirs k h) (sym c.hir.ensures) c.hir-item.is in
     let tree = tree_of hir in
     let rest = map tree_of (drop (k + 1) hirs) in
-    let places = map place_of c.loop-hir.writer in
+    let places = map place_of c.loop-hir.self in
     let entries = c.loop-hir.entries.items in
-    let old = length c.loop-hir.writer in
+    let old = length c.loop-hir.self in
     let new = length c.write_pattern.new.self in
     let added = c.in_ok-write_pattern.ensures in
     let left : map tree_of (drop k hirs) ≡ tree ∷ rest
@@ -69,5 +69,5 @@ returns-clause-written c = grind (arith, common_steps)
 pub returns-clause-entries : goal.returns-clause-entries
 returns-clause-entries c = grind (arith, common_steps)
 
-pub returns-clause-length : goal.returns-clause-length
-returns-clause-length c = grind (arith, common_steps)
+pub returns-clause-grown : goal.returns-clause-grown
+returns-clause-grown c = grind (arith, common_steps)
