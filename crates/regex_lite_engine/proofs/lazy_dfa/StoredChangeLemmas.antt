@@ -7,14 +7,15 @@ use Rattle.regex_lite_engine.proofs.Common.{length-drop, length-replicate, lengt
 use Rattle.regex_lite_engine.proofs.Common.{map-append, map-set, nil_from_length, suc-mul}
 use Rattle.regex_lite_engine.proofs.Common.{take-append-drop, take-append-le, Automaton, Extends}
 use Rattle.regex_lite_engine.proofs.Common.{StoredState, StoredWay, classes_in, state_in, states_in}
-use Rattle.regex_lite_engine.proofs.Common.{Intervals, Target, true, false, true≢false, unknown}
+use Rattle.regex_lite_engine.proofs.Common.{Intervals, Option, None, Target, unknown}
 use Rattle.regex_lite_engine.proofs.Common.{way_in}
 use Rattle.std.proofs.lemmas.List.{take_rest, drop-set-add, drop-set-lt, get_or-map, take-set-le}
 use Rattle.std.proofs.lemmas.List.Elements.{All-append, All-replicate}
 use Rattle.std.proofs.Math.Seq.{drop-length, take-length, take-set-lt}
-use Rattle.regex_lite_engine.specs.LazyDfa.Automaton.{State}
+use Rattle.regex_lite_engine.specs.LazyDfa.Automaton.{KeptOrigin, State}
 use Rattle.regex_lite_engine.specs.LazyDfa.Extending.{IsState}
-use Rattle.regex_lite_engine.specs.LazyDfa.Stored.{ArePlain, IsPlain, LieWithin}
+use Rattle.regex_lite_engine.specs.LazyDfa.Stored.{Agrees, AllAgree, HasWays, LieWithin}
+use Rattle.regex_lite_engine.specs.LazyDfa.Stored.{known_hit}
 use Rattle.regex_lite_engine.proofs.OptionLemmas.{not_there, same_some}
 use Rattle.regex_lite_engine.proofs.LookupLemmas.{still_there, get_last}
 use Rattle.regex_lite_engine.proofs.lazy_dfa.StoredStateLemmas.{seen}
@@ -245,27 +246,26 @@ added_extends old new state e own none = record {
     fresh_one (t ∷ states) zero s at other = absurd (other at)
     fresh_one (t ∷ states) (suc x) s at other = fresh_one states x s at other
 
--- a plain state is one still when states are added
-pub plain_more : (states more : List StoredState) (y : ℕ) → IsPlain states y
-    → IsPlain (states ++ more) y
-plain_more states more y plain = record {
-  state = plain.state;
-  is_state = still_there states more y plain.state plain.is_state;
-  some = plain.some;
-  none = plain.none;
+-- a state with ways is one still when states are added
+pub has_ways_still : (states more : List StoredState) (y : ℕ) (hit : Option KeptOrigin)
+    → HasWays states y hit → HasWays (states ++ more) y hit
+has_ways_still states more y hit own = record {
+  state = own.state;
+  is_state = still_there states more y own.state own.is_state;
+  some = own.some;
+  same = own.same;
 }
 
--- and so are all that are marked as plain when a blank row is added
-pub plain_added : (states more : List StoredState) (targets : List Target) (n : ℕ)
+-- and all effects that are known are still right when a blank row is added
+pub agree_added : (states more : List StoredState) (targets : List Target) (n : ℕ)
     (blank : Target)
-    → blank.is_plain ≡ false → ArePlain states targets
-    → ArePlain (states ++ more) (targets ++ replicate n blank)
-plain_added states more targets n blank none plain =
-    All-append (λ target. target.is_plain ≡ true → IsPlain (states ++ more) target.state) targets
-    (replicate n blank)
-    (λ k d lt told. plain_more states more _ (plain k d lt told))
-    (All-replicate (λ target. target.is_plain ≡ true → IsPlain (states ++ more) target.state) n
-    blank (λ told. absurd (true≢false (sym told ∙ none))))
+    → known_hit blank.effect ≡ None → AllAgree states targets
+    → AllAgree (states ++ more) (targets ++ replicate n blank)
+agree_added states more targets n blank none agree =
+    All-append (Agrees (states ++ more)) targets (replicate n blank)
+    (λ k d lt hit told. has_ways_still states more _ hit (agree k d lt hit told))
+    (All-replicate (Agrees (states ++ more)) n blank
+    (λ hit told. absurd (not_there (sym none ∙ told))))
 
 -- a state more lies within, if it has the ways that were pending
 pub within_added : (states : List StoredState) (used len : ℕ) (s : StoredState)

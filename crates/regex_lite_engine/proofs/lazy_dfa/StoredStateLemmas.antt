@@ -1,7 +1,7 @@
 -- The automaton that stored states, targets and ways stand for, and what is known of each state.
 use Rattle.regex_lite_engine.proofs.Common.{◌≡◌, ℕ, zero, suc, ◌+◌, ◌*◌, ◌<◌, ◌≤◌, List, []}
 use Rattle.regex_lite_engine.proofs.Common.{◌∷◌, map, length, take, drop, slice_get, slice_index}
-use Rattle.regex_lite_engine.proofs.Common.{slice_index_or, Some, None, sym, refl, ap, ◌∙◌, subst}
+use Rattle.regex_lite_engine.proofs.Common.{slice_index_or, Option, Some, sym, refl, ap, ◌∙◌, subst}
 use Rattle.regex_lite_engine.proofs.Common.{arith, get_or-take, length-drop, length-map}
 use Rattle.regex_lite_engine.proofs.Common.{length-take-le, mul-le-mul_right, nil_from_length}
 use Rattle.regex_lite_engine.proofs.Common.{slice_get_within, get_or_from_slice_get, suc-mul}
@@ -10,8 +10,8 @@ use Rattle.regex_lite_engine.proofs.Common.{StoredWay, classes_in, state_in, sta
 use Rattle.regex_lite_engine.proofs.Common.{Target, way_in}
 use Rattle.std.proofs.lemmas.List.{get_or-drop, get_or-map}
 use Rattle.regex_lite_engine.specs.Graph.Places.{Place}
-use Rattle.regex_lite_engine.specs.LazyDfa.Automaton.{State}
-use Rattle.regex_lite_engine.specs.LazyDfa.Stored.{IsPlain, LieWithin}
+use Rattle.regex_lite_engine.specs.LazyDfa.Automaton.{KeptOrigin, State}
+use Rattle.regex_lite_engine.specs.LazyDfa.Stored.{HasWays, LieWithin}
 use Rattle.regex_lite_engine.proofs.LookupLemmas.{there_is}
 use Rattle.regex_lite_engine.proofs.OptionLemmas.{same_some}
 
@@ -124,23 +124,24 @@ module _ (states : List StoredState) (used : ℕ) (ways : List StoredWay) (class
   len_by_empty x d state within fits at none =
       sym (ways_len x d state within fits at) ∙ ap length none
 
-  -- a plain state has ways, and no match is complete in it
-  pub plain_is : LieWithin used states → used ≤ length ways → (y : ℕ) → IsPlain states y →
+  -- a stored state with ways is one with ways
+  pub has_ways : LieWithin used states → used ≤ length ways → (y : ℕ) → (hit : Option KeptOrigin)
+      → HasWays states y hit →
       (to : State) × (slice_get (states_in ways classes targets states) y ≡ Some to)
-      × (to.ways ≡ [] → ⊥) × (to.hit ≡ None)
-  plain_is within fits y plain =
-      let s = plain.state in
+      × (to.ways ≡ [] → ⊥) × (to.hit ≡ hit)
+  has_ways within fits y hit own_ways =
+      let s = own_ways.state in
       let at = state_at states ways classes targets y s
-      (slice_get_within states y s plain.is_state) in
+      (slice_get_within states y s own_ways.is_state) in
       let own : slice_index_or states y s ≡ s =
-      get_or_from_slice_get states y s s plain.is_state in
-      let some = plain.some in (
+      get_or_from_slice_get states y s s own_ways.is_state in
+      let some = own_ways.some in (
         state_in ways (row classes targets y) (slice_index_or states y s),
         at,
         λ none.
             let zero = len_by_empty y s _ within fits at none in
             let len = ap (λ (z : StoredState). z.len) own in omega (arith, zero, len, some),
-        ap (λ (z : StoredState). (state_in ways [] z).hit) own ∙ plain.none,
+        ap (λ (z : StoredState). (state_in ways [] z).hit) own ∙ own_ways.same,
       )
 
 module _ (intervals : Intervals) (states : List StoredState) (targets : List Target) (used : ℕ)

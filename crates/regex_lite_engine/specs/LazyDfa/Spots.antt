@@ -1,14 +1,16 @@
 -- A search that goes by remembered turns from offset to offset, without the characters beside them.
-use Rattle.std.specs.Prelude.{◌≡◌, ◌⊎◌, ℕ, List, [], None, Some, slice_get, true}
+use Rattle.std.specs.Prelude.{◌≡◌, ◌⊎◌, ℕ, List, [], Option, None, Some, slice_get}
 use Rattle.regex_lite_engine.specs.declared.lazy_dfa.scan.Standing.{Standing}
 use Rattle.regex_lite_engine.specs.declared.lazy_dfa.spot.Spot.{Spot}
 use Rattle.regex_lite_engine.specs.declared.lazy_dfa.spot.Step.{Step}
 use Rattle.regex_lite_engine.specs.declared.lazy_dfa.spot.Step.TheVariants.{On, Over, Stuck}
 use Rattle.regex_lite_engine.specs.declared.lazy_dfa.spot.Turn.{Turn}
 use Rattle.regex_lite_engine.specs.Graph.Places.{Place}
-use Rattle.regex_lite_engine.specs.LazyDfa.Automaton.{Automaton, LeadsOn, State, best_left}
+use Rattle.regex_lite_engine.specs.LazyDfa.Automaton.{Automaton, KeptOrigin, LeadsOn, State}
+use Rattle.regex_lite_engine.specs.LazyDfa.Automaton.{best_left}
 use Rattle.regex_lite_engine.specs.LazyDfa.Intervals.{IsAhead}
 use Rattle.regex_lite_engine.specs.LazyDfa.Scanning.{best_told}
+use Rattle.regex_lite_engine.specs.LazyDfa.Stored.{known_hit}
 
 -- wherever a search in state x sees a character of the class of the one at this offset, its turn
 -- leads to that state, and here to that offset
@@ -22,8 +24,9 @@ pub record IsTurn (table : List (Place ℕ)) (entries : List ℕ) (automaton : A
   pub to : State
   pub is_to : slice_get automaton.states turn.to ≡ Some to
   pub leads : LeadsOn table entries automaton.intervals from class to
-  -- where the state is marked as plain, it has ways, and no match is complete in it
-  pub plain : turn.is_plain ≡ true → (to.ways ≡ [] → ⊥) × (to.hit ≡ None)
+  -- where the effect is known, the state has ways, and what is complete in it is known
+  pub effect : (hit : Option KeptOrigin) → known_hit turn.effect ≡ Some hit
+      → (to.ways ≡ [] → ⊥) × (to.hit ≡ hit)
 
 -- after the turn to this state the search stands there, and has something to do
 pub record IsTaken (spot : Spot) (turn : Turn) (state : State) (before after : Standing)

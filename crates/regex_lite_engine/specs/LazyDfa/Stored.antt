@@ -1,6 +1,7 @@
 -- How the states of the lazy automaton are stored.
-use Rattle.std.specs.Prelude.{◌≡◌, ◌+◌, ◌<◌, ◌≤◌, ℕ, true, false, All, List, [], ◌∷◌}
+use Rattle.std.specs.Prelude.{◌≡◌, ◌+◌, ◌<◌, ◌≤◌, ℕ, Bool, true, false, All, List, [], ◌∷◌}
 use Rattle.std.specs.Prelude.{take, drop, map, slice_get, Option, Some, None}
+use Rattle.regex_lite_engine.specs.declared.lazy_dfa.state.Effect.{Effect}
 use Rattle.regex_lite_engine.specs.declared.lazy_dfa.state.Hit as code
 use Rattle.regex_lite_engine.specs.declared.lazy_dfa.state.Hit.TheVariants as stored
 use Rattle.regex_lite_engine.specs.declared.lazy_dfa.state.StoredState.{StoredState}
@@ -40,14 +41,27 @@ states_in ways classes targets (state ∷ states) =
 abbrev pub LieWithin : (used : ℕ) → List StoredState → Type 0
 LieWithin used states = All (λ state. state.from + state.len ≤ used) states
 
--- the state with this number has ways, and no match is complete in it
-pub record IsPlain (states : List StoredState) (y : ℕ) : Type 0 where
+abbrev pub hit_by : (is_plain completes : Bool) → Option (Option KeptOrigin)
+hit_by true completes = Some None
+hit_by false true = Some (hit_in (stored.AtFirst 0))
+hit_by false false = None
+
+-- where the way began by which a turn with this effect completes a match, if that is known
+abbrev pub known_hit : Effect → Option (Option KeptOrigin)
+known_hit effect = hit_by effect.is_plain effect.completes
+
+-- the state with this number has ways, and this is where the way began by which a match is complete
+pub record HasWays (states : List StoredState) (y : ℕ) (hit : Option KeptOrigin) : Type 0 where
   pub state : StoredState
   pub is_state : slice_get states y ≡ Some state
   pub some : 0 < state.len
-  pub none : hit_in state.hit ≡ None
+  pub same : hit_in state.hit ≡ hit
 
--- each target that is marked as plain is such a state
-abbrev pub ArePlain : List StoredState → List Target → Type 0
-ArePlain states targets =
-    All (λ target. target.is_plain ≡ true → IsPlain states target.state) targets
+-- what is known of the turn's effect is so in its state
+abbrev pub Agrees : List StoredState → Target → Type 0
+Agrees states target =
+    (hit : Option KeptOrigin) → known_hit target.effect ≡ Some hit
+    → HasWays states target.state hit
+
+abbrev pub AllAgree : List StoredState → List Target → Type 0
+AllAgree states targets = All (Agrees states) targets

@@ -1,16 +1,16 @@
 //! What a lazy automaton remembers.
 ghost use Rattle.std.specs.Prelude.{◌≡◌, ◌+◌, ◌*◌, ◌≤◌, ◌<◌, ◌++◌, ◌∷◌, [], ℕ, IfOk, IfSome};
-ghost use Rattle.std.specs.Prelude.{None, Some, length, map, slice_get, slice_index, slice_set};
+ghost use Rattle.std.specs.Prelude.{Option, Some, length, map, slice_get, slice_index, slice_set};
 ghost use Rattle.std.specs.Prelude.{true};
-ghost use Rattle.regex_lite_engine.specs.LazyDfa.Automaton.{State, unknown};
+ghost use Rattle.regex_lite_engine.specs.LazyDfa.Automaton.{KeptOrigin, State, unknown};
 ghost use Rattle.regex_lite_engine.specs.LazyDfa.Extending.{Extends, IsState};
 ghost use Rattle.regex_lite_engine.specs.LazyDfa.Intervals.{classes_in};
-ghost use Rattle.regex_lite_engine.specs.LazyDfa.Stored.{hit_in, way_in};
+ghost use Rattle.regex_lite_engine.specs.LazyDfa.Stored.{hit_in, known_hit, way_in};
 
 use crate::lazy_dfa::classes::Classes;
 use crate::lazy_dfa::room::{MOST_STATES, Room};
 use crate::lazy_dfa::side::Side;
-use crate::lazy_dfa::state::{Hit, StoredState, StoredWay, Target, are_same};
+use crate::lazy_dfa::state::{Effect, Hit, StoredState, StoredWay, Target, are_same};
 use std::alloc::{AllocError, Global};
 use std::marker::Model;
 
@@ -44,7 +44,7 @@ impl Model for LazyDfa {
     ghost use Rattle.std.specs.Prelude.{◌≡◌, ◌*◌, ◌≤◌, ◌<◌, length, map, drop, vec_capacity};
     ghost use Rattle.regex_lite_engine.specs.LazyDfa.Automaton.{Automaton};
     ghost use Rattle.regex_lite_engine.specs.LazyDfa.Intervals.{classes_in};
-    ghost use Rattle.regex_lite_engine.specs.LazyDfa.Stored.{ArePlain, LieWithin};
+    ghost use Rattle.regex_lite_engine.specs.LazyDfa.Stored.{AllAgree, LieWithin};
     ghost use Rattle.regex_lite_engine.specs.LazyDfa.Stored.{states_in, way_in};
 
     ghost Value = { Automaton };
@@ -57,7 +57,7 @@ impl Model for LazyDfa {
 
     ghost invariant = { λ dfa. LieWithin dfa.used dfa.states.items
         × (dfa.used ≤ length dfa.ways.items) × (length dfa.states.items ≤ 256)
-        × ArePlain dfa.states.items dfa.targets.items
+        × AllAgree dfa.states.items dfa.targets.items
         × (length dfa.targets.items ≡ length dfa.states.items * classes_in dfa.classes)
         × (dfa.width ≡ classes_in dfa.classes) × (dfa.width < 128) };
 }
@@ -203,7 +203,10 @@ impl LazyDfa {
         let longer = rows + self.classes.len();
         let unknown = Target {
             state: UNKNOWN,
-            is_plain: false,
+            effect: Effect {
+                is_plain: false,
+                completes: false,
+            },
         };
         let Ok(()) = self.targets.resize(longer, unknown) else {
             return false;
@@ -234,7 +237,7 @@ impl LazyDfa {
     {
         let target = Target {
             state: y,
-            is_plain: self.states[y as usize].is_plain(),
+            effect: self.states[y as usize].effect(),
         };
         let cell = self.cell(x, class);
         self.targets[cell] = target;
@@ -248,13 +251,14 @@ impl LazyDfa {
         ensures known { IfSome result (λ target. ¬ (target.state ≡ unknown)
             × ((state : State) → slice_get self.now.states x ≡ Some state
             → slice_index state.next class ≡ target.state)) }
-        ensures plain { IfSome result (λ target. target.is_plain ≡ true → (to : State)
+        ensures effect { IfSome result (λ target. (hit : Option KeptOrigin)
+            → known_hit target.effect ≡ Some hit → (to : State)
             × (slice_get self.now.states target.state ≡ Some to) × ¬ (to.ways ≡ [])
-            × (to.hit ≡ None)) }
+            × (to.hit ≡ hit)) }
     {
         let target = self.targets[self.cell(x, class)];
         // Most turns lead to plain states. These are remembered, so no other test is needed.
-        if !target.is_plain && target.state as usize >= self.states.len() {
+        if !target.effect.is_plain && target.state as usize >= self.states.len() {
             return None;
         }
         Some(target)

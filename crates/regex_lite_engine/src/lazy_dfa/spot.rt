@@ -1,11 +1,11 @@
 //! Scans that go by offsets, without the characters beside them.
 ghost use Rattle.std.specs.Prelude.{◌≡◌, ◌+◌, ◌<◌, ◌≤◌, [], ℕ, IfSome, IsCharBoundary, IsTrue};
-ghost use Rattle.std.specs.Prelude.{None, Some, chars, false, true, length, slice_get};
-ghost use Rattle.regex_lite_engine.specs.LazyDfa.Automaton.{Remembers, State};
+ghost use Rattle.std.specs.Prelude.{None, Option, Some, chars, false, true, length, slice_get};
+ghost use Rattle.regex_lite_engine.specs.LazyDfa.Automaton.{KeptOrigin, Remembers, State};
 ghost use Rattle.regex_lite_engine.specs.LazyDfa.Intervals.{IsInterval};
 ghost use Rattle.regex_lite_engine.specs.LazyDfa.Scanning.{best_told, IsScanning, IsSince};
 ghost use Rattle.regex_lite_engine.specs.LazyDfa.Spots.{IsTurn, Takes, TakesToNothing};
-ghost use Rattle.regex_lite_engine.specs.LazyDfa.Stored.{hit_in};
+ghost use Rattle.regex_lite_engine.specs.LazyDfa.Stored.{hit_in, known_hit};
 ghost use Rattle.regex_lite_engine.specs.Search.Offsets.{position_at};
 ghost use Rattle.regex_lite_engine.specs.Search.Standing.{IsHere};
 ghost use Rattle.regex_lite_engine.specs.Search.NumberedOutcomes.{IsBestOutcomeOf};
@@ -14,7 +14,7 @@ use crate::lazy_dfa::automaton::LazyDfa;
 use crate::lazy_dfa::classes::Ahead;
 use crate::lazy_dfa::interval::Interval;
 use crate::lazy_dfa::scan::Standing;
-use crate::lazy_dfa::state::Hit;
+use crate::lazy_dfa::state::{Effect, Hit};
 use crate::pikevm::beginning::Origin;
 use crate::search::here::Here;
 use crate::search::patterns::Patterns;
@@ -33,8 +33,7 @@ pub(super) struct Spot {
 #[derive(Clone, Copy)]
 pub(super) struct Turn {
     to: u16,
-    /// Whether the state has ways, and no match is complete in it.
-    is_plain: bool,
+    effect: Effect,
     end: usize,
 }
 
@@ -75,7 +74,15 @@ impl LazyDfa {
     {
         let mut near = Interval::none();
         let mut spot = Spot::of(at);
-        'turns: while let Some(turn) = self.turn(patterns, haystack, spot, &mut near) {
+        'turns: loop {
+            // A way out for itself: one for all would cost each turn two moves.
+            if spot.at >= haystack.len() {
+                at.settle(haystack, spot);
+                return false;
+            }
+            let Some(turn) = self.turn(patterns, haystack, spot, &mut near) else {
+                break;
+            };
             match self.take(spot, turn, at) {
                 Step::On(on) => spot = on,
                 Step::Over => return true,
@@ -104,7 +111,7 @@ impl LazyDfa {
         let mut near = Interval::none();
         let mut spot = Spot::of(at);
         'turns: while let Some(turn) = self.turn(patterns, haystack, spot, &mut near) {
-            if self.is_hit(turn.to) {
+            if self.is_hit(turn) {
                 break;
             }
             let Step::On(on) = self.take(spot, turn, at) else {
@@ -138,7 +145,7 @@ impl LazyDfa {
         let target = self.known_target(spot.state, class)?;
         Some(Turn {
             to: target.state,
-            is_plain: target.is_plain,
+            effect: target.effect,
             end,
         })
     }
@@ -149,33 +156,47 @@ impl LazyDfa {
     fn take(&self, spot: Spot, turn: Turn, at: &mut Standing) -> Step
         requires from { spot.state < length self.now.states }
         requires to { turn.to < length self.now.states }
-        requires plain { turn.is_plain ≡ true → (state : State)
-            → slice_get self.now.states turn.to ≡ Some state → ¬ (state.ways ≡ [])
-            × (state.hit ≡ None) }
+        requires effect { (hit : Option KeptOrigin) → known_hit turn.effect ≡ Some hit
+            → (state : State) → slice_get self.now.states turn.to ≡ Some state
+            → ¬ (state.ways ≡ []) × (state.hit ≡ hit) }
         ensures taken { (state : State) → slice_get self.now.states turn.to ≡ Some state
             → Takes spot turn state at.old at.new result }
         ensures same { (state : State) → slice_get self.now.states turn.to ≡ Some state
             → state.hit ≡ None → at.new.best ≡ at.old.best }
     {
-        let Turn { to, is_plain, end } = turn;
+        let on = Spot {
+            at: turn.end,
+            state: turn.to,
+            idle: spot.idle,
+        };
         // Most turns: the rest needs no test.
-        if is_plain {
-            return Step::On(Spot {
-                at: end,
-                state: to,
-                idle: spot.idle,
-            });
+        if turn.effect.is_plain {
+            return Step::On(on);
         }
+        if turn.effect.completes {
+            at.complete(0, spot.at);
+            return Step::On(on);
+        }
+        self.take_by_state(spot, turn, at)
+    }
+
+    /// The same, by what the state says.
+    #[inline(always)]
+    fn take_by_state(&self, spot: Spot, turn: Turn, at: &mut Standing) -> Step
+        requires from { spot.state < length self.now.states }
+        requires to { turn.to < length self.now.states }
+        ensures taken { (state : State) → slice_get self.now.states turn.to ≡ Some state
+            → Takes spot turn state at.old at.new result }
+        ensures same { (state : State) → slice_get self.now.states turn.to ≡ Some state
+            → state.hit ≡ None → at.new.best ≡ at.old.best }
+    {
+        let Turn { to, end, .. } = turn;
         let hit = self.hit(to);
         if let Hit::AtLater(_) = hit {
             return Step::Stuck;
         }
         if let Hit::AtFirst(number) = hit {
-            let origin = Origin {
-                at: at.first,
-                number,
-            };
-            at.best = Some((origin, spot.at));
+            at.complete(number, spot.at);
         }
         if self.is_empty(to) {
             return self.take_to_nothing(spot, turn, at);
@@ -235,14 +256,20 @@ impl LazyDfa {
         self.states[x as usize].hit
     }
 
-    /// Whether a match is complete in this state.
+    /// Whether the turn completes a match.
     #[inline(always)]
-    fn is_hit(&self, x: u16) -> bool
-        requires { x < length self.now.states }
-        ensures { (state : State) → slice_get self.now.states x ≡ Some state
+    fn is_hit(&self, turn: Turn) -> bool
+        requires to { turn.to < length self.now.states }
+        requires effect { (hit : Option KeptOrigin) → known_hit turn.effect ≡ Some hit
+            → (state : State) → slice_get self.now.states turn.to ≡ Some state
+            → ¬ (state.ways ≡ []) × (state.hit ≡ hit) }
+        ensures { (state : State) → slice_get self.now.states turn.to ≡ Some state
             → result ≡ false → state.hit ≡ None }
     {
-        match self.hit(x) {
+        if turn.effect.is_plain {
+            return false;
+        }
+        match self.hit(turn.to) {
             Hit::Nowhere => false,
             Hit::AtFirst(_) | Hit::AtLater(_) => true,
         }
@@ -264,6 +291,20 @@ impl Spot {
 }
 
 impl Standing {
+    /// Now the last match is one of this pattern that began at the first start and ends there.
+    #[inline(always)]
+    fn complete(&mut self, number: u32, end: usize)
+        ensures { self.new ≡ record self.old {
+          best = Some (record { at = self.old.first; number = number }, end);
+        } }
+    {
+        let origin = Origin {
+            at: self.first,
+            number,
+        };
+        self.best = Some((origin, end));
+    }
+
     /// Moves it to this spot, and looks up the characters beside that.
     #[inline(always)]
     fn settle(&mut self, haystack: &str, spot: Spot)

@@ -1,6 +1,7 @@
 //! The states of a lazy automaton.
-ghost use Rattle.std.specs.Prelude.{◌≡◌, ◌<◌, None, true};
-ghost use Rattle.regex_lite_engine.specs.LazyDfa.Stored.{hit_in};
+ghost use Rattle.std.specs.Prelude.{◌≡◌, ◌<◌, Option, Some, true};
+ghost use Rattle.regex_lite_engine.specs.LazyDfa.Automaton.{KeptOrigin};
+ghost use Rattle.regex_lite_engine.specs.LazyDfa.Stored.{hit_in, known_hit};
 
 use crate::lazy_dfa::side::Side;
 use std::mem::size_of;
@@ -45,8 +46,19 @@ const _: () = prove!(size_of::<StoredState>() == 32);
 pub(crate) struct Target {
     /// The number of the state, or that the turn isn't remembered.
     pub state: u16,
-    /// Whether the state has ways, and no match was complete: the turn changes nothing else.
+    pub effect: Effect,
+}
+
+/// What a turn does besides, as far as that is known without a look at the state it leads to. At
+/// most one of both holds.
+// A test of one of them in memory takes fewer instructions than that of an enum.
+#[derive(Clone, Copy)]
+pub(crate) struct Effect {
+    /// Nothing: the state has ways, and no match was complete.
     pub is_plain: bool,
+    /// The state has ways, and a match of the first pattern was complete, which began at the first
+    /// start.
+    pub completes: bool,
 }
 
 // An automaton has memory for thousands of them.
@@ -86,12 +98,17 @@ impl StoredState {
         self.searching == searching && self.before.is(before) && self.hit.is(hit)
     }
 
-    /// Whether it has ways, and no match is complete in it.
-    pub(crate) fn is_plain(&self) -> bool
-        ensures some { result ≡ true → 0 < self.now.len }
-        ensures none { result ≡ true → hit_in self.now.hit ≡ None }
+    /// What a turn to it does besides.
+    pub(crate) fn effect(&self) -> Effect
+        ensures some { (hit : Option KeptOrigin) → known_hit result ≡ Some hit
+            → 0 < self.now.len }
+        ensures hit { (hit : Option KeptOrigin) → known_hit result ≡ Some hit
+            → hit_in self.now.hit ≡ hit }
     {
-        self.len > 0 && self.hit.is(Hit::Nowhere)
+        Effect {
+            is_plain: self.len > 0 && self.hit.is(Hit::Nowhere),
+            completes: self.len > 0 && self.hit.is(Hit::AtFirst(0)),
+        }
     }
 }
 

@@ -5,16 +5,16 @@ use Rattle.regex_lite_engine.proofs.Common.{take_all, Automaton, StoredState, Ta
 use Rattle.regex_lite_engine.proofs.Common.{hit_in, unknown}
 use Rattle.std.specs.Vec.{vec_len}
 use Rattle.regex_lite_engine.specs.LazyDfa.Automaton.{State}
-use Rattle.regex_lite_engine.specs.LazyDfa.Stored.{ArePlain, LieWithin}
+use Rattle.regex_lite_engine.specs.LazyDfa.Stored.{AllAgree, LieWithin}
 use Rattle.regex_lite_engine.proofs.lazy_dfa.StoredChangeLemmas.{added_extends, added_is, blank_row}
-use Rattle.regex_lite_engine.proofs.lazy_dfa.StoredChangeLemmas.{plain_added, seen_added}
+use Rattle.regex_lite_engine.proofs.lazy_dfa.StoredChangeLemmas.{agree_added, seen_added}
 use Rattle.regex_lite_engine.proofs.lazy_dfa.StoredChangeLemmas.{within_added}
 use Rattle.regex_lite_engine.proofs.lazy_dfa.StoredStateLemmas.{length_states, seen}
 use Rattle.regex_lite_engine.proofs.lazy_dfa.automaton.LazyDfa.add.Goals as goal
 use Rattle.regex_lite_engine.proofs.lazy_dfa.automaton.LazyDfa.add.Goals.{After-len-self-inside}
 
 abbrev blank : Target
-blank = record { state = unknown; is_plain = false }
+blank = record { state = unknown; effect = record { is_plain = false; completes = false } }
 
 -- the row of the new state comes after those of all others
 rows : (c : After-len-self-inside) →
@@ -60,10 +60,10 @@ invariant_of-self-in-Ok-push c =
           (omega (arith, len, own))),
       omega (arith, count, len),
       omega (arith, next, few, view, there),
-      subst (λ targets. ArePlain c.push.new.self.items targets) (sym all)
+      subst (λ targets. AllAgree c.push.new.self.items targets) (sym all)
           (subst
-          (λ states. ArePlain states (i.targets.items ++ replicate n blank)) (sym items)
-          (plain_added i.states.items (s ∷ []) i.targets.items n blank refl v.3)),
+          (λ states. AllAgree states (i.targets.items ++ replicate n blank)) (sym items)
+          (agree_added i.states.items (s ∷ []) i.targets.items n blank refl v.3)),
       ap length all ∙ length-append i.targets.items (replicate n blank)
           ∙ (let full = v.4 in
           let more = length-replicate n blank in

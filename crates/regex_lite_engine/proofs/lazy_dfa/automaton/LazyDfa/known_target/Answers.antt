@@ -1,10 +1,11 @@
-use Rattle.regex_lite_engine.proofs.Common.{◌≡◌, true, [], slice_get, Some, None, sym, subst, arith}
+use Rattle.regex_lite_engine.proofs.Common.{◌≡◌, true, [], slice_get, Option, Some, sym, subst}
+use Rattle.regex_lite_engine.proofs.Common.{arith, None}
 use Rattle.regex_lite_engine.proofs.Common.{ap, length, rules, slice_get_within, Automaton, Target}
 use Rattle.regex_lite_engine.proofs.Common.{classes_in, slice_index, unknown}
-use Rattle.regex_lite_engine.specs.LazyDfa.Automaton.{State}
-use Rattle.regex_lite_engine.specs.LazyDfa.Stored.{IsPlain}
+use Rattle.regex_lite_engine.specs.LazyDfa.Automaton.{KeptOrigin, State}
+use Rattle.regex_lite_engine.specs.LazyDfa.Stored.{Agrees, hit_by, known_hit}
 use Rattle.regex_lite_engine.proofs.lazy_dfa.StoredStateLemmas.{cell_within, length_states}
-use Rattle.regex_lite_engine.proofs.lazy_dfa.StoredStateLemmas.{plain_is, target_is}
+use Rattle.regex_lite_engine.proofs.lazy_dfa.StoredStateLemmas.{has_ways, target_is}
 use Rattle.regex_lite_engine.proofs.lazy_dfa.automaton.LazyDfa.known_target.Goals as goal
 use Rattle.regex_lite_engine.proofs.lazy_dfa.automaton.LazyDfa.known_target.Goals.{
   After-index-target,
@@ -20,31 +21,32 @@ index-target-requires c =
     c.requires.class in
     search (inside, rules)
 
--- a target that is marked as plain is a plain state
-plain : (c : After-index-target) → c.index-target.result.now.is_plain ≡ true →
+-- what is known of the effect is so in the state
+effect : (c : After-index-target) (hit : Option KeptOrigin) →
+    known_hit c.index-target.result.now.effect ≡ Some hit →
     (to : State) × (slice_get c.args.self.now.states c.index-target.result.now.state ≡ Some to)
-    × (to.ways ≡ [] → ⊥) × (to.hit ≡ None)
-plain c told =
+    × (to.ways ≡ [] → ⊥) × (to.hit ≡ hit)
+effect c hit told =
     let i = c.self.inside in
     let v = c.self.invariant in
     let target : Target = c.index-target.result.now in
     let inside = cell_within i.classes i.states.items i.targets.items i.used i.ways.items
     c.args.self.now c.self.view_is v.4 c.args.x c.args.class c.requires.state c.requires.class in
-    let marked = subst (λ (t : Target). t.is_plain ≡ true → IsPlain i.states.items t.state)
-    (sym c.index-target.ensures) (v.3 c.cell.result target (search (inside, rules))) in
+    let agrees = subst (Agrees i.states.items) (sym c.index-target.ensures)
+    (v.3 c.cell.result target (search (inside, rules))) in
     subst
     (λ (z : Automaton). (to : State) × (slice_get z.states target.state ≡ Some to)
-    × (to.ways ≡ [] → ⊥) × (to.hit ≡ None))
+    × (to.ways ≡ [] → ⊥) × (to.hit ≡ hit))
     c.self.view_is
-    (plain_is i.states.items i.used i.ways.items (classes_in i.classes) i.targets.items v.0 v.1
-    target.state (marked told))
+    (has_ways i.states.items i.used i.ways.items (classes_in i.classes) i.targets.items v.0 v.1
+    target.state hit (agrees hit told))
 
 -- a turn to a plain state is remembered
-known : (c : After-index-target) → c.index-target.result.now.is_plain ≡ true →
+known : (c : After-index-target) → c.index-target.result.now.effect.is_plain ≡ true →
     c.index-target.result.now.state ≡ unknown → ⊥
 known c told e =
     let i = c.self.inside in
-    let own = plain c told in
+    let own = effect c None (ap (λ is. hit_by is c.index-target.result.now.effect.completes) told) in
     let inside = slice_get_within c.args.self.now.states _ own.0 own.1 in
     let n = ap (λ (z : Automaton). length z.states) c.self.view_is in
     let m = length_states i.states.items i.ways.items (classes_in i.classes) i.targets.items in
@@ -72,5 +74,5 @@ returns-clause-known c =
       leads there,
     )
 
-pub returns-clause-plain : goal.returns-clause-plain
-returns-clause-plain c = plain (goal.at.returns-clause-plain c).After-index-target
+pub returns-clause-effect : goal.returns-clause-effect
+returns-clause-effect c = effect (goal.at.returns-clause-effect c).After-index-target

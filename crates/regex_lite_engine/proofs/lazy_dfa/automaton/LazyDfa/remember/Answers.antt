@@ -1,9 +1,9 @@
-use Rattle.regex_lite_engine.proofs.Common.{◌≡◌, ◌+◌, ◌*◌, ◌<◌, true, map, drop, slice_get}
+use Rattle.regex_lite_engine.proofs.Common.{◌+◌, ◌*◌, ◌<◌, map, drop, slice_get}
 use Rattle.regex_lite_engine.proofs.Common.{slice_set, Some, sym, ap, ◌∙◌, subst, length-set}
 use Rattle.regex_lite_engine.proofs.Common.{slice_get-get_or, Automaton, StoredState, Target}
 use Rattle.regex_lite_engine.proofs.Common.{classes_in, way_in}
 use Rattle.std.proofs.lemmas.List.Elements.{All-set}
-use Rattle.regex_lite_engine.specs.LazyDfa.Stored.{IsPlain}
+use Rattle.regex_lite_engine.specs.LazyDfa.Stored.{Agrees}
 use Rattle.regex_lite_engine.proofs.lazy_dfa.StoredChangeLemmas.{states_set}
 use Rattle.regex_lite_engine.proofs.lazy_dfa.StoredStateLemmas.{stored_within}
 use Rattle.regex_lite_engine.proofs.lazy_dfa.automaton.LazyDfa.remember.Goals as goal
@@ -13,20 +13,19 @@ invariant_of-self c =
     let i = c.self.inside in
     let v = c.self.invariant in
     let to : StoredState = c.index.result.now in
-    let target : Target = record { state = c.args.y; is_plain = c.is_plain.result } in
+    let target : Target = record { state = c.args.y; effect = c.effect.result } in
     let inside = stored_within i.classes i.states.items i.targets.items i.used i.ways.items
     c.args.self.now c.self.view_is c.args.y c.requires.target in (
       v.0,
       v.1,
       v.2,
-      All-set (λ (t : Target). t.is_plain ≡ true → IsPlain i.states.items t.state) i.targets.items
-          c.cell-cell.result target
-          (λ told. record {
+      All-set (Agrees i.states.items) i.targets.items c.cell-cell.result target
+          (λ hit told. record {
             state = to;
             is_state =
                 slice_get-get_or i.states.items c.args.y to inside ∙ ap Some (sym c.index.ensures);
-            some = c.is_plain.ensures.some told;
-            none = c.is_plain.ensures.none told;
+            some = c.effect.ensures.some hit told;
+            same = c.effect.ensures.hit hit told;
           }) v.3,
       length-set i.targets.items c.cell-cell.result target ∙ v.4,
       v.5,
@@ -44,7 +43,7 @@ returns c = λ state at.
       pending = map way_in (drop i.used i.ways.items);
     })
     (states_set i.states.items i.ways.items (classes_in i.classes) i.targets.items c.args.x
-    c.args.class c.cell-cell.result (record { state = c.args.y; is_plain = c.is_plain.result })
+    c.args.class c.cell-cell.result (record { state = c.args.y; effect = c.effect.result })
     state (c.cell-cell.ensures ∙ ap (λ n. c.args.x * n + c.args.class) same)
     (subst (λ n. c.args.class < n) same c.requires.class) there)
     ∙ ap (λ (z : Automaton). record z {

@@ -1,5 +1,5 @@
 use Rattle.regex_lite_engine.proofs.Common.{◌≡◌, ◌+◌, ◌^◌, ◌<◌, length, chars, refl, ap, ◌∙◌, inl}
-use Rattle.regex_lite_engine.proofs.Common.{[], None, sym, subst, arith, slice_get_within, Standing}
+use Rattle.regex_lite_engine.proofs.Common.{[], sym, subst, arith, slice_get_within, Standing}
 use Rattle.regex_lite_engine.specs.LazyDfa.Automaton.{State}
 use Rattle.regex_lite_engine.proofs.OptionLemmas.{same_some}
 use Rattle.regex_lite_engine.proofs.lazy_dfa.SpotLemmas.{ran, since_on, spot_edge, spot_of}
@@ -51,11 +51,11 @@ take-requires-clause-to g c =
     let turn = c.in-Some.ensures.turn in
     slice_get_within c.args.self.now.states c.in-Some.turn.to turn.to turn.is_to
 
-pub take-requires-clause-plain : goal.take-requires-clause-plain
-take-requires-clause-plain g c = λ told state at.
+pub take-requires-clause-effect : goal.take-requires-clause-effect
+take-requires-clause-effect g c = λ hit told state at.
     let turn = c.in-Some.ensures.turn in
-    subst (λ (s : State). (s.ways ≡ [] → ⊥) × (s.hit ≡ None)) (same_some (sym turn.is_to ∙ at))
-    (turn.plain told)
+    subst (λ (s : State). (s.ways ≡ [] → ⊥) × (s.hit ≡ hit)) (same_some (sym turn.is_to ∙ at))
+    (turn.effect hit told)
 
 pub turns-preserved : goal.turns-preserved
 turns-preserved g c = record {
@@ -107,7 +107,27 @@ settle-requires g c =
     c.utf8.haystack fits
     from.0 v.0 c.args.self.now c.turns.spot c.turns.at v.2
 
-stays : (g : given.Over) (c : goal.After-settle g) → c.match-turn.at ≡ c.turns.at
+pub settle-requires-2 : goal.settle-requires-2
+settle-requires-2 g c =
+    let bs = c.args.haystack.now in
+    let fits : length bs + 1 < 2 ^ 64 = omega arith in
+    let from = c.requires.scanning in
+    let v = c.turns.invariant.on from.0 from.1 from.2 in
+    spot_edge (g.P.Patterns.table c.args.patterns.now) (g.P.Patterns.entries c.args.patterns.now) bs
+    c.utf8.haystack fits
+    from.0 v.0 c.args.self.now c.turns.spot c.turns.at v.2
+
+-- at the end of the haystack
+pub returns-then-spot-haystack-clause-on : goal.returns-then-spot-haystack-clause-on
+returns-then-spot-haystack-clause-on g c = λ _ low p from.
+    let bs = c.args.haystack.now in
+    let fits : length bs + 1 < 2 ^ 64 = omega arith in
+    ran (g.P.Patterns.table c.args.patterns.now) (g.P.Patterns.entries c.args.patterns.now) bs
+    c.utf8.haystack fits low p
+    c.args.at.now.first c.args.self.now c.turns.spot c.turns.at c.settle.new.self
+    (c.turns.invariant.on low p from) c.settle.ensures.here c.settle.ensures.same
+
+stays : (g : given.Over) (c : goal.After-settle-2 g) → c.match-turn.at ≡ c.turns.at
 stays g c = elim c.match-turn.branch [
   | in-Some+in-Stuck w ↦
       let turn = w.in-Some.ensures.turn in
@@ -121,8 +141,8 @@ returns-clause-on g c = λ _ low p from.
     let fits : length bs + 1 < 2 ^ 64 = omega arith in
     ran (g.P.Patterns.table c.args.patterns.now) (g.P.Patterns.entries c.args.patterns.now) bs
     c.utf8.haystack fits low p
-    c.args.at.now.first c.args.self.now c.turns.spot c.turns.at c.settle.new.self
-    (c.turns.invariant.on low p from) c.settle.ensures.here
-    (c.settle.ensures.same
-    ∙ ap (λ (s : Standing). record s { here = c.settle.new.self.here; state = c.turns.spot.state })
+    c.args.at.now.first c.args.self.now c.turns.spot c.turns.at c.settle-2.new.self
+    (c.turns.invariant.on low p from) c.settle-2.ensures.here
+    (c.settle-2.ensures.same
+    ∙ ap (λ (s : Standing). record s { here = c.settle-2.new.self.here; state = c.turns.spot.state })
     (stays g c))

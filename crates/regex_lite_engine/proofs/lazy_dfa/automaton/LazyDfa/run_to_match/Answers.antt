@@ -1,5 +1,5 @@
 use Rattle.regex_lite_engine.proofs.Common.{◌≡◌, ◌+◌, ◌^◌, ◌<◌, length, chars, refl, ap, ◌∙◌, inl}
-use Rattle.regex_lite_engine.proofs.Common.{[], None, sym, subst, arith, slice_get_within, Standing}
+use Rattle.regex_lite_engine.proofs.Common.{[], sym, subst, arith, slice_get_within, Standing}
 use Rattle.regex_lite_engine.specs.LazyDfa.Automaton.{State}
 use Rattle.regex_lite_engine.proofs.OptionLemmas.{same_some}
 use Rattle.regex_lite_engine.proofs.lazy_dfa.SpotLemmas.{unmoved, ran, since_on, spot_edge, spot_of}
@@ -55,11 +55,11 @@ take-requires-clause-to g c =
     let turn = c.in-Some.ensures.turn in
     slice_get_within c.args.self.now.states c.in-Some.turn.to turn.to turn.is_to
 
-pub take-requires-clause-plain : goal.take-requires-clause-plain
-take-requires-clause-plain g c = λ told state at.
+pub take-requires-clause-effect : goal.take-requires-clause-effect
+take-requires-clause-effect g c = λ hit told state at.
     let turn = c.in-Some.ensures.turn in
-    subst (λ (s : State). (s.ways ≡ [] → ⊥) × (s.hit ≡ None)) (same_some (sym turn.is_to ∙ at))
-    (turn.plain told)
+    subst (λ (s : State). (s.ways ≡ [] → ⊥) × (s.hit ≡ hit)) (same_some (sym turn.is_to ∙ at))
+    (turn.effect hit told)
 
 pub turns-preserved : goal.turns-preserved
 turns-preserved g c = record {
@@ -135,7 +135,13 @@ returns-clause-none g c =
     ap (λ (s : Standing). s.best) c.settle.ensures.same
     ∙ ap (λ (s : Standing). s.best) (stays g c) ∙ c.turns.invariant.none
 
-pub is_hit-requires : goal.is_hit-requires
-is_hit-requires g c =
+pub is_hit-requires-clause-to : goal.is_hit-requires-clause-to
+is_hit-requires-clause-to g c =
     let turn = c.in-Some.ensures.turn in
     slice_get_within c.args.self.now.states c.in-Some.turn.to turn.to turn.is_to
+
+pub is_hit-requires-clause-effect : goal.is_hit-requires-clause-effect
+is_hit-requires-clause-effect g c = λ hit told state at.
+    let turn = c.in-Some.ensures.turn in
+    subst (λ (s : State). (s.ways ≡ [] → ⊥) × (s.hit ≡ hit)) (same_some (sym turn.is_to ∙ at))
+    (turn.effect hit told)

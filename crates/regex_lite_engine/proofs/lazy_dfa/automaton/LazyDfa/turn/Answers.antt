@@ -1,4 +1,4 @@
-use Rattle.regex_lite_engine.proofs.Common.{◌≡◌, [], None, sym, ◌∙◌, subst, Automaton}
+use Rattle.regex_lite_engine.proofs.Common.{◌≡◌, [], sym, ◌∙◌, subst, Automaton}
 use Rattle.regex_lite_engine.specs.LazyDfa.Automaton.{State}
 use Rattle.regex_lite_engine.specs.LazyDfa.Intervals.{IsAhead}
 use Rattle.regex_lite_engine.proofs.lazy_dfa.StoredStateLemmas.{known_turn}
@@ -24,10 +24,10 @@ returns-clause-turn g c =
       to = turn.1;
       is_to = turn.3;
       leads = turn.4;
-      plain = λ told.
-          let own = c.in_ok-target.ensures.plain told in
+      effect = λ hit told.
+          let own = c.in_ok-target.ensures.effect hit told in
           let same = same_some (sym own.1 ∙ turn.3) in (
             λ none. own.2 (subst (λ (s : State). s.ways ≡ []) (sym same) none),
-            subst (λ (s : State). s.hit ≡ None) same own.3,
+            subst (λ (s : State). s.hit ≡ hit) same own.3,
           );
     }
