@@ -2,7 +2,7 @@ use Rattle.regex_lite_engine.proofs.Common.{ℕ, List, [], ◌∷◌, Some, None
 use Rattle.regex_lite_engine.proofs.Common.{IsCharBoundary, sym, subst, StoredGraph, table_of}
 use Rattle.regex_lite_engine.proofs.Common.{span_told, Found, IsNumberedFound, IsBestOutcomeOf}
 use Rattle.regex_lite_engine.proofs.Common.{IsOffset, position_at}
-use Rattle.regex_lite_engine.specs.LazyDfa.Remembering.{NoneStartsBefore}
+use Rattle.regex_lite_engine.specs.LazyDfa.Remembering.{FindsSpansIn, NoneStartsBefore}
 use Rattle.regex_lite_engine.proofs.PositionLemmas.{position_of}
 use Rattle.regex_lite_engine.proofs.OffsetLemmas.{boundary_at}
 use Rattle.regex_lite_engine.proofs.pikevm.EndLemmas.{one_best}
@@ -48,3 +48,17 @@ returns-clause-first c =
     none_before c.args.graph.now c.args.haystack.now c.utf8.haystack
     (position_at c.args.haystack.now c.args.start) (c.in_ok-from.from, c.in_ok-from.end)
     c.in_ok-from.ensures.found
+
+pub returns-in_err-from-clause-finds : goal.returns-in_err-from-clause-finds
+returns-in_err-from-clause-finds c = λ slots finds.
+    c.in_err-from.ensures.finds slots (subst (FindsSpansIn c.args.graph.now slots)
+    (sym c.deref_mut.ensures.value) (rw c.in-Some.is at finds))
+
+pub returns-clause-finds : goal.returns-clause-finds
+returns-clause-finds c = λ slots finds.
+    c.in_ok-from.ensures.finds slots (subst (FindsSpansIn c.args.graph.now slots)
+    (sym c.deref_mut.ensures.value) (rw c.in-Some.is at finds))
+
+pub returns-then-is_without-clause-finds : goal.returns-then-is_without-clause-finds
+returns-then-is_without-clause-finds c =
+    λ slots finds. rw c.in-Some.is at finds

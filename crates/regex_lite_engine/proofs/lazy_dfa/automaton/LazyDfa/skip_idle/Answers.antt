@@ -1,5 +1,6 @@
 use Rattle.regex_lite_engine.proofs.Common.{chars, refl, inr}
 use Rattle.regex_lite_engine.proofs.lazy_dfa.ScanLemmas.{is_idle, skipped}
+use Rattle.std.proofs.lemmas.Option.{slice_get_within}
 use Rattle.regex_lite_engine.proofs.lazy_dfa.automaton.LazyDfa.skip_idle.Goals as goal
 
 pub returns-clause-on : goal.returns-clause-on
@@ -28,3 +29,12 @@ returns-clause-first g c = λ low p scanning.
           (chars c.args.haystack.now) low p c.args.self.now c.args.at scanning
           c.pass_over-here.result passes idle none,
     )
+
+pub pass_over-here-requires : goal.pass_over-here-requires
+pass_over-here-requires g c =
+    (c.requires.scanning.1, c.requires.scanning.2.is)
+
+pub knows-requires : goal.knows-requires
+knows-requires g c =
+    let scanning = c.requires.scanning.2 in
+    slice_get_within c.args.self.now.states c.args.at.state scanning.state scanning.is_state

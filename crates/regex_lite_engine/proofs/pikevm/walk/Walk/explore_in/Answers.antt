@@ -5,6 +5,8 @@ use Rattle.regex_lite_engine.specs.Pikevm.Room.{with_frames, GoesOn}
 use Rattle.regex_lite_engine.proofs.search.CountLemmas.{still_counted}
 use Rattle.regex_lite_engine.proofs.pikevm.StateLemmas.{keeps_threads}
 use Rattle.regex_lite_engine.proofs.pikevm.WentLemmas.{back_to, goes_further}
+use Rattle.std.proofs.lemmas.Bool.{false≢true}
+use Rattle.regex_lite_engine.specs.Pikevm.Room.{IsFit}
 use Rattle.regex_lite_engine.proofs.pikevm.walk.Walk.explore_in.Goals as goal
 
 pub returns-in-None-clause-room : goal.returns-in-None-clause-room
@@ -100,3 +102,33 @@ places-preserved-in-To g c =
 pub next_place-requires : goal.next_place-requires
 next_place-requires g c =
     (length (places_of c.args.table.now), c.in-Back.ensures.taken.fit.frames_below)
+
+pub returns-in-Complete-clause-room : goal.returns-in-Complete-clause-room
+returns-in-Complete-clause-room g c =
+    let a = c.args in let x = c.come_to.new.self in let went = c.in-Complete.ensures.taken in
+    subst (λ (fs : List Frame). IsFit (places_of a.table.now) (with_frames x fs))
+    (went.cleared refl) went.fit
+
+pub returns-in-Complete-clause-counts : goal.returns-in-Complete-clause-counts
+returns-in-Complete-clause-counts g c =
+    let a = c.args in
+    still_counted a.self.now.steps c.places.self.steps c.come_to.new.self.steps
+    c.places.invariant.counts c.in-Complete.ensures.counts
+
+pub returns-in-Complete-clause-entry : goal.returns-in-Complete-clause-entry
+returns-in-Complete-clause-entry g c =
+    λ _. c.in-Complete.ensures.entry refl
+
+pub returns-in-None-clause-counts : goal.returns-in-None-clause-counts
+returns-in-None-clause-counts g c =
+    let a = c.args in
+    still_counted a.self.now.steps c.places.self.steps c.come_to.new.self.steps
+    c.places.invariant.counts c.in-Back.ensures.counts
+
+pub returns-in-None-clause-entry : goal.returns-in-None-clause-entry
+returns-in-None-clause-entry g c =
+    λ never. absurd (false≢true never)
+
+pub places-smaller-in-To : goal.places-smaller-in-To
+places-smaller-in-To g c =
+    c.in-To.ensures.taken.less refl
