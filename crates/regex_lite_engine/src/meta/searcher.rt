@@ -144,8 +144,9 @@ fn automaton_for(alloc: Global, graph: &Graph) -> Option<Box<LazyDfa>>
     Box::new(alloc, dfa).ok()
 }
 
-/// What a search finds from where another one has passed to, and counts for the automaton: depth
-/// first if the end is known and the match is short, and else by ordered sets.
+/// Where the most preferred match starts and ends, and its slots in the cache's row, if no match
+/// starts before the offset that was passed to. It is found depth first if its end is known and it
+/// is short, and otherwise by ordered sets. The tries are counted for the automaton.
 fn find_passed(
     spans: &mut Option<Box<SpanSearcher>>,
     graph: &Graph,
@@ -181,8 +182,8 @@ fn find_passed(
     found
 }
 
-/// Where a search by ordered sets finds that the most preferred match from the least start at or
-/// after this offset starts and ends.
+/// Where the most preferred match from the least start at or after this offset starts and ends,
+/// found by ordered sets.
 fn find_in_step(
     graph: &Graph,
     cache: &mut Cache<Origin>,
