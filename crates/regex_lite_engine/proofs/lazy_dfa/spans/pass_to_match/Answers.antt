@@ -60,5 +60,4 @@ returns-clause-finds c = λ slots finds.
     (sym c.deref_mut.ensures.value) (rw c.in-Some.is at finds))
 
 pub returns-then-is_without-clause-finds : goal.returns-then-is_without-clause-finds
-returns-then-is_without-clause-finds c =
-    λ slots finds. rw c.in-Some.is at finds
+returns-then-is_without-clause-finds c = λ slots finds. rw c.in-Some.is at finds

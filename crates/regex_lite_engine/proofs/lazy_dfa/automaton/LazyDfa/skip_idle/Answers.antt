@@ -1,6 +1,5 @@
-use Rattle.regex_lite_engine.proofs.Common.{chars, refl, inr}
+use Rattle.regex_lite_engine.proofs.Common.{chars, refl, inr, slice_get_within}
 use Rattle.regex_lite_engine.proofs.lazy_dfa.ScanLemmas.{is_idle, skipped}
-use Rattle.std.proofs.lemmas.Option.{slice_get_within}
 use Rattle.regex_lite_engine.proofs.lazy_dfa.automaton.LazyDfa.skip_idle.Goals as goal
 
 pub returns-clause-on : goal.returns-clause-on
@@ -31,8 +30,7 @@ returns-clause-first g c = λ low p scanning.
     )
 
 pub pass_over-here-requires : goal.pass_over-here-requires
-pass_over-here-requires g c =
-    (c.requires.scanning.1, c.requires.scanning.2.is)
+pass_over-here-requires g c = (c.requires.scanning.1, c.requires.scanning.2.is)
 
 pub knows-requires : goal.knows-requires
 knows-requires g c =

@@ -1,12 +1,11 @@
 use Rattle.regex_lite_engine.proofs.Common.{true, false, List, [], ◌∷◌, refl, ◌∙◌, subst, arith}
 use Rattle.regex_lite_engine.proofs.Common.{length, places_of}
 use Rattle.regex_lite_engine.specs.Pikevm.Machine.{explore, Frame}
-use Rattle.regex_lite_engine.specs.Pikevm.Room.{with_frames, GoesOn}
+use Rattle.regex_lite_engine.specs.Pikevm.Room.{with_frames, GoesOn, IsFit}
 use Rattle.regex_lite_engine.proofs.search.CountLemmas.{still_counted}
 use Rattle.regex_lite_engine.proofs.pikevm.StateLemmas.{keeps_threads}
 use Rattle.regex_lite_engine.proofs.pikevm.WentLemmas.{back_to, goes_further}
 use Rattle.std.proofs.lemmas.Bool.{false≢true}
-use Rattle.regex_lite_engine.specs.Pikevm.Room.{IsFit}
 use Rattle.regex_lite_engine.proofs.pikevm.walk.Walk.explore_in.Goals as goal
 
 pub returns-in-None-clause-room : goal.returns-in-None-clause-room
@@ -116,8 +115,7 @@ returns-in-Complete-clause-counts g c =
     c.places.invariant.counts c.in-Complete.ensures.counts
 
 pub returns-in-Complete-clause-entry : goal.returns-in-Complete-clause-entry
-returns-in-Complete-clause-entry g c =
-    λ _. c.in-Complete.ensures.entry refl
+returns-in-Complete-clause-entry g c = λ _. c.in-Complete.ensures.entry refl
 
 pub returns-in-None-clause-counts : goal.returns-in-None-clause-counts
 returns-in-None-clause-counts g c =
@@ -126,9 +124,7 @@ returns-in-None-clause-counts g c =
     c.places.invariant.counts c.in-Back.ensures.counts
 
 pub returns-in-None-clause-entry : goal.returns-in-None-clause-entry
-returns-in-None-clause-entry g c =
-    λ never. absurd (false≢true never)
+returns-in-None-clause-entry g c = λ never. absurd (false≢true never)
 
 pub places-smaller-in-To : goal.places-smaller-in-To
-places-smaller-in-To g c =
-    c.in-To.ensures.taken.less refl
+places-smaller-in-To g c = c.in-To.ensures.taken.less refl
