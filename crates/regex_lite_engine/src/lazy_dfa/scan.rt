@@ -5,8 +5,8 @@ ghost use Rattle.std.specs.Prelude.{true};
 ghost use Rattle.regex_lite_syntax.specs.Text.{Text};
 ghost use Rattle.regex_lite_engine.specs.LazyDfa.Automaton.{IsEmptyState, Remembers, State};
 ghost use Rattle.regex_lite_engine.specs.LazyDfa.Intervals.{side_of};
-ghost use Rattle.regex_lite_engine.specs.LazyDfa.Scanning.{best_told};
-ghost use Rattle.regex_lite_engine.specs.LazyDfa.Scanning.{IsScanning, IsSince, LedTo, ScansTo};
+ghost use Rattle.regex_lite_engine.specs.LazyDfa.Scanning.{best_told, IsScanning, IsSince};
+ghost use Rattle.regex_lite_engine.specs.LazyDfa.Scanning.{LedTo, ScansTo};
 ghost use Rattle.regex_lite_engine.specs.Search.Offsets.{position_at};
 ghost use Rattle.regex_lite_engine.specs.Search.Standing.{IsHere};
 
@@ -26,6 +26,22 @@ pub(crate) struct Standing {
     pub first: usize,
     /// Where the last match that was found starts and ends.
     pub best: Option<(Origin, usize)>,
+}
+
+impl Standing {
+    /// Now the last match is one of this pattern that began at the first start and ends there.
+    #[inline(always)]
+    pub(super) fn complete(&mut self, number: u32, end: usize)
+        ensures { self.new ≡ record self.old {
+          best = Some (record { at = self.old.first; number = number }, end);
+        } }
+    {
+        let origin = Origin {
+            at: self.first,
+            number,
+        };
+        self.best = Some((origin, end));
+    }
 }
 
 /// How far remembered turns lead.

@@ -15,7 +15,6 @@ use crate::lazy_dfa::classes::Ahead;
 use crate::lazy_dfa::interval::Interval;
 use crate::lazy_dfa::scan::Standing;
 use crate::lazy_dfa::state::{Effect, Hit};
-use crate::pikevm::beginning::Origin;
 use crate::search::here::Here;
 use crate::search::patterns::Patterns;
 
@@ -291,20 +290,6 @@ impl Spot {
 }
 
 impl Standing {
-    /// Now the last match is one of this pattern that began at the first start and ends there.
-    #[inline(always)]
-    fn complete(&mut self, number: u32, end: usize)
-        ensures { self.new ≡ record self.old {
-          best = Some (record { at = self.old.first; number = number }, end);
-        } }
-    {
-        let origin = Origin {
-            at: self.first,
-            number,
-        };
-        self.best = Some((origin, end));
-    }
-
     /// Moves it to this spot, and looks up the characters beside that.
     #[inline(always)]
     fn settle(&mut self, haystack: &str, spot: Spot)
