@@ -2,7 +2,12 @@ use Rattle.regex_lite_engine.proofs.Common.{◌≡◌, ◌+◌, ◌*◌, map, le
 use Rattle.regex_lite_engine.proofs.Common.{arith, rules, length-map, []}
 use Rattle.regex_lite_engine.proofs.Common.{Tree, repetition, concat, alternation, trees, ◌∷◌}
 use Rattle.regex_lite_engine.proofs.Common.{nullable, tree_of, copies, own_places}
-use Rattle.regex_lite_engine.proofs.Common.{places, place_of, IsAdded, layout, Hir}
+use Rattle.regex_lite_engine.proofs.Common.{places, place_of, IsAdded, layout, Hir, ◌<◌, ◌^◌, ◌-◌}
+use Rattle.regex_lite_engine.proofs.Common.{drop, places_in, greatest_index, greatest_index_in}
+use Rattle.regex_lite_engine.proofs.Common.{Trees}
+use Rattle.regex_lite_syntax.proofs.TreeLemmas.{trees_more}
+use Rattle.regex_lite_syntax.proofs.hir.Hir.TheLaws.{the_size}
+use denote.Param.Weighed.{at_most}
 use Rattle.std.proofs.Common.{IfOk}
 use Rattle.regex_lite_engine.specs.Nfa.Layout.{capture_layout}
 use Rattle.std.proofs.lemmas.Grind.{common_steps}
@@ -212,6 +217,36 @@ write_loop-returns-clause-written t c =
     (length old) choice.choice (length c.add_empty.new.self) inner.inner c.args.exit
     (sym (length-map old place_of)) choice.ensures.number choice.ensures.grown
     choice.ensures.added inner.ensures.written.0 inner.ensures.written.1 c.put_choice.ensures.put
+
+pub write_concat-write-requires : goal.write_concat-write-requires
+write_concat-write-requires t c =
+    let v = c.loop-i.invariant in
+    let part = c.part_at.result.now in
+    let deep = at_most the_size c.args.parts.now (c.loop-i.i - 1) part (omega arith) in
+    let same = ap the_size c.part_at.ensures.part in
+    let later : c.loop-i.i - 1 + 1 ≡ c.loop-i.i = omega (arith, c.loop-i-test.true) in
+    let left = ap (λ i. places_in (trees (map tree_of (drop i c.args.parts.now)))) later in
+    let room : length c.loop-i.self + places (tree_of part) < 2 ^ 32 =
+    omega (arith, c.requires.room, c.part_at.ensures.room, v.grown, left) in
+    let slots : greatest_index (tree_of part) < 2 ^ 31 =
+    omega (arith, c.requires.slots, c.part_at.ensures.slots) in
+    (omega (arith, c.decreases, deep, same), (room, slots))
+
+pub write_branches-write-requires : goal.write_branches-write-requires
+write_branches-write-requires t c =
+    let v = c.loop-branch.invariant in
+    let branches = c.args.branches.now in
+    let k = c.loop-branch.branch-index in
+    let branch = c.branch-item.result in
+    let deep = at_most the_size branches k branch c.loop-branch-test.true in
+    let same = ap the_size c.branch-item.is in
+    let one = trees_more branches k branch c.loop-branch-test.true c.branch-item.is in
+    let room : length c.loop-branch.self + places (tree_of branch) < 2 ^ 32 =
+    omega (arith, c.requires.room, v.grown, ap places_in one) in
+    let slots : greatest_index (tree_of branch) < 2 ^ 31 =
+    (let index = subst (λ (left : Trees). greatest_index_in left < 2 ^ 31) one v.slots in
+    omega (arith, index)) in
+    (omega (arith, c.decreases, deep, same), (room, slots))
 
 -- The goals from here on need no lemma of their own. They have answers because the prover would
 -- try other calls first, which takes long
