@@ -37,3 +37,15 @@ returns-clause-on g c = λ s p is on.
           sym c.turn.ensures.ready.best_width ∙ c.turn.ensures.width ∙ on.ready.best_width
           ∙ on.width;
     }
+
+pub turn-requires-clause-ready : goal.turn-requires-clause-ready
+turn-requires-clause-ready g c = c.requires.on.4.ready
+
+pub returns-clause-again : goal.returns-clause-again
+returns-clause-again g c = c.turn.ensures.again
+
+pub returns-clause-hit : goal.returns-clause-hit
+returns-clause-hit g c = c.turn.ensures.hit
+
+pub returns-clause-ends : goal.returns-clause-ends
+returns-clause-ends g c = c.turn.ensures.ends
