@@ -1,6 +1,8 @@
 use Rattle.regex_lite_engine.proofs.Common.{◌≡◌, ◌+◌, ◌<◌, true, [], ◌∷◌, map, length, sym}
 use Rattle.regex_lite_engine.proofs.Common.{if◌then◌else◌, ap, subst, arith, rules, length-map}
 use Rattle.regex_lite_engine.proofs.Common.{kept_back, place_of, places_of, LeadsBelow}
+use Rattle.regex_lite_engine.proofs.Common.{ℕ, Bool, false, List, inl, inr, Some, refl, ◌∙◌}
+use Rattle.regex_lite_engine.proofs.Common.{length-set}
 use Rattle.regex_lite_engine.specs.declared.pikevm.enter.Onward as code
 use Rattle.regex_lite_engine.specs.Pikevm.Entering.{completes, onto, Enters}
 use Rattle.regex_lite_engine.specs.Pikevm.Machine.{explore, State}
@@ -12,6 +14,12 @@ use Rattle.regex_lite_engine.proofs.pikevm.WalkLemmas.{marked_in}
 use Rattle.regex_lite_engine.proofs.pikevm.WentLemmas.{goes_on, was_met}
 use Rattle.regex_lite_engine.proofs.search.PlaceLemmas.{got_place}
 use Rattle.regex_lite_engine.proofs.pikevm.WentLemmas.{went_entered, went_seen}
+use Rattle.regex_lite_engine.specs.declared.nfa.place.Place.{Place}
+use Rattle.regex_lite_engine.specs.declared.nfa.place.Place.TheVariants as stored
+use Rattle.regex_lite_engine.specs.declared.search.here.Here.{Here}
+use Rattle.regex_lite_engine.specs.Search.Beginnings.{Told}
+use Rattle.regex_lite_engine.specs.Pikevm.Entering.{pushing, reading_on}
+use Rattle.regex_lite_engine.specs.Pikevm.Machine.{Frame, Thread}
 use Rattle.regex_lite_engine.proofs.pikevm.walk.Walk.come_to.Goals as goal
 
 pub returns-then-not-insert-clause-taken : goal.returns-then-not-insert-clause-taken
@@ -88,3 +96,48 @@ pub look-found-requires-clause-inside : goal.look-found-requires-clause-inside
 look-found-requires-clause-inside g c =
     let places = c.args.table.now.places in
     subst (λ n. c.args.place < n) (length-map places place_of) c.requires.room.frames_below.0
+
+reading_width : (b : Bool) (m : State) (thread : Thread)
+    → length (reading_on b m thread).row ≡ length m.row
+reading_width true m thread = refl
+reading_width false m thread = refl
+
+looking_width : (b : Bool) (m : State) (more : List Frame)
+    → length (if b then pushing m more else m).row ≡ length m.row
+looking_width true m more = refl
+looking_width false m more = refl
+
+module _ (here : Here) (told : Told) (m e : State) (done : Bool) where
+  abbrev width : State → ℕ
+  width z = length z.row
+
+  -- entering a place leaves the row as long as it is
+  enters_width : (x : Place) → Enters here told x m e done → length e.row ≡ length m.row
+  enters_width (stored.Empty to) (same, ed) = ap width same
+  enters_width (stored.Char ch to) (same, ed) = ap width same ∙ reading_width _ m _
+  enters_width (stored.Class to set) (same, ed) = ap width same ∙ reading_width _ m _
+  enters_width (stored.Look l to) (same, ed) = ap width same ∙ looking_width _ m (explore to ∷ [])
+  enters_width (stored.Slot slot to) (inl (lt, inl same), ed) =
+      ap width same ∙ length-set m.row slot (Some here.at)
+  enters_width (stored.Slot slot to) (inl (lt, inr (none, same)), ed) =
+      ap width same ∙ length-set m.row slot (Some here.at)
+  enters_width (stored.Slot slot to) (inr (past, same), ed) = ap width same
+  enters_width (stored.Choice a b) (same, ed) = ap width same
+  enters_width (stored.Branches all) (same, ed) = ap width same
+  enters_width stored.Match (same, ed) = ap width same
+
+pub returns-in_default-clause-kept : goal.returns-in_default-clause-kept
+returns-in_default-clause-kept g c =
+    let a = c.args in let w = a.self.now.memory in let n = c.insert.new.self in
+    let o = c.enter-onward.result in let e = c.enter-onward.new.memory in
+    let same =
+    later_same a.place w n e c.insert.ensures.added c.enter-onward.ensures.same in record {
+      round = ap (λ (z : State). z.now) same;
+      threads = ap (λ (z : State). z.threads) same;
+      room = ap (λ (z : State). z.room) same;
+      row =
+          enters_width a.here (g.S.Beginning.told a.start) n
+          (record e { frames = onto o e.frames }) (completes o) c.look-found.result.now
+          c.enter-onward.ensures.entered
+          ∙ ap (λ (z : State). length z.row) c.insert.ensures.added;
+    }
