@@ -1,6 +1,8 @@
-use Rattle.regex_lite_engine.proofs.Common.{[], None, length, chars, sym, refl, ◌∙◌, subst}
+use Rattle.regex_lite_engine.proofs.Common.{[], None, IfSome, length, chars, sym, refl, ap}
+use Rattle.regex_lite_engine.proofs.Common.{◌∙◌, subst, option_map}
 use Rattle.regex_lite_engine.proofs.Common.{nil_from_length, table_of, span_told, position_at}
 use Rattle.regex_lite_engine.specs.Graph.Renumbered.{IsGraphOf}
+use Rattle.regex_lite_engine.specs.LazyDfa.Remembering.{FindsSpansIn, IsRemembering}
 use Rattle.regex_lite_engine.specs.Search.Outcomes.{IsSpanOutcome}
 use Rattle.regex_lite_engine.specs.Search.Searching.{Searching}
 use Rattle.regex_lite_engine.proofs.pikevm.EndLemmas.{one_best}
@@ -56,3 +58,58 @@ returns-clause-found c = λ tree regular is.
 -- It has an answer because the prover would try other calls first, which takes long
 pub returns-then-start-haystack-clause-found : goal.returns-then-start-haystack-clause-found
 returns-then-start-haystack-clause-found c = grind (arith, common_steps)
+
+pub find_in_graph-requires-clause-fresh : goal.find_in_graph-requires-clause-fresh
+find_in_graph-requires-clause-fresh c =
+    c.restart.ensures.fresh (table_of c.self.inside.graph.now) c.self.invariant.0
+
+pub find_passed-requires-clause-fresh : goal.find_passed-requires-clause-fresh
+find_passed-requires-clause-fresh c =
+    c.restart.ensures.fresh (table_of c.self.inside.graph.now) c.self.invariant.0
+
+pub invariant_of-self : goal.invariant_of-self
+invariant_of-self c =
+    let graph = c.self.inside.graph.now in
+    let told = c.find_in_graph.ensures in
+    let width = told.between.best_width ∙ told.width in
+    let before =
+    subst (λ dfa. IsRemembering graph (length c.self.inside.cache.best.row)
+    (option_map (λ boxed. boxed.value) dfa)) c.in-Some.is c.self.invariant.2 in (
+      told.between,
+      c.self.invariant.1,
+      (told.remembers, width),
+      subst (λ slots. IfSome c.self.inside.spans (λ boxed. FindsSpansIn graph slots boxed.value))
+          (before.1 ∙ sym width) c.self.invariant.3,
+    )
+
+pub invariant_of-self-in_err-passed : goal.invariant_of-self-in_err-passed
+invariant_of-self-in_err-passed c =
+    let graph = c.self.inside.graph.now in
+    let width = sym c.restart.ensures.width in (
+      (c.restart.ensures.fresh (table_of graph) c.self.invariant.0).between,
+      c.self.invariant.1,
+      subst (λ slots. IsRemembering graph slots (option_map (λ dfa. dfa.value) c.self.inside.dfa))
+          width c.self.invariant.2,
+      subst (λ slots. IfSome c.pass_to_match.new.spans
+          (λ boxed. FindsSpansIn graph slots boxed.value)) width
+          (c.pass_to_match.ensures.finds (length c.self.inside.cache.best.row) c.self.invariant.3),
+    )
+
+pub invariant_of-self-2 : goal.invariant_of-self-2
+invariant_of-self-2 c = (
+  c.find_passed.ensures.between,
+  c.self.invariant.1,
+  subst (λ slots. IsRemembering c.self.inside.graph.now slots
+      (option_map (λ dfa. dfa.value) c.self.inside.dfa))
+      (sym (c.find_passed.ensures.width ∙ c.restart.ensures.width)) c.self.invariant.2,
+  c.find_passed.ensures.finds,
+)
+
+pub returns-in_err-passed-clause-slots : goal.returns-in_err-passed-clause-slots
+returns-in_err-passed-clause-slots c =
+    c.restart.ensures.width ∙ ap (λ (z : Searching). length z.slots) c.self.view_is
+
+pub returns-clause-slots : goal.returns-clause-slots
+returns-clause-slots c =
+    c.find_passed.ensures.width ∙ (c.restart.ensures.width
+    ∙ ap (λ (z : Searching). length z.slots) c.self.view_is)

@@ -3,6 +3,7 @@ use Rattle.regex_lite_engine.proofs.Common.{ap, ◌∙◌, subst, arith, rules, 
 use Rattle.regex_lite_engine.proofs.Common.{StoredList, table_of_list, best_of, AnyMatchesFrom}
 use Rattle.regex_lite_engine.proofs.Common.{characters_left, IsBoundedBy, IsCountable, CanCount}
 use Rattle.regex_lite_engine.proofs.Common.{IsNumberedEndOf, position_at, search_start}
+use Rattle.regex_lite_engine.proofs.Common.{false, option_map, ⊎_elim}
 use Rattle.regex_lite_engine.specs.Pikevm.Searching.{IsFresh}
 use Rattle.regex_lite_engine.proofs.search.ListOutcomeLemmas.{cost_of_list, any_told}
 use Rattle.regex_lite_engine.proofs.search.OutcomeLemmas.{can_count}
@@ -62,3 +63,14 @@ returns-clause-cost c = λ trees is.
 -- It has an answer because the prover would try other calls first, which takes long
 pub returns-then-start-haystack-clause-found : goal.returns-then-start-haystack-clause-found
 returns-then-start-haystack-clause-found c = grind (arith, common_steps)
+
+pub run_shortest-requires-clause-boundary : goal.run_shortest-requires-clause-boundary
+run_shortest-requires-clause-boundary c =
+    ⊎_elim (λ above. absurd (omega (arith, above, c.if-start-haystack.false))) (λ edge. edge)
+    c.requires
+
+pub returns-clause-entered : goal.returns-clause-entered
+returns-clause-entered c = λ told. c.run_shortest.ensures.entry (λ none. (
+    let is : IsTrue false = subst IsTrue (c.is_some.ensures ∙ ap is_some c.end.ensures
+    ∙ ap (λ best. is_some (option_map (λ z. z.1) best)) none) told in
+    cc))
