@@ -1,6 +1,7 @@
 use Rattle.regex_lite_engine.proofs.Common.{◌^◌, ◌<◌, length, chars, sym, ap, subst, arith, rules}
 use Rattle.regex_lite_engine.proofs.Common.{places_of, table_of, best_of, IsCountable, position_at}
 use Rattle.regex_lite_engine.proofs.Common.{IsEndOutcome}
+use Rattle.regex_lite_engine.proofs.Common.{⊎_elim}
 use Rattle.regex_lite_engine.specs.Pikevm.Searching.{IsFresh}
 use Rattle.regex_lite_engine.proofs.pikevm.ShortestLemmas.{one_end}
 use Rattle.regex_lite_engine.proofs.search.OutcomeLemmas.{can_count, cost_told, end_told}
@@ -40,3 +41,8 @@ run_shortest-requires-clause-fresh c =
 -- It has an answer because the prover would try other calls first, which takes long
 pub returns-then-start-haystack-clause-found : goal.returns-then-start-haystack-clause-found
 returns-then-start-haystack-clause-found c = grind (arith, common_steps)
+
+pub run_shortest-requires-clause-boundary : goal.run_shortest-requires-clause-boundary
+run_shortest-requires-clause-boundary c =
+    ⊎_elim (λ above. absurd (omega (arith, above, c.if-start-haystack.false))) (λ edge. edge)
+    c.requires
