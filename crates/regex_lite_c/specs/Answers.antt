@@ -28,8 +28,8 @@ pub record RefusesText (bytes : List ℕ) (start answer : ℕ) : Type 0 where
   pub not_text : (answer ≡ NOT_TEXT) ↔ (IsUtf8 bytes → ⊥)
   pub bad_offset : (answer ≡ BAD_OFFSET) ↔ (IsUtf8 bytes × (IsCharBoundary bytes start → ⊥))
 
--- a call that writes what it finds in a text to the caller's room has failed: the text or the offset
--- is refused, memory runs out, or the room is too small
+-- a call that writes what it finds in a text to the caller's room has failed: the text or the
+-- offset is refused, memory runs out, or the room is too small
 abbrev pub IsFailure : (answer : ℕ) → Type 0
 IsFailure answer =
     (answer ≡ NOT_TEXT) ⊎ ((answer ≡ BAD_OFFSET) ⊎ ((answer ≡ OUT_OF_MEMORY)

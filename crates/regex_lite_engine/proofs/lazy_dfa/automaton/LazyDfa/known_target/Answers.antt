@@ -46,7 +46,8 @@ known : (c : After-index-target) → c.index-target.result.now.effect.is_plain �
     c.index-target.result.now.state ≡ unknown → ⊥
 known c told e =
     let i = c.self.inside in
-    let own = effect c None (ap (λ is. hit_by is c.index-target.result.now.effect.completes) told) in
+    let completes = c.index-target.result.now.effect.completes in
+    let own = effect c None (ap (λ is. hit_by is completes) told) in
     let inside = slice_get_within c.args.self.now.states _ own.0 own.1 in
     let n = ap (λ (z : Automaton). length z.states) c.self.view_is in
     let m = length_states i.states.items i.ways.items (classes_in i.classes) i.targets.items in

@@ -144,5 +144,8 @@ returns-clause-on g c = λ _ low p from.
     c.args.at.now.first c.args.self.now c.turns.spot c.turns.at c.settle-2.new.self
     (c.turns.invariant.on low p from) c.settle-2.ensures.here
     (c.settle-2.ensures.same
-    ∙ ap (λ (s : Standing). record s { here = c.settle-2.new.self.here; state = c.turns.spot.state })
+    ∙ ap (λ (own : Standing). record own {
+      here = c.settle-2.new.self.here;
+      state = c.turns.spot.state;
+    })
     (stays g c))
