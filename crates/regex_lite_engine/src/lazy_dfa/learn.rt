@@ -1,10 +1,12 @@
 //! Turns of a search, remembered.
 ghost use Rattle.std.specs.Prelude.{◌≡◌, ◌∷◌, [], ◌<◌, ◌≤◌, ◌++◌, ℕ, IfSome};
 ghost use Rattle.std.specs.Prelude.{MatchOption, Some, length, map, slice_get, true};
+ghost use Rattle.regex_lite_syntax.specs.Text.{Text};
 ghost use Rattle.regex_lite_engine.specs.LazyDfa.Automaton.{FitsTable, Remembers, State};
 ghost use Rattle.regex_lite_engine.specs.LazyDfa.Automaton.{hit_of, searching_after, ways_of};
 ghost use Rattle.regex_lite_engine.specs.LazyDfa.Intervals.{side_of};
 ghost use Rattle.regex_lite_engine.specs.LazyDfa.Learning.{HasTurned, IsIn};
+ghost use Rattle.regex_lite_engine.specs.LazyDfa.Running.{Stands};
 ghost use Rattle.regex_lite_engine.specs.LazyDfa.Stored.{hit_in};
 ghost use Rattle.regex_lite_engine.specs.Pikevm.Searching.{IsBetween};
 ghost use Rattle.regex_lite_engine.specs.Pikevm.Turns.{best_of};
@@ -16,7 +18,7 @@ use crate::lazy_dfa::state::{Hit, StoredWay};
 use crate::pikevm::beginning::Origin;
 use crate::pikevm::cache::Cache;
 use crate::pikevm::memory::Memory;
-use crate::search::here::Here;
+use crate::search::here::{Here, byte_len};
 use crate::search::patterns::Patterns;
 
 /// A turn that a search has taken: from which state, with which first start, and where. A match
@@ -52,7 +54,7 @@ impl LazyDfa {
             self.drop_pending();
             return None;
         }
-        let hit = hit_told(taken, cache);
+        let hit = hit_told(taken.first, taken.hit, cache);
         let searching = self.searching_after(taken.state, hit);
         let before = self.side(taken.here.after);
         let y = self.settle(searching, before, hit)?;
@@ -81,7 +83,34 @@ impl LazyDfa {
             return None;
         }
         let before = self.side(at.here.before);
-        self.settle(cache.best.is_none(), before, Hit::Nowhere)
+        let hit = hit_told(at.first, has_just_ended(at, cache), cache);
+        self.settle(cache.best.is_none(), before, hit)
+    }
+
+    /// The same position, in the state that is known there, if the search went back from here and
+    /// has come here again by ordinary turns.
+    pub(super) fn after_going_back<P: Patterns>(
+        &mut self,
+        patterns: &P,
+        cache: &Cache<Origin>,
+        at: Progress,
+    ) -> Progress
+        requires remembers { Remembers (P.table patterns.now) (P.entries patterns.now) self.old }
+        requires none_pending { self.old.pending ≡ [] }
+        requires between { IsBetween (P.table patterns.now) cache.now }
+        ensures remembers { Remembers (P.table patterns.now) (P.entries patterns.now) self.new }
+        ensures none_pending { self.new.pending ≡ [] }
+        ensures stands { (haystack : Text) (s : ℕ) → Stands (P.table patterns.now) haystack
+            (P.entries patterns.now) s self.old at cache.now
+            → Stands (P.table patterns.now) haystack (P.entries patterns.now) s self.new result
+            cache.now }
+        ensures here { result.here ≡ at.here }
+    {
+        if !at.is_where_stuck() {
+            return at;
+        }
+        let state = self.state_at(patterns, at, cache);
+        at.with_state(state)
     }
 
     /// Adds the threads of the position to the pending ways. Returns whether there was room.
@@ -130,17 +159,25 @@ impl LazyDfa {
     }
 }
 
-/// Where the way began by which the turn completed a match.
-fn hit_told(taken: Taken, cache: &Cache<Origin>) -> Hit
-    ensures { hit_in result ≡ hit_of taken.first taken.hit (best_of cache.now.best) }
+/// Whether the last turn completed a match.
+fn has_just_ended(at: Progress, cache: &Cache<Origin>) -> bool {
+    let (Some(last), Some(end)) = (at.here.before, cache.best.end()) else {
+        return false;
+    };
+    end.saturating_add(byte_len(last)) == at.here.at
+}
+
+/// Where the way began by which a turn completed a match, if it did.
+fn hit_told(first: usize, hit: bool, cache: &Cache<Origin>) -> Hit
+    ensures { hit_in result ≡ hit_of first hit (best_of cache.now.best) }
 {
-    if !taken.hit {
+    if !hit {
         return Hit::Nowhere;
     }
     match cache.best.found() {
         None => Hit::Nowhere,
         Some((origin, _)) => {
-            if origin.at == taken.first {
+            if origin.at == first {
                 Hit::AtFirst(origin.number)
             } else {
                 Hit::AtLater(origin.number)

@@ -51,6 +51,16 @@ impl Progress {
         }
     }
 
+    /// Whether a scan has gone on from here: then it knew the turn.
+    pub(super) fn is_back(&self) -> bool {
+        self.here.at.saturating_add(1) < self.until
+    }
+
+    /// Whether a scan was stuck here.
+    pub(super) fn is_where_stuck(&self) -> bool {
+        self.here.at.saturating_add(1) == self.until
+    }
+
     /// The same position, in this state.
     pub(super) fn with_state(self, state: Option<u16>) -> Progress
         ensures { result ≡ record self { state = state } }
