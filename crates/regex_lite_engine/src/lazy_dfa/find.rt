@@ -164,8 +164,8 @@ impl LazyDfa {
         }
     }
 
-    /// Remembers the turn, if the state from which it was taken is known, unless a scan has gone by
-    /// it before. Returns the state that the search is in.
+    /// Remembers the turn, if the state from which it was taken is known, unless the last scan went
+    /// on by it. Returns the state that the search is in.
     pub(super) fn learn_at<P: Patterns>(
         &mut self,
         patterns: &P,
@@ -183,7 +183,7 @@ impl LazyDfa {
         ensures state { MatchOption result (Unit {0})
             (λ y. IsIn self.new y at.first at.here.after cache.now) }
     {
-        if at.is_back() {
+        if at.was_scanned() {
             return None;
         }
         let taken = Taken {

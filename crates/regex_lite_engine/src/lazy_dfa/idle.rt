@@ -46,7 +46,7 @@ impl LazyDfa {
         ensures later { at.here.at ≤ result.here.at }
     {
         if cache.walk.memory.threads() > 0 || !cache.best.is_none() {
-            return self.after_going_back(patterns, cache, at);
+            return self.find_state_again(patterns, cache, at);
         }
         if let Some(idle) = self.stay_idle(patterns, at) {
             return idle;

@@ -87,9 +87,9 @@ impl LazyDfa {
         self.settle(cache.best.is_none(), before, hit)
     }
 
-    /// The same position, in the state that is known there, if the search went back from here and
-    /// has come here again by ordinary turns.
-    pub(super) fn after_going_back<P: Patterns>(
+    /// The same position, in its state, if the last scan was stuck here. The search has come here
+    /// by ordinary turns, which it took without a look at their states.
+    pub(super) fn find_state_again<P: Patterns>(
         &mut self,
         patterns: &P,
         cache: &Cache<Origin>,
@@ -106,7 +106,7 @@ impl LazyDfa {
             cache.now }
         ensures here { result.here ≡ at.here }
     {
-        if !at.is_where_stuck() {
+        if !at.was_stuck() {
             return at;
         }
         let state = self.state_at(patterns, at, cache);

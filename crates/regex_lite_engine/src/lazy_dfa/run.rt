@@ -51,13 +51,13 @@ impl Progress {
         }
     }
 
-    /// Whether a scan has gone on from here: then it knew the turn.
-    pub(super) fn is_back(&self) -> bool {
+    /// Whether the last scan went on from here, so that the turn is remembered.
+    pub(super) fn was_scanned(&self) -> bool {
         self.here.at.saturating_add(1) < self.until
     }
 
-    /// Whether a scan was stuck here.
-    pub(super) fn is_where_stuck(&self) -> bool {
+    /// Whether the last scan was stuck here.
+    pub(super) fn was_stuck(&self) -> bool {
         self.here.at.saturating_add(1) == self.until
     }
 
