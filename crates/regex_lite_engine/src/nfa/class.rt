@@ -41,6 +41,8 @@ impl MappedClass {
     }
 
     /// Whether the set holds the character.
+    // Inlined, so that the loop of a search needn't save its registers for an ASCII one.
+    #[inline(always)]
     pub(crate) fn contains(&self, c: char) -> bool
         ensures { result ≡ in_ranges self.now c }
     {

@@ -86,6 +86,7 @@ fn is_read(c: char, after: Option<char>) -> bool
 }
 
 /// Whether a character of the set comes next.
+#[inline(always)]
 fn is_in_set(set: &MappedClass, after: Option<char>) -> bool
     ensures { result ≡ reads (in_ranges set.now) after }
 {
