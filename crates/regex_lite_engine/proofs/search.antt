@@ -2,6 +2,7 @@
 pub mod BlockLemmas
 pub mod CountLemmas
 pub mod FirstByteLemmas
+pub mod FirstStartLemmas
 pub mod ListSkipLemmas
 pub mod MarkLemmas
 pub mod OfferLemmas

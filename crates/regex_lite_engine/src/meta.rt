@@ -86,6 +86,9 @@ impl Graph {
         if pays_once(self, haystack.len() - start) {
             return self.search_shortest_remembering(alloc, haystack, start);
         }
+        if self.has_no_start(haystack, start) {
+            return Ok((None, Steps::none()));
+        }
         let mut cache = cache_for::<Unkept>(alloc, self.table(), 0)?;
         let mut pattern = OnePattern {
             graph: self,

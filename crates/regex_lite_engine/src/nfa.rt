@@ -1,6 +1,6 @@
 //! The graph of a pattern: numbered places with ordered arrows.
 ghost use Rattle.std.specs.Prelude.{◌≡◌, ◌+◌, ◌^◌, ◌<◌, length, slice_get};
-ghost use Rattle.std.specs.Prelude.{sum_by, Some, IfOk, IfErr};
+ghost use Rattle.std.specs.Prelude.{sum_by, Some, IfOk, IfErr, IsTrue};
 ghost use Rattle.regex_lite_syntax.specs.Errors.{kind_of};
 ghost use Rattle.regex_lite_syntax.specs.Tree.Regular.{IsRegular};
 ghost use Rattle.regex_lite_syntax.specs.Tree.Views.{tree_of};
@@ -8,7 +8,7 @@ ghost use Rattle.regex_lite_engine.specs.Graph.Renumbered.{arrows_of, IsGraphOf,
 ghost use Rattle.regex_lite_engine.specs.Graph.Size.{Fits, IsDueToTree};
 ghost use Rattle.regex_lite_engine.specs.Graph.Places.{kept_back_of, kept_back_with, reading_of};
 ghost use Rattle.regex_lite_engine.specs.Graph.Stored.{LeadsBelow, place_of, table_of};
-ghost use Rattle.regex_lite_engine.specs.Search.Starts.{AreHeadsOf};
+ghost use Rattle.regex_lite_engine.specs.Search.Starts.{AreHeadsOf, NoneBeginsAtEnd};
 
 pub(crate) mod class;
 pub(crate) mod groups;
@@ -40,12 +40,14 @@ pub struct Graph {
     groups: Groups,
     /// Where a match can begin.
     filter: Filter,
+    /// Whether each match reads a character.
+    reads: bool,
 }
 
 impl Model for Graph {
-    ghost use Rattle.std.specs.Prelude.{◌<◌, length};
+    ghost use Rattle.std.specs.Prelude.{◌<◌, IsTrue, length};
     ghost use Rattle.regex_lite_engine.specs.Graph.Stored.{StoredGraph, places_of};
-    ghost use Rattle.regex_lite_engine.specs.Search.Starts.{AreHeadsOf};
+    ghost use Rattle.regex_lite_engine.specs.Search.Starts.{AreHeadsOf, NoneBeginsAtEnd};
 
     ghost Value = { StoredGraph };
 
@@ -58,7 +60,8 @@ impl Model for Graph {
     } };
 
     ghost invariant = { λ graph. (graph.start < length graph.table.places)
-        × AreHeadsOf (places_of graph.table) graph.start graph.filter };
+        × AreHeadsOf (places_of graph.table) graph.start graph.filter
+        × (IsTrue graph.reads → NoneBeginsAtEnd (places_of graph.table) graph.start) };
 }
 
 impl Graph {
@@ -93,6 +96,7 @@ impl Graph {
             start,
             groups,
             filter,
+            reads: !counts.properties.nullable,
         })
     }
 
@@ -132,6 +136,13 @@ impl Graph {
         ensures inside { self.now.start < length self.now.places }
     {
         &self.filter
+    }
+
+    /// Whether each match reads a character. Then none begins at the haystack's end.
+    pub(crate) fn reads(&self) -> bool
+        ensures { IsTrue result → NoneBeginsAtEnd (table_of self.now) self.now.start }
+    {
+        self.reads
     }
 
     /// How many places there are.

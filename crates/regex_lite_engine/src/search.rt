@@ -1,6 +1,7 @@
 //! What all searches share: a position with the characters beside it, what is searched for, the
 //! positions that are passed over, and the outcome.
 pub(crate) mod all_of_list;
+mod first_start;
 pub(crate) mod here;
 pub(crate) mod list_patterns;
 mod list_skip;

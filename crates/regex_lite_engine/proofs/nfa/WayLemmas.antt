@@ -1,5 +1,6 @@
 -- Where the tree of a graph does not match, no arrows of the graph lead to a complete match.
 use Rattle.regex_lite_engine.proofs.Common.{◌≡◌, ℕ, suc, ◌<◌, List, length, IfSome, slice_get, Some}
+use Rattle.regex_lite_engine.proofs.Common.{false, nullable}
 use Rattle.regex_lite_engine.proofs.Common.{None, Option, MatchOption, sym, ◌∙◌, subst, inl, inr}
 use Rattle.regex_lite_engine.proofs.Common.{arith, cases_eq, slice_get_within, Text, Tree, Matches}
 use Rattle.regex_lite_engine.proofs.Common.{IsRegular, Address, IsRenumbered, IsNumberOf}
@@ -9,7 +10,7 @@ use Rattle.regex_lite_engine.proofs.Common.{numbered_step, IsEntry, IsDeadAt, Ar
 use Rattle.regex_lite_engine.proofs.Common.{ListHeads, Starts, pattern_table, pattern_layout}
 use Rattle.regex_lite_engine.specs.Graph.Places.{Place}
 use Rattle.regex_lite_engine.specs.Graph.SideBySide.{AreRegularPatterns}
-use Rattle.regex_lite_engine.specs.Search.Starts.{AreHeadsOf}
+use Rattle.regex_lite_engine.specs.Search.Starts.{AreHeadsOf, NoneBeginsAtEnd}
 use Rattle.regex_lite_engine.specs.Prefilter.Heads.{AreSecondOfTree}
 use Rattle.regex_lite_engine.specs.Prefilter.ListHeads.{AreHeadsOfTrees}
 use Rattle.regex_lite_engine.proofs.prefilter.list_heads.IndexLemmas.{walkable}
@@ -20,6 +21,7 @@ use Rattle.regex_lite_engine.proofs.laws.several.PartLemmas.{part_of_list, entry
 use Rattle.regex_lite_engine.proofs.nfa.write.RenumberingLemmas.{whole_names, renumbered}
 use Rattle.regex_lite_engine.proofs.nfa.write.RenumberingLemmas.{starts as starts_there}
 use Rattle.regex_lite_engine.proofs.laws.LoopLemmas.{without_loops}
+use Rattle.regex_lite_engine.proofs.laws.list.ReadingLemmas.{reads}
 use Rattle.regex_lite_engine.proofs.laws.PatternWayLemmas.{walk_match, one_or_two_pairs}
 use Rattle.regex_lite_engine.proofs.laws.search.NumberedWayLemmas.{IsPart, IsPartNumber, whole_part}
 use Rattle.regex_lite_engine.proofs.laws.search.NumberedWayLemmas.{whole_number, in_addresses}
@@ -61,6 +63,23 @@ written_heads tree regular table start table_is start_is heads of_tree haystack 
     none : NeverBegins heads haystack i → (j : ℕ) → Matches haystack tree i j → ⊥
     none (inl off) j m = off (of_tree.first haystack i j m)
     none (inr off) j m = by_second heads.second of_tree.second off j m
+
+-- where each match reads a character, none begins at the end
+pub none_at_end : (tree : Tree) → IsRegular tree → (table : List (Place ℕ)) (start : ℕ)
+    → table ≡ pattern_table tree 0 → start ≡ (pattern_layout tree 0).1 → nullable tree ≡ false
+    → NoneBeginsAtEnd table start
+none_at_end tree regular table start table_is start_is reading haystack =
+    let name = whole_names tree regular in
+    let written = subst (λ t. IsRenumbered (written_out tree) name t) (sym table_is)
+    (renumbered tree regular) in
+    let first = subst (λ s. IsNumberOf name table start_address s) (sym start_is)
+    (subst (λ t. IsNumberOf name t start_address (pattern_layout tree 0).1) (sym table_is)
+    (starts_there tree regular)) in
+    dead_without_match tree haystack table start name (λ q. q < length table)
+    (whole_part (written_out tree) name table written)
+    (whole_number name table start_address start first) regular (length haystack)
+    (λ j m. let read = reads haystack tree (length haystack) j reading m in
+    absurd (omega (arith, read.0, read.1)))
 
 -- what the index of several trees says holds for their places in a table
 pub listed_heads : (trees : List Tree) → AreRegularPatterns trees → (name : ℕ → Address)

@@ -60,6 +60,16 @@ abbrev pub AreHeadsOf : List (Place ℕ) → (start : ℕ) → Heads → Type 0
 AreHeadsOf table start heads =
     (haystack : Text) (i : ℕ) → NeverBegins heads haystack i → IsDeadAt table haystack start i
 
+-- no way from the start leads to a complete match at the haystack's end
+abbrev pub NoneBeginsAtEnd : List (Place ℕ) → (start : ℕ) → Type 0
+NoneBeginsAtEnd table start =
+    (haystack : Text) → IsDeadAt table haystack start (length haystack)
+
+-- no match of the pattern that is entered at place s can start at the position or later
+abbrev pub AreDeadFrom : List (Place ℕ) → Text → (s p : ℕ) → Type 0
+AreDeadFrom table haystack s p =
+    (i : ℕ) → p ≤ i → i ≤ length haystack → IsDeadAt table haystack s i
+
 -- `here` is at position p or a later one, and each position between is one of these
 pub record PassesTo (Passed : ℕ → Type 0) (haystack : Text) (p : ℕ) (here : Here) : Type 0 where
   pub q : ℕ

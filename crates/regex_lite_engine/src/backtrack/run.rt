@@ -1,5 +1,5 @@
 //! A whole search, start by start.
-ghost use Rattle.std.specs.Prelude.{◌≡◌, ◌<◌, IfSome, IsCharBoundary, chars, length};
+ghost use Rattle.std.specs.Prelude.{◌≡◌, ◌<◌, IfSome, chars, length};
 ghost use Rattle.regex_lite_engine.specs.Backtrack.Searching.{IsFresh};
 ghost use Rattle.regex_lite_engine.specs.Graph.Renumbered.{arrows_of};
 ghost use Rattle.regex_lite_engine.specs.Graph.Stored.{table_of};
@@ -7,38 +7,39 @@ ghost use Rattle.regex_lite_engine.specs.Search.Bounds.{IsBounded, StaysCounted,
 ghost use Rattle.regex_lite_engine.specs.Search.Offsets.{position_at};
 ghost use Rattle.regex_lite_engine.specs.Search.NumberedOutcomes.{IsNumberedOutcome, best_at};
 ghost use Rattle.regex_lite_engine.specs.Search.Counting.{CanCount};
+ghost use Rattle.regex_lite_engine.specs.Search.Standing.{IsHere};
 
 use crate::Graph;
 use crate::backtrack::walk::Walk;
 use crate::search::here::Here;
-use crate::search::skip::pass_over;
 
 /// Goes from start to start, up to the first from which a way leads to a match. Returns where the
 /// match starts and where it ends; its slots are those of the walk.
-pub fn run(walk: &mut Walk, graph: &Graph, haystack: &str, start: usize) -> Option<(usize, usize)>
-    requires boundary { IsCharBoundary haystack.now start }
-    requires fresh { IsFresh (table_of graph.now) haystack.now start walk.old }
+pub fn run(walk: &mut Walk, graph: &Graph, haystack: &str, first: Here) -> Option<(usize, usize)>
+    requires here { IsHere (chars haystack.now) (position_at haystack.now first.at) first }
+    requires fresh { IsFresh (table_of graph.now) haystack.now first.at walk.old }
     requires counts { CanCount (table_of graph.now) 1
-        (characters_left (chars haystack.now) (position_at haystack.now start)) }
+        (characters_left (chars haystack.now) (position_at haystack.now first.at)) }
     ensures found { IsNumberedOutcome (table_of graph.now) (chars haystack.now) graph.now.start
-        (position_at haystack.now start) (best_at result walk.new.stack.row) }
+        (position_at haystack.now first.at) (best_at result walk.new.stack.row) }
     ensures bounded { IsBounded (length (table_of graph.now)) (arrows_of (table_of graph.now))
-        (chars haystack.now) (position_at haystack.now start) walk.new.steps.tried
+        (chars haystack.now) (position_at haystack.now first.at) walk.new.steps.tried
         walk.new.steps.entered walk.new.steps.looked }
     ensures counts { StaysCounted walk.old.steps walk.new.steps }
     ensures entry { IfSome result (λ _. 0 < walk.new.steps.entered) }
     ensures width { length walk.new.stack.row ≡ length walk.old.stack.row }
     ensures room { walk.new.stack.room ≡ walk.old.stack.room }
 {
-    let mut here = Here::at(haystack, start);
+    // Its place is one of the graph.
+    let _start = graph.start();
+    let mut here = first;
     'starts: loop {
-        here = pass_over(graph.filter(), haystack, here);
         if let Some(end) = walk.explore(graph, haystack, here.at) {
             return Some((here.at, end));
         }
-        if here.after.is_none() {
+        let Some(next) = graph.start_after(haystack, here) else {
             return None;
-        }
-        here = here.next(haystack);
+        };
+        here = next;
     }
 }

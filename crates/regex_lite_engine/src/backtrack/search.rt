@@ -36,8 +36,11 @@ impl Graph {
             → HasCost tree haystack.now start told.1) }
         ensures entered { IfOk result (λ told. IfSome told.0 (λ _. 0 < told.1.entered)) }
     {
-        let mut walk = self.walk_for(alloc, haystack, start, slots)?;
-        let found = run(&mut walk, self, haystack, start);
+        let Some(first) = self.first_start(haystack, start) else {
+            return Ok((None, Steps::none()));
+        };
+        let mut walk = self.walk_for(alloc, haystack, first.at, slots)?;
+        let found = run(&mut walk, self, haystack, first);
         let Walk { stack, steps, .. } = walk;
         Ok((outcome_of(found, stack), steps))
     }

@@ -13,6 +13,7 @@ use crate::backtrack::run::run;
 use crate::backtrack::stack::Stack;
 use crate::backtrack::visited::Visited;
 use crate::backtrack::walk::Walk;
+use crate::search::here::Here;
 use crate::steps::Steps;
 use std::alloc::{AllocError, Global};
 
@@ -87,7 +88,7 @@ impl ShortSearcher {
         self.walk.visited = Visited::few(graph.places(), start, haystack.len());
         self.walk.stack.clear();
         self.walk.steps = Steps::none();
-        run(&mut self.walk, graph, haystack, start)
+        run(&mut self.walk, graph, haystack, Here::at(haystack, start))
     }
 
     /// What the slots hold after a match was found.

@@ -1,13 +1,14 @@
 use Rattle.regex_lite_engine.proofs.Common.{◌≡◌, ℕ, ◌-◌, length, chars, table_of, StaysCounted}
-use Rattle.regex_lite_engine.proofs.Common.{IsHere}
+use Rattle.regex_lite_engine.proofs.Common.{IsDeadAt, PassesTo}
 use Rattle.regex_lite_engine.specs.Backtrack.Searching.{IsUnderWay}
 use Rattle.regex_lite_engine.proofs.backtrack.run.run.Given as goal
 
 abbrev pub invariant-starts : goal.invariant-starts
 invariant-starts l = record {
   p : ℕ;
-  is : IsHere (chars l.haystack) p l.here;
-  under_way : IsUnderWay (table_of l.graph) l.haystack l.start l.graph.start p l.walk;
+  passes : PassesTo (IsDeadAt (table_of l.graph) (chars l.haystack) l.graph.start)
+      (chars l.haystack) p l.here;
+  under_way : IsUnderWay (table_of l.graph) l.haystack l.fn.first.at l.graph.start p l.walk;
   width : length l.walk.stack.row ≡ length l.fn.walk.stack.row;
   room : l.walk.stack.room ≡ l.fn.walk.stack.room;
   counts : StaysCounted l.fn.walk.steps l.walk.steps;

@@ -2,13 +2,14 @@ use Rattle.regex_lite_engine.proofs.Common.{◌≡◌, ℕ, List, length, sym, a
 use Rattle.regex_lite_engine.proofs.Common.{tree_of, Address, arrows_of, IsRenumbered, IsNumberOf}
 use Rattle.regex_lite_engine.proofs.Common.{StoredTable, places_of, start_address, written_out}
 use Rattle.regex_lite_engine.proofs.Common.{pattern_table, pattern_layout}
+use Rattle.std.proofs.lemmas.Bool.{not-true}
 use Rattle.regex_lite_engine.specs.Graph.Places.{Place}
 use Rattle.regex_lite_engine.proofs.nfa.write.RenumberingLemmas.{whole_names, renumbered}
 use Rattle.regex_lite_engine.proofs.nfa.write.RenumberingLemmas.{starts, closed, start_inside}
 use Rattle.regex_lite_engine.proofs.count.ArrowCountLemmas.{arrows_whole}
 use Rattle.regex_lite_engine.proofs.count.ReadingCountLemmas.{reading_whole, reading_few}
 use Rattle.regex_lite_engine.proofs.count.KeptBackLemmas.{kept_back_whole}
-use Rattle.regex_lite_engine.proofs.nfa.WayLemmas.{written_heads}
+use Rattle.regex_lite_engine.proofs.nfa.WayLemmas.{written_heads, none_at_end}
 use Rattle.regex_lite_engine.proofs.ArrowBoundLemmas.{arrows_few}
 use Rattle.regex_lite_engine.proofs.nfa.Graph.new.Goals as goal
 
@@ -67,4 +68,7 @@ invariant_of-result c =
           written.0,
       written_heads tree c.requires (places_of c.new-table.result) c.in_ok-places.start table_is
           written.0 c.of-filter.result c.of-filter.ensures,
+      λ reads. none_at_end tree c.requires (places_of c.new-table.result) c.in_ok-places.start
+          table_is written.0
+          (sym c.of-counts.ensures.properties.nullable ∙ not-true _ reads),
     )

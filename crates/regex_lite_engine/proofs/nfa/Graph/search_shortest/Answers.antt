@@ -1,9 +1,10 @@
 use Rattle.regex_lite_engine.proofs.Common.{◌^◌, ◌<◌, length, chars, sym, ap, subst, arith, rules}
 use Rattle.regex_lite_engine.proofs.Common.{places_of, table_of, best_of, IsCountable, position_at}
-use Rattle.regex_lite_engine.proofs.Common.{IsEndOutcome}
+use Rattle.regex_lite_engine.proofs.Common.{IsEndOutcome, None, arrows_of}
 use Rattle.regex_lite_engine.proofs.Common.{⊎_elim}
 use Rattle.regex_lite_engine.specs.Pikevm.Searching.{IsFresh}
 use Rattle.regex_lite_engine.proofs.pikevm.ShortestLemmas.{one_end}
+use Rattle.regex_lite_engine.proofs.search.FirstStartLemmas.{none_from, none_tried}
 use Rattle.regex_lite_engine.proofs.search.OutcomeLemmas.{can_count, cost_told, end_told}
 use Rattle.std.proofs.lemmas.Grind.{common_steps}
 use Rattle.regex_lite_engine.proofs.nfa.Graph.search_shortest.Goals as goal
@@ -32,6 +33,32 @@ returns-clause-cost c = λ tree is.
     let steps = c.run_shortest.new.cache.walk.steps in
     cost_told tree c.args.self.now is c.args.haystack.now c.args.start
     (omega (arith, over)) steps.tried steps.entered steps.looked c.run_shortest.ensures.bounded
+
+pub has_no_start-requires : goal.has_no_start-requires
+has_no_start-requires c =
+    ⊎_elim (λ above. absurd (omega (arith, above, c.if-start-haystack.false))) (λ edge. edge)
+    c.requires
+
+pub returns-then-has_no_start-clause-found : goal.returns-then-has_no_start-clause-found
+returns-then-has_no_start-clause-found c = λ tree regular is. (
+    let over = c.if-start-haystack.false in
+    end_told tree regular c.args.self.now is c.args.haystack.now c.args.start (omega (arith, over))
+    None
+    (none_from (table_of c.args.self.now) (chars c.args.haystack.now) c.args.self.now.start
+    (position_at c.args.haystack.now c.args.start)
+    (c.has_no_start.ensures c.if-has_no_start.true)))
+
+pub returns-then-has_no_start-clause-cost : goal.returns-then-has_no_start-clause-cost
+returns-then-has_no_start-clause-cost c = λ tree is.
+    let over = c.if-start-haystack.false in
+    let graph = c.args.self.now in
+    let steps = c.none-then-has_no_start.result in
+    cost_told tree graph is c.args.haystack.now c.args.start (omega (arith, over)) steps.tried
+    steps.entered steps.looked
+    (none_tried (length (table_of graph)) (arrows_of (table_of graph)) (chars c.args.haystack.now)
+    (position_at c.args.haystack.now c.args.start) steps.tried steps.entered steps.looked
+    c.none-then-has_no_start.ensures.tried c.none-then-has_no_start.ensures.entered
+    c.none-then-has_no_start.ensures.looked)
 
 pub run_shortest-requires-clause-fresh : goal.run_shortest-requires-clause-fresh
 run_shortest-requires-clause-fresh c =

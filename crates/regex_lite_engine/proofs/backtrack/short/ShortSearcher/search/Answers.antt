@@ -3,6 +3,8 @@ use Rattle.regex_lite_engine.proofs.Common.{replicate, None, sum_by, IsCharBound
 use Rattle.regex_lite_engine.proofs.Common.{subst, arith, rules, mul-le-mul_left, length-map}
 use Rattle.regex_lite_engine.proofs.Common.{length-replicate, kept_back_with, place_of, table_of}
 use Rattle.regex_lite_engine.proofs.Common.{position_at, IsBlank}
+use Rattle.regex_lite_engine.specs.declared.backtrack.walk.Walk.{Walk}
+use Rattle.regex_lite_engine.specs.Backtrack.Searching.{IsFresh}
 use Rattle.regex_lite_engine.proofs.search.MarkLemmas.{blank_row}
 use Rattle.regex_lite_engine.proofs.search.OutcomeLemmas.{can_count}
 use Rattle.std.proofs.lemmas.Grind.{common_steps}
@@ -12,7 +14,7 @@ pub run-requires-clause-counts : goal.run-requires-clause-counts
 run-requires-clause-counts c =
     let haystack = c.args.haystack.now in
     let short : length haystack < 2 ^ 63 = search rules in
-    can_count (table_of c.args.graph.now) haystack (position_at haystack c.args.start)
+    can_count (table_of c.args.graph.now) haystack (position_at haystack c.at.result.at)
     c.utf8.haystack short c.requires.searches.countable 1 (omega arith)
 
 pub run-requires-clause-fresh : goal.run-requires-clause-fresh
@@ -33,7 +35,11 @@ run-requires-clause-fresh c =
     let kept : ℕ = sum_by (kept_back_with (length old.row)) (table_of a.graph.now) in
     let fits : kept * offsets ≤ kept * a.self.now.offsets
     = mul-le-mul_left kept (omega (arith, c.requires.short)) in
-    record {
+    let walk : Walk
+    = record { visited = c.few.result; stack = c.clear.new.self; steps = c.none-self.result } in
+    subst (λ (z : ℕ). IsFresh (table_of c.args.graph.now) a.haystack.now z walk)
+    (sym c.at.ensures.at)
+    (record {
       all = record {
         places = few.places ∙ places;
         boundary = subst (IsCharBoundary a.haystack.now) (sym few.first) c.requires.boundary;
@@ -52,7 +58,7 @@ run-requires-clause-fresh c =
       tried = c.none-self.ensures.tried;
       entered = c.none-self.ensures.entered;
       looked = c.none-self.ensures.looked;
-    }
+    })
 
 pub returns-clause-searches : goal.returns-clause-searches
 returns-clause-searches c =

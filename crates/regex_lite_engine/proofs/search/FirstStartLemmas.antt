@@ -1,0 +1,81 @@
+-- A search that begins at the first position at which a match may begin.
+use Rattle.regex_lite_engine.proofs.Common.{◌≡◌, ℕ, ◌+◌, ◌*◌, ◌<◌, ◌≤◌, ◌⊎◌, List, None}
+use Rattle.regex_lite_engine.proofs.Common.{IsUtf8, sym, subst, inl, inr, arith, cases_lt}
+use Rattle.regex_lite_engine.proofs.Common.{mul-le-mul_left}
+use Rattle.regex_lite_engine.proofs.Common.{chars, IsCharBoundary, Text, characters_left, IsDeadAt}
+use Rattle.regex_lite_engine.proofs.Common.{position_at, IsHere, PassesTo, Here}
+use Rattle.regex_lite_engine.specs.Graph.Places.{Place}
+use Rattle.regex_lite_engine.specs.LazyDfa.Remembering.{NoneStartsBefore}
+use Rattle.regex_lite_engine.specs.Search.Bounds.{IsBounded}
+use Rattle.regex_lite_engine.specs.Search.NumberedAnswer.{IsNumberedAnswer}
+use Rattle.regex_lite_engine.specs.Search.Starts.{AreDeadFrom}
+use Rattle.regex_lite_engine.proofs.OffsetLemmas.{boundary_at}
+use Rattle.regex_lite_engine.proofs.PositionLemmas.{position_of}
+
+-- where no way leads to a match, there is none
+pub none_from : (table : List (Place ℕ)) (haystack : Text) (start s : ℕ)
+    → AreDeadFrom table haystack start s → IsNumberedAnswer table haystack start s None
+none_from table haystack start s dead = λ i q j way is.
+    dead i is.from is.inside way (q, j) is.leads.ends is.leads.is_way.0
+
+-- a search that begins nowhere tries nothing
+pub none_tried : (places arrows : ℕ) (haystack : Text) (s tried entered looked : ℕ) → tried ≡ 0
+    → entered ≡ 0 → looked ≡ 0 → IsBounded places arrows haystack s tried entered looked
+none_tried places arrows haystack s tried entered looked no_try no_entry no_look = record {
+  few_tried = omega (arith, no_try);
+  entered_tried = omega (arith, no_entry);
+  few_entered = omega (arith, no_entry);
+  few_looked = omega (arith, no_look);
+  none_beyond = λ beyond. no_try;
+}
+
+-- what is allowed from a later position on is allowed from here
+pub bounded_from : (places arrows : ℕ) (haystack : Text) (s m tried entered looked : ℕ) → s ≤ m
+    → IsBounded places arrows haystack m tried entered looked
+    → IsBounded places arrows haystack s tried entered looked
+bounded_from places arrows haystack s m tried entered looked later bounded =
+    let more : characters_left haystack m + 1 ≤ characters_left haystack s + 1
+    = omega (arith, later) in
+    let more_tries : (arrows + 1) * (characters_left haystack m + 1)
+    ≤ (arrows + 1) * (characters_left haystack s + 1)
+    = mul-le-mul_left (arrows + 1) more in
+    let more_entries : places * (characters_left haystack m + 1)
+    ≤ places * (characters_left haystack s + 1)
+    = mul-le-mul_left places more in
+    let few_tried = bounded.few_tried in
+    let few_entered = bounded.few_entered in
+    record {
+      few_tried = omega (arith, few_tried, more_tries);
+      entered_tried = bounded.entered_tried;
+      few_entered = omega (arith, few_entered, more_entries);
+      few_looked = bounded.few_looked;
+      none_beyond = λ beyond. bounded.none_beyond (omega (arith, later, beyond));
+    }
+
+module _ (table : List (Place ℕ)) (bytes : List ℕ) (utf8 : IsUtf8 bytes) (start s : ℕ)
+    (here : Here) (w : PassesTo (IsDeadAt table (chars bytes) start) (chars bytes) s here) where
+  position : position_at bytes here.at ≡ w.q
+  position = position_of bytes utf8 w.q here.at (w.is.inside, w.is.bytes)
+
+  pub first_boundary : IsCharBoundary bytes here.at
+  first_boundary = boundary_at bytes w.q here.at utf8 (w.is.inside, w.is.bytes)
+
+  pub first_here : IsHere (chars bytes) (position_at bytes here.at) here
+  first_here = subst (λ z. IsHere (chars bytes) z here) (sym position) w.is
+
+  -- no match starts before the first position
+  pub none_before_first : NoneStartsBefore table (chars bytes) start s (position_at bytes here.at)
+  none_before_first =
+      let same = position in
+      let later = w.later in
+      record {
+        from = omega (arith, same, later);
+        least = λ i q j way is. (
+            let by_order : (i < w.q) ⊎ (w.q ≤ i) → position_at bytes here.at ≤ i = λ order.
+            elim order [
+              | inl before ↦
+                  absurd (w.passed i is.from before way (q, j) is.leads.ends is.leads.is_way.0)
+              | inr past ↦ omega (arith, same, past)
+            ] in
+            by_order (cases_lt i w.q));
+      }

@@ -1,0 +1,71 @@
+//! The positions at which a search by itself begins.
+ghost use Rattle.std.specs.Prelude.{◌≡◌, ◌+◌, ℕ, IfSome, IsCharBoundary, IsTrue, None};
+ghost use Rattle.std.specs.Prelude.{chars};
+ghost use Rattle.regex_lite_engine.specs.Graph.Stored.{table_of};
+ghost use Rattle.regex_lite_engine.specs.Search.Offsets.{position_at};
+ghost use Rattle.regex_lite_engine.specs.Search.Standing.{IsHere};
+ghost use Rattle.regex_lite_engine.specs.Search.Starts.{AreDeadFrom, IsDeadAt, PassesTo};
+
+use crate::Graph;
+use crate::search::here::Here;
+use crate::search::skip::pass_over;
+
+impl Graph {
+    /// The first position from this offset on at which a match may begin. None if there is none. A
+    /// search from the haystack's end is begun there, since that is its only start.
+    pub(crate) fn first_start(&self, haystack: &str, start: usize) -> Option<Here>
+        requires { IsCharBoundary haystack.now start }
+        ensures first { IfSome result (PassesTo
+            (IsDeadAt (table_of self.now) (chars haystack.now) self.now.start)
+            (chars haystack.now) (position_at haystack.now start)) }
+        ensures none { result ≡ None → AreDeadFrom (table_of self.now) (chars haystack.now)
+            self.now.start (position_at haystack.now start) }
+    {
+        let here = Here::at(haystack, start);
+        if here.after.is_none() {
+            return Some(here);
+        }
+        self.start_from(haystack, here)
+    }
+
+    /// Whether it is known that no match begins at this offset or later. Only where each match
+    /// begins at the haystack's start is this looked for: elsewhere most searches have to begin.
+    pub(crate) fn has_no_start(&self, haystack: &str, start: usize) -> bool
+        requires { IsCharBoundary haystack.now start }
+        ensures { IsTrue result → AreDeadFrom (table_of self.now) (chars haystack.now)
+            self.now.start (position_at haystack.now start) }
+    {
+        !self.filter().heads().first.any() && self.first_start(haystack, start).is_none()
+    }
+
+    /// The first such position after this one.
+    pub(crate) fn start_after(&self, haystack: &str, here: Here) -> Option<Here>
+        requires { (p : ℕ) × IsHere (chars haystack.now) p here }
+        ensures first { (p : ℕ) → IsHere (chars haystack.now) p here → IfSome result (PassesTo
+            (IsDeadAt (table_of self.now) (chars haystack.now) self.now.start)
+            (chars haystack.now) (p + 1)) }
+        ensures none { (p : ℕ) → IsHere (chars haystack.now) p here → result ≡ None
+            → AreDeadFrom (table_of self.now) (chars haystack.now) self.now.start (p + 1) }
+    {
+        if here.after.is_none() {
+            return None;
+        }
+        self.start_from(haystack, here.next(haystack))
+    }
+
+    /// The first such position from here on.
+    fn start_from(&self, haystack: &str, here: Here) -> Option<Here>
+        requires { (p : ℕ) × IsHere (chars haystack.now) p here }
+        ensures first { (p : ℕ) → IsHere (chars haystack.now) p here → IfSome result (PassesTo
+            (IsDeadAt (table_of self.now) (chars haystack.now) self.now.start)
+            (chars haystack.now) p) }
+        ensures none { (p : ℕ) → IsHere (chars haystack.now) p here → result ≡ None
+            → AreDeadFrom (table_of self.now) (chars haystack.now) self.now.start p }
+    {
+        let first = pass_over(self.filter(), haystack, here);
+        if first.after.is_none() && self.reads() {
+            return None;
+        }
+        Some(first)
+    }
+}
