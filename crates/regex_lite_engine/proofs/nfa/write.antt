@@ -5,6 +5,7 @@ pub mod NumberedPlaceLemmas
 pub mod NumberedRowLemmas
 pub mod NumberedTreeLemmas
 pub mod NumberingLemmas
+pub mod AddedLemmas
 pub mod OnePlaceLemmas
 pub mod RenumberingLemmas
 pub mod RoomLemmas

@@ -38,6 +38,23 @@ together_set cells k x capacity low ready rows room depth len next_len fit =
       rows_fit = fit.rows_fit;
     }
 
+-- and where there are other rows, as many as before
+pub together_rows : {S : Type 0} (cells : List (Cell S)) (capacity low : ℕ) (ready : Bool)
+    (rows rows' : List Row) (room depth len next_len : ℕ) → length rows' ≡ length rows
+    → HoldTogether cells capacity low ready rows room depth len next_len
+    → HoldTogether cells capacity low ready rows' room depth len next_len
+together_rows cells capacity low ready rows rows' room depth len next_len same fit = record {
+  all_ready = fit.all_ready;
+  cells_fit = fit.cells_fit;
+  frames_fit = fit.frames_fit;
+  threads_fit = fit.threads_fit;
+  next_fit = fit.next_fit;
+  threads_few = fit.threads_few;
+  next_few = fit.next_few;
+  room_few = fit.room_few;
+  rows_fit = same ∙ fit.rows_fit;
+}
+
 -- what does not depend on rounds
 alike : {S X : Type 0} (f : Cell S → X) → ((x : Cell S) → f (without_round x) ≡ f x)
     → (cells cells' : List (Cell S))

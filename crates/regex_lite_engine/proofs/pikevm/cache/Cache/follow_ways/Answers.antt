@@ -1,5 +1,5 @@
 use Rattle.regex_lite_engine.proofs.Common.{◌≡◌, ℕ, suc, ◌+◌, ◌<◌, ◌≤◌, true, List, [], ◌∷◌, ◌++◌}
-use Rattle.regex_lite_engine.proofs.Common.{length, drop, replicate, if◌then◌else◌, Some, None, sym}
+use Rattle.regex_lite_engine.proofs.Common.{length, drop, replicate, if◌then◌else◌, Some, None, sym, refl}
 use Rattle.regex_lite_engine.proofs.Common.{ap, ◌∙◌, subst, arith, drop-cons, retold, all_retold}
 use Rattle.regex_lite_engine.proofs.Common.{state_retold, best_again, Thread, thread_at, BestState}
 use Rattle.regex_lite_engine.proofs.Common.{KeepsPosition, best_of, Between, StepsTo, begun}
@@ -9,7 +9,7 @@ use Rattle.std.proofs.Math.ListN.{drop_of_length-le}
 use Rattle.regex_lite_engine.specs.Pikevm.Machine.{State}
 use Rattle.regex_lite_engine.specs.Pikevm.Room.{explores}
 use Rattle.regex_lite_engine.specs.Pikevm.Searching.{ways_at}
-use Rattle.regex_lite_engine.proofs.search.CountLemmas.{still_counted}
+use Rattle.regex_lite_engine.proofs.search.CountLemmas.{counted_at_first, still_counted}
 use Rattle.regex_lite_engine.proofs.pikevm.StateLemmas.{takes_up}
 use Rattle.regex_lite_engine.proofs.pikevm.StepLemmas.{goes_up, room_pushed, stepped}
 use Rattle.regex_lite_engine.proofs.pikevm.RoundLemmas.{begun_below, start_begun, start_taken}
@@ -81,6 +81,20 @@ pub explore-requires-clause-ready : goal.explore-requires-clause-ready
 explore-requires-clause-ready g c = λ all.
     ap (λ (m : State). m.ready) c.take_up-place.ensures.memory ∙ c.ways.invariant.ready
     ∙ c.requires.ready all
+
+pub ways-init : goal.ways-init
+ways-init g c = record {
+  room = c.requires.room;
+  steps = λ at is u. u;
+  again = λ tell there b alike at is u. u;
+  best = refl;
+  kept = record { round = refl; threads = refl; room = refl; row = refl };
+  spent = omega arith;
+  spent_entries = omega arith;
+  empty = c.requires.placed.stack_empty;
+  counts = counted_at_first c.args.self.now.walk.steps;
+  ready = refl;
+}
 
 pub ways-preserved : goal.ways-preserved
 ways-preserved g c =

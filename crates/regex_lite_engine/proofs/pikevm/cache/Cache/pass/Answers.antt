@@ -1,5 +1,6 @@
-use Rattle.regex_lite_engine.proofs.Common.{◌+◌, ◌≤◌, length, chars, sym, subst, arith, row_of}
-use Rattle.regex_lite_engine.proofs.Common.{arrows_of, best_of}
+use Rattle.regex_lite_engine.proofs.Common.{ℕ, ◌+◌, ◌-◌, ◌*◌, ◌^◌, ◌<◌, ◌≤◌, length, chars, sym, ap}
+use Rattle.regex_lite_engine.proofs.Common.{subst, arith, row_of, mul-le-mul_left, arrows_of, best_of}
+use Rattle.regex_lite_engine.proofs.Common.{characters_left}
 use Rattle.regex_lite_engine.specs.Pikevm.Passing.{IsUnderWay}
 use Rattle.regex_lite_engine.specs.Pikevm.Passing.{GoesOnAt}
 use Rattle.regex_lite_engine.proofs.pikevm.PassLemmas.{bound_on}
@@ -91,3 +92,44 @@ turn-requires-clause-few_ways g c =
     let starts = c.come_to.ensures.few in
     let few = c.come_to.ensures.countable in
     omega (arith, threads, same, starts, few)
+
+-- what was counted up to a position of the haystack leaves room for that of one more
+one_more : (a m n left : ℕ) → n ≤ left → a ≤ m * n → m * (left + 1) < 2 ^ 127 → a + m < 2 ^ 127
+one_more a m n left le before all =
+    let most : m * n ≤ m * left = mul-le-mul_left m le in
+    omega (arith, most, before, all)
+
+pub turn-requires-clause-few_tries : goal.turn-requires-clause-few_tries
+turn-requires-clause-few_tries g c =
+    let a = c.args in
+    let w = a.self.now.walk in
+    let table = g.P.Patterns.table a.patterns.now in
+    let entries = g.P.Patterns.entries a.patterns.now in
+    let inside = c.requires.2.inside in
+    let left = characters_left (chars a.haystack.now) c.requires.0 in
+    let most = one_more (w.steps.tried + length w.memory.threads)
+    (arrows_of table + length entries) (c.requires.1 - c.requires.0) left (omega (arith, inside))
+    c.requires.4.tries c.requires.3.tries in
+    let arrows = ap arrows_of c.come_to.ensures.table in
+    let starts = c.come_to.ensures.few in
+    let same = ap length c.come_to.ensures.entries in
+    omega (arith, most, arrows, starts, same)
+
+pub turn-requires-clause-few_entries : goal.turn-requires-clause-few_entries
+turn-requires-clause-few_entries g c =
+    let a = c.args in
+    let table = g.P.Patterns.table a.patterns.now in
+    let inside = c.requires.2.inside in
+    let left = characters_left (chars a.haystack.now) c.requires.0 in
+    let most = one_more a.self.now.walk.steps.entered (length table)
+    (c.requires.1 - c.requires.0) left (omega (arith, inside)) c.requires.4.entries
+    c.requires.3.entries in
+    let places = ap length c.come_to.ensures.table in
+    omega (arith, most, places)
+
+pub turn-requires-clause-few_rounds : goal.turn-requires-clause-few_rounds
+turn-requires-clause-few_rounds g c =
+    let inside = c.requires.2.inside in
+    let rounds = c.requires.4.rounds in
+    let few = c.requires.3.rounds in
+    omega (arith, inside, rounds, few)

@@ -1,6 +1,7 @@
-use Rattle.regex_lite_engine.proofs.Common.{ℕ, ◌-◌, arith, length-append, length-map}
-use Rattle.regex_lite_engine.proofs.Common.{length-replicate, map, replicate}
+use Rattle.regex_lite_engine.proofs.Common.{◌≡◌, ℕ, ◌+◌, ◌-◌, ◌≤◌, length, arith, length-append}
+use Rattle.regex_lite_engine.proofs.Common.{length-map, length-replicate, map, replicate}
 use Rattle.regex_lite_engine.specs.Pikevm.Cells.{round_in}
+use Rattle.std.proofs.lemmas.Bool.{eqb-true}
 use Rattle.regex_lite_engine.proofs.pikevm.memory.ReadyLemmas.{none_entered}
 use Rattle.regex_lite_engine.proofs.pikevm.memory.Memory.blank.Goals as goal
 
@@ -23,3 +24,25 @@ returns-clause-rounds g c =
       c.in_ok-cells.ensures.few,
       c.len.ensures,
     )
+
+none_fit : (n : ℕ) → 0 ≤ n
+none_fit n = omega arith
+
+pub invariant_of-result : goal.invariant_of-result
+invariant_of-result g c =
+    let few = c.in_ok-cells.ensures.few in
+    let room = c.in_ok-cells.ensures.room in
+    let len = c.len.ensures in
+    let all : c.args.places - c.len.result + length c.in_ok-cells.cells.items ≡ c.args.places =
+    omega (arith, few, len) in
+    record {
+      all_ready = λ ready. eqb-true _ _ ready;
+      cells_fit = omega (arith, all, room);
+      frames_fit = none_fit _;
+      threads_fit = none_fit _;
+      next_fit = none_fit _;
+      threads_few = none_fit _;
+      next_few = none_fit _;
+      room_few = omega (arith, all, c.requires);
+      rows_fit = c.in_ok-rows.ensures.count;
+    }

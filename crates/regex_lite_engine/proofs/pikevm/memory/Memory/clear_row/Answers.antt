@@ -1,8 +1,9 @@
 use Rattle.regex_lite_engine.proofs.Common.{◌<◌, [], length, replicate, None, ap, ◌∙◌, arith}
-use Rattle.regex_lite_engine.proofs.Common.{get_or-set_same, nth_row, other, threads_on, Row}
+use Rattle.regex_lite_engine.proofs.Common.{get_or-set_same, length-set, nth_row, other, threads_on, Row}
 use Rattle.regex_lite_engine.specs.Pikevm.Machine.{State}
 use Rattle.regex_lite_engine.proofs.pikevm.memory.CellLemmas.{state_is}
 use Rattle.regex_lite_engine.proofs.pikevm.memory.ListLemmas.{first_row_alone}
+use Rattle.regex_lite_engine.proofs.pikevm.memory.ReadyLemmas.{together_rows}
 use Rattle.regex_lite_engine.proofs.pikevm.memory.Memory.clear_row.Goals as goal
 
 pub returns : goal.returns
@@ -24,3 +25,14 @@ returns g c =
     state_is _ _ (ap (λ (z : State). z.rounds) v) (ap (λ (z : State). z.now) v)
     (ap (λ (z : State). z.frames) v) row threads next (ap (λ (z : State). z.room) v)
     (ap (λ (z : State). z.ready) v)
+
+pub clear-requires : goal.clear-requires
+clear-requires g c = omega (arith, c.self.invariant.rows_fit)
+
+pub invariant_of-self : goal.invariant_of-self
+invariant_of-self g c =
+    let i = c.self.inside in
+    together_rows i.cells.items i.cells.cap i.low i.ready i.rows c.clear.new.self i.room i.depth
+    i.len i.next_len
+    (ap length c.clear.ensures ∙ length-set i.rows 0 (replicate (length (nth_row i.rows 0)) None))
+    c.self.invariant

@@ -1,7 +1,9 @@
-use Rattle.regex_lite_engine.proofs.Common.{◌<◌, length, set, ap, ◌∙◌, arith, nth_row, other}
+use Rattle.regex_lite_engine.proofs.Common.{◌<◌, length, set, ap, ◌∙◌, arith, length-set, nth_row}
+use Rattle.regex_lite_engine.proofs.Common.{other}
 use Rattle.regex_lite_engine.specs.Pikevm.Machine.{State}
 use Rattle.regex_lite_engine.proofs.pikevm.memory.CellLemmas.{state_is}
 use Rattle.regex_lite_engine.proofs.pikevm.memory.ListLemmas.{first_put, list_kept}
+use Rattle.regex_lite_engine.proofs.pikevm.memory.ReadyLemmas.{together_rows}
 use Rattle.regex_lite_engine.proofs.pikevm.memory.Memory.put.Goals as goal
 
 pub returns : goal.returns
@@ -25,3 +27,14 @@ returns g c =
 pub put-requires-clause-inside : goal.put-requires-clause-inside
 put-requires-clause-inside g c =
     omega (arith, c.requires, ap (λ (z : State). length z.row) c.self.view_is)
+
+pub put-requires-clause-some : goal.put-requires-clause-some
+put-requires-clause-some g c = omega (arith, c.self.invariant.rows_fit)
+
+pub invariant_of-self : goal.invariant_of-self
+invariant_of-self g c =
+    let i = c.self.inside in
+    together_rows i.cells.items i.cells.cap i.low i.ready i.rows c.put.new.self i.room i.depth
+    i.len i.next_len
+    (ap length c.put.ensures ∙ length-set i.rows 0 (set (nth_row i.rows 0) c.args.slot c.args.held))
+    c.self.invariant

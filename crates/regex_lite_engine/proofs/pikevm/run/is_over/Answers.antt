@@ -1,0 +1,14 @@
+use Rattle.regex_lite_engine.proofs.Common.{◌≡◌, ℕ, false, true, Option, is_some, Some, None, IsTrue}
+use Rattle.regex_lite_engine.proofs.Common.{sym, refl, ap, ◌∙◌, inl, inr}
+use Rattle.regex_lite_engine.proofs.pikevm.run.is_over.Goals as goal
+
+-- no character comes next
+no_char : (next : Option ℕ) → is_some next ≡ false → next ≡ None
+no_char None e = refl
+no_char (Some c) e = cc
+
+pub returns-then-is_none-clause-over : goal.returns-then-is_none-clause-over
+returns-then-is_none-clause-over g c = λ told. inl (no_char c.args.here.after c.if-is_none.ensures)
+
+pub returns-then-is_none-clause-at_end : goal.returns-then-is_none-clause-at_end
+returns-then-is_none-clause-at_end g c = λ none. refl
