@@ -9,7 +9,7 @@ use Rattle.regex_lite_engine.proofs.backtrack.LeftLemmas.{pair_inside}
 use Rattle.regex_lite_engine.proofs.backtrack.WentLemmas.{enter_room, entered_again}
 use Rattle.regex_lite_engine.proofs.backtrack.WentLemmas.{same_walk, was_old}
 use Rattle.regex_lite_engine.proofs.backtrack.WentLemmas.{went_entered, went_passed}
-use Rattle.regex_lite_engine.proofs.search.CountLemmas.{counted_all}
+use Rattle.regex_lite_engine.proofs.search.CountLemmas.{counted_all, entered_once, tried_once}
 use Rattle.regex_lite_engine.proofs.search.PlaceLemmas.{got_place}
 use Rattle.regex_lite_engine.proofs.backtrack.walk.Walk.come_to.Goals as goal
 
@@ -73,3 +73,30 @@ pub look-found-requires-clause-inside : goal.look-found-requires-clause-inside
 look-found-requires-clause-inside c =
     let places = c.args.graph.now.places in
     subst (λ n. c.args.place < n) (length-map places place_of) c.requires.below.0
+
+pub insert-requires-clause-inside : goal.insert-requires-clause-inside
+insert-requires-clause-inside c =
+    let a = c.args in let fit = c.requires in
+    pair_inside (table_of a.graph.now) a.haystack.now c.utf8.haystack a.self.now.visited fit.all
+    a.place a.at fit.below.0 fit.below.1 fit.below.2.0
+
+pub returns-then-not-insert-clause-counts : goal.returns-then-not-insert-clause-counts
+returns-then-not-insert-clause-counts c =
+    tried_once c.args.self.now.steps c.count_try.new.self c.count_try.ensures
+
+pub enter-requires-clause-boundary : goal.enter-requires-clause-boundary
+enter-requires-clause-boundary c = c.requires.below.2
+
+pub returns-clause-counts : goal.returns-clause-counts
+returns-clause-counts c =
+    (entered_once c.args.self.now.steps c.look-found.new.steps
+    (counted_all c.args.self.now.steps c.count_try.new.self c.count_entry.new.self
+    c.look-found.new.steps c.count_try.ensures c.count_entry.ensures
+    c.look-found.ensures.counted)).0
+
+pub returns-clause-entry : goal.returns-clause-entry
+returns-clause-entry c = λ done.
+    (entered_once c.args.self.now.steps c.look-found.new.steps
+    (counted_all c.args.self.now.steps c.count_try.new.self c.count_entry.new.self
+    c.look-found.new.steps c.count_try.ensures c.count_entry.ensures
+    c.look-found.ensures.counted)).1

@@ -1,13 +1,54 @@
-use Rattle.regex_lite_engine.proofs.Common.{[], ◌∷◌, length, Some, None, sym, refl, ap, subst}
-use Rattle.regex_lite_engine.proofs.Common.{arith, Unwinds, table_of, StaysCounted}
+use Rattle.regex_lite_engine.proofs.Common.{◌≡◌, ℕ, List, [], ◌∷◌, length, Some, None, sym, refl}
+use Rattle.regex_lite_engine.proofs.Common.{ap, ◌∙◌, subst, arith, Unwinds, table_of, StaysCounted}
+use Rattle.regex_lite_engine.specs.Graph.Places.{Place}
 use Rattle.regex_lite_engine.specs.declared.backtrack.walk.Walk.{Walk}
-use Rattle.regex_lite_engine.specs.Backtrack.Machine.{end_at, explore, onto}
-use Rattle.regex_lite_engine.specs.Backtrack.Room.{with_frames, TakesFrame}
+use Rattle.regex_lite_engine.specs.Backtrack.Machine.{completes, end_at, explore, onto}
+use Rattle.regex_lite_engine.specs.Backtrack.Room.{with_frames, GoesOn, HasRoom, TakesFrame}
 use Rattle.regex_lite_engine.specs.Backtrack.Searching.{Explores}
 use Rattle.regex_lite_engine.proofs.backtrack.ExploreLemmas.{ended, found, goes_further, went_back}
 use Rattle.regex_lite_engine.proofs.backtrack.UnwindLemmas.{slots_below}
-use Rattle.regex_lite_engine.proofs.search.CountLemmas.{still_counted}
+use Rattle.regex_lite_engine.proofs.search.CountLemmas.{counted_at_first, still_counted}
 use Rattle.regex_lite_engine.proofs.backtrack.walk.Walk.explore.Goals as goal
+
+-- a walk that has not begun is where it begins
+stays : (table : List (Place ℕ)) (haystack : List ℕ) (walk : Walk)
+    → GoesOn table haystack walk walk None
+stays table haystack walk = record {
+  walks = λ entry from start walking. walking;
+  kept = record { places = refl; first = refl; row = refl; room = refl };
+  spent = omega arith;
+  spent_entries = omega arith;
+}
+
+pub ways-init : goal.ways-init
+ways-init c =
+    let a = c.args in let t = table_of a.graph.now in let h = a.haystack.now in
+    let w = a.self.now in
+    let at_start : explore a.graph.now.start a.start ∷ []
+    ≡ explore c.start-place.result a.start ∷ w.stack.frames =
+    ap (λ place. explore place a.start ∷ []) (sym c.start-place.ensures.same)
+    ∙ ap (λ fs. explore c.start-place.result a.start ∷ fs) (sym c.requires.empty) in
+    let first = with_frames w (explore a.graph.now.start a.start ∷ []) in
+    record {
+      room = subst (λ fs. HasRoom t h w fs) at_start c.requires.room;
+      on = subst (λ fs. GoesOn t h first (with_frames w fs) None) at_start (stays t h first);
+      counts = counted_at_first w.steps;
+    }
+
+pub returns-in-Complete-clause-counts : goal.returns-in-Complete-clause-counts
+returns-in-Complete-clause-counts c =
+    still_counted c.args.self.now.steps c.ways.self.steps c.come_to.new.self.steps
+    c.ways.invariant.counts c.come_to.ensures.counts
+
+pub returns-in-Complete-clause-entry : goal.returns-in-Complete-clause-entry
+returns-in-Complete-clause-entry c = c.come_to.ensures.entry (ap completes c.in-Complete.is)
+
+pub returns-in_err-place-in-Back-clause-counts : goal.returns-in_err-place-in-Back-clause-counts
+returns-in_err-place-in-Back-clause-counts c =
+    subst (StaysCounted c.args.self.now.steps)
+    (sym (ap (λ (z : Walk). z.steps) c.go_back.ensures.same))
+    (still_counted c.args.self.now.steps c.ways.self.steps c.come_to.new.self.steps
+    c.ways.invariant.counts c.come_to.ensures.counts)
 
 pub returns-in-Complete-clause-explored : goal.returns-in-Complete-clause-explored
 returns-in-Complete-clause-explored c =

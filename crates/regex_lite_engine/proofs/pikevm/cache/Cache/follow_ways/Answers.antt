@@ -4,7 +4,7 @@ use Rattle.regex_lite_engine.proofs.Common.{ap, ◌∙◌, subst, arith, drop-co
 use Rattle.regex_lite_engine.proofs.Common.{state_retold, best_again, Thread, thread_at, BestState}
 use Rattle.regex_lite_engine.proofs.Common.{KeepsPosition, best_of, Between, StepsTo, begun}
 use Rattle.regex_lite_engine.proofs.Common.{with_starts, Told, untold, StaysCounted, Best, Row}
-use Rattle.regex_lite_engine.proofs.Common.{Start}
+use Rattle.regex_lite_engine.proofs.Common.{Start, inl, inr}
 use Rattle.std.proofs.Math.ListN.{drop_of_length-le}
 use Rattle.regex_lite_engine.specs.Pikevm.Machine.{State}
 use Rattle.regex_lite_engine.specs.Pikevm.Room.{explores}
@@ -265,3 +265,46 @@ returns-clause-again g c = λ tell there b alike.
     (state_retold tell i) (all_retold tell ws) b (state_retold tell c.ways.self.walk.memory)
     (all_retold tell ts) b) (drop_of_length-le ws (omega (arith, t, e)))
     (c.ways.invariant.again tell there b alike)
+
+pub returns-then-explore-clause-hit : goal.returns-then-explore-clause-hit
+returns-then-explore-clause-hit g c = λ none.
+    absurd (let both = sym c.set.ensures.found ∙ none in cc)
+
+pub returns-then-explore-clause-room : goal.returns-then-explore-clause-room
+returns-then-explore-clause-room g c = c.explore.ensures.room
+
+pub returns-then-explore-clause-ends : goal.returns-then-explore-clause-ends
+returns-then-explore-clause-ends g c =
+    inr (g.S.Beginning.told c.take_up-place.result.1, c.row.result.now, c.set.ensures.found)
+
+pub returns-then-explore-clause-kept : goal.returns-then-explore-clause-kept
+returns-then-explore-clause-kept g c = λ none.
+    absurd (let both = sym c.set.ensures.found ∙ none in cc)
+
+pub returns-then-explore-clause-counts : goal.returns-then-explore-clause-counts
+returns-then-explore-clause-counts g c =
+    let y = c.explore.new.self in
+    still_counted c.args.self.now.walk.steps c.ways.self.walk.steps y.steps
+    c.ways.invariant.counts
+    (subst (λ s. StaysCounted s y.steps) c.take_up-place.ensures.steps c.explore.ensures.counts)
+
+pub returns-then-explore-clause-entry : goal.returns-then-explore-clause-entry
+returns-then-explore-clause-entry g c = inr (c.explore.ensures.entry c.if-explore.true)
+
+pub returns-clause-hit : goal.returns-clause-hit
+returns-clause-hit g c = ap best_of c.ways.invariant.best
+
+pub returns-clause-room : goal.returns-clause-room
+returns-clause-room g c = c.ways.invariant.room
+
+pub returns-clause-ends : goal.returns-clause-ends
+returns-clause-ends g c = inl (ap best_of c.ways.invariant.best)
+
+pub returns-clause-kept : goal.returns-clause-kept
+returns-clause-kept g c = λ none. sym (ap best_of c.ways.invariant.best) ∙ none
+
+pub returns-clause-counts : goal.returns-clause-counts
+returns-clause-counts g c = c.ways.invariant.counts
+
+pub returns-clause-entry : goal.returns-clause-entry
+returns-clause-entry g c = inl (ap best_of c.ways.invariant.best)

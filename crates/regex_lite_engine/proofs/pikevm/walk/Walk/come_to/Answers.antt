@@ -2,12 +2,12 @@ use Rattle.regex_lite_engine.proofs.Common.{◌≡◌, ◌+◌, ◌<◌, true, [
 use Rattle.regex_lite_engine.proofs.Common.{if◌then◌else◌, ap, subst, arith, rules, length-map}
 use Rattle.regex_lite_engine.proofs.Common.{kept_back, place_of, places_of, LeadsBelow}
 use Rattle.regex_lite_engine.proofs.Common.{ℕ, Bool, false, List, inl, inr, Some, refl, ◌∙◌}
-use Rattle.regex_lite_engine.proofs.Common.{length-set}
+use Rattle.regex_lite_engine.proofs.Common.{length-set, StepCounts}
 use Rattle.regex_lite_engine.specs.declared.pikevm.enter.Onward as code
 use Rattle.regex_lite_engine.specs.Pikevm.Entering.{completes, onto, Enters}
 use Rattle.regex_lite_engine.specs.Pikevm.Machine.{explore, State}
 use Rattle.regex_lite_engine.specs.Pikevm.Room.{TakesFrame}
-use Rattle.regex_lite_engine.proofs.search.CountLemmas.{counted_all}
+use Rattle.regex_lite_engine.proofs.search.CountLemmas.{counted_all, entered_once, tried_once}
 use Rattle.regex_lite_engine.proofs.pikevm.RoomLemmas.{left_room}
 use Rattle.regex_lite_engine.proofs.pikevm.StateLemmas.{later_same, still_fits}
 use Rattle.regex_lite_engine.proofs.pikevm.WalkLemmas.{marked_in}
@@ -141,3 +141,98 @@ returns-in_default-clause-kept g c =
           c.enter-onward.ensures.entered
           ∙ ap (λ (z : State). length z.row) c.insert.ensures.added;
     }
+
+pub insert-requires-clause-place : goal.insert-requires-clause-place
+insert-requires-clause-place g c =
+    let all = c.requires.room.all_seen in
+    let lt = c.requires.room.frames_below.0 in
+    omega (arith, all, lt)
+
+pub returns-then-not-insert-clause-kept : goal.returns-then-not-insert-clause-kept
+returns-then-not-insert-clause-kept g c =
+    let same = c.insert.ensures.added in record {
+      round = ap (λ (z : State). z.now) same;
+      threads = ap (λ (z : State). z.threads) same;
+      room = ap (λ (z : State). z.room) same;
+      row = ap (λ (z : State). length z.row) same;
+    }
+
+pub returns-then-not-insert-clause-ready : goal.returns-then-not-insert-clause-ready
+returns-then-not-insert-clause-ready g c = ap (λ (z : State). z.ready) c.insert.ensures.added
+
+pub returns-then-not-insert-clause-tries : goal.returns-then-not-insert-clause-tries
+returns-then-not-insert-clause-tries g c =
+    ap (λ (s : StepCounts). s.tried) c.count_try.ensures
+
+pub returns-then-not-insert-clause-counts : goal.returns-then-not-insert-clause-counts
+returns-then-not-insert-clause-counts g c =
+    tried_once c.args.self.now.steps c.count_try.new.self c.count_try.ensures
+
+pub returns-in-Complete-clause-kept : goal.returns-in-Complete-clause-kept
+returns-in-Complete-clause-kept g c =
+    let a = c.args in let w = a.self.now.memory in let n = c.insert.new.self in
+    let o = c.enter-onward.result in let e = c.enter-onward.new.memory in
+    let dropped = c.drop_frames.ensures in
+    let same =
+    later_same a.place w n e c.insert.ensures.added c.enter-onward.ensures.same in record {
+      round = ap (λ (z : State). z.now) dropped ∙ ap (λ (z : State). z.now) same;
+      threads = ap (λ (z : State). z.threads) dropped ∙ ap (λ (z : State). z.threads) same;
+      room = ap (λ (z : State). z.room) dropped ∙ ap (λ (z : State). z.room) same;
+      row =
+          ap (λ (z : State). length z.row) dropped
+          ∙ enters_width a.here (g.S.Beginning.told a.start) n
+          (record e { frames = onto o e.frames }) (completes o) c.look-found.result.now
+          c.enter-onward.ensures.entered
+          ∙ ap (λ (z : State). length z.row) c.insert.ensures.added;
+    }
+
+pub returns-in-Complete-clause-ready : goal.returns-in-Complete-clause-ready
+returns-in-Complete-clause-ready g c =
+    ap (λ (z : State). z.ready) c.drop_frames.ensures
+    ∙ ap (λ (z : State). z.ready) (later_same c.args.place c.args.self.now.memory c.insert.new.self
+    c.enter-onward.new.memory c.insert.ensures.added c.enter-onward.ensures.same)
+
+pub returns-in-Complete-clause-tries : goal.returns-in-Complete-clause-tries
+returns-in-Complete-clause-tries g c =
+    ap (λ (s : StepCounts). s.tried) (counted_all c.args.self.now.steps c.count_try.new.self
+    c.count_entry.new.self c.look-found.new.steps c.count_try.ensures c.count_entry.ensures
+    c.look-found.ensures.counted)
+
+pub returns-in-Complete-clause-counts : goal.returns-in-Complete-clause-counts
+returns-in-Complete-clause-counts g c =
+    (entered_once c.args.self.now.steps c.look-found.new.steps
+    (counted_all c.args.self.now.steps c.count_try.new.self c.count_entry.new.self
+    c.look-found.new.steps c.count_try.ensures c.count_entry.ensures
+    c.look-found.ensures.counted)).0
+
+pub returns-in-Complete-clause-entry : goal.returns-in-Complete-clause-entry
+returns-in-Complete-clause-entry g c = λ done.
+    (entered_once c.args.self.now.steps c.look-found.new.steps
+    (counted_all c.args.self.now.steps c.count_try.new.self c.count_entry.new.self
+    c.look-found.new.steps c.count_try.ensures c.count_entry.ensures
+    c.look-found.ensures.counted)).1
+
+pub returns-in_default-clause-ready : goal.returns-in_default-clause-ready
+returns-in_default-clause-ready g c =
+    ap (λ (z : State). z.ready) (later_same c.args.place c.args.self.now.memory c.insert.new.self
+    c.enter-onward.new.memory c.insert.ensures.added c.enter-onward.ensures.same)
+
+pub returns-in_default-clause-tries : goal.returns-in_default-clause-tries
+returns-in_default-clause-tries g c =
+    ap (λ (s : StepCounts). s.tried) (counted_all c.args.self.now.steps c.count_try.new.self
+    c.count_entry.new.self c.look-found.new.steps c.count_try.ensures c.count_entry.ensures
+    c.look-found.ensures.counted)
+
+pub returns-in_default-clause-counts : goal.returns-in_default-clause-counts
+returns-in_default-clause-counts g c =
+    (entered_once c.args.self.now.steps c.look-found.new.steps
+    (counted_all c.args.self.now.steps c.count_try.new.self c.count_entry.new.self
+    c.look-found.new.steps c.count_try.ensures c.count_entry.ensures
+    c.look-found.ensures.counted)).0
+
+pub returns-in_default-clause-entry : goal.returns-in_default-clause-entry
+returns-in_default-clause-entry g c = λ done.
+    (entered_once c.args.self.now.steps c.look-found.new.steps
+    (counted_all c.args.self.now.steps c.count_try.new.self c.count_entry.new.self
+    c.look-found.new.steps c.count_try.ensures c.count_entry.ensures
+    c.look-found.ensures.counted)).1
