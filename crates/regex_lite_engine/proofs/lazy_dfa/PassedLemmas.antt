@@ -4,7 +4,7 @@ use Rattle.regex_lite_engine.proofs.Common.{IsUtf8, chars, IsCharBoundary, sym, 
 use Rattle.regex_lite_engine.proofs.Common.{Found, Best, best_at, best_told, with_start_kept}
 use Rattle.regex_lite_engine.proofs.Common.{IsBestOutcome, IsBestOutcomeOf, IsEntry, IsOffset}
 use Rattle.regex_lite_engine.proofs.Common.{IsNumberedFound, Origin, Row, position_at, slice_index}
-use Rattle.regex_lite_engine.proofs.Common.{get_or_from_slice_get}
+use Rattle.regex_lite_engine.proofs.Common.{get_or_from_slice_get, length, slice_get_within}
 use Rattle.regex_lite_engine.specs.Graph.Places.{Place}
 use Rattle.regex_lite_engine.specs.LazyDfa.Remembering.{NoneStartsBefore}
 use Rattle.regex_lite_engine.specs.Search.NumberedList.{IsNumberedFoundOf}
@@ -52,6 +52,9 @@ module _ (table : List (Place ℕ)) (bytes : List ℕ) (utf8 : IsUtf8 bytes) (en
 
   is_entry : IsEntry entries origin.number answer.entry
   is_entry = subst (λ n. IsEntry entries n answer.entry) (sym is.3.number_told) answer.is_entry
+
+  pub number_within : origin.number < length entries
+  number_within = slice_get_within entries origin.number answer.entry is_entry
 
   is_start : IsOffset (chars bytes) known.start origin.at
   is_start = (answer.answer.inside, is.3.start_told)

@@ -8,14 +8,14 @@ use Rattle.regex_lite_engine.proofs.Common.{map-append, map-set, nil_from_length
 use Rattle.regex_lite_engine.proofs.Common.{take-append-drop, take-append-le, Automaton, Extends}
 use Rattle.regex_lite_engine.proofs.Common.{StoredState, StoredWay, classes_in, state_in, states_in}
 use Rattle.regex_lite_engine.proofs.Common.{Intervals, Option, None, Target, unknown}
-use Rattle.regex_lite_engine.proofs.Common.{way_in}
+use Rattle.regex_lite_engine.proofs.Common.{Bool, Way, way_in}
 use Rattle.std.proofs.lemmas.List.{take_rest, drop-set-add, drop-set-lt, get_or-map, take-set-le}
 use Rattle.std.proofs.lemmas.List.Elements.{All-append, All-replicate}
 use Rattle.std.proofs.Math.Seq.{drop-length, take-length, take-set-lt}
+use Rattle.regex_lite_engine.specs.declared.lazy_dfa.side.Side.{Side}
 use Rattle.regex_lite_engine.specs.LazyDfa.Automaton.{KeptOrigin, State}
 use Rattle.regex_lite_engine.specs.LazyDfa.Extending.{IsState}
-use Rattle.regex_lite_engine.specs.LazyDfa.Stored.{Agrees, AllAgree, HasWays, LieWithin}
-use Rattle.regex_lite_engine.specs.LazyDfa.Stored.{known_hit}
+use Rattle.regex_lite_engine.specs.LazyDfa.Stored.{Agrees, AllAgree, HasWays, LieWithin, known_hit}
 use Rattle.regex_lite_engine.proofs.OptionLemmas.{not_there, same_some}
 use Rattle.regex_lite_engine.proofs.LookupLemmas.{still_there, get_last}
 use Rattle.regex_lite_engine.proofs.lazy_dfa.StoredStateLemmas.{seen}
@@ -285,3 +285,35 @@ blank_row classes class blank none lt =
     get_or-map (λ (target : Target). target.state) (replicate classes blank) class blank 0
     (let n = length-replicate classes blank in omega (arith, n, lt))
     ∙ ap (λ (target : Target). target.state) (get_or-replicate classes class blank blank lt) ∙ none
+
+-- it extends what has the same states
+pub extends_same : (old new : Automaton) → new.intervals ≡ old.intervals
+    → new.states ≡ old.states → Extends old new
+extends_same old new intervals same = record {
+  intervals = intervals;
+  kept = λ x s at. ap (λ states. slice_get states x) same ∙ at;
+  fresh = λ x s at other. absurd (other (ap (λ states. slice_get states x) (sym same) ∙ at));
+}
+
+-- whatever is pending then
+pub extends_pending : (old new : Automaton) (pending : List Way)
+    → Extends old new → Extends old (record new { pending = pending })
+extends_pending old new pending extends = record {
+  intervals = extends.intervals;
+  kept = extends.kept;
+  fresh = extends.fresh;
+}
+
+-- and a state is the same
+pub is_state_pending : (automaton : Automaton) (pending all : List Way) (y : ℕ)
+    (searching : Bool) (before : Side) (hit : Option KeptOrigin)
+    → IsState automaton y all searching before hit
+    → IsState (record automaton { pending = pending }) y all searching before hit
+is_state_pending automaton pending all y searching before hit is = record {
+  state = is.state;
+  is = is.is;
+  ways = is.ways;
+  searching = is.searching;
+  before = is.before;
+  hit = is.hit;
+}

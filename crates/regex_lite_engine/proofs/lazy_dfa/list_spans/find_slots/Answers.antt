@@ -4,7 +4,8 @@ use Rattle.regex_lite_engine.proofs.Common.{StoredList, table_of_list, best_of, 
 use Rattle.regex_lite_engine.proofs.Common.{CanCount, Best, best_at, with_start_kept, best_kept}
 use Rattle.regex_lite_engine.proofs.Common.{span_of, IsBestOutcomeOf, position_at, Row, Origin}
 use Rattle.regex_lite_engine.proofs.lazy_dfa.OnceLemmas.{spanned}
-use Rattle.regex_lite_engine.proofs.lazy_dfa.PassedLemmas.{one_of_list, one_there, start_boundary}
+use Rattle.regex_lite_engine.proofs.lazy_dfa.PassedLemmas.{number_within, one_of_list, one_there}
+use Rattle.regex_lite_engine.proofs.lazy_dfa.PassedLemmas.{start_boundary}
 use Rattle.regex_lite_engine.proofs.search.OutcomeLemmas.{can_count}
 use Rattle.regex_lite_engine.proofs.lazy_dfa.list_spans.find_slots.Goals as goal
 
@@ -71,3 +72,10 @@ returns-clause-found c = λ s known.
     (position_at haystack origin.at) (best_of c.run.new.cache.best) c.found.result row (Some span)
     c.new-pattern.ensures.list c.new-pattern.ensures.number c.found.ensures
     (sym c.span_of.ensures ∙ c.in_ok-span.was) c.run.ensures.found)
+
+pub new-pattern-requires : goal.new-pattern-requires
+new-pattern-requires c =
+    let list = c.args.list.now in
+    let known = c.requires.origin in
+    number_within (table_of_list list) c.args.haystack.now c.utf8.haystack list.entries known.0
+    c.args.origin known.1.0 known.1.1

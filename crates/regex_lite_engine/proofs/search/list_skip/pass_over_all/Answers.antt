@@ -1,6 +1,6 @@
 use Rattle.regex_lite_engine.proofs.Common.{◌≡◌, ◌≤◌, true, false, length, is_some, chars, sym, ap}
 use Rattle.regex_lite_engine.proofs.Common.{◌∙◌, subst, arith, table_of_list, IsPassedByAll}
-use Rattle.regex_lite_engine.proofs.Common.{MayBegin, position_at}
+use Rattle.regex_lite_engine.proofs.Common.{ℕ, Here, IsHere, MayBegin, PassesTo, Text, position_at}
 use Rattle.regex_lite_syntax.specs.Text.{before}
 use Rattle.regex_lite_engine.proofs.search.here.HereLemmas.{at_most}
 use Rattle.regex_lite_engine.proofs.search.ListSkipLemmas.{passes_to}
@@ -16,6 +16,22 @@ next_offset-at-requires-clause-from c =
     let same = c.as_bytes.ensures.value in
     subst (λ z. c.args.here.at ≤ length z) (sym same)
     (at_most c.args.haystack.now c.requires.0 c.args.here c.utf8.haystack c.requires.1)
+
+-- it stands where it stood
+stays : {Passed : ℕ → Type 0} (h : Text) (p : ℕ) (here : Here) → IsHere h p here
+    → PassesTo Passed h p here
+stays h p here is = record {
+  q = p;
+  later = omega arith;
+  is = is;
+  passed = λ i from below. absurd (omega (arith, from, below));
+}
+
+pub returns-then-may_begin : goal.returns-then-may_begin
+returns-then-may_begin c = λ p is. stays (chars c.args.haystack.now) p c.args.here is
+
+pub returns-then-at-here : goal.returns-then-at-here
+returns-then-at-here c = λ p is. stays (chars c.args.haystack.now) p c.args.here is
 
 pub returns : goal.returns
 returns c = λ p is.

@@ -1,23 +1,29 @@
-use Rattle.regex_lite_engine.proofs.Common.{◌≡◌, ◌+◌, ◌-◌, ◌*◌, ◌<◌, suc, false, [], ◌∷◌, ◌++◌}
-use Rattle.regex_lite_engine.proofs.Common.{length, map, replicate, refl, ap, ◌∙◌, sym, subst}
-use Rattle.regex_lite_engine.proofs.Common.{arith, length-append, length-replicate, rules, suc-mul}
-use Rattle.regex_lite_engine.proofs.Common.{take_all, Automaton, StoredState, Target, classes_in}
-use Rattle.regex_lite_engine.proofs.Common.{hit_in, unknown}
+use Rattle.regex_lite_engine.proofs.Common.{◌≡◌, ◌+◌, ◌-◌, ◌*◌, ◌<◌, ◌≤◌, suc, false, List, [], ◌∷◌}
+use Rattle.regex_lite_engine.proofs.Common.{◌++◌, length, map, drop, take, replicate, refl, ap, ◌∙◌}
+use Rattle.regex_lite_engine.proofs.Common.{sym, subst, arith, length-append, length-replicate}
+use Rattle.regex_lite_engine.proofs.Common.{rules, suc-mul, take-append-le, take_all, way_in}
+use Rattle.regex_lite_engine.proofs.Common.{Automaton, StoredState, Target, classes_in, hit_in}
+use Rattle.regex_lite_engine.proofs.Common.{unknown}
+use Rattle.std.proofs.Math.Seq.{drop-length}
 use Rattle.std.specs.Vec.{vec_len}
 use Rattle.regex_lite_engine.specs.LazyDfa.Automaton.{State}
 use Rattle.regex_lite_engine.specs.LazyDfa.Stored.{AllAgree, LieWithin}
 use Rattle.regex_lite_engine.proofs.lazy_dfa.StoredChangeLemmas.{added_extends, added_is, blank_row}
-use Rattle.regex_lite_engine.proofs.lazy_dfa.StoredChangeLemmas.{agree_added, seen_added}
-use Rattle.regex_lite_engine.proofs.lazy_dfa.StoredChangeLemmas.{within_added}
+use Rattle.regex_lite_engine.proofs.lazy_dfa.StoredChangeLemmas.{agree_added, extends_same}
+use Rattle.regex_lite_engine.proofs.lazy_dfa.StoredChangeLemmas.{seen_added, within_added}
 use Rattle.regex_lite_engine.proofs.lazy_dfa.StoredStateLemmas.{length_states, seen}
 use Rattle.regex_lite_engine.proofs.lazy_dfa.automaton.LazyDfa.add.Goals as goal
-use Rattle.regex_lite_engine.proofs.lazy_dfa.automaton.LazyDfa.add.Goals.{After-len-self-inside}
+use Rattle.regex_lite_engine.proofs.lazy_dfa.automaton.LazyDfa.add.Goals.{
+  After-len-self-inside,
+  After-truncate,
+  In-Ok,
+}
 
 abbrev blank : Target
 blank = record { state = unknown; effect = record { is_plain = false; completes = false } }
 
 -- the row of the new state comes after those of all others
-rows : (c : After-len-self-inside) →
+rows : (c : In-Ok) →
     c.resize.new.self.items
     ≡ c.self.inside.targets.items ++ replicate (classes_in c.self.inside.classes) blank
 rows c =
@@ -47,7 +53,7 @@ invariant_of-self-in-Ok-push c =
       before = c.args.before;
       hit = c.args.hit;
     } in
-    let all = rows (goal.at.invariant_of-self-in-Ok-push c).After-len-self-inside in
+    let all = rows (goal.at.invariant_of-self-in-Ok-push c).In-Ok in
     let states = ap length items ∙ length-append i.states.items (s ∷ []) in
     let next : length c.push.new.self.items ≡ suc (length i.states.items) =
     omega (arith, states) in
@@ -74,6 +80,8 @@ invariant_of-self-in-Ok-push c =
     )
 
 added : (c : After-len-self-inside) →
+    c.resize.new.self.items
+    ≡ c.self.inside.targets.items ++ replicate (classes_in c.self.inside.classes) blank →
     seen c.self.inside.classes c.push.new.self.items c.resize.new.self.items
     c.len-self-inside.result c.self.inside.ways.items
     ≡ record {
@@ -88,7 +96,7 @@ added : (c : After-len-self-inside) →
       } ∷ [];
       pending = [];
     }
-added c =
+added c all =
     let i = c.self.inside in
     let v = c.self.invariant in
     let n = classes_in i.classes in
@@ -104,7 +112,7 @@ added c =
     (c.len-self-inside.ensures ∙ count)
     ∙ seen_added i.classes i.states.items i.targets.items i.used i.ways.items v.0 v.1 _ refl
     (ap (λ k. k - i.used) (c.len.ensures ∙ count)) c.push.new.self.items
-    c.in-Ok-push.ensures.items c.resize.new.self.items (replicate n blank) (rows c) v.4
+    c.in-Ok-push.ensures.items c.resize.new.self.items (replicate n blank) all v.4
     (length-replicate n blank)
     ∙ ap (λ (z : Automaton). record {
       intervals = z.intervals;
@@ -114,12 +122,66 @@ added c =
 
 pub returns-in-Ok-push-clause-state : goal.returns-in-Ok-push-clause-state
 returns-in-Ok-push-clause-state c = λ told.
-    added_is c.args.self.now _ _
-    (added (goal.at.returns-in-Ok-push-clause-state c).After-len-self-inside)
+    let at = goal.at.returns-in-Ok-push-clause-state c in
+    added_is c.args.self.now _ _ (added at.After-len-self-inside (rows at.In-Ok))
 
 pub returns-in-Ok-push-clause-extends : goal.returns-in-Ok-push-clause-extends
 returns-in-Ok-push-clause-extends c =
-    added_extends c.args.self.now _ _
-    (added (goal.at.returns-in-Ok-push-clause-extends c).After-len-self-inside) refl
+    let at = goal.at.returns-in-Ok-push-clause-extends c in
+    added_extends c.args.self.now _ _ (added at.After-len-self-inside (rows at.In-Ok)) refl
     (λ class lt. blank_row (classes_in c.self.inside.classes) class blank refl
     (subst (λ (z : Automaton). class < classes_in z.intervals) (sym c.self.view_is) lt))
+
+pub returns-in-Ok-push-clause-none_pending : goal.returns-in-Ok-push-clause-none_pending
+returns-in-Ok-push-clause-none_pending c = λ told.
+    let ways = c.self.inside.ways.items in
+    let count : vec_len c.self.inside.ways ≡ length ways = search rules in
+    ap (λ n. map way_in (drop n ways)) (c.len-self-inside.ensures ∙ count)
+    ∙ ap (map way_in) (drop-length ways)
+
+-- without the state there are the targets that there were
+targets_left : (c : After-truncate) →
+    c.resize.new.self.items
+    ≡ c.self.inside.targets.items ++ replicate (classes_in c.self.inside.classes) blank →
+    c.truncate.new.self.items ≡ c.self.inside.targets.items
+targets_left c all =
+    let old = c.self.inside.targets.items in
+    let count : vec_len c.self.inside.targets ≡ length old = search rules in
+    let len = c.len-rows.ensures in
+    let n = c.len-rows.result in
+    c.truncate.ensures.items ∙ ap (take n) all
+    ∙ take-append-le n old (replicate (classes_in c.self.inside.classes) blank)
+    (omega (arith, count, len))
+    ∙ take_all n old (omega (arith, count, len))
+
+pub invariant_of-self-in-Err : goal.invariant_of-self-in-Err
+invariant_of-self-in-Err c =
+    let i = c.self.inside in
+    let v = c.self.invariant in
+    let states = c.in-Err.ensures.items in
+    let at = goal.at.invariant_of-self-in-Err c in
+    let targets = targets_left at.After-truncate (rows at.In-Ok) in (
+      subst (LieWithin i.used) (sym states) v.0,
+      v.1,
+      subst (λ (all : List StoredState). length all ≤ 256) (sym states) v.2,
+      subst (AllAgree c.push.new.self.items) (sym targets)
+          (subst (λ all. AllAgree all i.targets.items) (sym states) v.3),
+      ap length targets ∙ v.4
+          ∙ ap (λ (all : List StoredState). length all * classes_in i.classes) (sym states),
+      v.5,
+      v.6,
+    )
+
+pub returns-in-Err-clause-extends : goal.returns-in-Err-clause-extends
+returns-in-Err-clause-extends c =
+    let i = c.self.inside in
+    let at = goal.at.returns-in-Err-clause-extends c in
+    let same : seen i.classes c.push.new.self.items c.truncate.new.self.items i.used i.ways.items
+    ≡ c.args.self.now =
+    ap (λ all. seen i.classes all c.truncate.new.self.items i.used i.ways.items)
+    c.in-Err.ensures.items
+    ∙ ap (λ all. seen i.classes i.states.items all i.used i.ways.items)
+    (targets_left at.After-truncate (rows at.In-Ok))
+    ∙ c.self.view_is in
+    extends_same c.args.self.now _ (ap (λ (z : Automaton). z.intervals) same)
+    (ap (λ (z : Automaton). z.states) same)

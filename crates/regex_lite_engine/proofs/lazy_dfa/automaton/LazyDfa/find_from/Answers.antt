@@ -1,7 +1,6 @@
 use Rattle.regex_lite_engine.proofs.Common.{chars, refl, arith, best_of}
 use Rattle.regex_lite_engine.proofs.lazy_dfa.OnceLemmas.{found_told}
 use Rattle.regex_lite_engine.proofs.lazy_dfa.RunLemmas.{bounded_on, match_counted}
-use Rattle.std.proofs.lemmas.Grind.{common_steps}
 use Rattle.regex_lite_engine.proofs.lazy_dfa.automaton.LazyDfa.find_from.Goals as goal
 
 pub take_turns-requires-clause-stands : goal.take_turns-requires-clause-stands
@@ -44,6 +43,8 @@ returns-in-Err g c =
       width = own.2.width;
     }
 
--- It has an answer because the prover would try other calls first, which takes long
+pub returns-in-Ok-clause-found : goal.returns-in-Ok-clause-found
+returns-in-Ok-clause-found g c = λ s begun. c.in-Ok.ensures.found s begun
+
 pub returns-in-Ok-clause-bounded : goal.returns-in-Ok-clause-bounded
-returns-in-Ok-clause-bounded g c = grind (arith, common_steps)
+returns-in-Ok-clause-bounded g c = λ s begun. c.in-Ok.ensures.bounded s begun

@@ -1,4 +1,4 @@
-use Rattle.regex_lite_engine.proofs.Common.{rules}
+use Rattle.regex_lite_engine.proofs.Common.{rules, slice_get_within}
 use Rattle.regex_lite_engine.proofs.lazy_dfa.ScanLemmas.{best_none}
 use Rattle.regex_lite_engine.proofs.lazy_dfa.automaton.LazyDfa.skip.Goals as goal
 
@@ -9,3 +9,8 @@ skip_idle-requires-clause-none g c =
 pub skip_idle-requires-clause-empty : goal.skip_idle-requires-clause-empty
 skip_idle-requires-clause-empty g c = λ state is.
     (c.if-not-is_empty.ensures state is).0 (search rules)
+
+pub is_empty-requires : goal.is_empty-requires
+is_empty-requires g c =
+    let scanning = c.requires.scanning.2 in
+    slice_get_within c.args.self.now.states c.args.at.state scanning.state scanning.is_state

@@ -1,6 +1,16 @@
-use Rattle.regex_lite_engine.proofs.Common.{◌+◌, length, chars, sym, ◌∙◌, arith, arrows_of}
+use Rattle.regex_lite_engine.proofs.Common.{ℕ, ◌+◌, ◌-◌, ◌*◌, ◌^◌, ◌<◌, ◌≤◌, length, chars, sym}
+use Rattle.regex_lite_engine.proofs.Common.{◌∙◌, arith, mul-le-mul_left, arrows_of}
+use Rattle.regex_lite_engine.proofs.pikevm.EndLemmas.{bound_more}
 use Rattle.regex_lite_engine.proofs.pikevm.PassLemmas.{bound_on}
 use Rattle.regex_lite_engine.proofs.lazy_dfa.run.Cache+Origin.go_over.Goals as goal
+
+-- what one more position costs fits
+next_fits : (len s p m most a : ℕ) → s ≤ p → p ≤ len → m * (len - s + 1) < most → a ≤ m * (p - s)
+    → a + m < most
+next_fits len s p m most a low inside fits so_far =
+    let next : a + m ≤ m * (p + 1 - s) = bound_more a (a + m) p s m low so_far (omega arith) in
+    let within : p + 1 - s ≤ len - s + 1 = omega (arith, low, inside) in
+    let all = mul-le-mul_left m within in omega (arith, next, all, fits)
 
 pub turn-requires-clause-inside : goal.turn-requires-clause-inside
 turn-requires-clause-inside g c = c.requires.all.inside
@@ -49,3 +59,21 @@ returns-clause-hit g c = c.turn.ensures.hit
 
 pub returns-clause-ends : goal.returns-clause-ends
 returns-clause-ends g c = c.turn.ensures.ends
+
+pub turn-requires-clause-few_tries : goal.turn-requires-clause-few_tries
+turn-requires-clause-few_tries g c =
+    let told = c.requires.on in
+    let few = c.requires.all.few in
+    let fits = next_fits (length (chars c.args.haystack.now)) told.0 told.1
+    (arrows_of (g.P.Patterns.table c.args.patterns.now)
+    + length (g.P.Patterns.entries c.args.patterns.now)) (2 ^ 127)
+    (c.args.self.now.walk.steps.tried + length c.args.self.now.walk.memory.threads) told.4.low
+    told.2.inside told.3.tries told.4.tries in
+    omega (arith, fits, few)
+
+pub turn-requires-clause-few_entries : goal.turn-requires-clause-few_entries
+turn-requires-clause-few_entries g c =
+    let told = c.requires.on in
+    next_fits (length (chars c.args.haystack.now)) told.0 told.1
+    (length (g.P.Patterns.table c.args.patterns.now)) (2 ^ 127) c.args.self.now.walk.steps.entered
+    told.4.low told.2.inside told.3.entries told.4.entries_left
