@@ -32,7 +32,9 @@ use denote.Struct.Members.{Member, rows_of, parts_at}
 use denote.Struct.Parts.{shape_of, PartsBack, Struct-parts}
 use denote.Struct.Struct.{Struct}
 use Rattle.std.specs.Rc.Ownership.{counter_at}
-use Rattle.regex_lite.specs.Owner.Ownership.{is_stored, block_back, Whole, whole, frees}
+use Rattle.std.specs.Global.{Global}
+use Rattle.std.specs.contracts.impls.GlobalAllocator.TheImpl.{ghosts}
+use Rattle.regex_lite.specs.Owner.Ownership.{is_stored, block_back, Whole, whole}
 use Rattle.regex_lite.proofs.owner.CountLemmas.{Id, key, S, static, box, value, weaks, handle}
 
 module _ (T : RattleType) (L : Laws T) (b o : ℕ) (x : T.Denot) {M : Type 1} {𝓤 : Ura M}
@@ -57,8 +59,9 @@ module _ (T : RattleType) (L : Laws T) (b o : ℕ) (x : T.Denot) {M : Type 1} {�
   abbrev W : Fml
   W = part_at (Whole R c x) full_share (whole R c x) b o
 
-  abbrev C : Fml
-  C = frees (bare (layout (Whole R c x))) c
+  -- this `Global` can free the block
+  abbrev C : Global → Fml
+  C alloc = ghosts.dealloc_token alloc (bare (layout (Whole R c x))) c
 
   abbrev Joins : Fml
   Joins = fwand (fsep (counter_at c 0 1) (lies_at R full_share (value_place R c x) x))
@@ -90,10 +93,11 @@ module _ (T : RattleType) (L : Laws T) (b o : ℕ) (x : T.Denot) {M : Type 1} {�
       (uint_in 𝓛 full_share w64 1 b (o + 0)) $ nothing ! $ move ! (1 ∷ 2 ∷ 0 ∷ []) $ fjoin3 ! $
       use2 𝓛 (‵ X) (apply∗ 𝓤 F (sem 𝓛 X)) $ by ! as_block
 
-  pub starts : (μ : Lft) (q : Share) → Incl μ T.lives
-      → ent 𝓤 (sep 𝓤 (sem 𝓛 W) (sep 𝓤 (sem 𝓛 C) (A.lft μ q)))
+  pub starts : (alloc : Global) (μ : Lft) (q : Share) → Incl μ T.lives
+      → ent 𝓤 (sep 𝓤 (sem 𝓛 W) (sep 𝓤 (sem 𝓛 (C alloc)) (A.lft μ q)))
       (H.⇛ (sep 𝓤 (sem 𝓛 (fex Id (handle R c x))) (A.lft μ q)))
-  starts μ q inc = qed 𝓛 (‵ W ∷ ‵ C ∷ ‵ (flft μ q) ∷ []) ∵ updating ! $
+  starts alloc μ q inc = qed 𝓛 (‵ W ∷ ‵ (C alloc) ∷ ‵ (flft μ q) ∷ []) ∵ updating ! $
+      move ! (1 ∷ []) $ fpack ! Global C alloc $ move ! (1 ∷ []) $
       use1 𝓛 (‵ (cell b o 0 1) ⊛ ‵ (part_at R full_share x b (o + at)) ⊛ ‵ Joins) apart $ split3 ! $
       -- [the cell; the value; the way back; the right to free; the token]
       flt_i ! 1 (2 ^ 64) (lit< tt) $ fjoin ! $
@@ -117,11 +121,12 @@ module _ (T : RattleType) (L : Laws T) (b o : ℕ) (x : T.Denot) {M : Type 1} {�
       move ! (1 ∷ []) $ use1 𝓛 (‵ (rc.part 64 a.0)) (rc.part_in 64 𝓛 a.0 e one) $
       move ! (0 ∷ 3 ∷ 1 ∷ []) $ fjoin3 ! $ fpack ! Id (handle R c x) a $ now ! $ done !)))
 
-  pub ends : (a : Id) → ent 𝓤 (sep 𝓤 (sem 𝓛 (cell b o 0 1)) (sep 𝓤 (sem 𝓛 (value R c x a true 1))
+  pub ends : (alloc : Global) (a : Id) → ent 𝓤
+      (sep 𝓤 (sem 𝓛 (cell b o 0 1)) (sep 𝓤 (sem 𝓛 (value R c x a true 1))
       (sep 𝓤 (sem 𝓛 (rc.part 64 a.0)) (sep 𝓤 (sem 𝓛 (weaks R c x a 1))
       (rc.Shut 64 (key R c x) (S R c x) only_one (owned R c x) ftrue ftrue 𝓛 a every)))))
-      (H.⇛ (sep 𝓤 (sem 𝓛 (fsep W C)) (A.tok every)))
-  ends a =
+      (H.⇛ (sep 𝓤 (sem 𝓛 (fsep W (C alloc))) (A.tok every)))
+  ends alloc a =
       qed 𝓛 (‵ (cell b o 0 1) ∷ ‵ (value R c x a true 1) ∷ ‵ (rc.part 64 a.0) ∷ ‵ (weaks R c x a 1)
       ∷ raw (rc.Shut 64 (key R c x) (S R c x) only_one (owned R c x) ftrue ftrue 𝓛 a every) ∷ [])
       ∵ updating ! $ move ! (1 ∷ 2 ∷ []) $ use2 𝓛 (later (‵ (owned R c x) ⊛ ‵ (rc.part 64 a.1)
@@ -135,19 +140,19 @@ module _ (T : RattleType) (L : Laws T) (b o : ℕ) (x : T.Denot) {M : Type 1} {�
       (rc.weak_last 64 (key R c x) (S R c x) only_one (owned R c x) ftrue ftrue 𝓛 a every false 0) $
       await ! tt $ learn ! (λ _. split3 ! $ drop ! $ drop ! $
       -- [the thread's token; what is owned; the cell]
-      move ! (1 ∷ []) $ fsplit ! $ move ! (1 ∷ []) $ fsplit ! $ move ! (4 ∷ []) $
+      move ! (1 ∷ []) $ fsplit ! $ move ! (1 ∷ []) $ fsplit ! $ fpick ! (λ _. move ! (4 ∷ []) $
       flt_i ! 1 (2 ^ 64) (lit< tt) $ fjoin ! $ move ! (0 ∷ 3 ∷ []) $ fjoin ! $ move ! (0 ∷ 2 ∷ []) $
       use2 𝓛 (‵ W)
       (apply∗ 𝓤 (sem 𝓛 (fsep (counter_at c 0 1) (lies_at R full_share (value_place R c x) x)))
-      (sem 𝓛 W)) $ move ! (0 ∷ 1 ∷ []) $ fjoin ! $ now ! $ done !)
+      (sem 𝓛 W)) $ move ! (0 ∷ 1 ∷ []) $ fjoin ! $ now ! $ done !))
 
   abbrev Had : Id → Ptr → SProp 𝓤
   Had a r = sep 𝓤 (sem 𝓛 (cell b o 0 1)) (sep 𝓤 (sem 𝓛 (value R r x a true 1))
       (sep 𝓤 (sem 𝓛 (rc.part 64 a.0)) (sep 𝓤 (sem 𝓛 (weaks R r x a 1))
       (rc.Shut 64 (key R r x) (S R r x) only_one (owned R r x) ftrue ftrue 𝓛 a every))))
 
-  pub ends_at_ptr : (a : Id) (r : Ptr) → r ≡ c
-      → ent 𝓤 (Had a r) (H.⇛ (sep 𝓤 (sem 𝓛 (fsep W C)) (A.tok every)))
-  ends_at_ptr a r e =
-      subst (λ (p : Ptr). ent 𝓤 (Had a p) (H.⇛ (sep 𝓤 (sem 𝓛 (fsep W C)) (A.tok every))))
-      (sym e) (ends a)
+  pub ends_at_ptr : (alloc : Global) (a : Id) (r : Ptr) → r ≡ c
+      → ent 𝓤 (Had a r) (H.⇛ (sep 𝓤 (sem 𝓛 (fsep W (C alloc))) (A.tok every)))
+  ends_at_ptr alloc a r e =
+      subst (λ (p : Ptr). ent 𝓤 (Had a p) (H.⇛ (sep 𝓤 (sem 𝓛 (fsep W (C alloc))) (A.tok every))))
+      (sym e) (ends alloc a)

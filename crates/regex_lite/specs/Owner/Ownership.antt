@@ -12,13 +12,14 @@ use denote.RawPtr.{Ptr, block_of, count_of, lies_at, ◌+ₚ◌}
 use denote.Struct.Lending.{lent_at}
 use denote.RcWeak.{rc_cell_owns, rc_lends}
 use prog.Memory.{align, up}
+use Rattle.std.specs.Global.{Global}
 use Rattle.std.specs.Rc.Ownership.{counter_at}
 use Rattle.std.specs.contracts.impls.GlobalAllocator.TheImpl.{ghosts}
 use Rattle.regex_lite.specs.contracts.owner.counted.Block.{the_row}
 
--- the right to free a place with this layout, which is that of every `Global`
+-- the right of some `Global` to free a place with this layout, and so of each, as all are equal
 abbrev pub frees : Ty → Ptr → Fml
-frees = ghosts.dealloc_token (record { memory = record { seal = tt } })
+frees layout place = fex Global (λ alloc. ghosts.dealloc_token alloc layout place)
 
 -- what a `&'static` to a value holds
 abbrev pub lent_static : (R : RattleType) → (place : Ptr) → R.Denot → Fml

@@ -55,7 +55,7 @@ first_spec 𝓤 𝓛 𝓜 𝓡 wired T L =
     (sym (λ i. ws i ++ [])) (id⊢ 𝓤 (Run (w ∷ [])))) $
     enter ! 𝓣.C 𝓣.Λ fn (w ∷ []) Post $ alloc_all ! (λ l. pass_all ! refl (typed, tt) $
     move ! (2 ∷ 3 ∷ 0 ∷ []) $ use3 𝓛 (later (‵ (fex Id (handle R c x)) ⊛ ‵ (flft κs.0 qs.0)))
-    (starts T L b o x 𝓛 κs.0 qs.0 le) $ await ! tt $ split ! $
+    (starts T L b o x 𝓛 v.alloc κs.0 qs.0 le) $ await ! tt $ split ! $
     sets ! (of_opd ! (get_in ! (fld ! refl (stop !)) (sub ! 0 refl (whole !)))) refl (tt, tt) $
     sets ! (agg ! (and_then ! (get ! refl) (no_more !))) refl (word-Good ν c) $
     word_made (R ∷ []) ν c ! $ fjoin ! $ move ! (1 ∷ 2 ∷ []) $ join ! $

@@ -1,16 +1,15 @@
 -- `release` is one owner less, and the last one has the block back. A full count stays full.
 use Rattle.regex_lite.proofs.Common.{Some, None, sym, refl, ap, ◌∙◌, subst, arith, lit<, cell, word}
-use Rattle.regex_lite.proofs.Common.{word-Good, handle_tells, flft, fsep, ftok, ftrue, full_share}
-use Rattle.regex_lite.proofs.Common.{SProp, ent, id⊢, every, ◌⊑◌, fact, no, yes, part_at, layout}
-use Rattle.regex_lite.proofs.Common.{layouts, param, RattleType, owns, Ptr, block_ptr, ptr_val}
-use Rattle.regex_lite.proofs.Common.{plain, types_at, Goes-dropped, Stays, ends_at, says}
-use Rattle.regex_lite.proofs.Common.{stay_dropped, walk_of, inst_fn, Sym, a_type, dnil, Val, vcons}
-use Rattle.regex_lite.proofs.Common.{vnil, vptr, Env, WpFn, alloc_all, env, free_all, get, get_in}
-use Rattle.regex_lite.proofs.Common.{look_at, pass_all, sets, through, !, at_ret, await, done}
-use Rattle.regex_lite.proofs.Common.{fjoin, frame, fsplit, group, join, keep, later, move, qed, raw}
-use Rattle.regex_lite.proofs.Common.{rewrite, split, suffices, use0, use1, ‵, ◌$◌, ◌∵◌, ◌⊛◌, agg}
-use Rattle.regex_lite.proofs.Common.{sub, and_then, blocks, enter, exec, first, fld, no_more}
-use Rattle.regex_lite.proofs.Common.{of_opd, returns, stop}
+use Rattle.regex_lite.proofs.Common.{word-Good, handle_tells, flft, ftok, ftrue, SProp, ent, id⊢}
+use Rattle.regex_lite.proofs.Common.{every, ◌⊑◌, fact, no, yes, layout, layouts, param, RattleType}
+use Rattle.regex_lite.proofs.Common.{owns, Ptr, block_ptr, ptr_val, plain, types_at, Goes-dropped}
+use Rattle.regex_lite.proofs.Common.{Stays, ends_at, says, stay_dropped, walk_of, inst_fn, Sym}
+use Rattle.regex_lite.proofs.Common.{a_type, dnil, Val, vcons, vnil, vptr, Env, WpFn, alloc_all}
+use Rattle.regex_lite.proofs.Common.{env, free_all, get, get_in, look_at, pass_all, sets}
+use Rattle.regex_lite.proofs.Common.{through, !, at_ret, await, done, fjoin, frame, fsplit, group}
+use Rattle.regex_lite.proofs.Common.{join, keep, later, move, qed, raw, rewrite, split, suffices}
+use Rattle.regex_lite.proofs.Common.{use0, use1, ‵, ◌$◌, ◌∵◌, ◌⊛◌, agg, sub, and_then, blocks}
+use Rattle.regex_lite.proofs.Common.{enter, exec, first, fld, no_more, of_opd, returns, stop}
 use mathlib.Core.Path.{◌≡◌}
 use mathlib.Core.Bool.{true}
 use Prim.Native.Nat.{ℕ, ◌-◌, ◌<◌, ◌^◌}
@@ -31,9 +30,7 @@ use Rattle.std.specs.contracts.impls.GlobalAllocator.TheImpl as HeapImpl
 use Rattle.std.proofs.alloc.Global.TheLaws as HeapLaws
 use Rattle.std.proofs.VecSteps.Shapes.{after, head, inside}
 use Rattle.std.proofs.RcSteps.{some_Good, is_not, is_so, Some-of, none_of}
-use mir.Raw.{raw as bare}
-use Rattle.regex_lite.specs.Owner.Ownership.{frees}
-use Rattle.regex_lite.proofs.UnboxedLemmas.{Unboxed, both, both_good, unboxed_made}
+use Rattle.regex_lite.proofs.UnboxedLemmas.{Unboxed, both, both_good, owned_at, unboxed_made}
 use Rattle.regex_lite.proofs.owner.CountLemmas.{value, opens, shuts, less}
 use Rattle.regex_lite.proofs.owner.CountLemmas.{counted, says_n, handle_had}
 use Rattle.regex_lite.proofs.owner.BlockLemmas.{ends_at_ptr}
@@ -142,9 +139,9 @@ release_spec 𝓤 𝓛 𝓜 𝓡 wired T L =
     rewrite ! 0 (λ (j : ℕ). ‵ (cell cb co 0 j)) w1 refl $
     rewrite ! 1 (λ (j : ℕ). ‵ (value R c x a true j)) n1 refl $
     move ! (0 ∷ 1 ∷ 3 ∷ 2 ∷ 4 ∷ []) $ group ! 5 $
-    use1 𝓛 (later (‵ (fsep (part_at B full_share block cb co)
-    (frees (bare (layout B)) (block_ptr cb co))) ⊛ ‵ (ftok every)))
-    (ends_at_ptr T L cb co x 𝓛 a c e) $ await ! tt $ split ! $
+    use1 𝓛 (later (‵ (owned_at B Z HeapLaws.the_row_laws HeapImpl.ghosts z.0.3.1.0 block
+    (block_ptr cb co)) ⊛ ‵ (ftok every))) (ends_at_ptr T L cb co x 𝓛 z.0.3.1.0 a c e) $
+    await ! tt $ split ! $
     -- [the block and the right to free it; the thread's token; the allocator; the tokens]
     move ! (0 ∷ 2 ∷ []) $
     unboxed_made B Z HeapLaws.the_row_laws HeapImpl.ghosts ! cb co h z.0.3.1.0 block $
