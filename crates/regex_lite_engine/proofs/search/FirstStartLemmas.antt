@@ -1,7 +1,9 @@
 -- A search that begins at the first position at which a match may begin.
 use Rattle.regex_lite_engine.proofs.Common.{◌≡◌, ℕ, ◌+◌, ◌*◌, ◌<◌, ◌≤◌, ◌⊎◌, List, None}
 use Rattle.regex_lite_engine.proofs.Common.{IsUtf8, sym, subst, inl, inr, arith, cases_lt}
-use Rattle.regex_lite_engine.proofs.Common.{mul-le-mul_left}
+use Rattle.regex_lite_engine.proofs.Common.{mul-le-mul_left, zero, suc, true, false, ◌&&◌, ap}
+use Rattle.regex_lite_engine.proofs.Common.{if◌then◌else◌, nat_lt, length, slice_index_or, MayBegin}
+use Rattle.regex_lite_engine.proofs.Common.{Starts}
 use Rattle.regex_lite_engine.proofs.Common.{chars, IsCharBoundary, Text, characters_left, IsDeadAt}
 use Rattle.regex_lite_engine.proofs.Common.{position_at, IsHere, PassesTo, Here}
 use Rattle.regex_lite_engine.specs.Graph.Places.{Place}
@@ -9,8 +11,10 @@ use Rattle.regex_lite_engine.specs.LazyDfa.Remembering.{NoneStartsBefore}
 use Rattle.regex_lite_engine.specs.Search.Bounds.{IsBounded}
 use Rattle.regex_lite_engine.specs.Search.NumberedAnswer.{IsNumberedAnswer}
 use Rattle.regex_lite_engine.specs.Search.Starts.{AreDeadFrom}
+use Rattle.regex_lite_engine.proofs.LookupLemmas.{there_is}
 use Rattle.regex_lite_engine.proofs.OffsetLemmas.{boundary_at}
 use Rattle.regex_lite_engine.proofs.PositionLemmas.{position_of}
+use Rattle.regex_lite_engine.proofs.search.FirstByteLemmas.{begins_later}
 
 -- where no way leads to a match, there is none
 pub none_from : (table : List (Place ℕ)) (haystack : Text) (start s : ℕ)
@@ -51,6 +55,19 @@ bounded_from places arrows haystack s m tried entered looked later bounded =
       few_looked = bounded.few_looked;
       none_beyond = λ beyond. bounded.none_beyond (omega (arith, later, beyond));
     }
+
+-- where no character begins a match, none begins between the haystack's start and its end
+pub only_at_start : (s : Starts) (haystack : Text) (i : ℕ) → s.any ≡ false → 0 < i
+    → i < length haystack → MayBegin s haystack i → ⊥
+only_at_start s haystack zero none low high may = absurd (omega (arith, low))
+only_at_start s haystack (suc j) none low high may =
+    let there = there_is haystack (suc j) high in
+    begins_later s haystack j (there_is haystack j (omega (arith, high))) (
+      there.0,
+      there.1,
+      ap (λ z. z && (if nat_lt there.0 128
+          then slice_index_or s.ascii there.0 true else s.others)) none,
+    ) may
 
 module _ (table : List (Place ℕ)) (bytes : List ℕ) (utf8 : IsUtf8 bytes) (start s : ℕ)
     (here : Here) (w : PassesTo (IsDeadAt table (chars bytes) start) (chars bytes) s here) where

@@ -1,6 +1,7 @@
 //! The positions at which a search by itself begins.
-ghost use Rattle.std.specs.Prelude.{◌≡◌, ◌+◌, ℕ, IfSome, IsCharBoundary, IsTrue, None};
-ghost use Rattle.std.specs.Prelude.{chars};
+ghost use Rattle.std.specs.Prelude.{◌≡◌, ◌+◌, ◌<◌, ◌≤◌, ℕ, IfSome, IsCharBoundary, IsTrue};
+ghost use Rattle.std.specs.Prelude.{None, chars, length};
+ghost use Rattle.regex_lite_syntax.specs.Text.{Text};
 ghost use Rattle.regex_lite_engine.specs.Graph.Stored.{table_of};
 ghost use Rattle.regex_lite_engine.specs.Search.Offsets.{position_at};
 ghost use Rattle.regex_lite_engine.specs.Search.Standing.{IsHere};
@@ -28,8 +29,8 @@ impl Graph {
         self.start_from(haystack, here)
     }
 
-    /// Whether it is known that no match begins at this offset or later. Only where each match
-    /// begins at the haystack's start is this looked for: elsewhere most searches have to begin.
+    /// Whether it is known that no match begins at this offset or later. It is looked for only if
+    /// no character begins a match: otherwise most searches would look for a start twice.
     pub(crate) fn has_no_start(&self, haystack: &str, start: usize) -> bool
         requires { IsCharBoundary haystack.now start }
         ensures { IsTrue result → AreDeadFrom (table_of self.now) (chars haystack.now)
@@ -47,10 +48,18 @@ impl Graph {
         ensures none { (p : ℕ) → IsHere (chars haystack.now) p here → result ≡ None
             → AreDeadFrom (table_of self.now) (chars haystack.now) self.now.start (p + 1) }
     {
-        if here.after.is_none() {
+        if here.after.is_none() || self.begins_at_start_alone() {
             return None;
         }
         self.start_from(haystack, here.next(haystack))
+    }
+
+    /// Whether it is known that matches begin at the haystack's start alone.
+    fn begins_at_start_alone(&self) -> bool
+        ensures { IsTrue result → (haystack : Text) (i : ℕ) → 0 < i → i ≤ length haystack
+            → IsDeadAt (table_of self.now) haystack self.now.start i }
+    {
+        self.reads() && !self.filter().heads().first.any()
     }
 
     /// The first such position from here on.

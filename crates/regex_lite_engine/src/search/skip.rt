@@ -70,6 +70,9 @@ fn next_offset(heads: &Heads, prefilter: &Option<Prefilter>, bytes: &[u8], from:
     ensures stops { result < length bytes.now
         → stops_at heads.now.first (slice_index bytes.now result) ≡ true }
 {
+    if !heads.first.any() {
+        return bytes.len();
+    }
     let mut at = from;
     'stops: loop {
         at = next_first(heads, prefilter, bytes, at);
