@@ -3,16 +3,17 @@ use Rattle.std.specs.Prelude.{List, Option, None, Some}
 use base.Fml.{Fml, ftrue, fex}
 use denote.RattleType.{RattleType}
 use denote.RawPtr.{Ptr, block_ptr, null_ptr}
-use mir.Syntax.{Ty}
+use Rattle.std.specs.Global.{Global}
 use Rattle.std.specs.Box.Ownership.{box_owns}
 use Rattle.std.specs.contracts.impls.GlobalAllocator.TheImpl.{ghosts}
 use Rattle.regex_lite.specs.Expression.{Expression}
 use Rattle.regex_lite.specs.contracts.string.list.RegexList as patterns
 use Rattle.regex_lite.specs.contracts.string.regex.Regex as regex
 
--- the right to free a place with this layout, which is that of every `Global`
-abbrev pub frees : Ty → Ptr → Fml
-frees = ghosts.dealloc_token (record { memory = record { seal = tt } })
+-- the box of a value, which some `Global` can free, and so each, as all are equal
+abbrev pub boxed_at : (row : RattleType) → Ptr → row.Denot → Fml
+boxed_at row place value =
+    fex Global (λ alloc. box_owns (ghosts.dealloc_token alloc) row place value)
 
 abbrev pub nowhere : Fml
 nowhere = fex ⊥ (λ _. ftrue)
@@ -22,7 +23,7 @@ abbrev pub holds_of : (row : RattleType) → Ptr → Option row.Denot → Fml
 holds_of row null_ptr None = ftrue
 holds_of row null_ptr (Some value) = nowhere
 holds_of row (block_ptr b o) None = nowhere
-holds_of row (block_ptr b o) (Some value) = box_owns frees row (block_ptr b o) value
+holds_of row (block_ptr b o) (Some value) = boxed_at row (block_ptr b o) value
 
 -- the same for a regex
 abbrev pub holds : Ptr → Option Expression → Fml

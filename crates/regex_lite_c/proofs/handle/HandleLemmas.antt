@@ -27,7 +27,7 @@ use Rattle.std.proofs.alloc.Global.TheLaws as HeapLaws
 use Rattle.std.proofs.cell.Inside.{Good}
 use Rattle.regex_lite.proofs.PointerLemmas.{Word, word_had}
 use Rattle.regex_lite.proofs.UnboxedLemmas.{Unboxed, both, unboxed_made}
-use Rattle.regex_lite_c.specs.Handles.{frees, holds_of}
+use Rattle.regex_lite_c.specs.Handles.{holds_of}
 
 -- the type of the allocator
 abbrev pub Z : RattleType
@@ -64,37 +64,36 @@ module _ (R : RattleType) where
   abbrev pub Out : RattleType
   Out = Unboxed R Z HeapLaws.the_row_laws HeapImpl.ghosts
 
-  -- what is owned where it lies
-  abbrev pub boxed : Ptr → R.Denot → Fml
-  boxed = box_owns frees R
+  -- what is owned where it lies, with the right of this allocator to free it
+  abbrev pub boxed : Z.Denot → Ptr → R.Denot → Fml
+  boxed a = box_owns (HeapImpl.ghosts.dealloc_token a) R
 
   module _ {M : Type 1} {𝓤 : Ura M} (𝓛 : Logic 𝓤) where
     -- a place that is owned can be tested for null
-    tested : (p : Ptr) (x : R.Denot)
-        → ent 𝓤 (sem 𝓛 (boxed p x)) (guard 𝓤 (Testable p) (sem 𝓛 (boxed p x)))
-    tested p x =
+    tested : (a : Z.Denot) (p : Ptr) (x : R.Denot)
+        → ent 𝓤 (sem 𝓛 (boxed a p x)) (guard 𝓤 (Testable p) (sem 𝓛 (boxed a p x)))
+    tested a p x =
+        let frees : Fml = HeapImpl.ghosts.dealloc_token a (bare (lone R.mir)) p in
         fact_use 𝓤 (Testable p)
-        (via 𝓤 (sem 𝓛 (frees (bare (lone R.mir)) p))
-        (snd∗ 𝓤 (sem 𝓛 (lies_at R full_share p x)) (sem 𝓛 (frees (bare (lone R.mir)) p)))
-        (dealloc_token-Testable 𝓛 (record { memory = record { seal = tt } })
-        (bare (lone R.mir)) p))
-        (guard_i 𝓤 (Testable p) (sem 𝓛 (boxed p x)))
+        (via 𝓤 (sem 𝓛 frees) (snd∗ 𝓤 (sem 𝓛 (lies_at R full_share p x)) (sem 𝓛 frees))
+        (dealloc_token-Testable 𝓛 a (bare (lone R.mir)) p))
+        (guard_i 𝓤 (Testable p) (sem 𝓛 (boxed a p x)))
 
   module _ {M : Type 1} {𝓤 : Ura M} {𝓛 : Logic 𝓤} {K : Type 0} {Γ : List (Item 𝓤)}
       {G : Goal 𝓤 𝓛.H} where
-    -- there is nothing, or a box
-    pub either : K → (p : Ptr) (v : Option R.Denot)
+    -- there is nothing, or a box that this allocator can free, as every one can
+    pub either : K → (a : Z.Denot) (p : Ptr) (v : Option R.Denot)
         → (p ≡ null_ptr → v ≡ None → Seq K 𝓛 Γ G)
         → ((b o : ℕ) (x : R.Denot) → p ≡ block_ptr b o → v ≡ Some x
-        → Testable (block_ptr b o) → Seq K 𝓛 (‵ (boxed (block_ptr b o) x) ∷ Γ) G)
+        → Testable (block_ptr b o) → Seq K 𝓛 (‵ (boxed a (block_ptr b o) x) ∷ Γ) G)
         → Seq K 𝓛 (‵ (holds_of R p v) ∷ Γ) G
-    either t null_ptr None none one = drop t $ none refl refl
-    either t null_ptr (Some x) none one = fpick t (λ wrong. absurd wrong)
-    either t (block_ptr b o) None none one = fpick t (λ wrong. absurd wrong)
-    either t (block_ptr b o) (Some x) none one =
-        use1 𝓛 (given (Testable (block_ptr b o)) (‵ (boxed (block_ptr b o) x)))
-        (tested 𝓛 (block_ptr b o) x) $
-        learn t (λ can. one b o x refl refl can)
+    either t a null_ptr None none one = drop t $ none refl refl
+    either t a null_ptr (Some x) none one = fpick t (λ wrong. absurd wrong)
+    either t a (block_ptr b o) None none one = fpick t (λ wrong. absurd wrong)
+    either t a (block_ptr b o) (Some x) none one = fpick t (λ _.
+        use1 𝓛 (given (Testable (block_ptr b o)) (‵ (boxed a (block_ptr b o) x)))
+        (tested 𝓛 a (block_ptr b o) x) $
+        learn t (λ can. one b o x refl refl can))
 
     -- the machine's values of a handle, which is a word, and of the allocator
     pub had : K → (ν : Sym) (c : Ptr) (v : Option R.Denot) (a : Z.Denot) (us vs : List Val)
@@ -111,7 +110,7 @@ module _ (R : RattleType) where
         → Step K 𝓛 (‵ ((Opt.the_row Out).own_val
         (Some (record { ptr = block_ptr b o; alloc = a; value = x }))
         (live 1 (vcons (both (vptr b o) h) vnil) ∷ [])) ∷ Γ) G
-        (‵ (boxed (block_ptr b o) x) ∷ ‵ (Z.own_val a (h ∷ [])) ∷ Γ) G
+        (‵ (boxed a (block_ptr b o) x) ∷ ‵ (Z.own_val a (h ∷ [])) ∷ Γ) G
     handed_out t b o h a x = step (λ next.
         let made : Val = both (vptr b o) h in
         let out : Out.Denot = record { ptr = block_ptr b o; alloc = a; value = x } in

@@ -7,12 +7,12 @@ use Rattle.regex_lite_c.proofs.Common.{alloc_all, free_all, get, get_in, look_at
 use Rattle.regex_lite_c.proofs.Common.{by, fjoin, fsplit, keep, move, qed, raw, split, suffices, ‵}
 use Rattle.regex_lite_c.proofs.Common.{◌$◌, ◌∵◌, ◌⊛◌, agg, sub, whole, and_then, enter, fld}
 use Rattle.regex_lite_c.proofs.Common.{no_more, of_opd, returns, stop}
-use types.Kit.{drop}
+use types.Kit.{drop, fpack}
 use Rattle.std.specs.contracts.impls.GlobalAllocator.TheImpl as HeapImpl
 use Rattle.std.proofs.alloc.Global.TheLaws as HeapLaws
 use Rattle.regex_lite.proofs.UnboxedLemmas.{both, both_good, unboxed_had}
 use Rattle.regex_lite.proofs.PointerLemmas.{word_made}
-use Rattle.regex_lite_c.proofs.handle.HandleLemmas.{Out, Z, run_with_one, stated}
+use Rattle.regex_lite_c.proofs.handle.HandleLemmas.{Out, Z, boxed, run_with_one, stated}
 use Rattle.regex_lite.specs.contracts.string.regex.Regex as stored
 use Rattle.regex_lite_c.specs.contracts.handle.Handle as handle
 use Rattle.regex_lite_c.specs.contracts.handle.Handle.of as f
@@ -49,6 +49,7 @@ of_spec 𝓤 𝓛 𝓜 𝓡 wired =
     let typed = both_good R Z LZ g b o h fits in
     let c : Ptr = block_ptr b o in
     let held : Option R.Denot = Some v.value in
+    fpack ! Z.Denot (λ a. boxed R a c v.value) v.alloc $
     -- [the box; the allocator; nothing; nothing]
     suffices ! (Run (w ∷ [])) (run_with_one 𝓤 Run ws) $
     enter ! 𝓣.C 𝓣.Λ fn (w ∷ []) Post $ alloc_all ! (λ l. pass_all ! refl (typed, tt) $

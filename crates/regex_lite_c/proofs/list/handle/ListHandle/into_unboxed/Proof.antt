@@ -58,7 +58,7 @@ into_unboxed_spec 𝓤 𝓛 𝓜 𝓡 wired =
     had R ! ν c v a us vs (λ h eu ev fits.
     -- [what is held; the allocator; nothing; nothing]
     suffices ! (Run (word c ∷ h ∷ [])) (run_with 𝓤 Run eu ev) $
-    either R ! c v
+    either R ! a c v
     (λ e n. enter ! 𝓣.C 𝓣.Λ fn (word c ∷ h ∷ []) Post $
     alloc_all ! (λ l. pass_all ! refl (word-Good ν c, (fits, tt)) $
     sets !
