@@ -1,7 +1,56 @@
+use Rattle.regex_lite_engine.proofs.Common.{◌≡◌, length, sym, ◌∙◌, subst, option_map}
 use Rattle.regex_lite_engine.proofs.Common.{table_of_list}
+use Rattle.regex_lite_engine.specs.LazyDfa.Remembering.{IsRememberingList}
 use Rattle.regex_lite_engine.proofs.meta.list_searcher.find_remembering.Goals as goal
+
+pub find_in_list-requires-clause-width : goal.find_in_list-requires-clause-width
+find_in_list-requires-clause-width c =
+    sym c.requires.fresh.between.best_width
+    ∙ (subst (λ dfa. IsRememberingList c.args.graph.now (length c.args.cache.now.best.row)
+    (option_map (λ boxed. boxed.value) dfa)) c.in-Some.is c.requires.remembers).1
+
+pub returns-in-Some-find_in_list-clause-found : goal.returns-in-Some-find_in_list-clause-found
+returns-in-Some-find_in_list-clause-found c = c.in-Some-find_in_list.ensures.found
+
+pub returns-in-Some-find_in_list-clause-remembers :
+    goal.returns-in-Some-find_in_list-clause-remembers
+returns-in-Some-find_in_list-clause-remembers c =
+    let told = c.find_in_list.ensures in
+    (told.remembers, told.between.best_width ∙ told.width)
+
+pub returns-in-Some-find_in_list-clause-between : goal.returns-in-Some-find_in_list-clause-between
+returns-in-Some-find_in_list-clause-between c = c.find_in_list.ensures.between
+
+pub returns-in-Some-find_in_list-clause-without_slots :
+    goal.returns-in-Some-find_in_list-clause-without_slots
+returns-in-Some-find_in_list-clause-without_slots c =
+    c.find_in_list.ensures.between.best_width ∙ c.find_in_list.ensures.width
+
+pub returns-in-Some-find_in_list-clause-width : goal.returns-in-Some-find_in_list-clause-width
+returns-in-Some-find_in_list-clause-width c =
+    let told = c.find_in_list.ensures in
+    let before =
+    subst (λ dfa. IsRememberingList c.args.graph.now (length c.args.cache.now.best.row)
+    (option_map (λ boxed. boxed.value) dfa)) c.in-Some.is c.requires.remembers in
+    told.between.best_width ∙ told.width ∙ sym before.1
 
 pub returns-clause-fresh : goal.returns-clause-fresh
 returns-clause-fresh c = λ _.
     c.restart.ensures.fresh (table_of_list c.args.graph.now)
     c.in_default-find_in_list.ensures.between
+
+pub returns-clause-between : goal.returns-clause-between
+returns-clause-between c =
+    (c.restart.ensures.fresh (table_of_list c.args.graph.now)
+    c.in_default-find_in_list.ensures.between).between
+
+pub returns-clause-width : goal.returns-clause-width
+returns-clause-width c =
+    let told = c.find_in_list.ensures in
+    let before =
+    subst (λ dfa. IsRememberingList c.args.graph.now (length c.args.cache.now.best.row)
+    (option_map (λ boxed. boxed.value) dfa)) c.in-Some.is c.requires.remembers in
+    c.restart.ensures.width ∙ (told.between.best_width ∙ told.width ∙ sym before.1)
+
+pub returns-in_default-clause-between : goal.returns-in_default-clause-between
+returns-in_default-clause-between c = c.requires.fresh.between

@@ -4,11 +4,14 @@ use Rattle.regex_lite_engine.proofs.Common.{Tree, repetition, concat, alternatio
 use Rattle.regex_lite_engine.proofs.Common.{nullable, tree_of, copies, own_places}
 use Rattle.regex_lite_engine.proofs.Common.{places, place_of, IsAdded, layout, Hir, ◌<◌, ◌^◌, ◌-◌}
 use Rattle.regex_lite_engine.proofs.Common.{drop, places_in, greatest_index, greatest_index_in}
-use Rattle.regex_lite_engine.proofs.Common.{Trees}
+use Rattle.regex_lite_engine.proofs.Common.{Trees, ℕ, ◌≤◌, None, mul-le-mul_right, copies_layout}
+use Rattle.regex_lite_engine.proofs.Common.{choices_layout, chain_layout}
+use Rattle.regex_lite_engine.specs.Nfa.Repetitions.{repetition_layout}
+use Rattle.regex_lite_engine.proofs.nfa.write.AddedLemmas.{one_longer}
 use Rattle.regex_lite_syntax.proofs.TreeLemmas.{trees_more}
 use Rattle.regex_lite_syntax.proofs.hir.Hir.TheLaws.{the_size}
 use denote.Param.Weighed.{at_most}
-use Rattle.std.proofs.Common.{IfOk}
+use Rattle.std.proofs.Common.{Result, Ok, Err, IfOk}
 use Rattle.regex_lite_engine.specs.Nfa.Layout.{capture_layout}
 use Rattle.std.proofs.lemmas.Grind.{common_steps}
 use Rattle.regex_lite_syntax.proofs.TreeLemmas.{tree_of-Repetition}
@@ -248,6 +251,266 @@ write_branches-write-requires t c =
     omega (arith, index)) in
     (omega (arith, c.decreases, deep, same), (room, slots))
 
+-- the table has as many places as this, where they are as many as that
+if_same : {E : Type 0} (result : Result ℕ E) (n a b : ℕ) → a ≡ b → IfOk result (λ _. n ≡ a)
+    → IfOk result (λ _. n ≡ b)
+if_same (Ok number) n a b same is = is ∙ same
+if_same (Err e) n a b same is = tt
+
+pub write_alternation-add-requires : goal.write_alternation-add-requires
+write_alternation-add-requires t c =
+    omega (arith, c.in_ok-entries.ensures.grown, c.in_ok-join.ensures.grown, c.requires.room)
+
+pub write_alternation-add_empty-requires : goal.write_alternation-add_empty-requires
+write_alternation-add_empty-requires t c = omega (arith, c.requires.room)
+
+pub write_alternation-write_branches-requires : goal.write_alternation-write_branches-requires
+write_alternation-write_branches-requires t c =
+    (search rules, (omega (arith, c.in_ok-join.ensures.grown, c.requires.room), c.requires.slots))
+
+pub write_alternation-returns-clause-grown : goal.write_alternation-returns-clause-grown
+write_alternation-returns-clause-grown t c =
+    if_same c.add.result (length c.add.new.self) (length c.write_branches.new.self + 1) _
+    (omega (arith, c.in_ok-entries.ensures.grown, c.in_ok-join.ensures.grown))
+    (one_longer c.add.result c.write_branches.new.self c.add.new.self _ c.add.ensures.added)
+
+pub write_choices-write-requires : goal.write_choices-write-requires
+write_choices-write-requires t c =
+    let next : c.loop-i._i + 1 ≤ c.args.count = omega (arith, c.loop-i-test.true) in
+    let more = mul-le-mul_right (places (tree_of c.args.body.now) + 1) next in (
+      search rules,
+      (omega (arith, more, c.loop-i.invariant.grown, c.requires.room), c.requires.slots),
+    )
+
+pub write_choices-add_choice-requires : goal.write_choices-add_choice-requires
+write_choices-add_choice-requires t c =
+    let next : c.loop-i._i + 1 ≤ c.args.count = omega (arith, c.loop-i-test.true) in
+    let more = mul-le-mul_right (places (tree_of c.args.body.now) + 1) next in
+    omega (
+      arith,
+      more,
+      c.loop-i.invariant.grown,
+      c.in_ok-inner.ensures.grown,
+      c.requires.room,
+    )
+
+pub write_choices-returns-clause-written : goal.write_choices-returns-clause-written
+write_choices-returns-clause-written t c =
+    let all : c.loop-i._i ≡ c.args.count =
+    omega (arith, c.loop-i.auto._i-end, c.loop-i-test.false) in
+    subst (λ n. IsAdded (map place_of c.args.self.now) (map place_of c.loop-i.self) c.loop-i.next
+    (choices_layout c.args.greedy (layout (tree_of c.args.body.now)) n (length c.args.self.now)
+    c.args.join)) all c.loop-i.invariant.written
+
+pub write_choices-returns-clause-grown : goal.write_choices-returns-clause-grown
+write_choices-returns-clause-grown t c =
+    let all : c.loop-i._i ≡ c.args.count =
+    omega (arith, c.loop-i.auto._i-end, c.loop-i-test.false) in
+    subst (λ n. length c.loop-i.self
+    ≡ length c.args.self.now + n * (places (tree_of c.args.body.now) + 1)) all
+    c.loop-i.invariant.grown
+
+pub write_copies-write-requires : goal.write_copies-write-requires
+write_copies-write-requires t c =
+    let next : c.loop-i._i + 1 ≤ c.args.count = omega (arith, c.loop-i-test.true) in
+    let more = mul-le-mul_right (places (tree_of c.args.body.now)) next in (
+      search rules,
+      (omega (arith, more, c.loop-i.invariant.grown, c.requires.room), c.requires.slots),
+    )
+
+pub write_copies-returns-clause-written : goal.write_copies-returns-clause-written
+write_copies-returns-clause-written t c =
+    let all : c.loop-i._i ≡ c.args.count =
+    omega (arith, c.loop-i.auto._i-end, c.loop-i-test.false) in
+    subst (λ n. IsAdded (map place_of c.args.self.now) (map place_of c.loop-i.self) c.loop-i.next
+    (copies_layout (layout (tree_of c.args.body.now)) n (length c.args.self.now) c.args.exit))
+    all c.loop-i.invariant.written
+
+pub write_copies-returns-clause-grown : goal.write_copies-returns-clause-grown
+write_copies-returns-clause-grown t c =
+    let all : c.loop-i._i ≡ c.args.count =
+    omega (arith, c.loop-i.auto._i-end, c.loop-i-test.false) in
+    subst (λ n. length c.loop-i.self
+    ≡ length c.args.self.now + n * places (tree_of c.args.body.now)) all
+    c.loop-i.invariant.grown
+
+pub write_concat-returns-clause-written : goal.write_concat-returns-clause-written
+write_concat-returns-clause-written t c =
+    let first : c.loop-i.i ≡ 0 = omega (arith, c.loop-i-test.false) in
+    subst (λ i. IsAdded (map place_of c.args.self.now) (map place_of c.loop-i.self) c.loop-i.next
+    (chain_layout (trees (map tree_of (drop i c.args.parts.now))) (length c.args.self.now)
+    c.args.exit)) first c.loop-i.invariant.written
+
+pub write_concat-returns-clause-grown : goal.write_concat-returns-clause-grown
+write_concat-returns-clause-grown t c =
+    let first : c.loop-i.i ≡ 0 = omega (arith, c.loop-i-test.false) in
+    subst (λ i. length c.loop-i.self
+    ≡ length c.args.self.now + places_in (trees (map tree_of (drop i c.args.parts.now)))) first
+    c.loop-i.invariant.grown
+
+pub write_group-write-requires : goal.write_group-write-requires
+write_group-write-requires t c =
+    (search rules, (omega (arith, c.in_ok-close.ensures.grown, c.requires.room), c.requires.slots))
+
+pub write_group-open_group-requires-clause-room : goal.write_group-open_group-requires-clause-room
+write_group-open_group-requires-clause-room t c =
+    omega (arith, c.in_ok-close.ensures.grown, c.in_ok-inner.ensures.grown, c.requires.room)
+
+pub write_group-returns-clause-grown : goal.write_group-returns-clause-grown
+write_group-returns-clause-grown t c =
+    if_same c.open_group.result (length c.open_group.new.self) (length c.write.new.self + 1) _
+    (omega (arith, c.in_ok-close.ensures.grown, c.in_ok-inner.ensures.grown))
+    c.open_group.ensures.grown
+
+pub write_loop-put_choice-requires : goal.write_loop-put_choice-requires
+write_loop-put_choice-requires t c =
+    omega (
+      arith,
+      c.in_ok-choice.ensures.number,
+      c.in_ok-choice.ensures.grown,
+      c.in_ok-inner.ensures.grown,
+    )
+
+pub write_loop-write-requires : goal.write_loop-write-requires
+write_loop-write-requires t c =
+    (search rules, (omega (arith, c.in_ok-choice.ensures.grown, c.requires.room), c.requires.slots))
+
+pub write_loop-returns-clause-body : goal.write_loop-returns-clause-body
+write_loop-returns-clause-body t c =
+    let body = layout (tree_of c.args.body.now) in
+    let old = c.args.self.now in
+    c.in_ok-inner.ensures.written.0
+    ∙ ap (λ k. (body k c.in_ok-choice.choice).1) c.in_ok-choice.ensures.grown
+    ∙ ap (λ k. (body (length old + 1) k).1) c.in_ok-choice.ensures.number
+
+pub write_loop-returns-clause-grown : goal.write_loop-returns-clause-grown
+write_loop-returns-clause-grown t c =
+    omega (
+      arith,
+      c.put_choice.ensures.length,
+      c.in_ok-inner.ensures.grown,
+      c.in_ok-choice.ensures.grown,
+    )
+
+pub write_repetition-write_star-requires : goal.write_repetition-write_star-requires
+write_repetition-write_star-requires t c =
+    let body = tree_of c.args.body.now in
+    let none : c.args.least ≡ 0 = omega (arith, c.if-least-gt0.false) in
+    let endless =
+    ap (λ most. copies c.args.least most * places body
+    + own_places c.args.least most (nullable body))
+    c.in-None.is
+    ∙ ap (λ n. copies n None * places body + own_places n None (nullable body)) none in
+    (search rules, (omega (arith, endless, c.requires.room), c.requires.slots))
+
+pub write_repetition-returns-in-None-2-clause-grown :
+    goal.write_repetition-returns-in-None-2-clause-grown
+write_repetition-returns-in-None-2-clause-grown t c =
+    let body = tree_of c.args.body.now in
+    let none : c.args.least ≡ 0 = omega (arith, c.if-least-gt0.false) in
+    let endless =
+    ap (λ most. copies c.args.least most * places body
+    + own_places c.args.least most (nullable body))
+    c.in-None.is
+    ∙ ap (λ n. copies n None * places body + own_places n None (nullable body)) none in
+    if_same c.write_star.result (length c.write_star.new.self)
+    (length c.args.self.now + (places body + own_places 0 None (nullable body))) _
+    (omega (arith, endless)) c.write_star.ensures.grown
+
+pub write_repetition-returns-in-None-2-clause-written :
+    goal.write_repetition-returns-in-None-2-clause-written
+write_repetition-returns-in-None-2-clause-written t c =
+    let body = tree_of c.args.body.now in
+    let none : c.args.least ≡ 0 = omega (arith, c.if-least-gt0.false) in
+    subst (λ most. IfOk c.write_star.result (λ entry. IsAdded (map place_of c.args.self.now)
+    (map place_of c.write_star.new.self) entry (repetition_layout c.args.greedy (layout body)
+    c.args.least most (nullable body) (length c.args.self.now) c.args.exit))) (sym c.in-None.is)
+    (subst (λ least. IfOk c.write_star.result (λ entry. IsAdded (map place_of c.args.self.now)
+    (map place_of c.write_star.new.self) entry (repetition_layout c.args.greedy (layout body)
+    least None (nullable body) (length c.args.self.now) c.args.exit))) (sym none)
+    c.write_star.ensures.written)
+
+pub write_repetition-write_copies-requires : goal.write_repetition-write_copies-requires
+write_repetition-write_copies-requires t c =
+    let least = c.args.least in
+    let body = tree_of c.args.body.now in
+    let endless = ap (λ most. copies least most * places body
+    + own_places least most (nullable body)) c.in-None.is in
+    let parts = loop_room least (places body) (nullable body) (search rules) in (
+      search rules,
+      (
+        omega (
+          arith,
+          endless,
+          parts,
+          c.in_ok-inner-in-None.ensures.grown,
+          c.requires.room,
+        ),
+        c.requires.slots,
+      ),
+    )
+
+pub write_repetition-returns-in_ok-inner-in-None-clause-grown :
+    goal.write_repetition-returns-in_ok-inner-in-None-clause-grown
+write_repetition-returns-in_ok-inner-in-None-clause-grown t c =
+    let least = c.args.least in
+    let body = tree_of c.args.body.now in
+    let endless = ap (λ most. copies least most * places body
+    + own_places least most (nullable body)) c.in-None.is in
+    let parts = loop_room least (places body) (nullable body) (search rules) in
+    if_same c.write_copies.result (length c.write_copies.new.self)
+    (length c.write_loop.new.self + (least - 1) * places body) _
+    (omega (arith, endless, parts, c.in_ok-inner-in-None.ensures.grown))
+    c.write_copies.ensures.grown
+
+pub write_star-write_loop-requires : goal.write_star-write_loop-requires
+write_star-write_loop-requires t c =
+    let own =
+    ap (λ b. own_places 0 None b) (sym c.is_nullable.ensures ∙ c.if-not-is_nullable.true) in
+    (search rules, (omega (arith, own, c.requires.room), c.requires.slots))
+
+pub write_star-add_empty-requires : goal.write_star-add_empty-requires
+write_star-add_empty-requires t c =
+    let own =
+    ap (λ b. own_places 0 None b) (sym c.is_nullable.ensures ∙ c.if-not-is_nullable.false) in
+    omega (arith, own, c.requires.room)
+
+pub write_star-write_loop-requires-2 : goal.write_star-write_loop-requires-2
+write_star-write_loop-requires-2 t c =
+    let own =
+    ap (λ b. own_places 0 None b) (sym c.is_nullable.ensures ∙ c.if-not-is_nullable.false) in (
+      search rules,
+      (omega (arith, own, c.in_ok-join.ensures.grown, c.requires.room), c.requires.slots),
+    )
+
+pub write_star-add_choice-requires : goal.write_star-add_choice-requires
+write_star-add_choice-requires t c =
+    let own =
+    ap (λ b. own_places 0 None b) (sym c.is_nullable.ensures ∙ c.if-not-is_nullable.false) in
+    omega (
+      arith,
+      own,
+      c.in_ok-inner.ensures.grown,
+      c.in_ok-join.ensures.grown,
+      c.requires.room,
+    )
+
+pub write_star-returns-clause-grown : goal.write_star-returns-clause-grown
+write_star-returns-clause-grown t c =
+    let own =
+    ap (λ b. own_places 0 None b) (sym c.is_nullable.ensures ∙ c.if-not-is_nullable.false) in
+    if_same c.add_choice.result (length c.add_choice.new.self)
+    (length c.write_loop-2.new.self + 1) _
+    (omega (arith, own, c.in_ok-inner.ensures.grown, c.in_ok-join.ensures.grown))
+    c.add_choice.ensures.grown
+
+pub write_bounded-write_copies-requires : goal.write_bounded-write_copies-requires
+write_bounded-write_copies-requires t c =
+    let kept : c.args.least + (c.args.most - c.args.least) ≡ c.args.least =
+    omega (arith, c.if-most-least.true) in
+    let same = ap (λ n. n * places (tree_of c.args.body.now)) kept in
+    (search rules, (omega (arith, same, c.requires.room), c.requires.slots))
+
 -- The goals from here on need no lemma of their own. They have answers because the prover would
 -- try other calls first, which takes long
 pub write_bounded-returns-then-least-eq0-clause-written :
@@ -301,33 +564,15 @@ write_concat-loop-i-preserved t c = grind (arith, common_steps)
 pub write_copies-loop-i-preserved : goal.write_copies-loop-i-preserved
 write_copies-loop-i-preserved t c = grind (arith, common_steps)
 
-pub write_loop-write-requires : goal.write_loop-write-requires
-write_loop-write-requires t c = grind (arith, common_steps)
-
-pub write_loop-returns-clause-body : goal.write_loop-returns-clause-body
-write_loop-returns-clause-body t c = grind (arith, common_steps)
-
-pub write_loop-returns-clause-grown : goal.write_loop-returns-clause-grown
-write_loop-returns-clause-grown t c = grind (arith, common_steps)
-
 pub write_repetition-returns-in_ok-inner-in-None-clause-written :
     goal.write_repetition-returns-in_ok-inner-in-None-clause-written
 write_repetition-returns-in_ok-inner-in-None-clause-written t c = grind (arith, common_steps)
 
-pub write_star-write_loop-requires-2 : goal.write_star-write_loop-requires-2
-write_star-write_loop-requires-2 t c = grind (arith, common_steps)
-
 pub write_star-returns-clause-written : goal.write_star-returns-clause-written
 write_star-returns-clause-written t c = grind (arith, common_steps)
 
-pub write_star-returns-clause-grown : goal.write_star-returns-clause-grown
-write_star-returns-clause-grown t c = grind (arith, common_steps)
-
 pub write_alternation-returns-clause-written : goal.write_alternation-returns-clause-written
 write_alternation-returns-clause-written t c = grind (arith, common_steps)
-
-pub write_alternation-returns-clause-grown : goal.write_alternation-returns-clause-grown
-write_alternation-returns-clause-grown t c = grind (arith, common_steps)
 
 pub write_branches-loop-branch-preserved : goal.write_branches-loop-branch-preserved
 write_branches-loop-branch-preserved t c = grind (arith, common_steps)

@@ -1,6 +1,7 @@
 use Rattle.regex_lite_engine.proofs.Common.{◌<◌, sym, refl, ap, ◌∙◌, arith}
 use Rattle.regex_lite_engine.specs.Pikevm.Machine.{State}
 use Rattle.regex_lite_engine.proofs.pikevm.memory.CellLemmas.{frame_taken, state_is}
+use Rattle.regex_lite_engine.specs.Pikevm.Cells.{frames_in}
 use Rattle.regex_lite_engine.proofs.pikevm.memory.Memory.pop.Goals as goal
 
 pub returns : goal.returns
@@ -15,3 +16,27 @@ returns g c =
           (ap (λ (z : State). z.next) v) (ap (λ (z : State). z.room) v)
           (ap (λ (z : State). z.ready) v),
     )
+
+pub returns-then-self-eq0 : goal.returns-then-self-eq0
+returns-then-self-eq0 g c = (
+  sym (ap (λ (z : State). z.frames) c.self.view_is)
+      ∙ ap (λ n. frames_in c.self.inside.cells.items n) c.if-self-eq0.true,
+  refl,
+)
+
+pub index-requires : goal.index-requires
+index-requires g c = omega (arith, c.self.invariant.frames_fit, c.if-self-eq0.false)
+
+pub invariant_of-self : goal.invariant_of-self
+invariant_of-self g c =
+    let fit = c.self.invariant in record {
+      all_ready = fit.all_ready;
+      cells_fit = fit.cells_fit;
+      frames_fit = omega (arith, fit.frames_fit);
+      threads_fit = fit.threads_fit;
+      next_fit = fit.next_fit;
+      threads_few = fit.threads_few;
+      next_few = fit.next_few;
+      room_few = fit.room_few;
+      rows_fit = fit.rows_fit;
+    }
