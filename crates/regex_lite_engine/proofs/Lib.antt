@@ -3,6 +3,7 @@ pub mod Common
 -- lemmas that several modules use
 pub mod ArrowBoundLemmas
 pub mod InLemmas
+pub mod LeafLemmas
 pub mod LookupLemmas
 pub mod OffsetLemmas
 pub mod OptionLemmas

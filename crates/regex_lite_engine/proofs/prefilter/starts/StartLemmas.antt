@@ -7,6 +7,8 @@ use Rattle.regex_lite_engine.proofs.Common.{subst, inl, inr, arith, cases_lt, na
 use Rattle.regex_lite_engine.proofs.Common.{Text, after, Tree, repetition, Trees, more, Matches}
 use Rattle.regex_lite_engine.proofs.Common.{Chain, SomeBranch, ClassRange, begins_with, may_begin}
 use Rattle.regex_lite_engine.proofs.Common.{MayBegin, IsWider, BeginsOrPasses, Starts}
+use Rattle.regex_lite_engine.proofs.Common.{character, class, just}
+use Rattle.regex_lite_engine.specs.Prefilter.Starts.{HasAll}
 use Rattle.std.specs.Char.{is_ascii}
 use Rattle.std.proofs.lemmas.Bool.{or_right}
 use Rattle.regex_lite_syntax.specs.Sets.{span}
@@ -259,3 +261,16 @@ union_at s t u any ascii others c = by_width (cases_lt c 128)
         stored (ap (λ b. if b then slice_index_or u.ascii c true else u.others) wide ∙ others
         ∙ sym (ap (λ b. b || begins_with t c) (begins_as_one s c le)
         ∙ ap (λ b. begins_with s 128 || b) (begins_as_one t c le)))
+
+-- a match of what reads one character begins with it
+pub character_begins : (c : ℕ) (s : Starts) → HasAll s (just c) → BeginsOrPasses (character c) s false
+character_begins c s all h i j (there, past) =
+    inl (subst (λ next. IsTrue (may_begin s (before h i) next)) (sym there)
+    (subst (λ b. IsTrue (b || (s.at_start && is_none (before h i))))
+    (sym (all c (grind (arith, nat_tests)))) refl))
+
+pub class_begins : (ranges : List ClassRange) (s : Starts) → HasAll s (in_ranges ranges)
+    → BeginsOrPasses (class ranges) s false
+class_begins ranges s all h i j (c, there, inside, past) =
+    inl (subst (λ next. IsTrue (may_begin s (before h i) next)) (sym there)
+    (subst (λ b. IsTrue (b || (s.at_start && is_none (before h i)))) (sym (all c inside)) refl))

@@ -1,5 +1,8 @@
 use Rattle.regex_lite_engine.proofs.Common.{◌≡◌, ◌+◌, ◌-◌, drop, sym, ap, ◌∙◌, subst, arith, Tree}
-use Rattle.regex_lite_engine.proofs.Common.{repetition, alternation, Trees, none, more, tree_of}
+use Rattle.regex_lite_engine.proofs.Common.{repetition, concat, alternation, class, Trees, none, more}
+use Rattle.regex_lite_engine.proofs.Common.{tree_of}
+use Rattle.regex_lite_engine.proofs.LeafLemmas.{tree_of-Class}
+use Rattle.regex_lite_syntax.proofs.TreeLemmas.{tree_of-Concat, tree_of-Alternation}
 use Rattle.std.proofs.lemmas.List.{drop_all}
 use Rattle.regex_lite_engine.specs.Nfa.Saturation.{AreCountsOf}
 use Rattle.regex_lite_syntax.proofs.TreeLemmas.{tree_of-Repetition, trees_of, trees_more}
@@ -55,6 +58,36 @@ of_branches-returns t c =
     subst (λ (branches : Trees). AreCountsOf (alternation branches) c.loop-i.counts)
     (sym whole) known.3
 
+pub of-returns-in-Class : goal.of-returns-in-Class
+of-returns-in-Class t c =
+    let same = ap tree_of c.in-Class.is ∙ tree_of-Class c.in-Class.set
+    ∙ ap class (sym c.deref.ensures) in
+    subst (λ (tree : Tree). AreCountsOf tree c.of_class.result) (sym same) c.of_class.ensures
+
+pub of-returns-in-Concat : goal.of-returns-in-Concat
+of-returns-in-Concat t c =
+    let same = ap tree_of c.in-Concat.is ∙ tree_of-Concat c.in-Concat.parts
+    ∙ ap (λ hirs. concat (trees_of hirs)) (sym c.deref-in-Concat.ensures.value) in
+    subst (λ (tree : Tree). AreCountsOf tree c.of_parts.result) (sym same) c.of_parts.ensures
+
+pub of-returns-in-Alternation : goal.of-returns-in-Alternation
+of-returns-in-Alternation t c =
+    let same = ap tree_of c.in-Alternation.is ∙ tree_of-Alternation c.in-Alternation.branches
+    ∙ ap (λ hirs. alternation (trees_of hirs)) (sym c.deref-in-Alternation.ensures.value) in
+    subst (λ (tree : Tree). AreCountsOf tree c.of_branches.result) (sym same) c.of_branches.ensures
+
+pub of_parts-loop-i-preserved : goal.of_parts-loop-i-preserved
+of_parts-loop-i-preserved t c =
+    let hirs = c.args.parts.now in
+    let before = c.loop-i.i - 1 in
+    let part = c.index-parts-i.result in
+    let one = trees_more hirs before part (omega arith) c.index-parts-i.is in
+    let same : before + 1 ≡ c.loop-i.i = omega (arith, c.loop-i-test.true) in
+    let later = ap (λ i. more (tree_of part) (trees_of (drop i hirs))) same in
+    subst (λ (parts : Trees). AreCountsOf (concat parts) c.then-counts.result) (sym (one ∙ later))
+    (c.then-counts.ensures (tree_of part) (trees_of (drop c.loop-i.i hirs)) c.of.ensures
+    c.loop-i.invariant)
+
 -- The goals from here on need no lemma of their own. They have answers because the prover would
 -- try other calls first, which takes long
 pub of_branches-returns-in_default : goal.of_branches-returns-in_default
@@ -62,6 +95,3 @@ of_branches-returns-in_default t c = grind (arith, common_steps)
 
 pub of_parts-loop-i-init : goal.of_parts-loop-i-init
 of_parts-loop-i-init t c = grind (arith, common_steps)
-
-pub of_parts-loop-i-preserved : goal.of_parts-loop-i-preserved
-of_parts-loop-i-preserved t c = grind (arith, common_steps)

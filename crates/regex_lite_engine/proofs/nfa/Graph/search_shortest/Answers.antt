@@ -73,3 +73,13 @@ pub run_shortest-requires-clause-boundary : goal.run_shortest-requires-clause-bo
 run_shortest-requires-clause-boundary c =
     ⊎_elim (λ above. absurd (omega (arith, above, c.if-start-haystack.false))) (λ edge. edge)
     c.requires
+
+pub search_shortest_remembering-requires : goal.search_shortest_remembering-requires
+search_shortest_remembering-requires c = record {
+  boundary =
+      ⊎_elim (λ above. absurd (omega (arith, above, c.if-start-haystack.false))) (λ edge. edge)
+      c.requires;
+}
+
+pub returns-then-pays_once : goal.returns-then-pays_once
+returns-then-pays_once c = c.search_shortest_remembering.ensures

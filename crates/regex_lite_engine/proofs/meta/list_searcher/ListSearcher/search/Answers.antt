@@ -229,3 +229,12 @@ pub run-requires-clause-boundary : goal.run-requires-clause-boundary
 run-requires-clause-boundary c =
     ⊎_elim (λ above. absurd (omega (arith, above, c.if-start-haystack.false))) (λ edge. edge)
     c.requires
+
+pub find_remembering-requires-clause-remembers : goal.find_remembering-requires-clause-remembers
+find_remembering-requires-clause-remembers c =
+    subst (λ slots. IsRememberingList c.self.inside.graph.now slots
+    (option_map (λ dfa. dfa.value) c.self.inside.dfa)) (sym c.restart.ensures.width)
+    c.self.invariant.3
+
+pub find_origin-requires-clause-finds : goal.find_origin-requires-clause-finds
+find_origin-requires-clause-finds c = c.self.invariant.4

@@ -9,6 +9,7 @@ use Rattle.regex_lite_engine.proofs.pikevm.EndLemmas.{one_best}
 use Rattle.regex_lite_engine.proofs.search.OutcomeLemmas as outcome
 use Rattle.regex_lite_engine.proofs.Common.{arith}
 use Rattle.std.proofs.lemmas.Grind.{common_steps}
+use Rattle.regex_lite_engine.proofs.Common.{⊎_elim}
 use Rattle.regex_lite_engine.proofs.meta.searcher.Searcher.search.Goals as goal
 
 pub returns-in-Some-clause-found : goal.returns-in-Some-clause-found
@@ -113,3 +114,28 @@ pub returns-clause-slots : goal.returns-clause-slots
 returns-clause-slots c =
     c.find_passed.ensures.width ∙ (c.restart.ensures.width
     ∙ ap (λ (z : Searching). length z.slots) c.self.view_is)
+
+pub find_in_graph-requires-clause-boundary : goal.find_in_graph-requires-clause-boundary
+find_in_graph-requires-clause-boundary c =
+    ⊎_elim (λ above. absurd (omega (arith, above, c.if-start-haystack.false))) (λ edge. edge)
+    c.requires
+
+pub pass_to_match-requires-clause-boundary : goal.pass_to_match-requires-clause-boundary
+pass_to_match-requires-clause-boundary c =
+    ⊎_elim (λ above. absurd (omega (arith, above, c.if-start-haystack.false))) (λ edge. edge)
+    c.requires
+
+pub returns-clause-graph : goal.returns-clause-graph
+returns-clause-graph c = ap (λ (z : Searching). z.graph) c.self.view_is
+
+pub returns-in-Some-clause-graph : goal.returns-in-Some-clause-graph
+returns-in-Some-clause-graph c = ap (λ (z : Searching). z.graph) c.self.view_is
+
+pub returns-in-Some-clause-slots : goal.returns-in-Some-clause-slots
+returns-in-Some-clause-slots c =
+    let told = c.find_in_graph.ensures in
+    let before =
+    subst (λ dfa. IsRemembering c.self.inside.graph.now (length c.self.inside.cache.best.row)
+    (option_map (λ boxed. boxed.value) dfa)) c.in-Some.is c.self.invariant.2 in
+    told.between.best_width ∙ told.width ∙ sym before.1
+    ∙ ap (λ (z : Searching). length z.slots) c.self.view_is

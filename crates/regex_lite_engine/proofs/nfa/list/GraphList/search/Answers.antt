@@ -6,6 +6,7 @@ use Rattle.regex_lite_engine.specs.Pikevm.Searching.{IsFresh}
 use Rattle.regex_lite_engine.proofs.search.ListOutcomeLemmas.{cost_of_list, outcome_told}
 use Rattle.regex_lite_engine.proofs.search.OutcomeLemmas.{can_count}
 use Rattle.std.proofs.lemmas.Grind.{common_steps}
+use Rattle.regex_lite_engine.proofs.Common.{⊎_elim}
 use Rattle.regex_lite_engine.proofs.nfa.list.GraphList.search.Goals as goal
 
 pub cache_for-requires : goal.cache_for-requires
@@ -59,3 +60,8 @@ returns-clause-cost c = λ trees is.
 -- It has an answer because the prover would try other calls first, which takes long
 pub returns-then-start-haystack-clause-found : goal.returns-then-start-haystack-clause-found
 returns-then-start-haystack-clause-found c = grind (arith, common_steps)
+
+pub run-requires-clause-boundary : goal.run-requires-clause-boundary
+run-requires-clause-boundary c =
+    ⊎_elim (λ above. absurd (omega (arith, above, c.if-start-haystack.false))) (λ edge. edge)
+    c.requires

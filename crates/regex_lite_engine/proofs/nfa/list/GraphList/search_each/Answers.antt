@@ -5,6 +5,7 @@ use Rattle.regex_lite_engine.proofs.Common.{IsBoundedBy, search_start}
 use Rattle.regex_lite_engine.specs.Search.AnswerOfList.{TellsWhich}
 use Rattle.regex_lite_engine.proofs.search.ListOutcomeLemmas.{at_position}
 use Rattle.std.proofs.lemmas.Grind.{common_steps}
+use Rattle.regex_lite_engine.proofs.Common.{⊎_elim}
 use Rattle.regex_lite_engine.proofs.nfa.list.GraphList.search_each.Goals as goal
 
 pub returns-clause-found : goal.returns-clause-found
@@ -59,3 +60,8 @@ returns-then-start-haystack-clause-found c = grind (arith, common_steps)
 
 pub returns-then-start-haystack-clause-entered : goal.returns-then-start-haystack-clause-entered
 returns-then-start-haystack-clause-entered c = grind (arith, common_steps)
+
+pub search_all-steps-requires-clause-boundary : goal.search_all-steps-requires-clause-boundary
+search_all-steps-requires-clause-boundary c =
+    ⊎_elim (λ above. absurd (omega (arith, above, c.if-start-haystack.false))) (λ edge. edge)
+    c.requires

@@ -18,9 +18,8 @@ use Rattle.regex_lite_syntax.proofs.TreeLemmas.{tree_of-Repetition}
 use Rattle.regex_lite_engine.proofs.nfa.write.RoomLemmas.{loop_room}
 use Rattle.regex_lite_engine.proofs.nfa.write.WrittenOverLemmas.{loop_written}
 use Rattle.regex_lite_syntax.proofs.TreeLemmas.{tree_of-Concat, tree_of-Alternation}
-use Rattle.regex_lite_engine.proofs.nfa.write.OnePlaceLemmas.{tree_of-Empty, tree_of-Char}
-use Rattle.regex_lite_engine.proofs.nfa.write.OnePlaceLemmas.{tree_of-Class, tree_of-Look}
-use Rattle.regex_lite_engine.proofs.nfa.write.OnePlaceLemmas.{tree_of-Capture}
+use Rattle.regex_lite_engine.proofs.LeafLemmas.{tree_of-Empty, tree_of-Char, tree_of-Class}
+use Rattle.regex_lite_engine.proofs.LeafLemmas.{tree_of-Look, tree_of-Capture}
 use Rattle.regex_lite_engine.specs.Graph.Places.{go, go_holding, one_char, one_of, with_arrows}
 use Rattle.regex_lite_engine.proofs.nfa.write.OnePlaceLemmas.{one_added, one_more_place}
 use Rattle.regex_lite_engine.proofs.nfa.write.Writer.+write.Goals as goal

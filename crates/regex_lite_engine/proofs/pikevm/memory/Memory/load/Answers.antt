@@ -112,3 +112,6 @@ invariant_of-self g c =
 pub copy-requires-clause-apart : goal.copy-requires-clause-apart
 copy-requires-clause-apart g c = λ same.
     row_after_first c.self.inside.side c.self.inside.room c.args.k (sym c.row_of.ensures ∙ same)
+
+pub copy-requires-clause-to : goal.copy-requires-clause-to
+copy-requires-clause-to g c = omega (arith, c.self.invariant.rows_fit)

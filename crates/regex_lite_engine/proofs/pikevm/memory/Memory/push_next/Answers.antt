@@ -133,3 +133,6 @@ pub copy-requires-clause-apart : goal.copy-requires-clause-apart
 copy-requires-clause-apart g c = λ same.
     row_after_first c.other-side.result c.self.inside.room c.self.inside.next_len
     (sym (same ∙ c.row_of.ensures))
+
+pub copy-requires-clause-from : goal.copy-requires-clause-from
+copy-requires-clause-from g c = omega (arith, c.self.invariant.rows_fit)

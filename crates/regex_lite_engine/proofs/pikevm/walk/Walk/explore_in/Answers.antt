@@ -2,7 +2,7 @@ use Rattle.regex_lite_engine.proofs.Common.{true, false, List, [], ◌∷◌, re
 use Rattle.regex_lite_engine.proofs.Common.{length, places_of}
 use Rattle.regex_lite_engine.specs.Pikevm.Machine.{explore, Frame}
 use Rattle.regex_lite_engine.specs.Pikevm.Room.{with_frames, GoesOn, IsFit}
-use Rattle.regex_lite_engine.proofs.search.CountLemmas.{still_counted}
+use Rattle.regex_lite_engine.proofs.search.CountLemmas.{counted_at_first, still_counted}
 use Rattle.regex_lite_engine.proofs.pikevm.StateLemmas.{keeps_threads}
 use Rattle.regex_lite_engine.proofs.pikevm.WentLemmas.{back_to, goes_further}
 use Rattle.std.proofs.lemmas.Bool.{false≢true}
@@ -128,3 +128,17 @@ returns-in-None-clause-entry g c = λ never. absurd (false≢true never)
 
 pub places-smaller-in-To : goal.places-smaller-in-To
 places-smaller-in-To g c = c.in-To.ensures.taken.less refl
+
+pub places-init : goal.places-init
+places-init g c = record {
+  room = c.requires.room;
+  on = record {
+    walks = λ at is ways best walking. walking;
+    again = λ tell there alike at is ways best walking. walking;
+    spent = omega arith;
+    spent_entries = omega arith;
+  };
+  kept = record { round = refl; threads = refl; room = refl; row = refl };
+  counts = counted_at_first c.args.self.now.steps;
+  ready = refl;
+}

@@ -6,8 +6,12 @@ use Rattle.regex_lite_syntax.proofs.TreeLemmas.{tree_of-Repetition, tree_of-Conc
 use Rattle.regex_lite_syntax.proofs.TreeLemmas.{tree_of-Alternation, trees_of, trees_more}
 use Rattle.regex_lite_engine.proofs.prefilter.starts.StartLemmas.{grown_on, repetition_begins}
 use Rattle.regex_lite_engine.proofs.prefilter.starts.StartLemmas.{part_more, branch_more}
-use Rattle.regex_lite_engine.proofs.Common.{arith}
-use Rattle.std.proofs.lemmas.Grind.{common_steps}
+use Rattle.regex_lite_engine.proofs.prefilter.starts.StartLemmas.{character_begins, class_begins}
+use Rattle.regex_lite_engine.proofs.LeafLemmas.{tree_of-Empty, tree_of-Char, tree_of-Class}
+use Rattle.regex_lite_engine.proofs.LeafLemmas.{tree_of-Look, tree_of-Capture}
+use Rattle.regex_lite_engine.proofs.Common.{arith, true, false, class, capture, text_of_name}
+use Rattle.regex_lite_engine.proofs.Common.{option_map, IsWider, Starts}
+use Rattle.std.proofs.lemmas.List.{drop_all}
 use Rattle.regex_lite_engine.proofs.prefilter.starts.Starts.+add.Goals as goal
 use Rattle.regex_lite_engine.proofs.prefilter.starts.Starts.+add.Goals.{
   add_branches-then-add,
@@ -123,10 +127,70 @@ add_branches-loop-branch-preserved t c =
           ⊎ ((IsTrue before × (i ≡ j)) ⊎ SomeBranch h z i j)) one (v.left h i j m));
     }
 
--- The goals from here on need no lemma of their own. They have answers because the prover would
--- try other calls first, which takes long
-pub add_branches-returns-clause-begins : goal.add_branches-returns-clause-begins
-add_branches-returns-clause-begins t c = grind (arith, common_steps)
+pub add-returns-in-Empty-clause-begins : goal.add-returns-in-Empty-clause-begins
+add-returns-in-Empty-clause-begins t c =
+    let same = ap tree_of c.in-Empty.is ∙ tree_of-Empty in
+    subst (λ (tree : Tree). BeginsOrPasses tree c.args.self.now true) (sym same)
+    (λ h i j at. inr (refl, at))
+
+pub add-returns-in-Char-clause-begins : goal.add-returns-in-Char-clause-begins
+add-returns-in-Char-clause-begins t c =
+    let same = ap tree_of c.in-Char.is ∙ tree_of-Char c.in-Char.c in
+    subst (λ (tree : Tree). BeginsOrPasses tree c.add_char.new.self false) (sym same)
+    (character_begins c.in-Char.c c.add_char.new.self c.add_char.ensures.added)
+
+pub add-returns-in-Class-clause-begins : goal.add-returns-in-Class-clause-begins
+add-returns-in-Class-clause-begins t c =
+    let same = ap tree_of c.in-Class.is ∙ tree_of-Class c.in-Class.set
+    ∙ ap class (sym c.deref.ensures) in
+    subst (λ (tree : Tree). BeginsOrPasses tree c.add_class.new.self false) (sym same)
+    (class_begins c.deref.result.now c.add_class.new.self c.add_class.ensures.added)
+
+pub add-returns-in-Look-clause-begins : goal.add-returns-in-Look-clause-begins
+add-returns-in-Look-clause-begins t c =
+    let same = ap tree_of c.in-Look.is ∙ tree_of-Look c.in-Look.test in
+    subst (λ (tree : Tree). BeginsOrPasses tree c.add_look.new.self c.add_look.result) (sym same)
+    c.add_look.ensures.begins
+
+pub add-returns-in-Capture-clause-begins : goal.add-returns-in-Capture-clause-begins
+add-returns-in-Capture-clause-begins t c =
+    let r = c.in-Capture in
+    let same = ap tree_of r.is ∙ tree_of-Capture r.index r.name r.body
+    ∙ ap (λ hir. capture r.index (option_map text_of_name r.name) (tree_of hir))
+    (sym c.deref-in-Capture.ensures) in
+    subst (λ (tree : Tree). BeginsOrPasses tree c.add-in-Capture.new.self c.add-in-Capture.result)
+    (sym same) c.add-in-Capture.ensures.begins
+
+same_width : (s : Starts) → IsWider s s
+same_width s = record { with = λ c begins. begins; at_start = λ at_start. at_start }
+
+pub add_parts-loop-part-init : goal.add_parts-loop-part-init
+add_parts-loop-part-init t c =
+    record { grown = same_width c.args.self.now; left = λ h i j m. inr m }
 
 pub add_parts-returns-clause-begins : goal.add_parts-returns-clause-begins
-add_parts-returns-clause-begins t c = grind (arith, common_steps)
+add_parts-returns-clause-begins t c = λ h i j m.
+    elim (c.loop-part.invariant.left h i j m) [
+      | inl begins ↦ inl begins
+      | inr left ↦
+          inr (
+            refl,
+            subst (λ (z : Trees). Chain h z i j) (ap trees_of (drop_all c.loop-part.part-index
+                c.args.parts.now (omega (arith, c.loop-part-test.false)))) left,
+          )
+    ]
+
+pub add_branches-loop-branch-init : goal.add_branches-loop-branch-init
+add_branches-loop-branch-init t c =
+    record { grown = same_width c.args.self.now; left = λ h i j m. inr (inr m) }
+
+pub add_branches-returns-clause-begins : goal.add_branches-returns-clause-begins
+add_branches-returns-clause-begins t c = λ h i j m.
+    elim (c.loop-branch.invariant.left h i j m) [
+      | inl begins ↦ inl begins
+      | inr (inl passes) ↦ inr passes
+      | inr (inr left) ↦
+          absurd (subst (λ (z : Trees). SomeBranch h z i j) (ap trees_of (drop_all
+          c.loop-branch.branch-index c.args.branches.now (omega (arith, c.loop-branch-test.false))))
+          left)
+    ]
