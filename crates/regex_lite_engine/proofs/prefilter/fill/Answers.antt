@@ -1,6 +1,6 @@
-use Rattle.regex_lite_engine.proofs.Common.{◌≡◌, ℕ, ◌*◌, ◌+◌, ◌<◌, ◌≤◌, ◌⊎◌, ◌≢◌, true, length}
-use Rattle.regex_lite_engine.proofs.Common.{get_or, sym, ap, ◌∙◌, subst, inl, inr, arith, cases_lt}
-use Rattle.regex_lite_engine.proofs.Common.{length-set, get_or-set_other, stops_at, StandsBelow}
+use Rattle.regex_lite_engine.proofs.Common.{◌*◌, ◌≤◌, ◌≢◌, length, get_or, sym, ap, ◌∙◌, subst}
+use Rattle.regex_lite_engine.proofs.Common.{inl, inr, arith, cases_lt, length-set, get_or-set_other}
+use Rattle.regex_lite_engine.proofs.Common.{StandsBelow}
 use Rattle.std.proofs.lemmas.Grind.{common_steps}
 use Rattle.regex_lite_engine.proofs.prefilter.fill.Goals as goal
 use Rattle.regex_lite_engine.proofs.prefilter.fill.Goals.{

@@ -263,7 +263,8 @@ union_at s t u any ascii others c = by_width (cases_lt c 128)
         ∙ ap (λ b. begins_with s 128 || b) (begins_as_one t c le)))
 
 -- a match of what reads one character begins with it
-pub character_begins : (c : ℕ) (s : Starts) → HasAll s (just c) → BeginsOrPasses (character c) s false
+pub character_begins : (c : ℕ) (s : Starts) → HasAll s (just c)
+    → BeginsOrPasses (character c) s false
 character_begins c s all h i j (there, past) =
     inl (subst (λ next. IsTrue (may_begin s (before h i) next)) (sym there)
     (subst (λ b. IsTrue (b || (s.at_start && is_none (before h i))))

@@ -1,6 +1,6 @@
 use Rattle.regex_lite_engine.proofs.Common.{◌≡◌, ◌+◌, ◌-◌, drop, sym, ap, ◌∙◌, subst, arith, Tree}
-use Rattle.regex_lite_engine.proofs.Common.{repetition, concat, alternation, class, Trees, none, more}
-use Rattle.regex_lite_engine.proofs.Common.{tree_of}
+use Rattle.regex_lite_engine.proofs.Common.{repetition, concat, alternation, class, Trees, none}
+use Rattle.regex_lite_engine.proofs.Common.{more, tree_of}
 use Rattle.regex_lite_engine.proofs.LeafLemmas.{tree_of-Class}
 use Rattle.regex_lite_syntax.proofs.TreeLemmas.{tree_of-Concat, tree_of-Alternation}
 use Rattle.std.proofs.lemmas.List.{drop_all}

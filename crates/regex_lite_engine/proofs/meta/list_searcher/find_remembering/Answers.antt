@@ -1,5 +1,4 @@
-use Rattle.regex_lite_engine.proofs.Common.{◌≡◌, length, sym, ◌∙◌, subst, option_map}
-use Rattle.regex_lite_engine.proofs.Common.{table_of_list}
+use Rattle.regex_lite_engine.proofs.Common.{length, sym, ◌∙◌, subst, option_map, table_of_list}
 use Rattle.regex_lite_engine.specs.LazyDfa.Remembering.{IsRememberingList}
 use Rattle.regex_lite_engine.proofs.meta.list_searcher.find_remembering.Goals as goal
 

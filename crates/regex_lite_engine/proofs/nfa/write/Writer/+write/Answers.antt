@@ -5,7 +5,7 @@ use Rattle.regex_lite_engine.proofs.Common.{nullable, tree_of, copies, own_place
 use Rattle.regex_lite_engine.proofs.Common.{places, place_of, IsAdded, layout, Hir, ◌<◌, ◌^◌, ◌-◌}
 use Rattle.regex_lite_engine.proofs.Common.{drop, places_in, greatest_index, greatest_index_in}
 use Rattle.regex_lite_engine.proofs.Common.{Trees, ℕ, ◌≤◌, None, mul-le-mul_right, copies_layout}
-use Rattle.regex_lite_engine.proofs.Common.{choices_layout, chain_layout}
+use Rattle.regex_lite_engine.proofs.Common.{choices_layout, chain_layout, true, false}
 use Rattle.regex_lite_engine.specs.Nfa.Repetitions.{repetition_layout}
 use Rattle.regex_lite_engine.proofs.nfa.write.AddedLemmas.{one_longer}
 use Rattle.regex_lite_syntax.proofs.TreeLemmas.{trees_more}
@@ -464,28 +464,28 @@ write_repetition-returns-in_ok-inner-in-None-clause-grown t c =
 
 pub write_star-write_loop-requires : goal.write_star-write_loop-requires
 write_star-write_loop-requires t c =
-    let own =
-    ap (λ b. own_places 0 None b) (sym c.is_nullable.ensures ∙ c.if-not-is_nullable.true) in
+    let known : nullable (tree_of c.args.body.now) ≡ false = cc in
+    let own = ap (λ b. own_places 0 None b) known in
     (search rules, (omega (arith, own, c.requires.room), c.requires.slots))
 
 pub write_star-add_empty-requires : goal.write_star-add_empty-requires
 write_star-add_empty-requires t c =
-    let own =
-    ap (λ b. own_places 0 None b) (sym c.is_nullable.ensures ∙ c.if-not-is_nullable.false) in
+    let known : nullable (tree_of c.args.body.now) ≡ true = cc in
+    let own = ap (λ b. own_places 0 None b) known in
     omega (arith, own, c.requires.room)
 
 pub write_star-write_loop-requires-2 : goal.write_star-write_loop-requires-2
 write_star-write_loop-requires-2 t c =
-    let own =
-    ap (λ b. own_places 0 None b) (sym c.is_nullable.ensures ∙ c.if-not-is_nullable.false) in (
+    let known : nullable (tree_of c.args.body.now) ≡ true = cc in
+    let own = ap (λ b. own_places 0 None b) known in (
       search rules,
       (omega (arith, own, c.in_ok-join.ensures.grown, c.requires.room), c.requires.slots),
     )
 
 pub write_star-add_choice-requires : goal.write_star-add_choice-requires
 write_star-add_choice-requires t c =
-    let own =
-    ap (λ b. own_places 0 None b) (sym c.is_nullable.ensures ∙ c.if-not-is_nullable.false) in
+    let known : nullable (tree_of c.args.body.now) ≡ true = cc in
+    let own = ap (λ b. own_places 0 None b) known in
     omega (
       arith,
       own,
@@ -496,8 +496,8 @@ write_star-add_choice-requires t c =
 
 pub write_star-returns-clause-grown : goal.write_star-returns-clause-grown
 write_star-returns-clause-grown t c =
-    let own =
-    ap (λ b. own_places 0 None b) (sym c.is_nullable.ensures ∙ c.if-not-is_nullable.false) in
+    let known : nullable (tree_of c.args.body.now) ≡ true = cc in
+    let own = ap (λ b. own_places 0 None b) known in
     if_same c.add_choice.result (length c.add_choice.new.self)
     (length c.write_loop-2.new.self + 1) _
     (omega (arith, own, c.in_ok-inner.ensures.grown, c.in_ok-join.ensures.grown))

@@ -5,7 +5,8 @@ use Rattle.regex_lite_engine.proofs.nfa.write.Writer.add_class.Goals as goal
 
 pub returns-clause-added : goal.returns-clause-added
 returns-clause-added c =
-    place_added c.add.result c.args.self.now c.add.new.self _ _ (ap (λ ranges. one_of ranges c.args.exit) c.in_ok-set.ensures) c.add.ensures.added
+    place_added c.add.result c.args.self.now c.add.new.self _ _
+    (ap (λ ranges. one_of ranges c.args.exit) c.in_ok-set.ensures) c.add.ensures.added
 
 pub returns-clause-grown : goal.returns-clause-grown
 returns-clause-grown c =

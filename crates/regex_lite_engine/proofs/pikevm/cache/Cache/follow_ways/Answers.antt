@@ -1,10 +1,10 @@
 use Rattle.regex_lite_engine.proofs.Common.{◌≡◌, ℕ, suc, ◌+◌, ◌<◌, ◌≤◌, true, List, [], ◌∷◌, ◌++◌}
-use Rattle.regex_lite_engine.proofs.Common.{length, drop, replicate, if◌then◌else◌, Some, None, sym, refl}
-use Rattle.regex_lite_engine.proofs.Common.{ap, ◌∙◌, subst, arith, drop-cons, retold, all_retold}
+use Rattle.regex_lite_engine.proofs.Common.{length, drop, replicate, if◌then◌else◌, Some, None, sym}
+use Rattle.regex_lite_engine.proofs.Common.{refl, ap, ◌∙◌, subst, arith, drop-cons, retold}
 use Rattle.regex_lite_engine.proofs.Common.{state_retold, best_again, Thread, thread_at, BestState}
 use Rattle.regex_lite_engine.proofs.Common.{KeepsPosition, best_of, Between, StepsTo, begun}
 use Rattle.regex_lite_engine.proofs.Common.{with_starts, Told, untold, StaysCounted, Best, Row}
-use Rattle.regex_lite_engine.proofs.Common.{Start, inl, inr}
+use Rattle.regex_lite_engine.proofs.Common.{Start, all_retold, inl, inr}
 use Rattle.std.proofs.Math.ListN.{drop_of_length-le}
 use Rattle.regex_lite_engine.specs.Pikevm.Machine.{State}
 use Rattle.regex_lite_engine.specs.Pikevm.Room.{explores}

@@ -1,6 +1,6 @@
 use Rattle.regex_lite_engine.proofs.Common.{ℕ, ◌+◌, ◌-◌, ◌*◌, ◌^◌, ◌<◌, ◌≤◌, length, chars, sym, ap}
-use Rattle.regex_lite_engine.proofs.Common.{subst, arith, row_of, mul-le-mul_left, arrows_of, best_of}
-use Rattle.regex_lite_engine.proofs.Common.{characters_left}
+use Rattle.regex_lite_engine.proofs.Common.{subst, arith, row_of, mul-le-mul_left, arrows_of}
+use Rattle.regex_lite_engine.proofs.Common.{best_of, characters_left}
 use Rattle.regex_lite_engine.specs.Pikevm.Passing.{IsUnderWay}
 use Rattle.regex_lite_engine.specs.Pikevm.Passing.{GoesOnAt}
 use Rattle.regex_lite_engine.proofs.pikevm.PassLemmas.{bound_on}

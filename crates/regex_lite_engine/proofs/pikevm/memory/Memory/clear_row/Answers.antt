@@ -1,5 +1,6 @@
 use Rattle.regex_lite_engine.proofs.Common.{◌<◌, [], length, replicate, None, ap, ◌∙◌, arith}
-use Rattle.regex_lite_engine.proofs.Common.{get_or-set_same, length-set, nth_row, other, threads_on, Row}
+use Rattle.regex_lite_engine.proofs.Common.{get_or-set_same, length-set, nth_row, other, threads_on}
+use Rattle.regex_lite_engine.proofs.Common.{Row}
 use Rattle.regex_lite_engine.specs.Pikevm.Machine.{State}
 use Rattle.regex_lite_engine.proofs.pikevm.memory.CellLemmas.{state_is}
 use Rattle.regex_lite_engine.proofs.pikevm.memory.ListLemmas.{first_row_alone}
