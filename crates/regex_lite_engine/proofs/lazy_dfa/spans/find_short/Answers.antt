@@ -1,6 +1,7 @@
-use Rattle.regex_lite_engine.proofs.Common.{Some, length, chars, sym, ap, ◌∙◌, subst, table_of}
-use Rattle.regex_lite_engine.proofs.Common.{BestState, best_at, IsNumberedOutcome}
-use Rattle.regex_lite_engine.proofs.lazy_dfa.KnownEndLemmas.{end_boundary, from_boundary, known_end}
+use Rattle.regex_lite_engine.proofs.Common.{Some, chars, sym, ap, ◌∙◌, subst, table_of, BestState}
+use Rattle.regex_lite_engine.proofs.Common.{best_at, IsNumberedOutcome}
+use Rattle.regex_lite_engine.proofs.lazy_dfa.KnownEndLemmas.{end_boundary}
+use Rattle.regex_lite_engine.proofs.lazy_dfa.KnownEndLemmas.{from_boundary, known_end}
 use Rattle.regex_lite_engine.proofs.lazy_dfa.spans.find_short.Goals as goal
 
 pub range-part-requires-clause-end_boundary : goal.range-part-requires-clause-end_boundary
@@ -27,6 +28,3 @@ returns-clause-found c = λ s known.
     (known_end (table_of graph) c.requires.no_looks haystack c.utf8.haystack
     graph.start s c.args.span.0 c.args.span.1 known
     c.range-part.result.now c.range-part.ensures.value found _ c.in_ok-found.ensures.found)
-
-pub set_row-requires : goal.set_row-requires
-set_row-requires c = ap length c.row.ensures ∙ c.search.ensures.width ∙ c.requires.width

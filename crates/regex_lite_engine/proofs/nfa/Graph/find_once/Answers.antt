@@ -115,6 +115,3 @@ pub find_from-requires-clause-all : goal.find_from-requires-clause-all
 find_from-requires-clause-all c =
     all_of_one c.args.self.now c.start-start.result c.start-start.ensures.same
     c.start-start.ensures.inside
-
-pub state_at-state-requires-clause-remembers : goal.state_at-state-requires-clause-remembers
-state_at-state-requires-clause-remembers c = c.in-Some-for_graph.ensures.remembers

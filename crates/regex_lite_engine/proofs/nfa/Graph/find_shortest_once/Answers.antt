@@ -122,6 +122,3 @@ pub find_shortest_from-requires-clause-all : goal.find_shortest_from-requires-cl
 find_shortest_from-requires-clause-all c =
     all_of_one c.args.self.now c.start-start.result c.start-start.ensures.same
     c.start-start.ensures.inside
-
-pub state_at-state-requires-clause-remembers : goal.state_at-state-requires-clause-remembers
-state_at-state-requires-clause-remembers c = c.in-Some-for_graph.ensures.remembers

@@ -15,3 +15,10 @@ find_while_it_pays-requires-clause-stands c =
       c.begun-begun.ensures (table_of_list list) list.entries c.args.self.now c.args.cache.now
           c.requires.fresh c.requires.width,
     )
+
+pub returns-clause-found : goal.returns-clause-found
+returns-clause-found c =
+    let list = c.args.list.now in
+    c.in-Ok.ensures.found (position_at c.args.haystack.now c.args.start)
+    (c.begun-begun.ensures (table_of_list list) list.entries c.args.self.now c.args.cache.now
+    c.requires.fresh c.requires.width)

@@ -1,7 +1,7 @@
-use Rattle.regex_lite_engine.proofs.Common.{◌≡◌, map, slice_get, slice_index_or, sym, refl, ap, ◌∙◌}
-use Rattle.regex_lite_engine.proofs.Common.{rules, Automaton, way_in, hit_in, state_in, StoredState}
-use Rattle.regex_lite_engine.proofs.Common.{classes_in}
-use Rattle.regex_lite_engine.proofs.lazy_dfa.StoredStateLemmas.{row, state_at}
+use Rattle.regex_lite_engine.proofs.Common.{◌≡◌, ◌<◌, map, slice_get, slice_index_or, sym, refl, ap}
+use Rattle.regex_lite_engine.proofs.Common.{◌∙◌, arith, length, rules, Automaton, way_in, hit_in}
+use Rattle.regex_lite_engine.proofs.Common.{state_in, StoredState, classes_in}
+use Rattle.regex_lite_engine.proofs.lazy_dfa.StoredStateLemmas.{length_states, row, state_at}
 use Rattle.regex_lite_engine.proofs.lazy_dfa.automaton.LazyDfa.find_state.Goals as goal
 
 pub returns-then-are_same : goal.returns-then-are_same
@@ -24,3 +24,11 @@ returns-then-are_same c =
       before = ap (λ (s : StoredState). s.before) stored ∙ like.before refl;
       hit = ap (λ (s : StoredState). hit_in s.hit) stored ∙ ap hit_in (like.hit refl);
     }
+
+pub ways-requires : goal.ways-requires
+ways-requires c =
+    let i = c.self.inside in
+    let view = ap (λ (z : Automaton). length z.states) c.self.view_is in
+    let there = length_states i.states.items i.ways.items (classes_in i.classes) i.targets.items in
+    let inside : c.states.y < length i.states.items = search rules in
+    omega (arith, view, there, inside)

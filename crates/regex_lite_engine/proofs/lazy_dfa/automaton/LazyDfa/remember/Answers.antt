@@ -1,11 +1,11 @@
 use Rattle.regex_lite_engine.proofs.Common.{◌+◌, ◌*◌, ◌<◌, map, drop, slice_get}
 use Rattle.regex_lite_engine.proofs.Common.{slice_set, Some, sym, ap, ◌∙◌, subst, length-set}
 use Rattle.regex_lite_engine.proofs.Common.{slice_get-get_or, Automaton, StoredState, Target}
-use Rattle.regex_lite_engine.proofs.Common.{classes_in, way_in}
+use Rattle.regex_lite_engine.proofs.Common.{classes_in, rules, way_in}
 use Rattle.std.proofs.lemmas.List.Elements.{All-set}
 use Rattle.regex_lite_engine.specs.LazyDfa.Stored.{Agrees}
 use Rattle.regex_lite_engine.proofs.lazy_dfa.StoredChangeLemmas.{states_set}
-use Rattle.regex_lite_engine.proofs.lazy_dfa.StoredStateLemmas.{stored_within}
+use Rattle.regex_lite_engine.proofs.lazy_dfa.StoredStateLemmas.{cell_within, stored_within}
 use Rattle.regex_lite_engine.proofs.lazy_dfa.automaton.LazyDfa.remember.Goals as goal
 
 pub invariant_of-self : goal.invariant_of-self
@@ -51,3 +51,18 @@ returns c = λ state at.
           slice_set z.states c.args.x
           (record state { next = slice_set state.next c.args.class c.args.y });
     }) c.self.view_is
+
+pub index-requires : goal.index-requires
+index-requires c =
+    let i = c.self.inside in
+    let inside = stored_within i.classes i.states.items i.targets.items i.used i.ways.items
+    c.args.self.now c.self.view_is c.args.y c.requires.target in
+    search (inside, rules)
+
+pub index_mut-requires : goal.index_mut-requires
+index_mut-requires c =
+    let i = c.self.inside in
+    let inside = cell_within i.classes i.states.items i.targets.items i.used i.ways.items
+    c.args.self.now c.self.view_is c.self.invariant.4 c.args.x c.args.class c.requires.state
+    c.requires.class in
+    search (inside, rules)
