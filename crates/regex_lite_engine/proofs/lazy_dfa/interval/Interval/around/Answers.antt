@@ -1,5 +1,5 @@
-use Rattle.regex_lite_engine.proofs.Common.{◌≡◌, ℕ, ◌+◌, ◌-◌, ◌≤◌, suc, Bool, true, false, drop, slice_index}
-use Rattle.regex_lite_engine.proofs.Common.{sym, ap, ◌∙◌, arith, interval_of}
+use Rattle.regex_lite_engine.proofs.Common.{◌≡◌, ℕ, ◌+◌, ◌-◌, ◌≤◌, suc, Bool, true, false, drop}
+use Rattle.regex_lite_engine.proofs.Common.{slice_index, sym, ap, ◌∙◌, arith, interval_of}
 use Rattle.std.specs.Prelude.{nat_le}
 use Rattle.std.proofs.Math.Seq.{drop-length}
 use Rattle.regex_lite_engine.specs.LazyDfa.Intervals.{tick}

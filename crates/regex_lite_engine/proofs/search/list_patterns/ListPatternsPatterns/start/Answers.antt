@@ -1,8 +1,7 @@
-use Rattle.regex_lite_engine.proofs.Common.{◌<◌, length, map, slice_index, Some, sym, ap, ◌∙◌, arith, length-map}
-use Rattle.regex_lite_engine.proofs.Common.{slice_get-get_or, start_numbered}
+use Rattle.regex_lite_engine.proofs.Common.{◌<◌, length, map, slice_index, Some, sym, ap, ◌∙◌}
+use Rattle.regex_lite_engine.proofs.Common.{arith, length-map, slice_get-get_or, start_numbered}
 use Rattle.std.proofs.lemmas.Grind.{common_steps}
 use Rattle.std.proofs.lemmas.List.{get_or-map}
-use Rattle.regex_lite_engine.specs.declared.search.patterns.Start.{Start}
 use Rattle.regex_lite_engine.proofs.search.list_patterns.ListPatternsPatterns.start.Goals as goal
 
 pub returns : goal.returns
