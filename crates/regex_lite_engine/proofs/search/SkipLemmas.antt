@@ -112,3 +112,13 @@ pub bound_later : (a p q s m : ℕ) → p ≤ q → a ≤ m * (p - s) → a ≤ 
 bound_later a p q s m le bound =
     let more : m * (p - s) ≤ m * (q - s) = mul-le-mul_left m (omega (arith, le)) in
     omega (arith, bound, more)
+
+-- a search that stays where it stands passes over no position
+pub stays : {Passed : ℕ → Type 0} (h : Text) (p : ℕ) (here : Here) → IsHere h p here
+    → PassesTo Passed h p here
+stays h p here is = record {
+  q = p;
+  later = omega arith;
+  is = is;
+  passed = λ i from below. absurd (omega (arith, from, below));
+}

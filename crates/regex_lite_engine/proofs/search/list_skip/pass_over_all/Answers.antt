@@ -1,10 +1,11 @@
 use Rattle.regex_lite_engine.proofs.Common.{◌≡◌, ◌≤◌, true, false, length, is_some, chars, sym, ap}
 use Rattle.regex_lite_engine.proofs.Common.{◌∙◌, subst, arith, table_of_list, IsPassedByAll}
-use Rattle.regex_lite_engine.proofs.Common.{ℕ, Here, IsHere, MayBegin, PassesTo, Text, position_at}
+use Rattle.regex_lite_engine.proofs.Common.{MayBegin, position_at}
 use Rattle.regex_lite_syntax.specs.Text.{before}
 use Rattle.regex_lite_engine.proofs.search.here.HereLemmas.{at_most}
 use Rattle.regex_lite_engine.proofs.search.ListSkipLemmas.{passes_to}
 use Rattle.regex_lite_engine.proofs.search.FirstByteLemmas.{never_at}
+use Rattle.regex_lite_engine.proofs.search.SkipLemmas.{stays}
 use Rattle.regex_lite_engine.proofs.search.list_skip.pass_over_all.Goals as goal
 use Rattle.regex_lite_engine.proofs.search.list_skip.pass_over_all.Goals.{
   else-is_none-via-then-is_none+else-may_begin,
@@ -16,16 +17,6 @@ next_offset-at-requires-clause-from c =
     let same = c.as_bytes.ensures.value in
     subst (λ z. c.args.here.at ≤ length z) (sym same)
     (at_most c.args.haystack.now c.requires.0 c.args.here c.utf8.haystack c.requires.1)
-
--- it stands where it stood
-stays : {Passed : ℕ → Type 0} (h : Text) (p : ℕ) (here : Here) → IsHere h p here
-    → PassesTo Passed h p here
-stays h p here is = record {
-  q = p;
-  later = omega arith;
-  is = is;
-  passed = λ i from below. absurd (omega (arith, from, below));
-}
 
 pub returns-then-may_begin : goal.returns-then-may_begin
 returns-then-may_begin c = λ p is. stays (chars c.args.haystack.now) p c.args.here is

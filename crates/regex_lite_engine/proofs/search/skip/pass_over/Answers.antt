@@ -5,7 +5,7 @@ use Rattle.regex_lite_engine.specs.Prefilter.Bytes.{IsPrefilterOf}
 use Rattle.regex_lite_engine.specs.Prefilter.Heads.{IsCutOff}
 use Rattle.regex_lite_engine.proofs.search.here.HereLemmas.{at_most}
 use Rattle.regex_lite_engine.proofs.search.FirstByteLemmas.{never_at, stopped}
-use Rattle.regex_lite_engine.proofs.search.SkipLemmas.{cut_off_here, passes_between}
+use Rattle.regex_lite_engine.proofs.search.SkipLemmas.{cut_off_here, passes_between, stays}
 use Rattle.regex_lite_engine.proofs.search.skip.pass_over.Goals as goal
 
 pub can_begin-requires : goal.can_begin-requires
@@ -60,3 +60,6 @@ returns-clause-stops c =
     (subst (λ z. stops_at first (slice_index z c.next_offset-at.result) ≡ true) same
     (c.next_offset-at.ensures.stops
     (subst (λ z. c.next_offset-at.result < length z) (sym same) (omega (arith, at, short)))))))
+
+pub returns-then-can_begin-clause-passes : goal.returns-then-can_begin-clause-passes
+returns-then-can_begin-clause-passes c = λ p is. stays (chars c.args.haystack.now) p c.args.here is
