@@ -1,4 +1,5 @@
-use Rattle.regex_lite_engine.proofs.Common.{chars, table_of, best_at, with_start_kept, position_at}
+use Rattle.regex_lite_engine.proofs.Common.{chars, ◌∙◌, table_of, best_at, with_start_kept}
+use Rattle.regex_lite_engine.proofs.Common.{position_at}
 use Rattle.regex_lite_engine.proofs.lazy_dfa.PassedLemmas.{answer_from}
 use Rattle.regex_lite_engine.proofs.meta.searcher.find_passed.Goals as goal
 
@@ -16,3 +17,21 @@ returns-clause-found c = λ s first _.
     (position_at haystack c.args.passed.from) first
     (with_start_kept (best_at c.find_in_step-found.result c.find_in_step-found.new.cache.best.row))
     c.find_in_step-found.ensures.found
+
+pub find_slots-requires-clause-finds : goal.find_slots-requires-clause-finds
+find_slots-requires-clause-finds c = c.requires.finds
+
+pub find_in_step-found-requires-clause-boundary : goal.find_in_step-found-requires-clause-boundary
+find_in_step-found-requires-clause-boundary c = c.requires.boundary
+
+pub find_in_step-found-requires-clause-countable : goal.find_in_step-found-requires-clause-countable
+find_in_step-found-requires-clause-countable c = c.requires.countable
+
+pub returns-clause-between : goal.returns-clause-between
+returns-clause-between c = c.find_in_step-found.ensures.between
+
+pub returns-clause-width : goal.returns-clause-width
+returns-clause-width c = c.find_in_step-found.ensures.width ∙ c.find_slots.ensures.width
+
+pub returns-in-Some-clause-width : goal.returns-in-Some-clause-width
+returns-in-Some-clause-width c = c.find_slots.ensures.width

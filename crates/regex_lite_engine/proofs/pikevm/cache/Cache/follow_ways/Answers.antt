@@ -308,3 +308,12 @@ returns-clause-counts g c = c.ways.invariant.counts
 
 pub returns-clause-entry : goal.returns-clause-entry
 returns-clause-entry g c = inl (ap best_of c.ways.invariant.best)
+
+pub ways-k-end-requires : goal.ways-k-end-requires
+ways-k-end-requires g c = c.requires.few_ways
+
+pub set-requires : goal.set-requires
+set-requires g c =
+    ap length c.row.ensures ∙ c.explore.ensures.kept.row ∙ c.take_up-place.ensures.row
+    ∙ c.ways.invariant.kept.row ∙ sym c.requires.placed.best_width
+    ∙ sym (ap (λ (b : BestState). length b.row) c.ways.invariant.best)
