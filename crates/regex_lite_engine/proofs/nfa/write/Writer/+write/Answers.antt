@@ -5,10 +5,12 @@ use Rattle.regex_lite_engine.proofs.Common.{nullable, tree_of, copies, own_place
 use Rattle.regex_lite_engine.proofs.Common.{places, place_of, IsAdded, layout, Hir, ◌<◌, ◌^◌, ◌-◌}
 use Rattle.regex_lite_engine.proofs.Common.{drop, places_in, greatest_index, greatest_index_in}
 use Rattle.regex_lite_engine.proofs.Common.{Trees, ℕ, ◌≤◌, None, mul-le-mul_right, copies_layout}
-use Rattle.regex_lite_engine.proofs.Common.{choices_layout, chain_layout, true, false}
+use Rattle.regex_lite_engine.proofs.Common.{choices_layout, chain_layout, branches_layout, true}
+use Rattle.regex_lite_engine.proofs.Common.{false, suc, ◌++◌, append-nil, more, refl}
 use Rattle.regex_lite_engine.specs.Nfa.Repetitions.{repetition_layout}
-use Rattle.regex_lite_engine.proofs.nfa.write.AddedLemmas.{one_longer}
-use Rattle.regex_lite_syntax.proofs.TreeLemmas.{trees_more}
+use Rattle.regex_lite_engine.proofs.nfa.write.AddedLemmas.{before_rest, one_longer}
+use Rattle.regex_lite_syntax.proofs.TreeLemmas.{trees_of, trees_more}
+use Rattle.std.proofs.lemmas.List.{drop_all}
 use Rattle.regex_lite_syntax.proofs.hir.Hir.TheLaws.{the_size}
 use denote.Param.Weighed.{at_most}
 use Rattle.std.proofs.Common.{Result, Ok, Err, IfOk}
@@ -510,6 +512,84 @@ write_bounded-write_copies-requires t c =
     let same = ap (λ n. n * places (tree_of c.args.body.now)) kept in
     (search rules, (omega (arith, same, c.requires.room), c.requires.slots))
 
+pub write_copies-loop-i-preserved : goal.write_copies-loop-i-preserved
+write_copies-loop-i-preserved t c =
+    let v = c.loop-i.invariant in
+    let old = c.args.self.now in
+    let body = layout (tree_of c.args.body.now) in
+    let now = c.loop-i.self in
+    let one : c.loop-i._i + 1 ≡ suc c.loop-i._i = omega arith in
+    record {
+      written =
+          subst (λ n. IsAdded (map place_of old) (map place_of c.write.new.self) c.in_ok-next.next
+          (copies_layout body n (length old) c.args.exit)) (sym one)
+          (before_rest body (map place_of old) (map place_of now) (map place_of c.write.new.self)
+          (copies_layout body c.loop-i._i (length old) c.args.exit) (length old) (length now)
+          c.loop-i.next c.in_ok-next.next (sym (length-map old place_of))
+          (sym (length-map now place_of)) v.written c.in_ok-next.ensures.written);
+      grown = omega (arith, v.grown, c.in_ok-next.ensures.grown);
+    }
+
+pub write_concat-loop-i-init : goal.write_concat-loop-i-init
+write_concat-loop-i-init t c =
+    let parts = c.args.parts.now in
+    let old = c.args.self.now in
+    let none_left = ap trees_of (drop_all (length parts) parts (omega arith)) in
+    record {
+      written =
+          subst (λ left. IsAdded (map place_of old) (map place_of old) c.args.exit
+          (chain_layout left (length old) c.args.exit)) (sym none_left)
+          (refl, sym (append-nil (map place_of old)));
+      grown = omega (arith, ap places_in none_left);
+    }
+
+pub write_concat-loop-i-preserved : goal.write_concat-loop-i-preserved
+write_concat-loop-i-preserved t c =
+    let v = c.loop-i.invariant in
+    let parts = c.args.parts.now in
+    let old = c.args.self.now in
+    let now = c.loop-i.self in
+    let part = c.part_at.result.now in
+    let later : c.loop-i.i - 1 + 1 ≡ c.loop-i.i = omega (arith, c.loop-i-test.true) in
+    let one = trees_more parts (c.loop-i.i - 1) part (omega arith) c.part_at.ensures.part
+    ∙ ap (λ i. more (tree_of part) (trees_of (drop i parts))) later in
+    let rest = chain_layout (trees_of (drop c.loop-i.i parts)) (length old) c.args.exit in
+    record {
+      written =
+          subst (λ left. IsAdded (map place_of old) (map place_of c.write.new.self)
+          c.in_ok-next.next (chain_layout left (length old) c.args.exit)) (sym one)
+          (before_rest (layout (tree_of part)) (map place_of old) (map place_of now)
+          (map place_of c.write.new.self) rest (length old) (length now) c.loop-i.next
+          c.in_ok-next.next (sym (length-map old place_of)) (sym (length-map now place_of))
+          v.written c.in_ok-next.ensures.written);
+      grown = omega (arith, v.grown, c.in_ok-next.ensures.grown, ap places_in one);
+    }
+
+pub write_branches-returns-clause-written : goal.write_branches-returns-clause-written
+write_branches-returns-clause-written t c =
+    let now = c.loop-branch.self in
+    let none_left = ap trees_of (drop_all c.loop-branch.branch-index c.args.branches.now
+    (omega (arith, c.loop-branch-test.false))) in
+    sym (append-nil (map place_of now))
+    ∙ ap (λ left. map place_of now ++ (branches_layout left (length now) c.args.join).0)
+    (sym none_left) ∙ c.loop-branch.invariant.written
+
+pub write_branches-returns-clause-entries : goal.write_branches-returns-clause-entries
+write_branches-returns-clause-entries t c =
+    let now = c.loop-branch.self in
+    let entries = c.loop-branch.entries.items in
+    let none_left = ap trees_of (drop_all c.loop-branch.branch-index c.args.branches.now
+    (omega (arith, c.loop-branch-test.false))) in
+    sym (append-nil entries)
+    ∙ ap (λ left. entries ++ (branches_layout left (length now) c.args.join).1) (sym none_left)
+    ∙ c.loop-branch.invariant.entered
+
+pub write_branches-returns-clause-grown : goal.write_branches-returns-clause-grown
+write_branches-returns-clause-grown t c =
+    let none_left = ap trees_of (drop_all c.loop-branch.branch-index c.args.branches.now
+    (omega (arith, c.loop-branch-test.false))) in
+    omega (arith, c.loop-branch.invariant.grown, ap places_in none_left)
+
 -- The goals from here on need no lemma of their own. They have answers because the prover would
 -- try other calls first, which takes long
 pub write_bounded-returns-then-least-eq0-clause-written :
@@ -554,15 +634,6 @@ write_bounded-returns-else-most-eq1-clause-grown t c = grind (arith, common_step
 pub write_choices-loop-i-preserved : goal.write_choices-loop-i-preserved
 write_choices-loop-i-preserved t c = grind (arith, common_steps)
 
-pub write_concat-loop-i-init : goal.write_concat-loop-i-init
-write_concat-loop-i-init t c = grind (arith, common_steps)
-
-pub write_concat-loop-i-preserved : goal.write_concat-loop-i-preserved
-write_concat-loop-i-preserved t c = grind (arith, common_steps)
-
-pub write_copies-loop-i-preserved : goal.write_copies-loop-i-preserved
-write_copies-loop-i-preserved t c = grind (arith, common_steps)
-
 pub write_repetition-returns-in_ok-inner-in-None-clause-written :
     goal.write_repetition-returns-in_ok-inner-in-None-clause-written
 write_repetition-returns-in_ok-inner-in-None-clause-written t c = grind (arith, common_steps)
@@ -575,15 +646,6 @@ write_alternation-returns-clause-written t c = grind (arith, common_steps)
 
 pub write_branches-loop-branch-preserved : goal.write_branches-loop-branch-preserved
 write_branches-loop-branch-preserved t c = grind (arith, common_steps)
-
-pub write_branches-returns-clause-written : goal.write_branches-returns-clause-written
-write_branches-returns-clause-written t c = grind (arith, common_steps)
-
-pub write_branches-returns-clause-entries : goal.write_branches-returns-clause-entries
-write_branches-returns-clause-entries t c = grind (arith, common_steps)
-
-pub write_branches-returns-clause-grown : goal.write_branches-returns-clause-grown
-write_branches-returns-clause-grown t c = grind (arith, common_steps)
 
 pub write_group-returns-clause-written : goal.write_group-returns-clause-written
 write_group-returns-clause-written t c = grind (arith, common_steps)
