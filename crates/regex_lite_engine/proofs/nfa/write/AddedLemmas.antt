@@ -40,3 +40,31 @@ before_rest body old whole new rest base size at next long longer (there, is) (e
           ∙ append_assoc old rest.0 (body size at).0
           ∙ ap (λ (part : Fragment). old ++ (rest.0 ++ part.0)) same,
     )
+
+-- a body is written between the place where it is left and the one where it is entered
+pub between_written : {E : Type 0} (result : Result ℕ E) (body : ℕ → ℕ → Fragment)
+    (leaving : Place ℕ) (entering : ℕ → Place ℕ) (old first whole new : List (Place ℕ))
+    (base at size inner wide : ℕ) → base ≡ length old → at ≡ base → size ≡ base + 1
+    → first ≡ old ++ leaving ∷ [] → IsAdded first whole inner (body size at)
+    → wide ≡ length whole → IfOk result (λ number. number ≡ wide)
+    → IfOk result (λ _. new ≡ whole ++ entering inner ∷ [])
+    → IfOk result (λ entry. let part = body (base + 1) base in IsAdded old new entry
+    (leaving ∷ (part.0 ++ entering part.1 ∷ []), base + 1 + length part.0))
+between_written (Ok number) body leaving entering old first whole new base at size inner wide
+    long there longer one (enter, more) all at_end added =
+    let part : Fragment = body (base + 1) base in
+    let same : body size at ≡ part =
+    ap (λ k. body k at) longer ∙ ap (λ k. body (base + 1) k) there in
+    let cut : whole ≡ old ++ (leaving ∷ part.0) =
+    more ∙ ap (λ places. places ++ (body size at).0) one
+    ∙ append_assoc old (leaving ∷ []) (body size at).0
+    ∙ ap (λ (p : Fragment). old ++ (leaving ∷ p.0)) same in
+    let sum = ap (λ places. length places) cut ∙ length-append old (leaving ∷ part.0) in (
+      omega (arith, at_end, all, sum, long),
+      added ∙ ap (λ places. places ++ entering inner ∷ []) cut
+          ∙ append_assoc old (leaving ∷ part.0) (entering inner ∷ [])
+          ∙ ap (λ k. old ++ (leaving ∷ (part.0 ++ entering k ∷ [])))
+          (enter ∙ ap (λ (p : Fragment). p.1) same),
+    )
+between_written (Err e) body leaving entering old first whole new base at size inner wide
+    long there longer one is all at_end added = tt

@@ -8,7 +8,7 @@ use Rattle.regex_lite_engine.proofs.Common.{Trees, ℕ, ◌≤◌, None, mul-le-
 use Rattle.regex_lite_engine.proofs.Common.{choices_layout, chain_layout, branches_layout, true}
 use Rattle.regex_lite_engine.proofs.Common.{false, suc, ◌++◌, append-nil, more, refl}
 use Rattle.regex_lite_engine.specs.Nfa.Repetitions.{repetition_layout}
-use Rattle.regex_lite_engine.proofs.nfa.write.AddedLemmas.{before_rest, one_longer}
+use Rattle.regex_lite_engine.proofs.nfa.write.AddedLemmas.{before_rest, between_written, one_longer}
 use Rattle.regex_lite_syntax.proofs.TreeLemmas.{trees_of, trees_more}
 use Rattle.std.proofs.lemmas.List.{drop_all}
 use Rattle.regex_lite_syntax.proofs.hir.Hir.TheLaws.{the_size}
@@ -22,7 +22,8 @@ use Rattle.regex_lite_engine.proofs.nfa.write.WrittenOverLemmas.{loop_written}
 use Rattle.regex_lite_syntax.proofs.TreeLemmas.{tree_of-Concat, tree_of-Alternation}
 use Rattle.regex_lite_engine.proofs.LeafLemmas.{tree_of-Empty, tree_of-Char, tree_of-Class}
 use Rattle.regex_lite_engine.proofs.LeafLemmas.{tree_of-Look, tree_of-Capture}
-use Rattle.regex_lite_engine.specs.Graph.Places.{go, go_holding, one_char, one_of, with_arrows}
+use Rattle.regex_lite_engine.specs.Graph.Places.{go, go_holding, go_marking, one_char, one_of}
+use Rattle.regex_lite_engine.specs.Graph.Places.{with_arrows}
 use Rattle.regex_lite_engine.proofs.nfa.write.OnePlaceLemmas.{one_added, one_more_place}
 use Rattle.regex_lite_engine.proofs.nfa.write.Writer.+write.Goals as goal
 
@@ -590,6 +591,20 @@ write_branches-returns-clause-grown t c =
     (omega (arith, c.loop-branch-test.false))) in
     omega (arith, c.loop-branch.invariant.grown, ap places_in none_left)
 
+pub write_group-returns-clause-written : goal.write_group-returns-clause-written
+write_group-returns-clause-written t c =
+    let a = c.args in
+    let old = a.self.now in
+    let whole = c.write.new.self in
+    between_written c.open_group.result (layout (tree_of a.body.now))
+    (with_arrows (go_marking (2 * a.index + 1) a.exit ∷ []))
+    (λ k. with_arrows (go_marking (2 * a.index) k ∷ [])) (map place_of old)
+    (map place_of c.close_group.new.self) (map place_of whole) (map place_of c.open_group.new.self)
+    (length old) c.in_ok-close.close (length c.close_group.new.self) c.in_ok-inner.inner
+    (length whole) (sym (length-map old place_of)) c.in_ok-close.ensures.number
+    c.in_ok-close.ensures.grown c.in_ok-close.ensures.added c.in_ok-inner.ensures.written
+    (sym (length-map whole place_of)) c.open_group.ensures.number c.open_group.ensures.added
+
 -- The goals from here on need no lemma of their own. They have answers because the prover would
 -- try other calls first, which takes long
 pub write_bounded-returns-then-least-eq0-clause-written :
@@ -646,6 +661,3 @@ write_alternation-returns-clause-written t c = grind (arith, common_steps)
 
 pub write_branches-loop-branch-preserved : goal.write_branches-loop-branch-preserved
 write_branches-loop-branch-preserved t c = grind (arith, common_steps)
-
-pub write_group-returns-clause-written : goal.write_group-returns-clause-written
-write_group-returns-clause-written t c = grind (arith, common_steps)
