@@ -14,6 +14,8 @@ use crate::search::skip::pass_over;
 impl Graph {
     /// The first position from this offset on at which a match may begin. None if there is none. A
     /// search from the haystack's end is begun there, since that is its only start.
+    // Inlined, since many searches end at their first start.
+    #[inline(always)]
     pub(crate) fn first_start(&self, haystack: &str, start: usize) -> Option<Here>
         requires { IsCharBoundary haystack.now start }
         ensures first { IfSome result (PassesTo
@@ -63,6 +65,7 @@ impl Graph {
     }
 
     /// The first such position from here on.
+    #[inline(always)]
     fn start_from(&self, haystack: &str, here: Here) -> Option<Here>
         requires { (p : ℕ) × IsHere (chars haystack.now) p here }
         ensures first { (p : ℕ) → IsHere (chars haystack.now) p here → IfSome result (PassesTo
