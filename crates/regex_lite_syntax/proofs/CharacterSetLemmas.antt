@@ -27,19 +27,7 @@ complement_characters s c held = (and_parts _ _ held).0
 -- each set with a name holds ASCII characters
 pub named_characters : (name : SetName) → HoldsCharacters (members name)
 named_characters alnum c held = grind (arith, nat_tests)
-named_characters alpha c held = grind (arith, nat_tests)
-named_characters ascii c held = grind (arith, nat_tests)
-named_characters blank c held = grind (arith, nat_tests)
-named_characters cntrl c held = grind (arith, nat_tests)
-named_characters digit c held = grind (arith, nat_tests)
-named_characters graph c held = grind (arith, nat_tests)
-named_characters lower c held = grind (arith, nat_tests)
-named_characters print c held = grind (arith, nat_tests)
-named_characters punct c held = grind (arith, nat_tests)
-named_characters space c held = grind (arith, nat_tests)
-named_characters upper c held = grind (arith, nat_tests)
-named_characters word c held = grind (arith, nat_tests)
-named_characters xdigit c held = grind (arith, nat_tests)
+named_characters _ c held = grind (arith, nat_tests)
 
 -- or all others
 pub named_or_others : (negated : Bool) (name : SetName)

@@ -25,9 +25,7 @@ OfCharacters (look_at test) = Unit {0}
 -- what an escape gives stands for characters
 abbrev KindOfCharacters : EscapeKind → Type 0
 KindOfCharacters (gives p) = OfCharacters p
-KindOfCharacters word_boundary = Unit {0}
-KindOfCharacters (hexadecimal n) = Unit {0}
-KindOfCharacters refused = Unit {0}
+KindOfCharacters _ = Unit {0}
 
 -- one that stands for itself after a backslash is ASCII
 escapable_is : (c : ℕ) → IsTrue (is_escapable c) → IsTrue (is_character c)

@@ -37,11 +37,7 @@ gives_just _ c = false
 
 kind_of_just : (kind : EscapeKind) (c : ℕ) → gives_just kind c ≡ true → gives (one c) ≡ kind
 kind_of_just (gives (one d)) c same = ap (λ e. gives (one e)) (sym (eqb-true d c same))
-kind_of_just (gives (some_of set)) c same = absurd (false≢true same)
-kind_of_just (gives (look_at look)) c same = absurd (false≢true same)
-kind_of_just word_boundary c same = absurd (false≢true same)
-kind_of_just (hexadecimal digits) c same = absurd (false≢true same)
-kind_of_just refused c same = absurd (false≢true same)
+kind_of_just _ c same = absurd (false≢true same)
 
 -- after a backslash each of the characters that are escaped is itself
 stands_for_itself : (c : ℕ) → is_meta_character c ≡ true → gives (one c) ≡ escape_kind c

@@ -18,10 +18,7 @@ abbrev mutual
   IsNumbered above (capture index name body) = (above < index) × IsNumbered index body
   IsNumbered above (concat parts) = AreNumbered above parts
   IsNumbered above (alternation branches) = AreNumbered above branches
-  IsNumbered above empty = Unit {0}
-  IsNumbered above (character c) = Unit {0}
-  IsNumbered above (class ranges) = Unit {0}
-  IsNumbered above (look test) = Unit {0}
+  IsNumbered above _ = Unit {0}
 
   pub AreNumbered : (above : ℕ) → Trees → Type 0
   AreNumbered above none = Unit {0}
@@ -31,14 +28,11 @@ abbrev mutual
 -- what is above a number is above a lesser one
 mutual
   above_less : (a : Tree) (low mid : ℕ) → low ≤ mid → IsNumbered mid a → IsNumbered low a
-  above_less empty low mid less is = tt
-  above_less (character c) low mid less is = tt
-  above_less (class ranges) low mid less is = tt
-  above_less (look test) low mid less is = tt
   above_less (repetition least most greedy body) low mid less is = above_less body low mid less is
   above_less (capture index name body) low mid less is = (omega (arith, less, is.0), is.1)
   above_less (concat parts) low mid less is = all_above_less parts low mid less is
   above_less (alternation branches) low mid less is = all_above_less branches low mid less is
+  above_less _ low mid less is = tt
 
   all_above_less : (list : Trees) (low mid : ℕ) → low ≤ mid → AreNumbered mid list
       → AreNumbered low list
@@ -191,10 +185,6 @@ below_append high (n ∷ rest) later p q = (p.0, below_append high rest later p.
 
 mutual
   indices_below : (a : Tree) → Below (greatest_index a) (indices a)
-  indices_below empty = tt
-  indices_below (character c) = tt
-  indices_below (class ranges) = tt
-  indices_below (look test) = tt
   indices_below (repetition least most greedy body) = indices_below body
   indices_below (capture index name body) =
       let high = max index (greatest_index body) in (
@@ -203,6 +193,7 @@ mutual
       )
   indices_below (concat parts) = all_below parts
   indices_below (alternation branches) = all_below branches
+  indices_below _ = tt
 
   all_below : (list : Trees) → Below (greatest_index_in list) (indices_in list)
   all_below none = tt
@@ -214,14 +205,11 @@ mutual
 
 mutual
   indices_grow : (a : Tree) (low : ℕ) → IsNumbered low a → Growing low (indices a)
-  indices_grow empty low is = tt
-  indices_grow (character c) low is = tt
-  indices_grow (class ranges) low is = tt
-  indices_grow (look test) low is = tt
   indices_grow (repetition least most greedy body) low is = indices_grow body low is
   indices_grow (capture index name body) low is = (is.0, indices_grow body index is.1)
   indices_grow (concat parts) low is = all_grow parts low is
   indices_grow (alternation branches) low is = all_grow branches low is
+  indices_grow _ low is = tt
 
   all_grow : (list : Trees) (low : ℕ) → AreNumbered low list → Growing low (indices_in list)
   all_grow none low is = tt

@@ -75,12 +75,7 @@ unread_untold flags t kind.Groups none many = record {
   without = λ no_tree. many;
 }
 unread_untold flags t kind.Memory none says = tt
-unread_untold flags t kind.Syntax none says = absurd says
-unread_untold flags t kind.Nesting none says = absurd says
-unread_untold flags t kind.Size none says = absurd says
-unread_untold flags t kind.Places none says = absurd says
-unread_untold flags t kind.Slots none says = absurd says
-unread_untold flags t kind.Replace none says = absurd says
+unread_untold flags t _ none says = absurd says
 
 -- what a refusal to read on says that isn't a syntax fault
 pub refused_unread : (flags : Flags) (pattern : Text) (p : Parser) (t u : Text) (starts : List ℕ)
@@ -97,9 +92,7 @@ refused_unread flags pattern p t u starts too_many_groups c whole other says =
     let more = more_parens (state p t c.deepest) here begun.0 c.leads (whole.0, refl) begun.1 in
     omega (arith, says.0, more.1)
 refused_unread flags pattern p t u starts out_of_memory c whole other says = tt
-refused_unread flags pattern p t u starts too_deep c whole other says = absurd says
-refused_unread flags pattern p t u starts (passed_limit limit) c whole other says = absurd says
-refused_unread flags pattern p t u starts refused_replacement c whole other says = absurd says
+refused_unread flags pattern p t u starts _ c whole other says = absurd says
 
 -- whether the pattern goes on where the parser refuses to read on for a fault
 pub goes_on_as : (flags : Flags) (pattern : Text) (p : Parser) (t u : Text) (starts : List ℕ)

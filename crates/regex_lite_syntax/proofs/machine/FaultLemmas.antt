@@ -249,9 +249,7 @@ other_says flags pattern p t u starts too_many_groups c whole other says =
     number_refused flags c.deepest pattern p t u (reaches_as flags pattern p t starts c) whole
     says.0 says.1
 other_says flags pattern p t u starts out_of_memory c whole other says = tt
-other_says flags pattern p t u starts too_deep c whole other says = absurd says
-other_says flags pattern p t u starts (passed_limit limit) c whole other says = absurd says
-other_says flags pattern p t u starts refused_replacement c whole other says = absurd says
+other_says flags pattern p t u starts _ c whole other says = absurd says
 
 -- what is said of the start of the group that is open there is said of the stop
 pub stop_found : (flags : Flags) (pattern : Text) (last : Option ℕ)

@@ -116,8 +116,7 @@ one_regular c false a is of = subst (λ x. IsRegular x) (sym of) is
 -- what a primitive names is a character
 abbrev Names : Primitive → Type 0
 Names (one c) = IsTrue (is_character c)
-Names (some_of s) = Unit {0}
-Names (look_at test) = Unit {0}
+Names _ = Unit {0}
 
 primitive_regular : (flags : Flags) (p : Primitive) (a : Tree) → Names p → PrimitiveTree flags p a
     → IsRegular a
@@ -129,15 +128,12 @@ primitive_regular flags (look_at test) a is of = subst (λ x. IsRegular x) (sym 
 -- one that stands for characters does
 names_one : (p : Primitive) → OfCharacters p → Names p
 names_one (one c) of = of
-names_one (some_of s) of = tt
-names_one (look_at test) of = tt
+names_one _ of = tt
 
 -- what an item of one character names is a character
 abbrev AtomNames : AtomKind → Type 0
 AtomNames (single p) = Names p
-AtomNames escape = Unit {0}
-AtomNames bracketed = Unit {0}
-AtomNames no_atom = Unit {0}
+AtomNames _ = Unit {0}
 
 atom_kind_names : (flags : Flags) (c : ℕ) → IsTrue (is_character c) → AtomNames (atom_kind flags c)
 atom_kind_names flags c is = search rules

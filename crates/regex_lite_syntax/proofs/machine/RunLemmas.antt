@@ -131,9 +131,7 @@ end_says flags nest_limit pattern p t too_deep r gap d =
     let g = reaches_tree flags nest_limit pattern p t d.0 r gap d.1 in
     tree_refused flags nest_limit pattern d.0 p.groups r.deepest g d.2
 end_says flags nest_limit pattern p t out_of_memory r gap d = tt
-end_says flags nest_limit pattern p t too_many_groups r gap d = absurd d
-end_says flags nest_limit pattern p t (passed_limit limit) r gap d = absurd d
-end_says flags nest_limit pattern p t refused_replacement r gap d = absurd d
+end_says flags nest_limit pattern p t _ r gap d = absurd d
 
 -- before the end with nothing to be read, there is no tree either
 pub stuck_refused : (flags : Flags) (nest_limit : ℕ) (pattern : Text) (p : Parser) (t u : Text)
@@ -176,6 +174,4 @@ step_says flags nest_limit pattern p t u (syntax_error fault) r whole more d =
 step_says flags nest_limit pattern p t u too_many_groups r whole more d =
     number_refused flags nest_limit pattern p t u r whole d.0 d.1
 step_says flags nest_limit pattern p t u out_of_memory r whole more d = tt
-step_says flags nest_limit pattern p t u too_deep r whole more d = absurd d
-step_says flags nest_limit pattern p t u (passed_limit limit) r whole more d = absurd d
-step_says flags nest_limit pattern p t u refused_replacement r whole more d = absurd d
+step_says flags nest_limit pattern p t u _ r whole more d = absurd d

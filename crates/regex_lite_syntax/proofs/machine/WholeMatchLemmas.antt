@@ -15,15 +15,12 @@ not_this index name rest from_one unnamed =
 
 mutual
   pub no_name : (tree : Tree) → IsRegular tree → group_name tree 0 ≡ None
-  no_name empty regular = refl
-  no_name (character c) regular = refl
-  no_name (class ranges) regular = refl
-  no_name (look test) regular = refl
   no_name (repetition least most greedy body) regular = no_name body regular.1
   no_name (capture index name body) regular =
       not_this index name (group_name body 0) regular.0 (no_name body regular.1)
   no_name (concat parts) regular = no_name_in parts regular.1
   no_name (alternation branches) regular = no_name_in branches regular.1
+  no_name _ regular = refl
 
   no_name_in : (trees : Trees) → AreRegular trees → group_name_in trees 0 ≡ None
   no_name_in none regular = refl

@@ -26,8 +26,4 @@ completes_of (Err fault) R S t u gives completes =
 -- a refusal that says the one where the pattern is cut short says what follows from it
 pub cut_short_says : (e : Refusal) (A B : Type 0) → (A → B) → IfCutShort e A → IfCutShort e B
 cut_short_says (syntax_error fault) A B gives says = λ short. gives (says short)
-cut_short_says too_deep A B gives says = tt
-cut_short_says too_many_groups A B gives says = tt
-cut_short_says out_of_memory A B gives says = tt
-cut_short_says (passed_limit limit) A B gives says = tt
-cut_short_says refused_replacement A B gives says = tt
+cut_short_says _ A B gives says = tt

@@ -37,8 +37,7 @@ refuses_more (syntax_error fault) s s' n g n' g' of_s of_n of_g says = of_s faul
 refuses_more too_deep s s' n g n' g' of_s of_n of_g says = of_n says
 refuses_more too_many_groups s s' n g n' g' of_s of_n of_g says = of_g says
 refuses_more out_of_memory s s' n g n' g' of_s of_n of_g says = tt
-refuses_more (passed_limit limit) s s' n g n' g' of_s of_n of_g says = absurd says
-refuses_more refused_replacement s s' n g n' g' of_s of_n of_g says = absurd says
+refuses_more _ s s' n g n' g' of_s of_n of_g says = absurd says
 
 -- what denies a reading of the one text refuses what needs a reading of it
 pub denial_refuses : (e : Refusal) (R S : Text → Type 0) (t u : Text) (n g : Type 0)

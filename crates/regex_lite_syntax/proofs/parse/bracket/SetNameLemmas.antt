@@ -51,19 +51,7 @@ none_named w name set none same named =
 named_itself : (s : NamedSet)
     → (set_named (set_name s) ≡ Some (name_of s)) × IsTrue (list_all is_lower (set_name s))
 named_itself sets.Alnum = (refl, refl)
-named_itself sets.Alpha = (refl, refl)
-named_itself sets.Ascii = (refl, refl)
-named_itself sets.Blank = (refl, refl)
-named_itself sets.Cntrl = (refl, refl)
-named_itself sets.Digit = (refl, refl)
-named_itself sets.Graph = (refl, refl)
-named_itself sets.Lower = (refl, refl)
-named_itself sets.Print = (refl, refl)
-named_itself sets.Punct = (refl, refl)
-named_itself sets.Space = (refl, refl)
-named_itself sets.Upper = (refl, refl)
-named_itself sets.Word = (refl, refl)
-named_itself sets.Xdigit = (refl, refl)
+named_itself _ = (refl, refl)
 
 -- texts and their beginnings
 same_text : (t u : Text) → is_text t u ≡ true → t ≡ u
