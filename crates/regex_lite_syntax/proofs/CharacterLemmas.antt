@@ -5,6 +5,7 @@ use Rattle.regex_lite_syntax.proofs.Common.{arith, nat_tests, chars_from_encodes
 use Rattle.regex_lite_syntax.proofs.Common.{AreCharacters, Text}
 use Rattle.std.specs.Char.{IsScalar}
 use Rattle.std.specs.Str.{IsUtf8, all_scalars}
+use Rattle.std.proofs.Common.{replicate}
 
 both : (a b : Bool) → (a && b) ≡ true → (a ≡ true) × (b ≡ true)
 both true b e = (refl, e)
@@ -45,3 +46,8 @@ left_are (suc n) (c ∷ t) are = left_are n t are.1
 pub joined_are : (t u : Text) → AreCharacters t → AreCharacters u → AreCharacters (t ++ u)
 joined_are [] u are more = more
 joined_are (c ∷ t) u are more = (are.0, joined_are t u are.1 more)
+
+-- and so is one character, as often as it stands
+pub repeated_are : (n c : ℕ) → IsTrue (is_character c) → AreCharacters (replicate n c)
+repeated_are zero c is = tt
+repeated_are (suc n) c is = (is, repeated_are n c is)

@@ -1,7 +1,7 @@
 -- What completes a part of a pattern that ends inside a gap.
 use Rattle.regex_lite_syntax.proofs.Common.{ℕ, Bool, [], ◌∷◌, ◌++◌, IsTrue, sym, refl, subst}
-use Rattle.regex_lite_syntax.proofs.Common.{append_assoc, and_parts, list_all, is_character}
-use Rattle.regex_lite_syntax.proofs.Common.{AreCharacters, Gap, Spaced, Text}
+use Rattle.regex_lite_syntax.proofs.Common.{append_assoc, and_from, and_parts, list_all, Gap}
+use Rattle.regex_lite_syntax.proofs.Common.{Spaced, Text}
 use Rattle.regex_lite_syntax.proofs.grammar.GapLemmas.{empty_gap}
 use Rattle.regex_lite_syntax.proofs.grammar.ResumedGapLemmas.{resumed, gap_resumed}
 
@@ -44,11 +44,9 @@ spaced_further verbose kind [] ds t u v a b =
 spaced_further verbose kind (c ∷ cs) ds t u v a b =
     (a.0, a.1, a.2, spaced_further verbose kind cs ds a.0 u v a.3 b)
 
--- characters of a kind, and what is put after them
-pub all_characters : (kind : ℕ → Bool) (cs more : Text)
-    → ((c : ℕ) → IsTrue (kind c) → IsTrue (is_character c)) → IsTrue (list_all kind cs)
-    → AreCharacters more → AreCharacters (cs ++ more)
-all_characters kind [] more is all are = are
-all_characters kind (c ∷ cs) more is all are =
-    let parts = and_parts _ _ all in
-    (is c parts.0, all_characters kind cs more is parts.1 are)
+-- what is read as characters of a kind is of the kind
+pub spaced_are : (verbose : Bool) (kind : ℕ → Bool) (cs t rest : Text)
+    → Spaced verbose kind cs t rest → IsTrue (list_all kind cs)
+spaced_are verbose kind [] t rest s = refl
+spaced_are verbose kind (c ∷ cs) t rest s =
+    and_from _ _ s.2 (spaced_are verbose kind cs s.0 rest s.3)

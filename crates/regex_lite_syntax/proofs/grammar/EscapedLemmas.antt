@@ -1,12 +1,10 @@
 -- What the grammar makes of an escaped text.
 use Rattle.regex_lite_syntax.proofs.Common.{◌≡◌, ℕ, Bool, true, false, cond, ◌&&◌, List, [], ◌∷◌}
 use Rattle.regex_lite_syntax.proofs.Common.{◌++◌, map, ◌==◌, codes, MatchBool, sym, refl, ap, ◌∙◌}
-use Rattle.regex_lite_syntax.proofs.Common.{subst, inl, inr, and_parts, eqb-true, false≢true}
-use Rattle.regex_lite_syntax.proofs.Common.{or_cases, append-nil, list_all, list_any, AreCharacters}
+use Rattle.regex_lite_syntax.proofs.Common.{subst, eqb-true, false≢true, append-nil, AreCharacters}
 use Rattle.regex_lite_syntax.proofs.Common.{is_letter, Branch, nothing, item, only, Grammar}
 use Rattle.regex_lite_syntax.proofs.Common.{is_literal, IsClassOf, PrimitiveTree, Atom, one}
-use Rattle.regex_lite_syntax.proofs.Common.{some_of, look_at, EscapeKind, gives, word_boundary}
-use Rattle.regex_lite_syntax.proofs.Common.{hexadecimal, refused, escape_kind, Point, onward, start}
+use Rattle.regex_lite_syntax.proofs.Common.{EscapeKind, gives, escape_kind, Point, onward, start}
 use Rattle.regex_lite_syntax.proofs.Common.{just, case_closure, Text, the, Tree, Flags}
 use Rattle.std.proofs.Common.{not}
 use Rattle.std.proofs.lemmas.List.{append_assoc}
@@ -18,17 +16,7 @@ use Rattle.regex_lite_syntax.proofs.grammar.AtomLemmas.{literal_atom, escape_ato
 use Rattle.regex_lite_syntax.proofs.grammar.EscapeLemmas.{escape_as}
 use Rattle.regex_lite_syntax.proofs.grammar.GapLemmas.{empty_gap}
 use Rattle.regex_lite_syntax.proofs.grammar.NameLemmas.{no_names_differ}
-
--- what each of the characters passes, so does one that is found among them
-found_passes : (test : ℕ → Bool) (ds : Text) (c : ℕ) → list_all test ds ≡ true
-    → list_any (λ d. d == c) ds ≡ true → test c ≡ true
-found_passes test [] c all found = absurd (false≢true found)
-found_passes test (d ∷ ds) c all found =
-    let each = and_parts (test d) (list_all test ds) all in
-    elim (or_cases (d == c) (list_any (λ e. e == c) ds) found) [
-      | inl here ↦ subst (λ e. test e ≡ true) (eqb-true d c here) each.0
-      | inr later ↦ found_passes test ds c each.1 later
-    ]
+use Rattle.regex_lite_syntax.proofs.grammar.WordLemmas.{one_passes}
 
 -- an escape that asks for this character and no more
 abbrev gives_just : EscapeKind → ℕ → Bool
@@ -43,11 +31,11 @@ kind_of_just _ c same = absurd (false≢true same)
 stands_for_itself : (c : ℕ) → is_meta_character c ≡ true → gives (one c) ≡ escape_kind c
 stands_for_itself c meta =
     kind_of_just (escape_kind c) c
-    (found_passes (λ d. gives_just (escape_kind d) d) (codes "\\.+*?()|[]{}^$#&-~") c refl meta)
+    (one_passes (λ d. gives_just (escape_kind d) d) (codes "\\.+*?()|[]{}^$#&-~") c refl meta)
 
 -- without one every other is
 signs_are_meta : (c : ℕ) → c ∈ "\\.^$()[|?*+{" ≡ true → is_meta_character c ≡ true
-signs_are_meta c sign = found_passes is_meta_character (codes "\\.^$()[|?*+{") c refl sign
+signs_are_meta c sign = one_passes is_meta_character (codes "\\.^$()[|?*+{") c refl sign
 
 other_is_literal : (c : ℕ) → is_meta_character c ≡ false → is_literal false c ≡ true
 other_is_literal c other =

@@ -6,13 +6,13 @@ use Rattle.regex_lite_syntax.proofs.Common.{named_on, inside, Head, numbered, pl
 use Rattle.regex_lite_syntax.proofs.Common.{sets, Point, Text, Begins, the, Flags}
 use Rattle.regex_lite_syntax.specs.Grammar.Heads.{named}
 use Rattle.regex_lite_syntax.proofs.ListLemmas.{same_tail}
-use Rattle.regex_lite_syntax.proofs.grammar.GapLemmas.{ends_any, gap_once, whole_gap_once}
+use Rattle.regex_lite_syntax.proofs.grammar.GapLemmas.{gap_once}
 use Rattle.regex_lite_syntax.proofs.grammar.FlagLetterLemmas.{colon_ends_flags, paren_ends_flags}
 use Rattle.regex_lite_syntax.proofs.grammar.FlagLetterLemmas.{letters_once, other_end}
 use Rattle.regex_lite_syntax.proofs.grammar.NameLemmas.{named_once}
 use Rattle.regex_lite_syntax.proofs.grammar.NameOpeningLemmas.{named_question, named_or_plain}
 use Rattle.regex_lite_syntax.proofs.grammar.NameOpeningLemmas.{named_or_directive}
-use Rattle.regex_lite_syntax.proofs.grammar.LongerGapLemmas.{question_ends}
+use Rattle.regex_lite_syntax.proofs.grammar.LongerGapLemmas.{question_ends, no_question_past}
 
 named_ends : (t rest name : Text) → Named t rest name → EndsGap true t
 named_ends t rest name n =
@@ -128,14 +128,8 @@ head_or_directive {p} (plain o f r new e g letters h k) (sets o' f' r' new' e' g
 pub numbered_head : (level : ℕ) (p : Point) (rest u : Text) → p.rest ≡ the "(" ∷ rest
     → WholeGap p.flags.ignore_whitespace rest u → (Begins (the "?") u → ⊥)
     → Head level p (numbered_on (inside level p p.flags rest)) (capturing (p.groups + 1) None)
-numbered_head level p rest u e whole none = numbered rest e no_question refl refl
-  where
-    no_question : (first : Text) → Gap p.flags.ignore_whitespace rest (the "?" ∷ first) → ⊥
-    no_question first g =
-        let ends = ends_any p.flags.ignore_whitespace _ (question_ends first) in
-        let same =
-        whole_gap_once p.flags.ignore_whitespace rest u (the "?" ∷ first) whole (g, ends) in
-        none (subst (λ t. Begins (the "?") t) (sym same) refl)
+numbered_head level p rest u e whole none =
+    numbered rest e (no_question_past p.flags.ignore_whitespace rest u whole none) refl refl
 
 -- where a name stands in its brackets, a named group begins
 pub named_head : (level : ℕ) (p : Point) (opened first rest name : Text) → p.rest ≡ the "(" ∷ opened

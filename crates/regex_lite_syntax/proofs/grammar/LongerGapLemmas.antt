@@ -8,13 +8,20 @@ use Rattle.regex_lite_syntax.proofs.grammar.GapLemmas.{empty_gap, gap_to_end}
 use Rattle.regex_lite_syntax.proofs.grammar.ScanLemmas.{Scan, scan_of_spacing, spacing_of_scan}
 use Rattle.regex_lite_syntax.proofs.grammar.SpacedLemmas.{whole_gap_leads, printed_ends}
 
--- more than a gap is left
-abbrev pub GoesOn : (verbose : Bool) → Text → Type 0
-GoesOn verbose t = Gap verbose t [] → ⊥
-
 -- a `?` ends a gap
 pub question_ends : (t : Text) → EndsGap true (the "?" ∷ t)
 question_ends t = printed_ends (the "?") t (omega arith) (omega arith)
+
+-- where none stands past the whole gap, no gap leads to one
+pub no_question_past : (verbose : Bool) (t u : Text) → WholeGap verbose t u
+    → (Begins (the "?") u → ⊥) → (first : Text) → Gap verbose t (the "?" ∷ first) → ⊥
+no_question_past verbose t u whole none first gap =
+    let same = whole_gap_leads verbose t u _ whole gap (question_ends first) in
+    none (subst (λ v. Begins (the "?") v) (sym same) refl)
+
+-- more than a gap is left
+abbrev pub GoesOn : (verbose : Bool) → Text → Type 0
+GoesOn verbose t = Gap verbose t [] → ⊥
 
 -- then something is left
 pub some_left : (verbose : Bool) (t : Text) → GoesOn verbose t → t ≢ []

@@ -81,20 +81,26 @@ module _ (more : Text) where
     value = d.value;
   }
 
-  pub number_longer : {verbose : Bool} {n : ℕ} {t rest : Text} → Number verbose t rest n
-      → rest ≢ [] → Number verbose (t ++ more) (rest ++ more) n
-  number_longer {verbose} {n} {t} {rest} p some = record {
+  -- a number ends where a side does that begins past its digits
+  pub number_on : {verbose : Bool} {n : ℕ} {t u rest : Text} (p : Number verbose t u n)
+      → Side verbose (p.last ++ more) rest → Number verbose (t ++ more) rest n
+  number_on {verbose} {t} p after = record {
     first = p.first ++ more;
     last = p.last ++ more;
     digits = p.digits;
     before = side_longer verbose t p.first p.before
         (spaced_some verbose p.digits p.first p.last p.some p.written);
     written = spaced_longer more verbose is_digit p.digits p.first p.last p.written;
-    after = side_longer verbose p.last rest p.after some;
+    after = after;
     some = p.some;
     value = p.value;
     in_range = p.in_range;
   }
+
+  pub number_longer : {verbose : Bool} {n : ℕ} {t rest : Text} → Number verbose t rest n
+      → rest ≢ [] → Number verbose (t ++ more) (rest ++ more) n
+  number_longer {verbose} {rest} p some =
+      number_on p (side_longer verbose p.last rest p.after some)
 
   pub limit_longer : (verbose : Bool) (t rest : Text) (most : Option ℕ) → Limit verbose t rest most
       → Limit verbose (t ++ more) (rest ++ more) most

@@ -5,11 +5,12 @@ use Rattle.regex_lite_syntax.proofs.Common.{append_assoc, arith, append-nil, All
 use Rattle.regex_lite_syntax.proofs.Common.{AreCharacters, is_no_end, NameWritten, NameOpening}
 use Rattle.regex_lite_syntax.proofs.Common.{with_p, without_p, Named, NamesDiffer, EndsInOpening}
 use Rattle.regex_lite_syntax.proofs.Common.{Completable, Text, the}
-use Rattle.std.proofs.lemmas.List.{length-append}
-use Rattle.regex_lite_syntax.proofs.CharacterLemmas.{joined_are, last_are}
+use Rattle.std.proofs.lemmas.List.{length-append, length-replicate}
+use Rattle.regex_lite_syntax.proofs.CharacterLemmas.{joined_are, last_are, repeated_are}
 use Rattle.regex_lite_syntax.proofs.grammar.LongerHeadLemmas.{opening_longer}
 use Rattle.regex_lite_syntax.proofs.grammar.NameLemmas.{differ_more}
 use Rattle.regex_lite_syntax.proofs.grammar.NameReadingLemmas.{NameSoFar, name_goes_on}
+use Rattle.std.proofs.Common.{replicate}
 
 -- a name that is none of these stands there
 abbrev pub NewName : (names : List Text) → (t rest : Text) → Type 0
@@ -19,13 +20,7 @@ NewName names t rest =
 
 -- this many underscores
 abbrev underscores : ℕ → Text
-underscores zero = []
-underscores (suc n) = the "_" ∷ underscores n
-
--- there are n of them
-count_is : (n : ℕ) → length (underscores n) ≡ n
-count_is zero = refl
-count_is (suc n) = ap (λ k. suc k) (count_is n)
+underscores n = replicate n (the "_")
 
 -- more characters than each of these names has
 abbrev more_than_all : List Text → ℕ
@@ -59,20 +54,17 @@ goes_on (suc n) name so_far =
     (goes_on n (name ++ the "_" ∷ [])
     (name_goes_on name (name ++ the "_" ∷ []) (the "_") refl refl (λ e. omega (arith, e)) so_far))
 
-are_characters : (n : ℕ) → AreCharacters (underscores n ++ the ">" ∷ [])
-are_characters zero = (refl, tt)
-are_characters (suc n) = (refl, are_characters n)
-
 -- where the pattern ends in a name, enough underscores make it a new one
 pub name_completes : (names : List Text) (t : Text) → NameSoFar t → Completable (NewName names) t
 name_completes names t so_far =
     let n = more_than_all names in
     let name = t ++ underscores n in
     let whole = goes_on n t so_far in
-    let long : n ≤ length name = omega (arith, length-append t (underscores n), count_is n) in
+    let long : n ≤ length name = omega (arith, length-append t (underscores n), length-replicate n (the "_")) in
     record {
       more = underscores n ++ the ">" ∷ [];
-      characters = are_characters n;
+      characters = joined_are (underscores n) (the ">" ∷ []) (repeated_are n (the "_") refl)
+          (refl, tt);
       reads = λ next. (
         name,
         record {

@@ -1,11 +1,12 @@
 -- Numbers with what may stand on their sides are read in one way.
-use Rattle.regex_lite_syntax.proofs.Common.{◌≡◌, ℕ, ◌+◌, ◌*◌, ◌^◌, ◌<◌, ◌≤◌, Bool, true, false, []}
-use Rattle.regex_lite_syntax.proofs.Common.{◌∷◌, ◌++◌, length, IsTrue, sym, refl, ap, ◌∙◌, subst}
-use Rattle.regex_lite_syntax.proofs.Common.{inl, inr, arith, length-append, and_parts, both_ways}
-use Rattle.regex_lite_syntax.proofs.Common.{leb-true, not-true, fold-append, is_white_space}
-use Rattle.regex_lite_syntax.proofs.Common.{is_digit, digit_value, number_of, WhiteSpace, Side}
-use Rattle.regex_lite_syntax.proofs.Common.{WholeSide, Number, EndsNumber, Spacing, no_more, Gap}
-use Rattle.regex_lite_syntax.proofs.Common.{EndsGap, WholeGap, Spaced, Text, the}
+use Rattle.regex_lite_syntax.proofs.Common.{◌≡◌, ℕ, ◌+◌, ◌*◌, ◌^◌, ◌<◌, ◌≤◌, Bool, true, false, ◌≢◌}
+use Rattle.regex_lite_syntax.proofs.Common.{[], ◌∷◌, ◌++◌, length, IsTrue, sym, refl, ap, ◌∙◌}
+use Rattle.regex_lite_syntax.proofs.Common.{subst, inl, inr, arith, length-append, and_parts}
+use Rattle.regex_lite_syntax.proofs.Common.{both_ways, leb-true, not-true, fold-append}
+use Rattle.regex_lite_syntax.proofs.Common.{is_white_space, is_digit, digit_value, number_of}
+use Rattle.regex_lite_syntax.proofs.Common.{WhiteSpace, Side, WholeSide, Number, EndsNumber}
+use Rattle.regex_lite_syntax.proofs.Common.{Spacing, no_more, Gap, EndsGap, WholeGap, Spaced, Text}
+use Rattle.regex_lite_syntax.proofs.Common.{the}
 use Rattle.std.proofs.Common.{fold}
 use Rattle.regex_lite_syntax.specs.Grammar.Gaps.{further}
 use Rattle.regex_lite_syntax.specs.Grammar.Counted.{EndsSide}
@@ -253,24 +254,35 @@ number_only {verbose} {read} {n} {m} {t} {first} {u} {rest} {rest'} before d non
     )
     go (d ∷ ds) s value = absurd (none d s.0 s.1 s.2)
 
-pub number_once : (verbose : Bool) (t r s : Text) (n m : ℕ) → Number verbose t r n
-    → Number verbose t s m → EndsNumber r → EndsNumber s → (s ≡ r) × (m ≡ n)
-number_once verbose t r s n m p q ends_p ends_q = go p.digits p.some p.written p.value
+-- the digits of a number stand past the whole side before them
+pub own_digits : {verbose : Bool} {n : ℕ} {t u : Text} (p : Number verbose t u n)
+    → (first : Text) × WholeSide verbose t first × (first ≢ [])
+    × DigitsRead verbose 1 first p.last n
+own_digits {verbose} {n} {t} p = go p.digits p.some p.written p.value
   where
     go : (ds : Text) → 0 < length ds → Spaced verbose is_digit ds p.first p.last
-        → n ≡ number_of 10 ds → (s ≡ r) × (m ≡ n)
+        → n ≡ number_of 10 ds
+        → (first : Text) × WholeSide verbose t first × (first ≢ [])
+        × DigitsRead verbose 1 first p.last n
     go [] some w value = absurd (omega (arith, some))
-    go (d ∷ ds) some w value =
-        let whole : WholeSide verbose t (d ∷ w.0) =
-        (side_on verbose t p.first _ p.before w.1, ends_side verbose _ (digits_end d w.0 w.2)) in
-        let read : DigitsRead verbose 1 (d ∷ w.0) p.last n = record {
-          digits = d ∷ ds;
-          written = (w.0, empty_gap verbose (d ∷ w.0), w.2, w.3);
-          some = λ _. some;
-          value = value;
-        } in
-        number_only whole read (no_digit_before verbose p.last r p.after ends_p)
-        (p.after, ends_side verbose r (ender_ends r ends_p)) q ends_q
+    go (d ∷ ds) some w value = (
+      d ∷ w.0,
+      (side_on verbose t p.first _ p.before w.1, ends_side verbose _ (digits_end d w.0 w.2)),
+      (λ none. cc none),
+      record {
+        digits = d ∷ ds;
+        written = (w.0, empty_gap verbose (d ∷ w.0), w.2, w.3);
+        some = λ _. some;
+        value = value;
+      },
+    )
+
+pub number_once : (verbose : Bool) (t r s : Text) (n m : ℕ) → Number verbose t r n
+    → Number verbose t s m → EndsNumber r → EndsNumber s → (s ≡ r) × (m ≡ n)
+number_once verbose t r s n m p q ends_p ends_q =
+    let own = own_digits p in
+    number_only own.1 own.3 (no_digit_before verbose p.last r p.after ends_p)
+    (p.after, ends_side verbose r (ender_ends r ends_p)) q ends_q
 
 -- no number stands there where nothing is left past the side
 pub no_number_at_end : {verbose : Bool} {n : ℕ} {t rest : Text} → WholeSide verbose t []

@@ -1,12 +1,12 @@
 -- An operator is read in one way.
 use Rattle.regex_lite_syntax.proofs.Common.{◌≡◌, ℕ, Bool, false, ◌∷◌, Some, Option, sym, refl, ap}
-use Rattle.regex_lite_syntax.proofs.Common.{◌∙◌, subst, arith, Counted, Gap, WholeGap, times, greed}
+use Rattle.regex_lite_syntax.proofs.Common.{◌∙◌, subst, Counted, Gap, WholeGap, times, greed}
 use Rattle.regex_lite_syntax.proofs.Common.{Operator, uncounted, uncounted_lazy, counted}
 use Rattle.regex_lite_syntax.proofs.Common.{counted_lazy, Text, Begins, the, Flags}
 use Rattle.regex_lite_syntax.proofs.ListLemmas.{same_head, same_tail}
-use Rattle.regex_lite_syntax.proofs.grammar.SpacedLemmas.{printed_ends, whole_gap_leads}
 use Rattle.regex_lite_syntax.proofs.grammar.GapLemmas.{gap_once}
 use Rattle.regex_lite_syntax.proofs.grammar.CountLemmas.{counted_once}
+use Rattle.regex_lite_syntax.proofs.grammar.LongerGapLemmas.{no_question_past, question_ends}
 
 same_some : {A : Type 0} {x y : A} → Some x ≡ Some y → x ≡ y
 same_some e = cc
@@ -53,9 +53,7 @@ same_question : (verbose : Bool) (t u rest rest' : Text) → t ≡ u → Gap ver
     → Gap verbose u (the "?" ∷ rest') → rest ≡ rest'
 same_question verbose t u rest rest' e g g' =
     let from = subst (λ v. Gap verbose v (the "?" ∷ rest')) (sym e) g' in
-    same_tail
-    (gap_once verbose t _ _ g from (printed_ends (the "?") rest (omega arith) (omega arith))
-    (printed_ends (the "?") rest' (omega arith) (omega arith)))
+    same_tail (gap_once verbose t _ _ g from (question_ends rest) (question_ends rest'))
 
 pub operator_once : {flags : Flags} {t rest rest' : Text} {least least' : ℕ} {most most' : Option ℕ}
     {greedy greedy' : Bool}
@@ -148,10 +146,4 @@ pub counted_greedy : (flags : Flags) (t opened rest u : Text) (least : ℕ) (mos
     → greedy ≡ greed flags false
     → Operator flags t rest least most greedy
 counted_greedy flags t opened rest u least most greedy e k whole none g =
-    counted opened e k no_question g
-  where
-    no_question : (next : Text) → Gap flags.ignore_whitespace rest (the "?" ∷ next) → ⊥
-    no_question next gap =
-        let ends = printed_ends (the "?") next (omega arith) (omega arith) in
-        let same = whole_gap_leads flags.ignore_whitespace rest u _ whole gap ends in
-        none (subst (λ t. Begins (the "?") t) (sym same) refl)
+    counted opened e k (no_question_past flags.ignore_whitespace rest u whole none) g

@@ -1,24 +1,27 @@
 -- Numbers at the end of a pattern that goes on.
 use Rattle.regex_lite_syntax.proofs.Common.{◌≡◌, ℕ, ◌+◌, ◌-◌, ◌*◌, ◌^◌, ◌<◌, Bool, true, false, []}
-use Rattle.regex_lite_syntax.proofs.Common.{◌∷◌, ◌++◌, length, IsTrue, nat_lt, sym, refl, ap, ◌∙◌}
-use Rattle.regex_lite_syntax.proofs.Common.{subst, inl, inr, arith, length-append, and_from}
-use Rattle.regex_lite_syntax.proofs.Common.{and_parts, both_ways, le-leb, not-true, fold-append}
+use Rattle.regex_lite_syntax.proofs.Common.{◌∷◌, ◌++◌, length, IsTrue, sym, refl, ap, ◌∙◌, subst}
+use Rattle.regex_lite_syntax.proofs.Common.{inl, inr, arith, length-append, and_from, and_parts}
+use Rattle.regex_lite_syntax.proofs.Common.{both_ways, le-leb, not-true, or_left, fold-append}
 use Rattle.regex_lite_syntax.proofs.Common.{list_all, is_character, AreCharacters, is_white_space}
 use Rattle.regex_lite_syntax.proofs.Common.{is_digit, digit_value, number_of, WhiteSpace, Side}
-use Rattle.regex_lite_syntax.proofs.Common.{WholeSide, Number, EndsNumber, Gap, Spaced, GrowsTo}
-use Rattle.regex_lite_syntax.proofs.Common.{as_it_is, Becomes, Text}
+use Rattle.regex_lite_syntax.proofs.Common.{Number, EndsNumber, Gap, Spaced, GrowsTo, as_it_is}
+use Rattle.regex_lite_syntax.proofs.Common.{Becomes, Text}
 use Rattle.std.proofs.Common.{fold}
 use Rattle.std.proofs.lemmas.Bool.{lt-ltb}
 use Rattle.regex_lite_syntax.specs.Parser.Numbers.{with_digit}
 use Rattle.regex_lite_syntax.proofs.ListLemmas.{same_head}
 use Rattle.regex_lite_syntax.proofs.grammar.GapLemmas.{empty_gap}
-use Rattle.regex_lite_syntax.proofs.grammar.NumberLemmas.{empty_white, side_of, side_on, ends_side}
-use Rattle.regex_lite_syntax.proofs.grammar.NumberLemmas.{digit_bounds, digits_end, DigitsRead}
-use Rattle.regex_lite_syntax.proofs.grammar.NumberLemmas.{number_begins}
+use Rattle.regex_lite_syntax.proofs.grammar.NumberLemmas.{empty_white, side_of, digit_bounds}
+use Rattle.regex_lite_syntax.proofs.grammar.NumberLemmas.{digits_end, number_begins, own_digits}
 use Rattle.regex_lite_syntax.proofs.grammar.LongerGapLemmas.{spaced_longer}
 use Rattle.regex_lite_syntax.proofs.grammar.LongerNumberLemmas.{side_longer, whole_side_longer}
 use Rattle.regex_lite_syntax.proofs.grammar.LongerNumberLemmas.{digits_longer, spaced_some}
+use Rattle.regex_lite_syntax.proofs.grammar.LongerNumberLemmas.{number_on}
 use Rattle.regex_lite_syntax.proofs.grammar.ResumedGapLemmas.{resumed, gap_resumed}
+use Rattle.regex_lite_syntax.proofs.grammar.CompletedGapLemmas.{spaced_together, spaced_further}
+use Rattle.regex_lite_syntax.proofs.grammar.CompletedGapLemmas.{spaced_are}
+use Rattle.regex_lite_syntax.proofs.grammar.WordLemmas.{all_characters}
 
 -- Sides and digits.
 
@@ -42,39 +45,8 @@ abbrev with_digits : (number : ℕ) → (digits : Text) → ℕ
 with_digits number ds = fold (λ n d. n * 10 + digit_value d) number ds
 
 -- digits are characters
-digit_is_character : (c : ℕ) → IsTrue (is_digit c) → IsTrue (is_character c)
-digit_is_character c digit = or_small (lt-ltb c 0xD800 (omega (arith, digit_bounds c digit)))
-  where
-    or_small : IsTrue (nat_lt c 0xD800) → IsTrue (is_character c)
-    or_small small = rw small refl
-
-pub digits_are_characters : (ds : Text) → AreDigits ds → AreCharacters ds
-digits_are_characters [] all = tt
-digits_are_characters (d ∷ ds) all =
-    let both = and_parts _ _ all in
-    (digit_is_character d both.0, digits_are_characters ds both.1)
-
--- digits that are written one after the other
-spaced_digits : (verbose : Bool) (ds rest : Text) → AreDigits ds
-    → Spaced verbose is_digit ds (ds ++ rest) rest
-spaced_digits verbose [] rest all = refl
-spaced_digits verbose (d ∷ ds) rest all =
-    let both = and_parts _ _ all in
-    (ds ++ rest, empty_gap verbose _, both.0, spaced_digits verbose ds rest both.1)
-
--- what is read as digits is digits
-spaced_are_digits : (verbose : Bool) (ds t rest : Text) → Spaced verbose is_digit ds t rest
-    → AreDigits ds
-spaced_are_digits verbose [] t rest s = refl
-spaced_are_digits verbose (d ∷ ds) t rest s =
-    and_from _ _ s.2 (spaced_are_digits verbose ds s.0 rest s.3)
-
--- digits, and then others from where they end
-spaced_on : (verbose : Bool) (cs ds t u rest : Text) → Spaced verbose is_digit cs t u
-    → Spaced verbose is_digit ds u rest → Spaced verbose is_digit (cs ++ ds) t rest
-spaced_on verbose [] ds t u rest a b = subst (λ v. Spaced verbose is_digit ds v rest) (sym a) b
-spaced_on verbose (c ∷ cs) ds t u rest a b =
-    (a.0, a.1, a.2, spaced_on verbose cs ds a.0 u rest a.3 b)
+pub digit_is_character : (c : ℕ) → IsTrue (is_digit c) → IsTrue (is_character c)
+digit_is_character c digit = or_left _ _ (lt-ltb c 0xD800 (omega (arith, digit_bounds c digit)))
 
 -- What a number grows to, in digits.
 
@@ -124,9 +96,9 @@ becomes_with : (verbose : Bool) (last more end ds : Text) (n m : ℕ) → Side v
     → Spaced verbose is_digit ds (last ++ more) end → m ≡ with_digits n ds
     → Becomes verbose last n m
 becomes_with true last more end ds n m side s value =
-    inr (side, grows_to ds n m (spaced_are_digits true ds (last ++ more) end s) value)
+    inr (side, grows_to ds n m (spaced_are true is_digit ds (last ++ more) end s) value)
 becomes_with false [] more end ds n m side s value =
-    inr (refl, grows_to ds n m (spaced_are_digits false ds more end s) value)
+    inr (refl, grows_to ds n m (spaced_are false is_digit ds more end s) value)
 becomes_with false (c ∷ last) more end ds n m (inl none) s value = absurd (cc none)
 becomes_with false (c ∷ last) more end [] n m (inr white) s value = inl value
 becomes_with false (c ∷ last) more end (d ∷ ds) n m (inr white) s value =
@@ -145,7 +117,7 @@ number_begun verbose t next ds side all some small = record {
   last = next;
   digits = ds;
   before = side_resumed verbose t (ds ++ next) side;
-  written = spaced_digits verbose ds next all;
+  written = spaced_together verbose is_digit ds next all;
   after = side_of verbose next next (empty_gap verbose next);
   some = some;
   value = refl;
@@ -157,19 +129,7 @@ module _ (verbose : Bool) (t : Text) where
   pub number_resumed : {n : ℕ} (next : Text) → Number verbose t [] n
       → Number verbose (t ++ (resumed verbose ++ next)) next n
   number_resumed next p =
-      let more = resumed verbose ++ next in
-      record {
-        first = p.first ++ more;
-        last = p.last ++ more;
-        digits = p.digits;
-        before = side_longer more verbose t p.first p.before
-            (spaced_some verbose p.digits p.first p.last p.some p.written);
-        written = spaced_longer more verbose is_digit p.digits p.first p.last p.written;
-        after = side_resumed verbose p.last next p.after;
-        some = p.some;
-        value = p.value;
-        in_range = p.in_range;
-      }
+      number_on (resumed verbose ++ next) p (side_resumed verbose p.last next p.after)
 
   -- and one past whose digits a gap led to the end, and then more digits
   digits_resumed : {n : ℕ} (next ds : Text) (p : Number verbose t [] n) → Gap verbose p.last []
@@ -185,12 +145,13 @@ module _ (verbose : Bool) (t : Text) where
         digits = p.digits ++ d ∷ ds;
         before = side_longer more verbose t p.first p.before
             (spaced_some verbose p.digits p.first p.last p.some p.written);
-        written = spaced_on verbose p.digits (d ∷ ds) (p.first ++ more) (p.last ++ more) next
+        written = spaced_further verbose is_digit p.digits (d ∷ ds) (p.first ++ more)
+            (p.last ++ more) next
             (spaced_longer more verbose is_digit p.digits p.first p.last p.written) (
               ds ++ next,
               gap_resumed verbose p.last (d ∷ ds ++ next) gap,
               both.0,
-              spaced_digits verbose ds next both.1,
+              spaced_together verbose is_digit ds next both.1,
             );
         after = side_of verbose next next (empty_gap verbose next);
         some = omega (arith, p.some, length-append p.digits (d ∷ ds));
@@ -218,39 +179,19 @@ module _ (verbose : Bool) (t : Text) where
       let w = written grows in
       record {
         digits = w.digits;
-        characters = digits_are_characters w.digits w.all;
+        characters = all_characters is_digit w.digits digit_is_character w.all;
         reads = λ next.
             subst (λ k. Number verbose (t ++ (resumed verbose ++ (w.digits ++ next))) next k)
             (sym w.value)
             (digits_resumed next w.digits p gap w.all (omega (arith, small, w.value)));
       }
 
-  -- a number there in a longer text goes on from its digits
-  longer_digits : {n m : ℕ} {u rest : Text} (more : Text) (p : Number verbose t u n)
-      (q : Number verbose (t ++ more) rest m) → EndsNumber rest
-      → (ds : Text) × Spaced verbose is_digit ds (p.last ++ more) q.last × (m ≡ with_digits n ds)
-  longer_digits {n} {m} {u} {rest} more p q ends = from p.digits p.some p.written p.value
-    where
-      from : (ds : Text) → 0 < length ds → Spaced verbose is_digit ds p.first p.last
-          → n ≡ number_of 10 ds
-          → (es : Text) × Spaced verbose is_digit es (p.last ++ more) q.last
-          × (m ≡ with_digits n es)
-      from [] some w value = absurd (omega (arith, some))
-      from (d ∷ ds) some w value =
-          let whole : WholeSide verbose t (d ∷ w.0) =
-          (side_on verbose t p.first _ p.before w.1, ends_side verbose _ (digits_end d w.0 w.2)) in
-          let read : DigitsRead verbose 1 (d ∷ w.0) p.last n = record {
-            digits = d ∷ ds;
-            written = (w.0, empty_gap verbose (d ∷ w.0), w.2, w.3);
-            some = λ _. some;
-            value = value;
-          } in
-          number_begins (whole_side_longer more verbose t (d ∷ w.0) whole (λ none. cc none))
-          (digits_longer more read) q ends
-
-  -- it is one that the number becomes
+  -- a number there in a longer text is one that the number becomes
   pub longer_becomes : {n m : ℕ} {rest : Text} (more : Text) (p : Number verbose t [] n)
       → Number verbose (t ++ more) rest m → EndsNumber rest → Becomes verbose p.last n m
   longer_becomes {n} {m} {rest} more p q ends =
-      let on = longer_digits more p q ends in
+      let own = own_digits p in
+      let on =
+      number_begins (whole_side_longer more verbose t own.0 own.1 own.2) (digits_longer more own.3) q
+      ends in
       becomes_with verbose p.last more q.last on.0 n m p.after on.1 on.2

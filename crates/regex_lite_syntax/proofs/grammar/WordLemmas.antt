@@ -1,9 +1,11 @@
 -- Characters of one kind that stand one after another, up to one of another kind.
-use Rattle.regex_lite_syntax.proofs.Common.{◌≡◌, ℕ, ◌+◌, ◌-◌, ◌<◌, ◌≤◌, Bool, [], ◌∷◌, ◌++◌, length}
-use Rattle.regex_lite_syntax.proofs.Common.{get_or, take, drop, IsTrue, sym, refl, ap, ◌∙◌, subst}
-use Rattle.regex_lite_syntax.proofs.Common.{append_assoc, arith, and_from, and_parts, both_ways}
-use Rattle.regex_lite_syntax.proofs.Common.{get_or-drop, list_all-append, AllPass-from_list_all}
-use Rattle.regex_lite_syntax.proofs.Common.{list_all-from_AllPass, AllPass, list_all, Lacks, Text}
+use Rattle.regex_lite_syntax.proofs.Common.{◌≡◌, ℕ, ◌+◌, ◌-◌, ◌<◌, ◌≤◌, Bool, false, [], ◌∷◌, ◌++◌}
+use Rattle.regex_lite_syntax.proofs.Common.{length, get_or, take, drop, IsTrue, ◌==◌, sym, refl, ap}
+use Rattle.regex_lite_syntax.proofs.Common.{◌∙◌, subst, inl, inr, append_assoc, arith, and_from}
+use Rattle.regex_lite_syntax.proofs.Common.{and_parts, both_ways, eqb-true, or_cases, get_or-drop}
+use Rattle.regex_lite_syntax.proofs.Common.{list_all-append, AllPass-from_list_all}
+use Rattle.regex_lite_syntax.proofs.Common.{list_all-from_AllPass, AllPass, list_all, is_character}
+use Rattle.regex_lite_syntax.proofs.Common.{AreCharacters, is_one_of, Lacks, Text, is_text}
 use Rattle.std.proofs.lemmas.List.{take_more, length-drop}
 use Rattle.regex_lite_syntax.proofs.ListLemmas.{same_head, same_tail}
 
@@ -28,6 +30,34 @@ pub word_once : (kind : ℕ → Bool) (v w t r s : Text) → t ≡ v ++ r → t 
 word_once kind v w t r s a b p q lr ls =
     longest_once kind v w t r s a b (list_all-from_AllPass kind v p)
     (list_all-from_AllPass kind w q) lr ls
+
+-- one of some characters is of the kind that they all are
+pub one_passes : (kind : ℕ → Bool) (cs : Text) (c : ℕ) → IsTrue (list_all kind cs)
+    → IsTrue (is_one_of cs c) → IsTrue (kind c)
+one_passes kind [] c all is = absurd (both_ways false refl is)
+one_passes kind (d ∷ cs) c all is =
+    let parts = and_parts _ _ all in
+    elim (or_cases (d == c) _ is) [
+      | inl same ↦ subst (λ x. IsTrue (kind x)) (eqb-true d c same) parts.0
+      | inr other ↦ one_passes kind cs c parts.1 other
+    ]
+
+-- where all of a kind are characters, so are those of a text
+pub all_characters : (kind : ℕ → Bool) (cs : Text)
+    → ((c : ℕ) → IsTrue (kind c) → IsTrue (is_character c)) → IsTrue (list_all kind cs)
+    → AreCharacters cs
+all_characters kind [] is all = tt
+all_characters kind (c ∷ cs) is all =
+    let parts = and_parts _ _ all in (is c parts.0, all_characters kind cs is parts.1)
+
+-- texts that are found to be the same
+pub same_text : (t u : Text) → IsTrue (is_text t u) → t ≡ u
+same_text [] [] e = refl
+same_text [] (d ∷ u) e = cc e
+same_text (c ∷ t) [] e = cc e
+same_text (c ∷ t) (d ∷ u) e =
+    let parts = and_parts (c == d) (is_text t u) e in
+    cc (eqb-true c d parts.0, same_text t u parts.1)
 
 -- one more character
 pub pass_push : (kind : ℕ → Bool) (w : Text) (c : ℕ) → AllPass kind w → IsTrue (kind c)

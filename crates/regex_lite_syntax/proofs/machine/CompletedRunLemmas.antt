@@ -9,7 +9,7 @@ use Rattle.regex_lite_syntax.proofs.Common.{CanReadOn, Text, Begins, the, choice
 use Rattle.regex_lite_syntax.specs.Tree.{character}
 use Rattle.regex_lite_syntax.specs.Parser.Machine.{closed, with_items}
 use Rattle.regex_lite_syntax.specs.Parser.States.{state}
-use Rattle.regex_lite_syntax.proofs.CharacterLemmas.{joined_are}
+use Rattle.regex_lite_syntax.proofs.CharacterLemmas.{joined_are, repeated_are}
 use Rattle.regex_lite_syntax.proofs.ListLemmas.{same_head}
 use Rattle.regex_lite_syntax.proofs.grammar.GapLemmas.{empty_gap, gap_to_end}
 use Rattle.regex_lite_syntax.proofs.grammar.SpacedLemmas.{printed_ends, whole_gap_leads}
@@ -22,19 +22,15 @@ use Rattle.regex_lite_syntax.proofs.machine.LongerRunLemmas.{longer_state, step_
 use Rattle.regex_lite_syntax.proofs.machine.LongerRunLemmas.{leads_longer}
 use Rattle.regex_lite_syntax.proofs.machine.OneStepLemmas.{leads_step, step_over_gap}
 use Rattle.regex_lite_syntax.proofs.machine.SoundLemmas.{sound}
+use Rattle.std.proofs.Common.{replicate}
 
 -- this many parentheses that close
 abbrev closers : ℕ → Text
-closers zero = []
-closers (suc n) = the ")" ∷ closers n
+closers n = replicate n (the ")")
 
 -- an item, and past it the parentheses
 abbrev item_and_closers : ℕ → Text
 item_and_closers n = the "_" ∷ closers n
-
-closers_are_characters : (n : ℕ) → AreCharacters (closers n)
-closers_are_characters zero = tt
-closers_are_characters (suc n) = (refl, closers_are_characters n)
 
 ends_at : (verbose : Bool) (c : ℕ) (t : Text) → EndsGap true (c ∷ t) → EndsGap verbose (c ∷ t)
 ends_at true c t ends = ends
@@ -167,7 +163,7 @@ reads_on flags pattern p t u starts c whole some reads =
     let item = subst (λ r. Gap after_verbose (q.point.rest ++ closers n) (r ++ closers n)) left
     (empty_gap after_verbose (q.point.rest ++ closers n)) in
     let characters = joined_are pattern all c.characters
-    (joined_are more (closers n) next.2 (closers_are_characters n)) in (
+    (joined_are more (closers n) next.2 (repeated_are n (the ")") refl)) in (
       all,
       item_then_closers flags (pattern ++ all) after (leads_step leads step) item
           (next.3.1 c.differ) characters,
@@ -204,7 +200,7 @@ reads_on_at_end flags pattern p t starts c gap =
     let all = resumed verbose ++ item_and_closers n in
     let leads = leads_longer all c.leads (settled_at_end verbose t (closers n) gap) in
     let characters = joined_are pattern all c.characters
-    (resumed_characters verbose (item_and_closers n) (refl, closers_are_characters n)) in (
+    (resumed_characters verbose (item_and_closers n) (refl, repeated_are n (the ")") refl)) in (
       all,
       item_then_closers flags (pattern ++ all) (state p (t ++ all) c.deepest) leads
           (gap_resumed verbose t (item_and_closers n) gap) c.differ characters,

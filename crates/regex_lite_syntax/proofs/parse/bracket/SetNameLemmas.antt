@@ -3,15 +3,16 @@ use Rattle.regex_lite_syntax.proofs.Common.{◌≡◌, ℕ, Bool, true, false, L
 use Rattle.regex_lite_syntax.proofs.Common.{if◌then◌else◌, IsTrue, ◌==◌, Some, None, Option}
 use Rattle.regex_lite_syntax.proofs.Common.{option_map, sym, refl, ap, ◌∙◌, subst, arith, and_from}
 use Rattle.regex_lite_syntax.proofs.Common.{and_parts, both_ways, eqb-true, or_left, or_right}
-use Rattle.regex_lite_syntax.proofs.Common.{nat_tests, list_all, list_any, is_character}
-use Rattle.regex_lite_syntax.proofs.Common.{AreCharacters, is_lower, SetName, set_named}
-use Rattle.regex_lite_syntax.proofs.Common.{is_beginning, name_of, Text, is_text}
+use Rattle.regex_lite_syntax.proofs.Common.{nat_tests, list_all-append, list_all, list_any}
+use Rattle.regex_lite_syntax.proofs.Common.{is_character, AreCharacters, is_lower, SetName}
+use Rattle.regex_lite_syntax.proofs.Common.{set_named, is_beginning, name_of, Text, is_text}
 use Rattle.std.specs.Prelude.{find}
 use Rattle.std.proofs.lemmas.List.Folds.{Any-from_list_any}
 use Rattle.regex_lite_syntax.specs.declared.class.named.NamedSet.{NamedSet}
 use Rattle.regex_lite_syntax.specs.declared.class.named.NamedSet.TheVariants as sets
 use Rattle.regex_lite_syntax.specs.declared.parse.bracket.named.TheConstants.{ALL}
 use Rattle.regex_lite_syntax.specs.Parser.ClassReadings.{set_name}
+use Rattle.regex_lite_syntax.proofs.grammar.WordLemmas.{all_characters, same_text}
 
 -- the name of a choice is a choice of names
 map_if : (b : Bool) (set : NamedSet) (others : Option NamedSet) (names : Option SetName)
@@ -54,14 +55,6 @@ named_itself sets.Alnum = (refl, refl)
 named_itself _ = (refl, refl)
 
 -- texts and their beginnings
-same_text : (t u : Text) → is_text t u ≡ true → t ≡ u
-same_text [] [] e = refl
-same_text [] (d ∷ u) e = cc e
-same_text (c ∷ t) [] e = cc e
-same_text (c ∷ t) (d ∷ u) e =
-    let parts = and_parts (c == d) (is_text t u) e in
-    cc (eqb-true c d parts.0, same_text t u parts.1)
-
 begins_itself : (w left : Text) → is_beginning w (w ++ left) ≡ true
 begins_itself [] left = refl
 begins_itself (c ∷ w) left = and_from (c == c) _ (grind (arith, nat_tests)) (begins_itself w left)
@@ -114,18 +107,6 @@ none_begins w left set none named =
 letter_is : (c : ℕ) → IsTrue (is_lower c) → IsTrue (is_character c)
 letter_is c is = grind (arith, nat_tests)
 
-last_letters : (w left : Text) → IsTrue (list_all is_lower (w ++ left))
-    → IsTrue (list_all is_lower left)
-last_letters [] left all = all
-last_letters (c ∷ w) left all =
-    last_letters w left (and_parts (is_lower c) (list_all is_lower (w ++ left)) all).1
-
-letters_are : (t : Text) → IsTrue (list_all is_lower t) → AreCharacters t
-letters_are [] all = tt
-letters_are (c ∷ t) all =
-    let parts = and_parts (is_lower c) (list_all is_lower t) all in
-    (letter_is c parts.0, letters_are t parts.1)
-
 -- the letters that make a name of those that begin one
 pub record NameLeft (w : Text) : Type 0 where
   pub left : Text
@@ -146,5 +127,6 @@ some_begins w some =
       set = name_of set;
       named = subst (λ t. set_named t ≡ Some (name_of set)) rest.1 itself.0;
       letters = letters;
-      characters = letters_are rest.0 (last_letters w rest.0 letters);
+      characters = all_characters is_lower rest.0 letter_is
+          (and_parts (list_all is_lower w) _ (sym (list_all-append is_lower w rest.0) ∙ letters)).1;
     }

@@ -1,17 +1,7 @@
 -- The names of looks.
-use Rattle.regex_lite_syntax.proofs.Common.{◌≡◌, Bool, true, false, cond, ◌⊎◌, [], ◌∷◌, IsTrue}
-use Rattle.regex_lite_syntax.proofs.Common.{Some, codes, Option, refl, inl, inr, and_parts}
-use Rattle.regex_lite_syntax.proofs.Common.{eqb-true, boundary_named, Text, is_text, Look}
-
-same_text : (t u : Text) → IsTrue (is_text t u) → t ≡ u
-same_text [] [] e = refl
-same_text [] (d ∷ u) e = cc
-same_text (c ∷ t) [] e = cc
-same_text (c ∷ t) (d ∷ u) e =
-    let parts = and_parts _ _ e in
-    let heads = eqb-true c d parts.0 in
-    let tails = same_text t u parts.1 in
-    cc
+use Rattle.regex_lite_syntax.proofs.Common.{◌≡◌, Bool, true, false, cond, ◌⊎◌, Some, codes, Option}
+use Rattle.regex_lite_syntax.proofs.Common.{refl, inl, inr, boundary_named, Text, is_text, Look}
+use Rattle.regex_lite_syntax.proofs.grammar.WordLemmas.{same_text}
 
 first_or_later : (is_first : Bool) (look found : Look) (later : Option Look)
     → cond is_first (Some look) later ≡ Some found → (is_first ≡ true) ⊎ (later ≡ Some found)

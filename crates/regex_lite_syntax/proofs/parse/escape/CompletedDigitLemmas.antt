@@ -1,27 +1,22 @@
 -- Hexadecimal digits that complete a number at the end of a pattern.
 use Rattle.regex_lite_syntax.proofs.Common.{◌≡◌, ℕ, ◌+◌, ◌<◌, ◌≤◌, Bool, [], ◌∷◌, ◌++◌, length}
 use Rattle.regex_lite_syntax.proofs.Common.{IsTrue, codes, refl, subst, append_assoc, arith, rules}
-use Rattle.regex_lite_syntax.proofs.Common.{and_from, and_parts, nat_tests, append-nil, list_all}
-use Rattle.regex_lite_syntax.proofs.Common.{is_character, AreCharacters, is_hex_digit, FixedDigits}
-use Rattle.regex_lite_syntax.proofs.Common.{BracedDigits, Hexadecimal, braced, Gap, Spaced}
+use Rattle.regex_lite_syntax.proofs.Common.{and_parts, nat_tests, is_character, is_hex_digit}
+use Rattle.regex_lite_syntax.proofs.Common.{FixedDigits, BracedDigits, Hexadecimal, braced, Gap}
 use Rattle.regex_lite_syntax.proofs.Common.{number_on, Reaches, Completable, Text, the}
 use Rattle.regex_lite_syntax.proofs.grammar.CompletedGapLemmas.{spaced_on, gap_completed}
-use Rattle.regex_lite_syntax.proofs.grammar.CompletedGapLemmas.{spaced_together, all_characters}
+use Rattle.regex_lite_syntax.proofs.grammar.CompletedGapLemmas.{spaced_together}
+use Rattle.regex_lite_syntax.proofs.grammar.CompletedGapLemmas.{spaced_are}
 use Rattle.regex_lite_syntax.proofs.grammar.GapLemmas.{empty_gap}
 use Rattle.regex_lite_syntax.proofs.grammar.ResumedGapLemmas.{resumed, resumed_characters}
 use Rattle.regex_lite_syntax.proofs.parse.escape.DigitLemmas.{FixedFrom, BracedFrom, DigitsOn}
-
--- the digits of a reading are such digits
-digits_written : (verbose : Bool) (ds t rest : Text) → Spaced verbose is_hex_digit ds t rest
-    → IsTrue (list_all is_hex_digit ds)
-digits_written verbose [] t rest s = refl
-digits_written verbose (d ∷ ds) t rest s =
-    and_from _ _ s.2 (digits_written verbose ds s.0 rest s.3)
+use Rattle.regex_lite_syntax.proofs.grammar.WordLemmas.{all_characters}
+use Rattle.regex_lite_syntax.proofs.CharacterLemmas.{joined_are}
 
 on_reaches : {verbose : Bool} {number : ℕ} {digits t last : Text} {c : ℕ} (least : ℕ)
     → DigitsOn verbose number digits t last c → least ≤ c → Reaches number least digits
 on_reaches {verbose} {number} {digits} {t} {last} {c} least on far = record {
-  are_digits = digits_written verbose digits t last on.written;
+  are_digits = spaced_are verbose is_hex_digit digits t last on.written;
   scalar = on.scalar;
   far = omega (arith, on.value, far);
 }
@@ -104,8 +99,7 @@ fixed_completable {verbose} {number} {read} {n} least left t start count some ga
     (further, reaches, all) = record {
       more = resumed verbose ++ further;
       characters = resumed_characters verbose further
-          (subst (λ u. AreCharacters u) (append-nil further)
-          (all_characters is_hex_digit further [] digit_is_character reaches.are_digits tt));
+          (all_characters is_hex_digit further digit_is_character reaches.are_digits);
       reads = λ next. (
         number_on number further,
         goes ((resumed verbose ++ further) ++ next) next _
@@ -125,8 +119,8 @@ braced_completable {verbose} {number} {read} least t start before gap goes
     (further, reaches, some) = record {
       more = resumed verbose ++ closed further;
       characters = resumed_characters verbose (closed further)
-          (all_characters is_hex_digit further (the "}" ∷ []) digit_is_character
-          reaches.are_digits (refl, tt));
+          (joined_are further (the "}" ∷ [])
+          (all_characters is_hex_digit further digit_is_character reaches.are_digits) (refl, tt));
       reads = λ next. (
         number_on number further,
         goes ((resumed verbose ++ closed further) ++ next) next _

@@ -77,9 +77,9 @@ character_below c h =
       | inr high ↦ ltb-true c 0x110000 (and_parts _ _ high).1
     ]
 
-on_too_large : (verbose : Bool) (number : ℕ) (digits t last : Text) (c : ℕ) → 0x110000 ≤ number
-    → DigitsOn verbose number digits t last c → ⊥
-on_too_large verbose number digits t last c large on =
+pub on_too_large : {verbose : Bool} {number : ℕ} {digits t last : Text} {c : ℕ}
+    → DigitsOn verbose number digits t last c → 0x110000 ≤ number → ⊥
+on_too_large {number} {digits} on large =
     omega (arith, on_grows digits number, character_below (number_on number digits) on.scalar)
 
 -- what is out of range is no character
@@ -154,11 +154,6 @@ no_fixed {verbose} {n} {t} {rest} {c} u whole lacks some f =
       on = record { written = f.written; scalar = f.scalar; value = f.value };
     })
 
-pub fixed_too_large : {verbose : Bool} {number read n : ℕ} {t rest : Text} {c : ℕ}
-    → FixedFrom verbose number read n t rest c → 0x110000 ≤ number → ⊥
-fixed_too_large {verbose} {number} {read} {n} {t} {rest} {c} f large =
-    on_too_large verbose number f.digits t rest c large f.on
-
 -- the digits that are left before the brace that closes, after some characters
 pub record BracedFrom (verbose : Bool) (number read : ℕ) (t rest : Text) (c : ℕ) : Type 0 where
   pub digits : Text
@@ -223,8 +218,3 @@ braced_stuck {verbose} {number} {read} {t} {rest} {c} u whole lacks unclosed b =
         unclosed (subst (λ v. Begins (the "}") v) (sym closed) refl) (omega (arith, some))
     go (d ∷ digits) some on =
         not_spaced verbose is_hex_digit d digits t u b.last hex_digits_end whole lacks on.written
-
-pub braced_too_large : {verbose : Bool} {number read : ℕ} {t rest : Text} {c : ℕ}
-    → BracedFrom verbose number read t rest c → 0x110000 ≤ number → ⊥
-braced_too_large {verbose} {number} {read} {t} {rest} {c} b large =
-    on_too_large verbose number b.digits t b.last c large b.on

@@ -11,8 +11,10 @@ use Rattle.regex_lite_syntax.proofs.grammar.LongerGapLemmas.{gap_before, spaced_
 use Rattle.regex_lite_syntax.proofs.grammar.SpacedLemmas.{boundary_characters_end, brace_or_other}
 use Rattle.regex_lite_syntax.proofs.grammar.SpacedLemmas.{next_spaced, spaced_begins}
 use Rattle.regex_lite_syntax.proofs.grammar.CompletedGapLemmas.{spaced_on, spaced_further}
-use Rattle.regex_lite_syntax.proofs.grammar.CompletedGapLemmas.{gap_completed, all_characters}
+use Rattle.regex_lite_syntax.proofs.grammar.CompletedGapLemmas.{gap_completed}
 use Rattle.regex_lite_syntax.proofs.grammar.ResumedGapLemmas.{resumed, resumed_characters}
+use Rattle.regex_lite_syntax.proofs.grammar.WordLemmas.{all_characters}
+use Rattle.regex_lite_syntax.proofs.CharacterLemmas.{joined_are}
 
 -- where no letter stands, the text ends before the first
 pub ends_at_start : (verbose : Bool) (name t : Text) → Gap verbose t [] → EndsInName verbose name t
@@ -138,8 +140,8 @@ pub name_completable : (verbose : Bool) (name t : Text) (look : Look)
 name_completable verbose name t look all named e = record {
   more = more;
   characters = resumed_characters verbose (e.left ++ the "}" ∷ [])
-      (all_characters is_boundary_character e.left (the "}" ∷ []) letter_is_character of_left
-      (refl, tt));
+      (joined_are e.left (the "}" ∷ [])
+      (all_characters is_boundary_character e.left letter_is_character of_left) (refl, tt));
   reads = λ next. (look, completed next);
 }
   where

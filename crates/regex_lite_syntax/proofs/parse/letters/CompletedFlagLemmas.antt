@@ -1,15 +1,15 @@
 -- What completes flags at which the pattern ends, and where nothing does.
-use Rattle.regex_lite_syntax.proofs.Common.{◌≡◌, ℕ, ◌<◌, Bool, true, false, [], ◌∷◌, ◌++◌, length}
-use Rattle.regex_lite_syntax.proofs.Common.{IsTrue, ◌==◌, codes, sym, refl, ap, ◌∙◌, subst, inl}
-use Rattle.regex_lite_syntax.proofs.Common.{inr, append_assoc, arith, and_from, and_parts}
-use Rattle.regex_lite_syntax.proofs.Common.{both_ways, eqb-true, or_cases, append-nil}
-use Rattle.regex_lite_syntax.proofs.Common.{AllPass-from_list_all, AllPass, list_all, is_character}
-use Rattle.regex_lite_syntax.proofs.Common.{AreCharacters, is_one_of, is_flag_letter, with_flags}
-use Rattle.regex_lite_syntax.proofs.Common.{all_differ, setting, clearing, EndedFlags, LetterRun}
-use Rattle.regex_lite_syntax.proofs.Common.{Completable, Text, the, Flags}
-use Rattle.regex_lite_syntax.proofs.parse.letters.FlagRunLemmas.{all_pass_middle}
-use Rattle.regex_lite_syntax.proofs.parse.letters.FlagRunLemmas.{differ_one_more, differ_middle}
+use Rattle.regex_lite_syntax.proofs.Common.{◌≡◌, ℕ, ◌<◌, true, false, [], ◌∷◌, ◌++◌, length, IsTrue}
+use Rattle.regex_lite_syntax.proofs.Common.{codes, sym, refl, ap, ◌∙◌, inl, append_assoc, arith}
+use Rattle.regex_lite_syntax.proofs.Common.{and_from, both_ways, append-nil, AllPass-from_list_all}
+use Rattle.regex_lite_syntax.proofs.Common.{AllPass, is_character, AreCharacters, is_one_of}
+use Rattle.regex_lite_syntax.proofs.Common.{is_flag_letter, with_flags, all_differ, setting}
+use Rattle.regex_lite_syntax.proofs.Common.{clearing, EndedFlags, LetterRun, Completable, Text, the}
+use Rattle.regex_lite_syntax.proofs.Common.{Flags}
+use Rattle.regex_lite_syntax.proofs.parse.letters.FlagRunLemmas.{all_pass_middle, differ_one_more}
+use Rattle.regex_lite_syntax.proofs.parse.letters.FlagRunLemmas.{differ_middle}
 use Rattle.regex_lite_syntax.proofs.parse.letters.WholeFlagLemmas.{Cleared}
+use Rattle.regex_lite_syntax.proofs.grammar.WordLemmas.{one_passes}
 
 -- flags that lead to a `:`
 abbrev pub ColonFlags : (old : Flags) → (t rest : Text) → Type 0
@@ -30,17 +30,6 @@ set_completes old t all differ = record {
 -- a flag letter that none of these is
 abbrev pub LetterLeft : (before : Text) → Type 0
 LetterLeft before = (c : ℕ) × IsTrue (is_flag_letter c) × (is_one_of before c ≡ false)
-
--- one of some characters is of the kind that they all are
-one_passes : (kind : ℕ → Bool) (cs : Text) (c : ℕ) → IsTrue (list_all kind cs)
-    → IsTrue (is_one_of cs c) → IsTrue (kind c)
-one_passes kind [] c all is = absurd (both_ways false refl is)
-one_passes kind (d ∷ cs) c all is =
-    let parts = and_parts _ _ all in
-    elim (or_cases (d == c) _ is) [
-      | inl same ↦ subst (λ x. IsTrue (kind x)) (eqb-true d c same) parts.0
-      | inr other ↦ one_passes kind cs c parts.1 other
-    ]
 
 letter_is_character : (c : ℕ) → IsTrue (is_flag_letter c) → IsTrue (is_character c)
 letter_is_character c letter = one_passes is_character (codes "imsURxu") c refl letter

@@ -1,17 +1,17 @@
 -- Runs of flag letters, and what they say of a run that begins there.
-use Rattle.regex_lite_syntax.proofs.Common.{◌≡◌, ℕ, Bool, true, false, ◌||◌, [], ◌∷◌, ◌++◌, IsTrue}
-use Rattle.regex_lite_syntax.proofs.Common.{◌==◌, codes, sym, refl, ap, ◌∙◌, subst, inl, inr}
-use Rattle.regex_lite_syntax.proofs.Common.{append_assoc, and_from, and_parts, both_ways, eqb-false}
-use Rattle.regex_lite_syntax.proofs.Common.{eqb-true, ne_eqb, not-true, not_from_false, or_cases}
-use Rattle.regex_lite_syntax.proofs.Common.{or_parts, list_all-append, list_all-from_AllPass}
-use Rattle.regex_lite_syntax.proofs.Common.{AllPass, list_all, is_one_of, is_flag_letter}
-use Rattle.regex_lite_syntax.proofs.Common.{with_flags, all_differ, EndsRun, LetterRun, Text, the}
-use Rattle.regex_lite_syntax.proofs.Common.{Flags}
+use Rattle.regex_lite_syntax.proofs.Common.{◌≡◌, ℕ, Bool, false, ◌||◌, [], ◌∷◌, ◌++◌, IsTrue, ◌==◌}
+use Rattle.regex_lite_syntax.proofs.Common.{codes, sym, refl, ap, ◌∙◌, subst, append_assoc}
+use Rattle.regex_lite_syntax.proofs.Common.{and_from, and_parts, both_ways, eqb-false, ne_eqb}
+use Rattle.regex_lite_syntax.proofs.Common.{not-true, not_from_false, or_parts, list_all-append}
+use Rattle.regex_lite_syntax.proofs.Common.{list_all-from_AllPass, AllPass, list_all, is_one_of}
+use Rattle.regex_lite_syntax.proofs.Common.{is_flag_letter, with_flags, all_differ, Lacks, EndsRun}
+use Rattle.regex_lite_syntax.proofs.Common.{LetterRun, Text, Flags}
 use Rattle.std.proofs.lemmas.Bool.{or_from}
 use Rattle.std.proofs.lemmas.List.Folds.{list_any-append}
 use Rattle.regex_lite_syntax.specs.Grammar.FlagLetters.{with_flag}
 use Rattle.regex_lite_syntax.proofs.ListLemmas.{same_head, same_tail}
-use Rattle.regex_lite_syntax.proofs.grammar.FlagLetterLemmas.{word_once}
+use Rattle.regex_lite_syntax.proofs.grammar.WordLemmas.{one_passes, word_once}
+use Rattle.std.proofs.Common.{not}
 
 -- where all characters are of a kind, one between others is
 pub all_pass_middle : (kind : ℕ → Bool) (cs : Text) (c : ℕ) (ds : Text)
@@ -69,19 +69,7 @@ differ_middle (d ∷ cs) ds c differ =
 -- no flag letter ends a run
 ends_no_letter : (c : ℕ) → IsTrue (is_one_of (codes "-:)") c) → is_flag_letter c ≡ false
 ends_no_letter c ends =
-    elim (or_cases (the "-" == c) _ ends) [
-      | inl e ↦ same (the "-") refl e
-      | inr other ↦ elim (or_cases (the ":" == c) _ other) [
-        | inl e ↦ same (the ":") refl e
-        | inr last ↦ elim (or_cases (the ")" == c) _ last) [
-          | inl e ↦ same (the ")") refl e
-          | inr none ↦ absurd (both_ways false refl none)
-        ]
-      ]
-    ]
-  where
-    same : (d : ℕ) → is_flag_letter d ≡ false → (d == c) ≡ true → is_flag_letter c ≡ false
-    same d other e = subst (λ x. is_flag_letter x ≡ false) (eqb-true d c e) other
+    not-true _ (one_passes (λ d. not (is_flag_letter d)) (codes "-:)") c refl ends)
 
 -- a run goes on past letters that have been read
 goes_on : (read letters t u rest : Text) → t ≡ read ++ u → IsTrue (list_all is_flag_letter read)
@@ -160,28 +148,14 @@ run_longer more before letters t u run = record {
   ends = ends_longer more u run.ends;
 }
 
--- what ends a run
-record RunEnd (u : Text) : Type 0 where
-  first : ℕ
-  past : Text
-  is : u ≡ first ∷ past
-  ends : IsTrue (is_one_of (codes "-:)") first)
-
-run_end : (u : Text) → EndsRun u → RunEnd u
-run_end [] ends = absurd ends
-run_end (c ∷ u) ends = record { first = c; past = u; is = refl; ends = ends }
+-- so no flag letter goes on with one
+lacks_letter : (u : Text) → EndsRun u → Lacks is_flag_letter u
+lacks_letter [] ends = absurd ends
+lacks_letter (c ∷ u) ends = ends_no_letter c ends
 
 -- a run from one place is one
 pub run_once : (before before' letters letters' t u u' : Text) → LetterRun before letters t u
     → LetterRun before' letters' t u' → (letters ≡ letters') × (u ≡ u')
 run_once before before' letters letters' t u u' run run' =
-    let e = run_end u run.ends in
-    let e' = run_end u' run'.ends in
-    let p = subst (λ v. t ≡ letters ++ v) e.is run.written in
-    let p' = subst (λ v. t ≡ letters' ++ v) e'.is run'.written in
-    let no = ends_no_letter e.first e.ends in
-    let no' = ends_no_letter e'.first e'.ends in
-    let same =
-    word_once is_flag_letter letters letters' t e.first e'.first e.past e'.past no no' p p' run.all
-    run'.all in
-    (same.0, cc (e.is, e'.is, same.1, same.2))
+    word_once is_flag_letter letters letters' t u u' run.written run'.written run.all run'.all
+    (lacks_letter u run.ends) (lacks_letter u' run'.ends)

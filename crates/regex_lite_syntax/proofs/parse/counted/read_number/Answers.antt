@@ -1,15 +1,15 @@
-use Rattle.regex_lite_syntax.proofs.Common.{◌-◌, ◌^◌, drop, codes, refl, subst, arith, WholeSide}
-use Rattle.regex_lite_syntax.proofs.Common.{Number}
+use Rattle.regex_lite_syntax.proofs.Common.{◌-◌, ◌^◌, drop, codes, refl, subst, arith, is_digit}
+use Rattle.regex_lite_syntax.proofs.Common.{WholeSide, Number}
 use Rattle.regex_lite_syntax.proofs.grammar.NumberLemmas.{NoDigit, digit_read, no_digits_read}
 use Rattle.regex_lite_syntax.proofs.grammar.NumberLemmas.{number_read, no_number_at_end}
 use Rattle.regex_lite_syntax.proofs.grammar.LongerNumberLemmas.{of_text, longer_too_large}
 use Rattle.regex_lite_syntax.proofs.grammar.LongerNumberLemmas.{longer_number_only}
 use Rattle.regex_lite_syntax.proofs.grammar.LongerNumberLemmas.{no_longer_number}
-use Rattle.regex_lite_syntax.proofs.grammar.ResumedNumberLemmas.{number_begun}
-use Rattle.regex_lite_syntax.proofs.grammar.ResumedNumberLemmas.{digits_are_characters}
+use Rattle.regex_lite_syntax.proofs.grammar.ResumedNumberLemmas.{number_begun, digit_is_character}
 use Rattle.regex_lite_syntax.proofs.grammar.ResumedCountLemmas.{past_gap}
 use Rattle.regex_lite_syntax.proofs.parse.IndexLemmas.{left_at_end, some_at}
 use Rattle.regex_lite_syntax.proofs.parse.counted.read_number.Goals as goal
+use Rattle.regex_lite_syntax.proofs.grammar.WordLemmas.{all_characters}
 
 pub returns-then-first-chars-clause-refused : goal.returns-then-first-chars-clause-refused
 returns-then-first-chars-clause-refused c =
@@ -29,7 +29,7 @@ returns-then-first-chars-clause-completes c =
     λ short.
     let greatest = codes "4294967295" in
     past_gap c.args.verbose (λ v rest. Number c.args.verbose v rest (2 ^ 32 - 1)) t greatest
-    (digits_are_characters greatest refl)
+    (all_characters is_digit greatest digit_is_character refl)
     (λ next. number_begun c.args.verbose t next greatest side.0 refl (omega arith) (omega arith))
 
 pub loop-next-init : goal.loop-next-init

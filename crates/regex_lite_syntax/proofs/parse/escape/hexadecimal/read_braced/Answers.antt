@@ -4,7 +4,7 @@ use Rattle.regex_lite_syntax.proofs.grammar.LongerGapLemmas.{whole_before, whole
 use Rattle.regex_lite_syntax.proofs.parse.escape.DigitLemmas.{digit_at, still_digit_at}
 use Rattle.regex_lite_syntax.proofs.parse.escape.DigitLemmas.{braced_after, braced_before}
 use Rattle.regex_lite_syntax.proofs.parse.escape.DigitLemmas.{braced_scalar, braced_stuck}
-use Rattle.regex_lite_syntax.proofs.parse.escape.DigitLemmas.{braced_too_large, no_character}
+use Rattle.regex_lite_syntax.proofs.parse.escape.DigitLemmas.{on_too_large, no_character}
 use Rattle.regex_lite_syntax.proofs.parse.escape.CompletedDigitLemmas.{braced_short}
 use Rattle.regex_lite_syntax.proofs.parse.escape.CompletedDigitLemmas.{braced_completable}
 use Rattle.regex_lite_syntax.proofs.parse.EndLemmas.{end_refused}
@@ -49,9 +49,9 @@ returns-in_default-hex_value-clause-refused c more follows (rest, d, b, far) =
 pub returns-then-number-gt-LAST-clause-refused : goal.returns-then-number-gt-LAST-clause-refused
 returns-then-number-gt-LAST-clause-refused c more follows (rest, d, b, far) =
     let at = digit_at c.skip_gap-next.ensures.gap c.in-Some.ensures.1 c.in-Some-hex_value.ensures in
-    braced_too_large
+    on_too_large
     (braced_after {read' = 1} (still_digit_at more at) (omega arith)
-    (c.loop-c.invariant.back more rest d b))
+    (c.loop-c.invariant.back more rest d b)).on
     (omega arith)
 
 pub loop-c-preserved : goal.loop-c-preserved

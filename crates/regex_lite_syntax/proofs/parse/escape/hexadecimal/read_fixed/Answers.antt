@@ -1,9 +1,9 @@
 use Rattle.regex_lite_syntax.proofs.Common.{◌-◌, [], drop, sym, ◌∙◌, subst, arith, Gap}
 use Rattle.regex_lite_syntax.proofs.grammar.LongerGapLemmas.{whole_before, whole_to_end}
-use Rattle.regex_lite_syntax.proofs.parse.escape.DigitLemmas.{digit_at, still_digit_at}
-use Rattle.regex_lite_syntax.proofs.parse.escape.DigitLemmas.{fixed_after, fixed_before}
-use Rattle.regex_lite_syntax.proofs.parse.escape.DigitLemmas.{fixed_scalar, fixed_stuck}
-use Rattle.regex_lite_syntax.proofs.parse.escape.DigitLemmas.{fixed_too_large, no_character}
+use Rattle.regex_lite_syntax.proofs.parse.escape.DigitLemmas.{digit_at, still_digit_at, fixed_after}
+use Rattle.regex_lite_syntax.proofs.parse.escape.DigitLemmas.{fixed_before, fixed_scalar}
+use Rattle.regex_lite_syntax.proofs.parse.escape.DigitLemmas.{fixed_stuck, on_too_large}
+use Rattle.regex_lite_syntax.proofs.parse.escape.DigitLemmas.{no_character}
 use Rattle.regex_lite_syntax.proofs.parse.escape.CompletedDigitLemmas.{fixed_short}
 use Rattle.regex_lite_syntax.proofs.parse.escape.CompletedDigitLemmas.{fixed_completable}
 use Rattle.regex_lite_syntax.proofs.parse.EndLemmas.{end_refused}
@@ -38,9 +38,9 @@ returns-in_default-hex_value-clause-refused c more follows (rest, d, f, far) =
 pub returns-then-number-gt-LAST-clause-refused : goal.returns-then-number-gt-LAST-clause-refused
 returns-then-number-gt-LAST-clause-refused c more follows (rest, d, f, far) =
     let at = digit_at c.skip_gap-next.ensures.gap c.in-Some.ensures.1 c.in-Some-hex_value.ensures in
-    fixed_too_large
+    on_too_large
     (fixed_after (still_digit_at more at) c.loop-read-test.true
-    (c.loop-read.invariant.back more rest d f))
+    (c.loop-read.invariant.back more rest d f)).on
     (omega arith)
 
 pub loop-read-preserved : goal.loop-read-preserved
