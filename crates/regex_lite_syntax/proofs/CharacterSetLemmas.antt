@@ -2,10 +2,9 @@
 use Rattle.regex_lite_syntax.proofs.Common.{ℕ, Bool, true, false, List, ◌∷◌, if◌then◌else◌, IsTrue}
 use Rattle.regex_lite_syntax.proofs.Common.{sym, subst, inl, inr, arith, and_parts, eqb-true}
 use Rattle.regex_lite_syntax.proofs.Common.{or_cases, nat_tests, is_character, is_letter, SetName}
-use Rattle.regex_lite_syntax.proofs.Common.{members, word, Set, just, span, union, complement}
+use Rattle.regex_lite_syntax.proofs.Common.{members, Set, just, span, union, complement}
 use Rattle.regex_lite_syntax.proofs.Common.{case_closure}
-use Rattle.regex_lite_syntax.specs.NamedSets.{alnum, alpha, ascii, blank, cntrl, digit, graph}
-use Rattle.regex_lite_syntax.specs.NamedSets.{lower, print, punct, space, upper, xdigit}
+use Rattle.regex_lite_syntax.specs.NamedSets.{alnum}
 
 -- the set holds characters alone
 abbrev pub HoldsCharacters : Set → Type 0

@@ -1,12 +1,12 @@
 -- Trees whose groups are numbered in order.
 use Rattle.regex_lite_syntax.proofs.Common.{◌≡◌, ℕ, zero, suc, ◌<◌, ◌≤◌, max, Bool, List, [], ◌∷◌}
 use Rattle.regex_lite_syntax.proofs.Common.{◌++◌, length, Some, None, Option, refl, add-one, arith}
-use Rattle.regex_lite_syntax.proofs.Common.{Tree, class, look, repetition, concat, alternation}
+use Rattle.regex_lite_syntax.proofs.Common.{Tree, repetition, concat, alternation}
 use Rattle.regex_lite_syntax.proofs.Common.{Trees, more, trees, sequence_of, choice_of, repeated}
 use Rattle.std.specs.Prelude.{slice_index}
 use Rattle.std.specs.List.Sorted.{IsStrictlyIncreasing}
 use Rattle.std.proofs.lemmas.List.Kept.{AllPairs-from_increasing}
-use Rattle.regex_lite_syntax.specs.Tree.{empty, character, capture, none}
+use Rattle.regex_lite_syntax.specs.Tree.{empty, capture, none}
 use Rattle.regex_lite_syntax.specs.Tree.Properties.{greatest_index, greatest_index_in}
 use Rattle.regex_lite_syntax.specs.Tree.Numbering.{indices, indices_in, IndicesDiffer}
 

@@ -3,9 +3,9 @@ use Rattle.regex_lite_syntax.proofs.Common.{◌≡◌, ℕ, zero, suc, ◌-◌, 
 use Rattle.regex_lite_syntax.proofs.Common.{List, [], ◌∷◌, ◌++◌, length, take, drop, Some, None}
 use Rattle.regex_lite_syntax.proofs.Common.{MatchBool, Option, option_map, sym, refl, ap, ◌∙◌}
 use Rattle.regex_lite_syntax.proofs.Common.{subst, inl, inr, append_assoc, arith, append-nil}
-use Rattle.regex_lite_syntax.proofs.Common.{is_cut_short, Refusal, syntax_error, too_deep}
-use Rattle.regex_lite_syntax.proofs.Common.{too_many_groups, passed_limit, out_of_memory}
-use Rattle.regex_lite_syntax.proofs.Common.{refused_replacement, kind_of, BeginsNone, BeginsSome}
+use Rattle.regex_lite_syntax.proofs.Common.{is_cut_short, Refusal, syntax_error}
+use Rattle.regex_lite_syntax.proofs.Common.{too_many_groups, out_of_memory}
+use Rattle.regex_lite_syntax.proofs.Common.{kind_of, BeginsNone, BeginsSome}
 use Rattle.regex_lite_syntax.proofs.Common.{HasTree, WholeGap, GoesOnFrom, CanRead, CanReadOn}
 use Rattle.regex_lite_syntax.proofs.Common.{BeginsTooMany, NoReading, Refuses, IfCutShort, Text}
 use Rattle.regex_lite_syntax.proofs.Common.{SyntaxFault, Flags, Parser, Stop}

@@ -3,8 +3,8 @@ use Rattle.regex_lite_syntax.proofs.Common.{◌≡◌, ℕ, ◌+◌, ◌<◌, tr
 use Rattle.regex_lite_syntax.proofs.Common.{map, reverse, length, drop, Some, None, Option}
 use Rattle.regex_lite_syntax.proofs.Common.{option_map, sym, refl, ap, ◌∙◌, subst, inr, arith}
 use Rattle.regex_lite_syntax.proofs.Common.{AreCharacters, is_cut_short, Refusal, syntax_error}
-use Rattle.regex_lite_syntax.proofs.Common.{too_deep, too_many_groups, passed_limit, out_of_memory}
-use Rattle.regex_lite_syntax.proofs.Common.{refused_replacement, kind_of, IsReadTo, BeginsNone}
+use Rattle.regex_lite_syntax.proofs.Common.{too_many_groups, out_of_memory}
+use Rattle.regex_lite_syntax.proofs.Common.{kind_of, IsReadTo, BeginsNone}
 use Rattle.regex_lite_syntax.proofs.Common.{HasTree, Gap, WholeGap, NamesDiffer, Point, start}
 use Rattle.regex_lite_syntax.proofs.Common.{State, first_state, ended, kind_at, LeadsOn, stay}
 use Rattle.regex_lite_syntax.proofs.Common.{StepsTo, CanRead, BeginsTooMany, NoReading, Refuses}

@@ -2,8 +2,8 @@
 use Rattle.regex_lite_syntax.proofs.Common.{◌≡◌, ℕ, ◌+◌, ◌^◌, ◌<◌, ◌≤◌, ◌≢◌, List, [], map, reverse}
 use Rattle.regex_lite_syntax.proofs.Common.{length, sym, refl, ap, ◌∙◌, subst, inl, inr, arith}
 use Rattle.regex_lite_syntax.proofs.Common.{AreCharacters, Refusal, syntax_error, too_deep}
-use Rattle.regex_lite_syntax.proofs.Common.{too_many_groups, passed_limit, out_of_memory}
-use Rattle.regex_lite_syntax.proofs.Common.{refused_replacement, kind_of, Grammar, HasTree, Gap}
+use Rattle.regex_lite_syntax.proofs.Common.{too_many_groups, out_of_memory}
+use Rattle.regex_lite_syntax.proofs.Common.{kind_of, Grammar, HasTree, Gap}
 use Rattle.regex_lite_syntax.proofs.Common.{WholeGap, NamesDiffer, depth, first_state, LeadsOn}
 use Rattle.regex_lite_syntax.proofs.Common.{frame_of, StepsTo, CanRead, BeginsCapture}
 use Rattle.regex_lite_syntax.proofs.Common.{BeginsTooMany, NoReading, Refuses, Text, Tree}

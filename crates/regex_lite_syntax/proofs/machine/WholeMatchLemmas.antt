@@ -1,9 +1,9 @@
 -- The whole match, which is group 0, has no name: the groups of a pattern are numbered from 1.
 use Rattle.regex_lite_syntax.proofs.Common.{◌≡◌, ℕ, ◌≤◌, false, ◌==◌, None, Option, refl, ap, ◌∙◌}
-use Rattle.regex_lite_syntax.proofs.Common.{arith, ne_eqb, option_or, Text, Tree, class, look}
+use Rattle.regex_lite_syntax.proofs.Common.{arith, ne_eqb, option_or, Text, Tree}
 use Rattle.regex_lite_syntax.proofs.Common.{repetition, concat, alternation, Trees, more}
 use Rattle.regex_lite_syntax.proofs.Common.{group_name, group_name_in, IsRegular}
-use Rattle.regex_lite_syntax.specs.Tree.{empty, character, capture, none}
+use Rattle.regex_lite_syntax.specs.Tree.{capture, none}
 use Rattle.regex_lite_syntax.specs.Tree.Properties.{name_if}
 use Rattle.regex_lite_syntax.specs.Tree.Regular.{AreRegular}
 

@@ -1,7 +1,6 @@
 -- What completes one reading says of another.
 use Rattle.regex_lite_syntax.proofs.Common.{◌++◌, IfErr, Ok, Err, Result, Refusal, syntax_error}
-use Rattle.regex_lite_syntax.proofs.Common.{too_deep, too_many_groups, passed_limit, out_of_memory}
-use Rattle.regex_lite_syntax.proofs.Common.{refused_replacement, Completable, IfCutShort, Text}
+use Rattle.regex_lite_syntax.proofs.Common.{Completable, IfCutShort, Text}
 use Rattle.regex_lite_syntax.proofs.Common.{SyntaxFault}
 use Rattle.regex_lite_syntax.specs.Refusals.{CanComplete}
 

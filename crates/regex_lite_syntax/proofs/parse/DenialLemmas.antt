@@ -1,8 +1,8 @@
 -- What the refusal of one reading says of another.
 use Rattle.regex_lite_syntax.proofs.Common.{◌+◌, [], ◌++◌, IfErr, IsTrue, Ok, Err, Result, sym}
 use Rattle.regex_lite_syntax.proofs.Common.{refl, subst, append-nil, is_cut_short, Refusal}
-use Rattle.regex_lite_syntax.proofs.Common.{syntax_error, too_deep, too_many_groups, passed_limit}
-use Rattle.regex_lite_syntax.proofs.Common.{out_of_memory, refused_replacement, CanRead}
+use Rattle.regex_lite_syntax.proofs.Common.{syntax_error, too_deep, too_many_groups}
+use Rattle.regex_lite_syntax.proofs.Common.{out_of_memory, CanRead}
 use Rattle.regex_lite_syntax.proofs.Common.{BeginsCapture, BeginsTooMany, NoReading, Refuses}
 use Rattle.regex_lite_syntax.proofs.Common.{Denies, Text, SyntaxFault, Parser}
 use Rattle.regex_lite_syntax.specs.Limits.{PassesGroups}
