@@ -1,14 +1,15 @@
 -- The equations of `tree_of`, and the trees of a list from some index on.
-use Rattle.regex_lite_syntax.proofs.Common.{◌≡◌, ℕ, ◌+◌, ◌<◌, Bool, List, ◌∷◌, map, length, get_or}
-use Rattle.regex_lite_syntax.proofs.Common.{drop, Option, Global, sym, ap, ◌∙◌, drop_more, Tree}
-use Rattle.regex_lite_syntax.proofs.Common.{repetition, concat, alternation, Trees, more, trees}
-use Rattle.regex_lite_syntax.proofs.Common.{tree_of, Hir}
+use Rattle.regex_lite_syntax.proofs.Common.{◌≡◌, ℕ, zero, suc, ◌+◌, ◌<◌, Bool, List, ◌∷◌, map}
+use Rattle.regex_lite_syntax.proofs.Common.{length, get_or, drop, Some, Option, Global, sym, ap}
+use Rattle.regex_lite_syntax.proofs.Common.{◌∙◌, drop_more, Tree, repetition, concat, alternation}
+use Rattle.regex_lite_syntax.proofs.Common.{Trees, more, trees, repeated, tree_of, Hir}
 use Rattle.std.proofs.Common.{Vec, Box}
 use Rattle.regex_lite_syntax.specs.Tree.Views.{node_tree}
 use Rattle.regex_lite_syntax.specs.declared.hir.Hir.{Hir-F, fold-roll-Hir}
 use Rattle.regex_lite_syntax.specs.declared.hir.Hir.TheVariants.{Repetition, rolls-Repetition}
 use Rattle.regex_lite_syntax.specs.declared.hir.Hir.TheVariants.{Concat, rolls-Concat, Alternation}
 use Rattle.regex_lite_syntax.specs.declared.hir.Hir.TheVariants.{rolls-Alternation}
+use Rattle.regex_lite_syntax.specs.Tree.{empty}
 
 pub tree_of-Repetition : (least : ℕ) (most : Option ℕ) (greedy : Bool) (body : Box Hir Global)
     → tree_of (Repetition least most greedy body)
@@ -36,3 +37,11 @@ pub trees_more : (hirs : List Hir) (i : ℕ) (hir : Hir) → i < length hirs →
     → trees_of (drop i hirs) ≡ more (tree_of hir) (trees_of (drop (i + 1) hirs))
 trees_more hirs i hir inside is =
     ap trees_of (drop_more hirs i hir inside ∙ ap (λ first. first ∷ drop (i + 1) hirs) (sym is))
+
+-- what holds of a repetition, of the empty tree and of an item holds of the item repeated
+pub repeated_is : (P : Tree → Type 0) (least : ℕ) (most : Option ℕ) (greedy : Bool) (item : Tree)
+    → P (repetition least most greedy item) → P empty → P item
+    → P (repeated least most greedy item)
+repeated_is P zero (Some zero) greedy item whole none one = none
+repeated_is P (suc zero) (Some (suc zero)) greedy item whole none one = one
+repeated_is P least most greedy item whole none one = whole

@@ -4,13 +4,14 @@ use Rattle.regex_lite_syntax.proofs.Common.{◌∷◌, ◌++◌, if◌then◌els
 use Rattle.regex_lite_syntax.proofs.Common.{append_assoc, ClassElement, RangeFollows, BeginsItem}
 use Rattle.regex_lite_syntax.proofs.Common.{NamedClass, ClassItem, named_class, escaped_set, range}
 use Rattle.regex_lite_syntax.proofs.Common.{Takes, takes, leaves, Dashes, FirstBracket}
-use Rattle.regex_lite_syntax.proofs.Common.{ClassOpening, ClassItems, BracketedClass, WholeGap}
-use Rattle.regex_lite_syntax.proofs.Common.{SetName, EndsOpen, at_once, past_dash, Set, Text, the}
+use Rattle.regex_lite_syntax.proofs.Common.{ClassOpening, ClassItems, BracketedClass, look_at}
+use Rattle.regex_lite_syntax.proofs.Common.{WholeGap, SetName, EndsOpen, at_once, past_dash, Set}
+use Rattle.regex_lite_syntax.proofs.Common.{Text, the, Look}
 use Rattle.regex_lite_syntax.specs.Grammar.Escapes.{Primitive}
 use Rattle.regex_lite_syntax.specs.Grammar.Classes.{literal, escaped, character}
 use Rattle.regex_lite_syntax.proofs.ListLemmas.{same_head, same_tail}
 use Rattle.regex_lite_syntax.proofs.grammar.GapLemmas.{whole_gap_once, gap_to_end}
-use Rattle.regex_lite_syntax.proofs.grammar.LongerEscapeLemmas.{escape_longer}
+use Rattle.regex_lite_syntax.proofs.grammar.LongerEscapeLemmas.{escape_longer, NoBraceComes}
 use Rattle.regex_lite_syntax.proofs.grammar.LongerGapLemmas.{some_gap, some_before, whole_longer}
 use Rattle.regex_lite_syntax.proofs.grammar.LongerGapLemmas.{longer_gap, begins_longer, full_gap}
 use Rattle.regex_lite_syntax.proofs.parse.bracket.ClassItemLemmas.{open_past_dash, nothing_left}
@@ -37,14 +38,23 @@ module _ (more : Text) where
   begins_item t begins two = subst (λ u. BeginsItem (u ++ more)) (sym two.is)
       (subst (λ u. BeginsItem u) two.is begins)
 
+  -- an element, where no brace comes to stand past a look
+  pub element_on : (verbose : Bool) (t rest : Text) (p : Primitive) → ClassElement verbose t rest p
+      → ((look : Look) → p ≡ look_at look → NoBraceComes more rest)
+      → ClassElement verbose (t ++ more) (rest ++ more) p
+  element_on verbose t rest p (literal c e plain w is) comes =
+      literal c (ap (λ u. u ++ more) e) plain w is
+  element_on verbose t rest p (escaped past e d) comes =
+      escaped (past ++ more) (ap (λ u. u ++ more) e)
+      (escape_longer more verbose past rest p d comes)
+
+  -- so one past which something is left
   pub element_longer : (verbose : Bool) (t rest : Text) (p : Primitive)
       → ClassElement verbose t rest p → rest ≢ []
       → ClassElement verbose (t ++ more) (rest ++ more) p
-  element_longer verbose t rest p (literal c e plain w is) some =
-      literal c (ap (λ u. u ++ more) e) plain w is
-  element_longer verbose t rest p (escaped past e d) some =
-      escaped (past ++ more) (ap (λ u. u ++ more) e) (escape_longer more verbose past rest p d
-      (λ none. begins_longer more (the "{") rest none some))
+  element_longer verbose t rest p part some =
+      element_on verbose t rest p part
+      (λ look is none. begins_longer more (the "{") rest none some)
 
   pub follows_longer : {verbose : Bool} {t last : Text} → RangeFollows verbose t last
       → RangeFollows verbose (t ++ more) (last ++ more)
@@ -77,14 +87,14 @@ module _ (more : Text) where
       (gap_to_end verbose w.rest past.0 past.1 g) past.1))) in
       let end = whole_gap_once verbose (w.rest ++ more) (v.first ∷ (v.rest ++ more)) last v.longer
       (subst (λ u. WholeGap verbose u last) (sym (same_tail dash)) f.gap) in
-      let same = same_head (end ∙ f.goes_on) in
+      let same = same_head (◌∙◌ {a = v.first ∷ (v.rest ++ more)} end f.goes_on) in
       none (v.first ∷ v.rest) (record {
         past_dash = w.rest;
         end = v.first;
         rest = v.rest;
         dashed = dashed;
         gap = v.gap;
-        goes_on = refl;
+        goes_on = refl {a = v.first ∷ v.rest};
         not_bracket = λ e. f.not_bracket (sym same ∙ e);
         not_dash = λ e. f.not_dash (sym same ∙ e);
       })

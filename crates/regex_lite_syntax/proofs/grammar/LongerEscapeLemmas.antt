@@ -1,6 +1,6 @@
 -- Escapes in a longer text that begins with the text.
-use Rattle.regex_lite_syntax.proofs.Common.{ℕ, Bool, ◌++◌, sym, ap, subst, EscapeKind, gives}
-use Rattle.regex_lite_syntax.proofs.Common.{word_boundary, hexadecimal, refused, escape_kind}
+use Rattle.regex_lite_syntax.proofs.Common.{◌≡◌, ℕ, Bool, ◌++◌, sym, ap, subst, look_at, EscapeKind}
+use Rattle.regex_lite_syntax.proofs.Common.{gives, word_boundary, hexadecimal, refused, escape_kind}
 use Rattle.regex_lite_syntax.proofs.Common.{FixedDigits, BracedDigits, Hexadecimal, fixed, braced}
 use Rattle.regex_lite_syntax.proofs.Common.{BoundaryName, WordBoundary, alone, before_count}
 use Rattle.regex_lite_syntax.proofs.Common.{EscapeFrom, Escape, Text, Begins, the, Look}
@@ -73,16 +73,17 @@ module _ (more : Text) where
       named (opened ++ more) (ap (λ u. u ++ more) e) (name_longer b)
 
   from_longer : (k : EscapeKind) (verbose : Bool) (t rest : Text) (p : Primitive)
-      → EscapeFrom k verbose t rest p → NoBraceComes rest
+      → EscapeFrom k verbose t rest p → ((look : Look) → p ≡ look_at look → NoBraceComes rest)
       → EscapeFrom k verbose (t ++ more) (rest ++ more) p
   from_longer (gives q) verbose t rest p d comes = (ap (λ u. u ++ more) d.0, d.1)
-  from_longer word_boundary verbose t rest p d comes = (d.0, boundary_longer d.1 comes, d.2)
+  from_longer word_boundary verbose t rest p d comes = (d.0, boundary_longer d.1 (comes d.0 d.2), d.2)
   from_longer (hexadecimal n) verbose t rest p d comes = (d.0, hexadecimal_longer d.1, d.2)
   from_longer refused verbose t rest p d comes = absurd d
 
-  -- where no brace comes to stand past it
+  -- where no brace comes to stand past a look
   pub escape_longer : (verbose : Bool) (t rest : Text) (p : Primitive)
-      → Escape verbose t rest p → NoBraceComes rest → Escape verbose (t ++ more) (rest ++ more) p
+      → Escape verbose t rest p → ((look : Look) → p ≡ look_at look → NoBraceComes rest)
+      → Escape verbose (t ++ more) (rest ++ more) p
   escape_longer verbose t rest p d comes = record {
     first = d.first;
     past_first = d.past_first ++ more;

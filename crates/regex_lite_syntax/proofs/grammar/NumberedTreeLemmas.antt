@@ -1,14 +1,15 @@
 -- Trees whose groups are numbered in order.
 use Rattle.regex_lite_syntax.proofs.Common.{◌≡◌, ℕ, zero, suc, ◌<◌, ◌≤◌, max, Bool, List, [], ◌∷◌}
-use Rattle.regex_lite_syntax.proofs.Common.{◌++◌, length, Some, None, Option, refl, add-one, arith}
-use Rattle.regex_lite_syntax.proofs.Common.{Tree, repetition, concat, alternation}
-use Rattle.regex_lite_syntax.proofs.Common.{Trees, more, trees, sequence_of, choice_of, repeated}
+use Rattle.regex_lite_syntax.proofs.Common.{◌++◌, length, Option, refl, add-one, arith, Tree}
+use Rattle.regex_lite_syntax.proofs.Common.{repetition, concat, alternation, Trees, more, trees}
+use Rattle.regex_lite_syntax.proofs.Common.{sequence_of, choice_of, repeated}
 use Rattle.std.specs.Prelude.{slice_index}
 use Rattle.std.specs.List.Sorted.{IsStrictlyIncreasing}
 use Rattle.std.proofs.lemmas.List.Kept.{AllPairs-from_increasing}
 use Rattle.regex_lite_syntax.specs.Tree.{empty, capture, none}
 use Rattle.regex_lite_syntax.specs.Tree.Properties.{greatest_index, greatest_index_in}
 use Rattle.regex_lite_syntax.specs.Tree.Numbering.{indices, indices_in, IndicesDiffer}
+use Rattle.regex_lite_syntax.proofs.TreeLemmas.{repeated_is}
 
 -- the indices of the groups are above the number; those inside a group are above its own, and those
 -- of a part above those of the parts before it
@@ -133,26 +134,12 @@ choice_within low high [] is = leaf low high empty tt refl is
 choice_within low high (a ∷ []) (mid, first, less) = wider low mid high a first less
 choice_within low high (a ∷ b ∷ rest) is = (of_list low high (a ∷ b ∷ rest) is).1
 
-repetition_within : (low high least : ℕ) (most : Option ℕ) (greedy : Bool) (a : Tree)
-    → Within low high a → Within low high (repetition least most greedy a)
-repetition_within low high least most greedy a is =
-    record { in_order = is.in_order; inside = is.inside; low_high = is.low_high }
-
 pub repeated_within : (low high least : ℕ) (most : Option ℕ) (greedy : Bool) (a : Tree)
     → Within low high a → Within low high (repeated least most greedy a)
-repeated_within low high zero None greedy a is = repetition_within low high 0 None greedy a is
-repeated_within low high zero (Some zero) greedy a is = leaf low high empty tt refl is.low_high
-repeated_within low high zero (Some (suc m)) greedy a is =
-    repetition_within low high 0 (Some (suc m)) greedy a is
-repeated_within low high (suc zero) None greedy a is =
-    repetition_within low high 1 None greedy a is
-repeated_within low high (suc zero) (Some zero) greedy a is =
-    repetition_within low high 1 (Some 0) greedy a is
-repeated_within low high (suc zero) (Some (suc zero)) greedy a is = is
-repeated_within low high (suc zero) (Some (suc (suc m))) greedy a is =
-    repetition_within low high 1 (Some (suc (suc m))) greedy a is
-repeated_within low high (suc (suc n)) most greedy a is =
-    repetition_within low high (suc (suc n)) most greedy a is
+repeated_within low high least most greedy a is =
+    repeated_is (Within low high) least most greedy a
+    (record { in_order = is.in_order; inside = is.inside; low_high = is.low_high })
+    (leaf low high empty tt refl is.low_high) is
 
 -- each number is above the one before it, the first above `low`
 abbrev Growing : (low : ℕ) → List ℕ → Type 0

@@ -21,7 +21,7 @@ module _ (more : Text) where
       → AtomFrom k flags (t ++ more) (past ++ more) (rest ++ more) a
   atom_from (single p) flags t past rest a d comes = (ap (λ u. u ++ more) d.0, d.1)
   atom_from escape flags t past rest a d comes =
-      (d.0, escape_longer more flags.ignore_whitespace past rest d.0 d.1 comes, d.2)
+      (d.0, escape_longer more flags.ignore_whitespace past rest d.0 d.1 (λ _ _. comes), d.2)
   atom_from bracketed flags t past rest a d comes = (d.0, class_longer more d.1, d.2)
   atom_from no_atom flags t past rest a d comes = absurd d
 

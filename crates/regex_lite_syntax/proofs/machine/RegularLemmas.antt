@@ -1,17 +1,17 @@
 -- The trees of patterns are regular: characters are Unicode scalar values, sets are given by their
 -- runs, repetitions are in order, groups are numbered from 1, and lists have two parts or more.
-use Rattle.regex_lite_syntax.proofs.Common.{◌≡◌, ℕ, zero, suc, ◌≤◌, Bool, true, false, ◌&&◌, List}
-use Rattle.regex_lite_syntax.proofs.Common.{[], ◌∷◌, ◌++◌, IsTrue, Some, None, MatchBool, Option}
-use Rattle.regex_lite_syntax.proofs.Common.{sym, refl, subst, arith, rules, is_character}
-use Rattle.regex_lite_syntax.proofs.Common.{AreCharacters, is_letter, group, Branch, nothing, item}
-use Rattle.regex_lite_syntax.proofs.Common.{directive, Alternatives, only, Grammar, AtomKind}
-use Rattle.regex_lite_syntax.proofs.Common.{single, escape, bracketed, no_atom, atom_kind}
-use Rattle.regex_lite_syntax.proofs.Common.{IsClassOf, PrimitiveTree, AtomFrom, Atom, Counted, one}
-use Rattle.regex_lite_syntax.proofs.Common.{some_of, look_at, GroupKind, non_capturing, capturing}
-use Rattle.regex_lite_syntax.proofs.Common.{group_tree, Head, numbered, plain, times, Operator}
-use Rattle.regex_lite_syntax.proofs.Common.{uncounted, uncounted_lazy, counted, counted_lazy, Point}
-use Rattle.regex_lite_syntax.proofs.Common.{Set, just, case_closure, Text, Tree, trees, sequence_of}
-use Rattle.regex_lite_syntax.proofs.Common.{choice_of, repeated, IsRegular, Flags}
+use Rattle.regex_lite_syntax.proofs.Common.{◌≡◌, ℕ, ◌≤◌, Bool, true, false, ◌&&◌, List, [], ◌∷◌}
+use Rattle.regex_lite_syntax.proofs.Common.{◌++◌, IsTrue, Some, None, MatchBool, Option, sym, refl}
+use Rattle.regex_lite_syntax.proofs.Common.{subst, arith, rules, is_character, AreCharacters}
+use Rattle.regex_lite_syntax.proofs.Common.{is_letter, group, Branch, nothing, item, directive}
+use Rattle.regex_lite_syntax.proofs.Common.{Alternatives, only, Grammar, AtomKind, single, escape}
+use Rattle.regex_lite_syntax.proofs.Common.{bracketed, no_atom, atom_kind, IsClassOf, PrimitiveTree}
+use Rattle.regex_lite_syntax.proofs.Common.{AtomFrom, Atom, Counted, one, some_of, look_at}
+use Rattle.regex_lite_syntax.proofs.Common.{GroupKind, non_capturing, capturing, group_tree, Head}
+use Rattle.regex_lite_syntax.proofs.Common.{numbered, plain, times, Operator, uncounted}
+use Rattle.regex_lite_syntax.proofs.Common.{uncounted_lazy, counted, counted_lazy, Point, Set, just}
+use Rattle.regex_lite_syntax.proofs.Common.{case_closure, Text, Tree, trees, sequence_of, choice_of}
+use Rattle.regex_lite_syntax.proofs.Common.{repeated, IsRegular, Flags}
 use Rattle.regex_lite_syntax.specs.Grammar.Escapes.{Primitive}
 use Rattle.regex_lite_syntax.specs.Tree.{character}
 use Rattle.regex_lite_syntax.specs.Grammar.Heads.{named}
@@ -23,6 +23,7 @@ use Rattle.regex_lite_syntax.proofs.grammar.CountLemmas.{counted_in_order}
 use Rattle.regex_lite_syntax.proofs.machine.ParenLemmas.{operator_reads, atom_reads}
 use Rattle.regex_lite_syntax.proofs.machine.GrowthLemmas.{head_takes, directive_reads}
 use Rattle.regex_lite_syntax.proofs.machine.GrowthLemmas.{past_gap_reads}
+use Rattle.regex_lite_syntax.proofs.TreeLemmas.{repeated_is}
 
 -- each of the trees is regular
 abbrev pub AllRegular : List Tree → Type 0
@@ -56,14 +57,8 @@ choice_regular (a ∷ b ∷ rest) regular = (tt, are_regular (a ∷ b ∷ rest) 
 
 pub repeated_regular : (least : ℕ) (most : Option ℕ) (greedy : Bool) (a : Tree) → InOrder least most
     → IsRegular a → IsRegular (repeated least most greedy a)
-repeated_regular zero None greedy a order regular = (order, regular)
-repeated_regular zero (Some zero) greedy a order regular = tt
-repeated_regular zero (Some (suc most)) greedy a order regular = (order, regular)
-repeated_regular (suc zero) None greedy a order regular = (order, regular)
-repeated_regular (suc zero) (Some zero) greedy a order regular = (order, regular)
-repeated_regular (suc zero) (Some (suc zero)) greedy a order regular = regular
-repeated_regular (suc zero) (Some (suc (suc most))) greedy a order regular = (order, regular)
-repeated_regular (suc (suc least)) most greedy a order regular = (order, regular)
+repeated_regular least most greedy a order regular =
+    repeated_is IsRegular least most greedy a (order, regular) tt regular
 
 -- a group that captures has an index
 abbrev pub IsNumbered : GroupKind → Type 0

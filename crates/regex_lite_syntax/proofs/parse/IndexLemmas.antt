@@ -9,10 +9,13 @@ use Rattle.std.proofs.lemmas.List.{get_or_read}
 pub drop_at : (xs : Text) (i : ℕ) → i < length xs → drop i xs ≡ get_or xs i 0 ∷ drop (i + 1) xs
 drop_at xs i h = rw add-one (drop-cons xs i 0 h)
 
+pub drop_as : (xs : Text) (i x : ℕ) → i < length xs → x ≡ get_or xs i 0
+    → drop i xs ≡ x ∷ drop (i + 1) xs
+drop_as xs i x h e = drop_at xs i h ∙ ap (λ y. y ∷ drop (i + 1) xs) (sym e)
+
 pub drop_char : (xs : Text) (i x : ℕ) → i < length xs → x ≡ get_or xs i x
     → drop i xs ≡ x ∷ drop (i + 1) xs
-drop_char xs i x h e =
-    drop_at xs i h ∙ ap (λ y. y ∷ drop (i + 1) xs) (sym (get_or_read xs i x h e 0))
+drop_char xs i x h e = drop_as xs i x h (get_or_read xs i x h e 0)
 
 -- the text at the index begins with this character
 pub drop_begins : (xs : Text) (i c : ℕ) → i < length xs → Begins c (drop i xs)

@@ -102,19 +102,17 @@ closed_range verbose t past last p begins some part follows c =
 abbrev ending : (verbose : Bool) → (next : Text) → Text
 ending verbose next = resumed verbose ++ the "]" ∷ next
 
+no_twice : (verbose : Bool) (c : ℕ) (next : Text) → IsTrue (c ∈ "&-~")
+    → Begins c (ending verbose next) → ⊥
+no_twice true c next is again =
+    false≢true (subst (λ d. IsTrue (d ∈ "&-~")) (sym again) is)
+no_twice false c next is again =
+    false≢true (subst (λ d. IsTrue (d ∈ "&-~")) (sym again) is)
+
 begins_ending : (verbose : Bool) (t next : Text) → BeginsItem t
     → BeginsItem (t ++ ending verbose next)
 begins_ending verbose [] next begins = absurd begins
-begins_ending true (c ∷ []) next begins = (
-  begins.0,
-  begins.1,
-  λ is again. false≢true (subst (λ d. IsTrue (d ∈ "&-~")) (sym again) is),
-)
-begins_ending false (c ∷ []) next begins = (
-  begins.0,
-  begins.1,
-  λ is again. false≢true (subst (λ d. IsTrue (d ∈ "&-~")) (sym again) is),
-)
+begins_ending verbose (c ∷ []) next begins = (begins.0, begins.1, no_twice verbose c next)
 begins_ending verbose (c ∷ d ∷ t) next begins = begins
 
 -- no dash stands in the gap

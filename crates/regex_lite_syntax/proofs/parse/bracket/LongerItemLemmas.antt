@@ -3,10 +3,10 @@ use Rattle.regex_lite_syntax.proofs.Common.{◌≡◌, ℕ, Bool, true, false, �
 use Rattle.regex_lite_syntax.proofs.Common.{if◌then◌else◌, codes, sym, refl, ap, ◌∙◌, subst}
 use Rattle.regex_lite_syntax.proofs.Common.{append_assoc, append-nil, AllPass, is_lower}
 use Rattle.regex_lite_syntax.proofs.Common.{ClassElement, RangeFollows, BeginsItem, NamedClass}
-use Rattle.regex_lite_syntax.proofs.Common.{ClassItem, one, EscapeKind, gives, word_boundary}
-use Rattle.regex_lite_syntax.proofs.Common.{hexadecimal, refused, escape_kind, EscapeFrom, WholeGap}
-use Rattle.regex_lite_syntax.proofs.Common.{SetName, IsElement, RangeTo, Lacks, Set, Text, Begins}
-use Rattle.regex_lite_syntax.proofs.Common.{the, Element}
+use Rattle.regex_lite_syntax.proofs.Common.{ClassItem, one, look_at, EscapeKind, gives}
+use Rattle.regex_lite_syntax.proofs.Common.{word_boundary, hexadecimal, refused, escape_kind}
+use Rattle.regex_lite_syntax.proofs.Common.{EscapeFrom, WholeGap, SetName, IsElement, RangeTo}
+use Rattle.regex_lite_syntax.proofs.Common.{Lacks, Set, Text, Begins, the, Look, Element}
 use Rattle.regex_lite_syntax.specs.declared.parse.bracket.item.Element.TheVariants as elements
 use Rattle.regex_lite_syntax.specs.Grammar.Escapes.{Primitive}
 use Rattle.regex_lite_syntax.specs.Grammar.Classes.{literal, escaped}
@@ -14,10 +14,10 @@ use Rattle.regex_lite_syntax.specs.Parser.ClassReadings.{IsNamedSet, BeginsOpera
 use Rattle.regex_lite_syntax.proofs.ListLemmas.{same_head, same_tail}
 use Rattle.regex_lite_syntax.proofs.grammar.ClassLemmas.{name_once}
 use Rattle.regex_lite_syntax.proofs.grammar.LongerGapLemmas.{whole_longer}
-use Rattle.regex_lite_syntax.proofs.grammar.LongerEscapeLemmas.{hexadecimal_longer}
 use Rattle.regex_lite_syntax.proofs.grammar.LongerClassLemmas.{negation_longer, named_longer}
 use Rattle.regex_lite_syntax.proofs.grammar.LongerClassLemmas.{element_two, begins_item}
 use Rattle.regex_lite_syntax.proofs.grammar.LongerClassLemmas.{element_longer, follows_longer}
+use Rattle.regex_lite_syntax.proofs.grammar.LongerClassLemmas.{element_on}
 use Rattle.regex_lite_syntax.proofs.parse.bracket.ClassItemLemmas.{item_range}
 
 -- sets by their names: where no sign of negation stood, none stands in a longer text, unless the
@@ -63,70 +63,50 @@ pub is_named_longer : (more t rest : Text) (element : Element) → IsNamedSet t 
 is_named_longer more t rest (elements.Char c) is = absurd is
 is_named_longer more t rest (elements.Set set negated) is = named_longer more is
 
--- what is read in a longer text as a character is one in the text
-char_from : (k : EscapeKind) (verbose : Bool) (t rest u past : Text) (p : Primitive) (c : ℕ)
-    → EscapeFrom k verbose t rest p → EscapeFrom k verbose u past (one c) → (d : ℕ) × (p ≡ one d)
-char_from (gives q) verbose t rest u past p c d e = (c, d.1 ∙ sym e.1)
-char_from word_boundary verbose t rest u past p c d e = let clash = e.2 in cc clash
-char_from (hexadecimal n) verbose t rest u past p c d e = (d.0, d.2)
-char_from refused verbose t rest u past p c d e = absurd d
+-- what holds of each character and of no look, and of what is read in a longer text, holds of what
+-- is read in the text
+module _ (K : Primitive → Type 0) (of_char : (c : ℕ) → K (one c))
+    (no_look : (look : Look) → K (look_at look) → ⊥) where
+  kept_from : (k : EscapeKind) (verbose : Bool) (t rest u past : Text) (p q : Primitive)
+      → EscapeFrom k verbose t rest p → EscapeFrom k verbose u past q → K q → K p
+  kept_from (gives g) verbose t rest u past p q d e is = subst K (e.1 ∙ sym d.1) is
+  kept_from word_boundary verbose t rest u past p q d e is = absurd (no_look e.0 (subst K e.2 is))
+  kept_from (hexadecimal n) verbose t rest u past p q d e is = subst K (sym d.2) (of_char d.0)
+  kept_from refused verbose t rest u past p q d e is = absurd d
+
+  kept_before : (more : Text) (verbose : Bool) (t past rest : Text) (p q : Primitive)
+      → ClassElement verbose t past p → ClassElement verbose (t ++ more) rest q → K q → K p
+  kept_before more verbose t past rest p q (literal d e plain w is) part kept =
+      subst K (sym is) (of_char d)
+  kept_before more verbose t past rest p q (escaped u e d) (literal f g plain w is) kept =
+      absurd (plain (same_head (sym g ∙ ap (λ v. v ++ more) e)))
+  kept_before more verbose t past rest p q (escaped u e d) (escaped v f g) kept =
+      let same = same_tail (sym f ∙ ap (λ w. w ++ more) e) in
+      let first = same_head (sym g.begins ∙ same ∙ ap (λ w. w ++ more) d.begins) in
+      kept_from (escape_kind d.first) verbose d.past_first past g.past_first rest p q d.goes_on
+      (subst (λ a. EscapeFrom (escape_kind a) verbose g.past_first rest q) first g.goes_on) kept
 
 module _ (more : Text) where
+  -- so what is read in a longer text as a character or an element is one in the text
   pub char_before : (verbose : Bool) (t past rest : Text) (p : Primitive) (c : ℕ)
       → ClassElement verbose t past p → ClassElement verbose (t ++ more) rest (one c)
       → (d : ℕ) × (p ≡ one d)
-  char_before verbose t past rest p c (literal d e plain w is) part = (d, is)
-  char_before verbose t past rest p c (escaped u e d) (literal f g plain w is) =
-      absurd (plain (same_head (sym g ∙ ap (λ v. v ++ more) e)))
-  char_before verbose t past rest p c (escaped u e d) (escaped v f g) =
-      let same = same_tail (sym f ∙ ap (λ w. w ++ more) e) in
-      let first = same_head (sym g.begins ∙ same ∙ ap (λ w. w ++ more) d.begins) in
-      char_from (escape_kind d.first) verbose d.past_first past g.past_first rest p c d.goes_on
-      (subst (λ a. EscapeFrom (escape_kind a) verbose g.past_first rest (one c)) first g.goes_on)
-
-  -- so is an element
-  element_from : (k : EscapeKind) (verbose : Bool) (t rest u past : Text) (p q : Primitive)
-      → EscapeFrom k verbose t rest p → EscapeFrom k verbose u past q → IsElement q → IsElement p
-  element_from (gives g) verbose t rest u past p q d e is =
-      subst (λ r. IsElement r) (e.1 ∙ sym d.1) is
-  element_from word_boundary verbose t rest u past p q d e is =
-      absurd (subst (λ r. IsElement r) e.2 is)
-  element_from (hexadecimal n) verbose t rest u past p q d e is =
-      subst (λ r. IsElement r) (sym d.2) tt
-  element_from refused verbose t rest u past p q d e is = absurd d
+  char_before verbose t past rest p c before part =
+      kept_before (λ r. (d : ℕ) × (r ≡ one d)) (λ d. (d, refl))
+      (λ look is. let clash = is.1 in cc clash) more verbose t past rest p (one c) before part
+      (c, refl)
 
   pub element_before : (verbose : Bool) (t past rest : Text) (p q : Primitive)
       → ClassElement verbose t past p → ClassElement verbose (t ++ more) rest q → IsElement q
       → IsElement p
-  element_before verbose t past rest p q (literal d e plain w is) part element =
-      subst (λ r. IsElement r) (sym is) tt
-  element_before verbose t past rest p q (escaped u e d) (literal f g plain w is) element =
-      absurd (plain (same_head (sym g ∙ ap (λ v. v ++ more) e)))
-  element_before verbose t past rest p q (escaped u e d) (escaped v f g) element =
-      let same = same_tail (sym f ∙ ap (λ w. w ++ more) e) in
-      let first = same_head (sym g.begins ∙ same ∙ ap (λ w. w ++ more) d.begins) in
-      element_from (escape_kind d.first) verbose d.past_first past g.past_first rest p q d.goes_on
-      (subst (λ a. EscapeFrom (escape_kind a) verbose g.past_first rest q) first g.goes_on) element
+  element_before = kept_before IsElement (λ c. tt) (λ look is. is) more
 
   -- and an element of the text is one of the longer text, even where nothing is left past it
-  from_longer : (k : EscapeKind) (verbose : Bool) (t rest : Text) (p : Primitive) → IsElement p
-      → EscapeFrom k verbose t rest p → EscapeFrom k verbose (t ++ more) (rest ++ more) p
-  from_longer (gives q) verbose t rest p is d = (ap (λ u. u ++ more) d.0, d.1)
-  from_longer word_boundary verbose t rest p is d = absurd (subst (λ r. IsElement r) d.2 is)
-  from_longer (hexadecimal n) verbose t rest p is d = (d.0, hexadecimal_longer more d.1, d.2)
-  from_longer refused verbose t rest p is d = absurd d
-
   pub part_longer : (verbose : Bool) (t rest : Text) (p : Primitive) → IsElement p
       → ClassElement verbose t rest p → ClassElement verbose (t ++ more) (rest ++ more) p
-  part_longer verbose t rest p element (literal d e plain w is) =
-      literal d (ap (λ u. u ++ more) e) plain w is
-  part_longer verbose t rest p element (escaped past e d) =
-      escaped (past ++ more) (ap (λ u. u ++ more) e) (record {
-        first = d.first;
-        past_first = d.past_first ++ more;
-        begins = ap (λ u. u ++ more) d.begins;
-        goes_on = from_longer (escape_kind d.first) verbose d.past_first rest p element d.goes_on;
-      })
+  part_longer verbose t rest p element part =
+      element_on more verbose t rest p part
+      (λ look is. absurd (subst (λ r. IsElement r) is element))
 
   -- so is the end of a range, and the range
   pub range_to_longer : (verbose : Bool) (p : Primitive) (t rest : Text) (s : Set)

@@ -39,31 +39,20 @@ returns-then-is_deeper_than-clause-refused c =
     (drop c.in_ok-at.at xs) c.loop-parser.invariant.reaches c.skip_gap-here.ensures.gap
     c.in_ok-at.ensures.ok.reads (c.is_deeper_than.ensures.0 c.if-is_deeper_than.true))
 
-pub returns-then-here-chars-clause-tree : goal.returns-then-here-chars-clause-tree
-returns-then-here-chars-clause-tree c =
+pub returns-then-here-chars : goal.returns-then-here-chars
+returns-then-here-chars c =
     let xs = c.args.chars.now in
     let gap = gap_at_end _ (drop c.loop-parser.at xs) xs c.skip_gap-here.result
     c.if-here-chars.true c.skip_gap-here.ensures.gap in
-    IfOk-weaker c.finish.result _ _
-    (λ hir ok. (admitted _ _ xs _ _ (tree_of hir) c.loop-parser.invariant.reaches gap
-    c.finish.ensures.groups ok.0 ok.1).0) c.finish.ensures.ok
-
-pub returns-then-here-chars-clause-regular : goal.returns-then-here-chars-clause-regular
-returns-then-here-chars-clause-regular c =
-    let xs = c.args.chars.now in
-    let gap = gap_at_end _ (drop c.loop-parser.at xs) xs c.skip_gap-here.result
-    c.if-here-chars.true c.skip_gap-here.ensures.gap in
-    IfOk-weaker c.finish.result _ _
-    (λ hir ok. (admitted _ _ xs _ _ (tree_of hir) c.loop-parser.invariant.reaches gap
-    c.finish.ensures.groups ok.0 ok.1).1) c.finish.ensures.ok
-
-pub returns-then-here-chars-clause-refused : goal.returns-then-here-chars-clause-refused
-returns-then-here-chars-clause-refused c =
-    let xs = c.args.chars.now in
-    let gap = gap_at_end _ (drop c.loop-parser.at xs) xs c.skip_gap-here.result
-    c.if-here-chars.true c.skip_gap-here.ensures.gap in
-    IfErr-weaker c.finish.result _ _
-    (λ e. end_says _ _ xs _ _ e c.loop-parser.invariant.reaches gap) c.finish.ensures.refused
+    let reaches = c.loop-parser.invariant.reaches in
+    record {
+      tree = IfOk-weaker c.finish.result _ _ (λ hir ok. (admitted _ _ xs _ _ (tree_of hir) reaches
+          gap c.finish.ensures.groups ok.0 ok.1).0) c.finish.ensures.ok;
+      regular = IfOk-weaker c.finish.result _ _ (λ hir ok. (admitted _ _ xs _ _ (tree_of hir)
+          reaches gap c.finish.ensures.groups ok.0 ok.1).1) c.finish.ensures.ok;
+      refused = IfErr-weaker c.finish.result _ _ (λ e. end_says _ _ xs _ _ e reaches gap)
+          c.finish.ensures.refused;
+    }
 
 pub returns-in_err-at-clause-refused : goal.returns-in_err-at-clause-refused
 returns-in_err-at-clause-refused c =

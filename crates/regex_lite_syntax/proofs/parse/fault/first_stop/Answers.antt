@@ -22,61 +22,52 @@ loop-starts-init c = record {
       c.requires);
 }
 
-pub returns-then-here-chars-clause-found : goal.returns-then-here-chars-clause-found
-returns-then-here-chars-clause-found c =
+pub returns-then-here-chars : goal.returns-then-here-chars
+returns-then-here-chars c =
+    let flags = c.args.flags in
     let xs = c.args.chars.now in
     let p = c.loop-starts.parser in
     let t = drop c.loop-starts.at xs in
+    let comes = c.loop-starts.invariant.comes in
     let gap =
     gap_at_end _ t xs c.skip_gap-here.result c.if-here-chars.true c.skip_gap-here.ensures.gap in
-    rw c.unclosed.ensures (stop_found c.args.flags xs c.pop.result
-    (end_found c.args.flags xs p t c.loop-starts.starts.items _ c.pop.result _ _
-    c.loop-starts.invariant.comes gap c.pop.ensures.items c.loop-starts.starts.ok.0
-    c.pop.ensures.cases))
+    record {
+      found = rw c.unclosed.ensures (stop_found flags xs c.pop.result
+          (end_found flags xs p t c.loop-starts.starts.items _ c.pop.result _ _ comes gap
+          c.pop.ensures.items c.loop-starts.starts.ok.0 c.pop.ensures.cases));
+      goes_on = rw c.unclosed.ensures (goes_on_open flags xs c.pop.result
+          (reads_on_at_end flags xs p t c.loop-starts.starts.items comes gap));
+      refused = tt;
+      unread = tt;
+    }
 
-pub returns-in-Err-clause-found : goal.returns-in-Err-clause-found
-returns-in-Err-clause-found c =
+pub returns-in-Err : goal.returns-in-Err
+returns-in-Err c =
+    let flags = c.args.flags in
     let xs = c.args.chars.now in
+    let p = c.loop-starts.parser in
+    let comes = c.loop-starts.invariant.comes in
+    let gap = c.skip_gap-here.ensures.gap in
     let here = c.skip_gap-here.result in
     let inside : here < length xs =
     omega (arith, c.if-here-chars.false, c.skip_gap-here.ensures.inside) in
     let more = some_at xs here inside in
-    IfOk-weaker c.stop_or_error.result _ _ (λ found (fault, syntax, is).
-    let none = syntax_says _ fault _ _ _ syntax c.in-Err.ensures.refused in
-    let stuck = none_now fault (CanRead c.loop-starts.parser) (drop here xs) none in
-    let place = stuck_at c.args.flags xs c.loop-starts.parser _ _ _ here
-    c.loop-starts.invariant.comes c.skip_gap-here.ensures.gap refl more stuck in
-    rw is (record { inside = inside; place = inl place.0 }, place.1)) c.stop_or_error.ensures.stop
-
-pub returns-then-here-chars-clause-goes_on : goal.returns-then-here-chars-clause-goes_on
-returns-then-here-chars-clause-goes_on c =
-    let xs = c.args.chars.now in
-    let p = c.loop-starts.parser in
-    let t = drop c.loop-starts.at xs in
-    let gap =
-    gap_at_end _ t xs c.skip_gap-here.result c.if-here-chars.true c.skip_gap-here.ensures.gap in
-    rw c.unclosed.ensures (goes_on_open c.args.flags xs c.pop.result
-    (reads_on_at_end c.args.flags xs p t c.loop-starts.starts.items c.loop-starts.invariant.comes
-    gap))
-
-pub returns-in-Err-clause-goes_on : goal.returns-in-Err-clause-goes_on
-returns-in-Err-clause-goes_on c =
-    let xs = c.args.chars.now in
-    let here = c.skip_gap-here.result in
-    let inside : here < length xs =
-    omega (arith, c.if-here-chars.false, c.skip_gap-here.ensures.inside) in
-    let more = some_at xs here inside in
-    IfOk-weaker c.stop_or_error.result _ _ (λ found (fault, syntax, is). rw is
-    (goes_on_as c.args.flags xs c.loop-starts.parser _ _ _ _ fault
-    c.loop-starts.invariant.comes c.skip_gap-here.ensures.gap more c.in-Err.ensures.refused
-    c.in-Err.ensures.completes syntax)) c.stop_or_error.ensures.stop
-
-pub returns-in-Err-clause-refused : goal.returns-in-Err-clause-refused
-returns-in-Err-clause-refused c =
-    let xs = c.args.chars.now in
-    IfErr-weaker c.stop_or_error.result _ _ (λ e (other, is). rw is
-    (other_says c.args.flags xs c.loop-starts.parser _ _ _ _ c.loop-starts.invariant.comes
-    c.skip_gap-here.ensures.gap other c.in-Err.ensures.refused)) c.stop_or_error.ensures.other
+    let says = c.in-Err.ensures.refused in
+    record {
+      found = IfOk-weaker c.stop_or_error.result _ _ (λ found (fault, syntax, is).
+          let none = syntax_says _ fault _ _ _ syntax says in
+          let stuck = none_now fault (CanRead p) (drop here xs) none in
+          let place = stuck_at flags xs p _ _ _ here comes gap refl more stuck in
+          rw is (record { inside = inside; place = inl place.0 }, place.1))
+          c.stop_or_error.ensures.stop;
+      goes_on = IfOk-weaker c.stop_or_error.result _ _ (λ found (fault, syntax, is). rw is
+          (goes_on_as flags xs p _ _ _ _ fault comes gap more says c.in-Err.ensures.completes
+          syntax)) c.stop_or_error.ensures.stop;
+      refused = IfErr-weaker c.stop_or_error.result _ _ (λ e (other, is). rw is
+          (other_says flags xs p _ _ _ _ comes gap other says)) c.stop_or_error.ensures.other;
+      unread = IfErr-weaker c.stop_or_error.result _ _ (λ e (other, is). rw is
+          (refused_unread flags xs p _ _ _ _ comes gap other says)) c.stop_or_error.ensures.other;
+    }
 
 pub loop-starts-preserved : goal.loop-starts-preserved
 loop-starts-preserved c =
@@ -89,10 +80,3 @@ loop-starts-preserved c =
           (subst (λ n. Tracks c.loop-starts.starts.items c.track.new.starts.items n here)
           c.open_groups.ensures c.in_ok-track.ensures);
     }
-
-pub returns-in-Err-clause-unread : goal.returns-in-Err-clause-unread
-returns-in-Err-clause-unread c =
-    let xs = c.args.chars.now in
-    IfErr-weaker c.stop_or_error.result _ _ (λ e (other, is). rw is
-    (refused_unread c.args.flags xs c.loop-starts.parser _ _ _ _ c.loop-starts.invariant.comes
-    c.skip_gap-here.ensures.gap other c.in-Err.ensures.refused)) c.stop_or_error.ensures.other

@@ -84,20 +84,11 @@ once c more follows has =
 goes_on : (t u more : Text) (c : ℕ) → t ≡ c ∷ u → t ≡ [] → more ≡ []
 goes_on t u more c e none = let clash = sym e ∙ none in cc clash
 
--- the letters past the negation
+-- the letters past the negation, and the text from them on
 word_at : After-skip_lower-end → Text
 word_at c =
     take (c.skip_lower-end.result - c.if-negated.begin) (drop c.if-negated.begin c.args.chars.now)
 
--- past which the text ends
-word_ends : (c : After-skip_lower-end) → drop c.skip_lower-end.result c.args.chars.now ≡ []
-    → drop c.if-negated.begin c.args.chars.now ≡ word_at c
-unfolding word_at
-word_ends c ends =
-    let w = word_at c in
-    c.skip_lower-end.ensures.spelled ∙ ap (λ r. w ++ r) ends ∙ append-nil w
-
--- or goes on
 word_past : (c : After-skip_lower-end) (u : Text)
     → drop c.skip_lower-end.result c.args.chars.now ≡ u
     → drop c.if-negated.begin c.args.chars.now ≡ word_at c ++ u
@@ -115,7 +106,8 @@ none_named_so c more ends none has =
     let w = word_at c in
     let negated = c.is_at-negated.result in
     let negation = subst (λ u. drop (c.args.at + 2) c.args.chars.now
-    ≡ (if negated then the "^" ∷ u else u)) (word_ends c ends) (negation_at c) in
+    ≡ (if negated then the "^" ∷ u else u)) (word_past c [] ends ∙ append-nil w)
+    (negation_at c) in
     let starts = name_starts more _ w negated negation c.skip_lower-end.ensures.letters _ has.0
     has.1 has.2 (opens_at c) has.3 in
     none_begins w starts.0 has.2 none (ap set_named (sym starts.1) ∙ has.3.named)
@@ -167,7 +159,8 @@ returns-in_err-expect-2-clause-completes c =
     completes_name (drop c.args.at xs) _ _ (w ++ name.left) (name.left ++ codes ":]") _ name.set
     (opens_at at_word) (negation_at at_word)
     (joined_are name.left (codes ":]") name.characters (refl, (refl, tt)))
-    (λ next. ap (λ u. u ++ ((name.left ++ codes ":]") ++ next)) (word_ends at_word ends.1)
+    (λ next. ap (λ u. u ++ ((name.left ++ codes ":]") ++ next)) (word_past at_word [] ends.1
+    ∙ append-nil w)
     ∙ ap (λ u. w ++ u) (append_assoc name.left (codes ":]") next)
     ∙ sym (append_assoc w name.left (codes ":]" ++ next))) name.letters name.named)
 
