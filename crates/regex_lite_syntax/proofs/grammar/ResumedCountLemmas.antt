@@ -24,6 +24,19 @@ past_gap verbose R t ends all reads = record {
       subst (λ u. R (t ++ u) next) (sym (append_assoc (resumed verbose) ends next)) (reads next);
 }
 
+-- the greatest number, where one can follow, and the brace that closes
+brace_past_greatest : (verbose : Bool) (R : Text → Text → Type 0) (t : Text)
+    → Completable (λ v rest. Number verbose v rest (2 ^ 32 - 1)) t
+    → ((more next : Text) → Number verbose (t ++ more) (the "}" ∷ next) (2 ^ 32 - 1)
+    → R (t ++ more) next) → Completable R t
+brace_past_greatest verbose R t number reads = record {
+  more = number.more ++ the "}" ∷ [];
+  characters = joined_are number.more (the "}" ∷ []) number.characters (refl, tt);
+  reads = λ next. reads ((number.more ++ the "}" ∷ []) ++ next) next
+      (subst (λ u. Number verbose (t ++ u) (the "}" ∷ next) (2 ^ 32 - 1))
+      (sym (append_assoc number.more (the "}" ∷ []) next)) (number.reads (the "}" ∷ next)));
+}
+
 -- what may stand past the comma of an operator that repeats so often at least
 abbrev pub LimitFrom : (verbose : Bool) → (least : ℕ) → Text → Text → Type 0
 LimitFrom verbose least t rest =
@@ -43,16 +56,9 @@ module _ (verbose : Bool) (least : ℕ) (t : Text) where
   -- where a number can follow, the greatest one is a limit
   pub greatest_limit : least < 2 ^ 32 → Completable (λ v rest. Number verbose v rest (2 ^ 32 - 1)) t
       → Completable (LimitFrom verbose least) t
-  greatest_limit small number = record {
-    more = number.more ++ the "}" ∷ [];
-    characters = joined_are number.more (the "}" ∷ []) number.characters (refl, tt);
-    reads = λ next. (
-      Some (2 ^ 32 - 1),
-      subst (λ u. Number verbose (t ++ u) (the "}" ∷ next) (2 ^ 32 - 1))
-          (sym (append_assoc number.more (the "}" ∷ []) next)) (number.reads (the "}" ∷ next)),
-      omega (arith, small),
-    );
-  }
+  greatest_limit small number =
+      brace_past_greatest verbose (LimitFrom verbose least) t number
+      (λ more next read. (Some (2 ^ 32 - 1), read, omega (arith, small)))
 
   -- a number that reaches the least becomes a limit
   pub limit_reached : (past_digits : Text) (n : ℕ) → NumberTo verbose t [] past_digits n
@@ -98,18 +104,9 @@ module _ (verbose : Bool) (t : Text) where
   -- where a number can follow, a brace can follow it
   pub number_closed : Completable (λ v rest. Number verbose v rest (2 ^ 32 - 1)) t
       → Completable (Counts verbose) t
-  number_closed number = record {
-    more = number.more ++ the "}" ∷ [];
-    characters = joined_are number.more (the "}" ∷ []) number.characters (refl, tt);
-    reads = λ next. (
-      2 ^ 32 - 1,
-      Some (2 ^ 32 - 1),
-      exactly
-          (subst (λ u. Number verbose (t ++ u) (the "}" ∷ next) (2 ^ 32 - 1))
-          (sym (append_assoc number.more (the "}" ∷ []) next))
-          (number.reads (the "}" ∷ next))) refl,
-    );
-  }
+  number_closed number =
+      brace_past_greatest verbose (Counts verbose) t number
+      (λ more next read. (2 ^ 32 - 1, Some (2 ^ 32 - 1), exactly read refl))
 
   -- and a brace can follow a number past whose side nothing is left
   pub brace_follows : (n : ℕ) → Number verbose t [] n → Completable (Counts verbose) t

@@ -1,17 +1,21 @@
 -- What the first character of a part asks for, and that no gap goes on with it.
 use Rattle.regex_lite_syntax.proofs.Common.{◌≡◌, ℕ, Bool, true, false, ◌≢◌, ◌⊎◌, ◌∷◌, ◌==◌, Some}
-use Rattle.regex_lite_syntax.proofs.Common.{None, Option, sym, refl, ap, ◌∙◌, subst, inl, inr}
-use Rattle.regex_lite_syntax.proofs.Common.{arith, and_parts, eqb-false, ne_eqb, not-true, or_parts}
-use Rattle.regex_lite_syntax.proofs.Common.{is_white_space, is_literal, no_atom, atom_kind, Atom}
-use Rattle.regex_lite_syntax.proofs.Common.{EndsGap, GroupKind, Head, numbered, plain, Directive}
-use Rattle.regex_lite_syntax.proofs.Common.{sets, times, Operator, uncounted, uncounted_lazy}
-use Rattle.regex_lite_syntax.proofs.Common.{counted, counted_lazy, Point, Kind, kind_at, bar}
-use Rattle.regex_lite_syntax.proofs.Common.{closing, paren, Text, the, Tree, Flags}
+use Rattle.regex_lite_syntax.proofs.Common.{None, codes, Option, sym, refl, ap, ◌∙◌, subst, inl}
+use Rattle.regex_lite_syntax.proofs.Common.{inr, arith, and_parts, eqb-false, false≢true, leb-true}
+use Rattle.regex_lite_syntax.proofs.Common.{ne_eqb, not-true, or_parts, is_one_of, is_white_space}
+use Rattle.regex_lite_syntax.proofs.Common.{is_literal, no_atom, atom_kind, Atom, EndsGap}
+use Rattle.regex_lite_syntax.proofs.Common.{GroupKind, Head, numbered, plain, Directive, sets}
+use Rattle.regex_lite_syntax.proofs.Common.{times, Operator, uncounted, uncounted_lazy, counted}
+use Rattle.regex_lite_syntax.proofs.Common.{counted_lazy, Point, Kind, kind_at, bar, closing, paren}
+use Rattle.regex_lite_syntax.proofs.Common.{Text, the, Tree, Flags}
 use Rattle.std.proofs.lemmas.Bool.{cases_Bool, cases_eq}
 use Rattle.regex_lite_syntax.specs.Grammar.Heads.{named}
 use Rattle.regex_lite_syntax.specs.Parser.Machine.{operator, atom}
 use Rattle.regex_lite_syntax.proofs.grammar.GapLemmas.{ends_any, ends_before}
 use Rattle.regex_lite_syntax.proofs.grammar.AtomLemmas.{NoSign, no_atom_at, no_literal}
+use Rattle.regex_lite_syntax.specs.Characters.{is_between}
+use Rattle.regex_lite_syntax.proofs.grammar.WordLemmas.{one_passes}
+use Rattle.regex_lite_syntax.proofs.grammar.SpacedLemmas.{printed_ends}
 
 -- the text asks for this, and no gap goes on where it begins
 pub record Asks (verbose : Bool) (t : Text) (k : Kind) : Type 0 where
@@ -124,28 +128,22 @@ literal_ends true c t e =
 
 -- a sign ends a gap
 sign_or_none : (c : ℕ) (t : Text) → EndsGap true (c ∷ t) ⊎ NoSign c
-sign_or_none c t =
-    by_sign (cases_eq c (the ".")) (cases_eq c (the "^")) (cases_eq c (the "$"))
-    (cases_eq c (the "\\")) (cases_eq c (the "["))
+sign_or_none c t = by_sign (is_one_of (codes ".^$\\[") c) refl
   where
-    sign : (d : ℕ) → EndsGap true (d ∷ t) → c ≡ d → EndsGap true (c ∷ t) ⊎ NoSign c
-    sign d ends e = inl (ends_before true d t (c ∷ t) (ap (λ x. x ∷ t) e) ends)
-
-    by_sign : (c ≡ the ".") ⊎ (c ≢ the ".") → (c ≡ the "^") ⊎ (c ≢ the "^")
-        → (c ≡ the "$") ⊎ (c ≢ the "$") → (c ≡ the "\\") ⊎ (c ≢ the "\\")
-        → (c ≡ the "[") ⊎ (c ≢ the "[") → EndsGap true (c ∷ t) ⊎ NoSign c
-    by_sign (inl e) _ _ _ _ = sign (the ".") (refl, λ h. omega (arith, h)) e
-    by_sign (inr _) (inl e) _ _ _ = sign (the "^") (refl, λ h. omega (arith, h)) e
-    by_sign (inr _) (inr _) (inl e) _ _ = sign (the "$") (refl, λ h. omega (arith, h)) e
-    by_sign (inr _) (inr _) (inr _) (inl e) _ = sign (the "\\") (refl, λ h. omega (arith, h)) e
-    by_sign (inr _) (inr _) (inr _) (inr _) (inl e) = sign (the "[") (refl, λ h. omega (arith, h)) e
-    by_sign (inr stop) (inr caret) (inr dollar) (inr slash) (inr bracket) = inr (record {
-      no_full_stop = stop;
-      no_caret = caret;
-      no_dollar = dollar;
-      no_backslash = slash;
-      no_bracket = bracket;
-    })
+    by_sign : (sign : Bool) → is_one_of (codes ".^$\\[") c ≡ sign → EndsGap true (c ∷ t) ⊎ NoSign c
+    by_sign true is =
+        let printed = and_parts _ _ (one_passes (is_between 36 126) (codes ".^$\\[") c refl is) in
+        inl (printed_ends c t (leb-true 36 c printed.0) (leb-true c 126 printed.1))
+    by_sign false none =
+        let other = λ (d : ℕ) (sign : is_one_of (codes ".^$\\[") d ≡ true) (e : c ≡ d).
+        false≢true (sym none ∙ ap (is_one_of (codes ".^$\\[")) e ∙ sign) in
+        inr (record {
+          no_full_stop = other (the ".") refl;
+          no_caret = other (the "^") refl;
+          no_dollar = other (the "$") refl;
+          no_backslash = other (the "\\") refl;
+          no_bracket = other (the "[") refl;
+        })
 
 atom_ends : (flags : Flags) (t rest : Text) (a : Tree) → Atom flags t rest a
     → EndsGap flags.ignore_whitespace t

@@ -1,16 +1,16 @@
 -- What the grammar derives, the machine runs.
-use Rattle.regex_lite_syntax.proofs.Common.{◌≡◌, ℕ, ◌+◌, Bool, List, [], ◌∷◌, ◌++◌, length, Option}
-use Rattle.regex_lite_syntax.proofs.Common.{sym, refl, ap, ◌∙◌, subst, add-one, group, Branch}
-use Rattle.regex_lite_syntax.proofs.Common.{nothing, item, directive, Alternatives, only, Grammar}
-use Rattle.regex_lite_syntax.proofs.Common.{Atom, Gap, NamesDiffer, GroupKind, group_tree, Head}
-use Rattle.regex_lite_syntax.proofs.Common.{Directive, Operator, Point, onward, PastGap, Frame}
-use Rattle.regex_lite_syntax.proofs.Common.{State, first_state, ended, LeadsOn, stay, go, Text, the}
-use Rattle.regex_lite_syntax.proofs.Common.{Tree, sequence_of, choice_of, repeated, Flags}
+use Rattle.regex_lite_syntax.proofs.Common.{◌≡◌, ℕ, ◌+◌, List, [], ◌∷◌, ◌++◌, length, sym, refl, ap}
+use Rattle.regex_lite_syntax.proofs.Common.{◌∙◌, subst, add-one, group, Branch, nothing, item}
+use Rattle.regex_lite_syntax.proofs.Common.{directive, Alternatives, only, Grammar, Gap}
+use Rattle.regex_lite_syntax.proofs.Common.{NamesDiffer, GroupKind, group_tree, Head, Point, onward}
+use Rattle.regex_lite_syntax.proofs.Common.{PastGap, Frame, State, first_state, ended, LeadsOn}
+use Rattle.regex_lite_syntax.proofs.Common.{stay, go, Text, the, Tree, sequence_of, choice_of}
+use Rattle.regex_lite_syntax.proofs.Common.{Flags}
 use Rattle.regex_lite_syntax.specs.Grammar.Heads.{outside}
 use Rattle.regex_lite_syntax.specs.Grammar.{Item, atom, further}
 use Rattle.regex_lite_syntax.specs.Grammar.Branch.{operator}
 use Rattle.regex_lite_syntax.specs.Parser.Machine.{opened, closed, parted, with_items}
-use Rattle.regex_lite_syntax.proofs.machine.OneStepLemmas.{leads_to, leads_as}
+use Rattle.regex_lite_syntax.proofs.machine.OneStepLemmas.{leads_to, leads_as, leads_step}
 use Rattle.regex_lite_syntax.proofs.machine.StepLemmas.{step_open, step_direct, step_close}
 use Rattle.regex_lite_syntax.proofs.machine.StepLemmas.{step_part, step_operate, step_atom}
 
@@ -25,41 +25,6 @@ pub record Underway (p q : Point) (frames : List Frame) (branches : List Tree) :
   pub items : List Tree
   pub leads : LeadsOn (standing p frames [] []) (standing q frames before items)
   pub branches_are : branches ≡ before ++ sequence_of items ∷ []
-
-over_atom : (p here q : Point) (a : Tree) (frames : List Frame) (branches items : List Tree)
-    → PastGap p here → Atom here.flags here.rest q.rest a → q ≡ onward here q.rest
-    → LeadsOn (standing p frames branches items) (standing q frames branches (items ++ a ∷ []))
-unfolding with_items
-over_atom p here q a frames branches items past d e =
-    go _ (step_atom (standing p frames branches items) here q.rest a past d) (stay (cc e))
-
-over_operator : (p here q : Point) (least : ℕ) (most : Option ℕ) (greedy : Bool)
-    (frames : List Frame)
-    (branches before : List Tree) (a : Tree) → PastGap p here
-    → Operator here.flags here.rest q.rest least most greedy
-    → q ≡ onward here q.rest
-    → LeadsOn (standing p frames branches (before ++ a ∷ []))
-    (standing q frames branches (before ++ repeated least most greedy a ∷ []))
-unfolding with_items
-over_operator p here q least most greedy frames branches before a past o e =
-    let s = standing p frames branches (before ++ a ∷ []) in
-    go _ (step_operate s here q.rest before a least most greedy past refl o) (stay (cc e))
-
-over_directive : (p here q : Point) (frames : List Frame) (branches items : List Tree)
-    → PastGap p here → Directive here q
-    → LeadsOn (standing p frames branches items) (standing q frames branches items)
-unfolding with_items
-over_directive p here q frames branches items past d =
-    go _ (step_direct (standing p frames branches items) here q past d) (stay refl)
-
-over_bar : (p here : Point) (rest : Text) (frames : List Frame) (branches items : List Tree)
-    → PastGap p here
-    → here.rest ≡ the "|" ∷ rest
-    → LeadsOn (standing p frames branches items)
-    (standing (onward here rest) frames (branches ++ sequence_of items ∷ []) [])
-unfolding parted
-over_bar p here rest frames branches items past e =
-    go _ (step_part (standing p frames branches items) here rest past e) (stay refl)
 
 -- the frame of a group that is opened here
 abbrev pub frame_at : Point → GroupKind → (branches items : List Tree) → Frame
@@ -76,17 +41,6 @@ into_group level p here first kind frames branches items depth past head =
     let at_depth = subst (λ n. Head n here first kind) depth head in
     go _ (step_open (standing p frames branches items) here first kind past at_depth) (stay refl)
 
-out_of_group : (p end : Point) (rest : Text) (f : Frame) (frames : List Frame)
-    (branches items : List Tree)
-    → PastGap p end → end.rest ≡ the ")" ∷ rest
-    → LeadsOn (standing p (f ∷ frames) branches items)
-    (standing (record end { rest = rest; flags = f.flags }) frames f.branches
-    (f.items ++ group_tree f.kind (choice_of (branches ++ sequence_of items ∷ [])) ∷ []))
-unfolding closed
-out_of_group p end rest f frames branches items past e =
-    go _ (step_close (standing p (f ∷ frames) branches items) end f frames rest past e refl)
-    (stay refl)
-
 -- a group as a whole, where its alternatives lead from its head to its end
 over_group : (level : ℕ) (p here first last end : Point) (kind : GroupKind) (rest : Text)
     (frames : List Frame)
@@ -97,13 +51,15 @@ over_group : (level : ℕ) (p here first last end : Point) (kind : GroupKind) (r
     → LeadsOn (standing p frames branches items)
     (standing (outside here end rest) frames branches
     (items ++ group_tree kind (choice_of inner) ∷ []))
+unfolding closed
 over_group level p here first last end kind rest frames branches items inner depth past head u
     past_last e =
     let f = frame_at here kind branches items in
     let into = into_group level p here first kind frames branches items depth past head in
-    let out = out_of_group last end rest f frames u.before u.items past_last e in
+    let out =
+    step_close (standing last (f ∷ frames) u.before u.items) end f frames rest past_last e refl in
     let trees = ap (λ x. items ++ group_tree kind (choice_of x) ∷ []) (sym u.branches_are) in
-    leads_as (leads_to into (leads_to u.leads out))
+    leads_as (leads_step (leads_to into u.leads) out)
     (ap (standing (outside here end rest) frames branches) trees)
 
 -- the next branch is under way
@@ -111,17 +67,20 @@ next_branch : (p last here q : Point) (rest : Text) (frames : List Frame) (befor
     → Underway p last frames before → PastGap last here → here.rest ≡ the "|" ∷ rest
     → LeadsOn (standing (onward here rest) frames before []) (standing q frames before items)
     → LeadsOn (standing p frames [] []) (standing q frames before items)
+unfolding parted
 next_branch p last here q rest frames before items u past e l =
-    let bar = over_bar last here rest frames u.before u.items past e in
+    let bar = step_part (standing last frames u.before u.items) here rest past e in
     let begun = ap (λ x. standing (onward here rest) frames x []) (sym u.branches_are) in
-    leads_to (leads_as (leads_to u.leads bar) begun) l
+    leads_to (leads_as (leads_step u.leads bar) begun) l
 
 mutual
+  unfolding with_items
+
   item_leads : {level : ℕ} {here q : Point} {a : Tree} → Item level here q a → (p : Point)
       (frames : List Frame) (branches items : List Tree) → level ≡ length frames → PastGap p here
       → LeadsOn (standing p frames branches items) (standing q frames branches (items ++ a ∷ []))
   item_leads {here} {q} {a} (atom d e) p frames branches items depth past =
-      over_atom p here q a frames branches items past d e
+      go _ (step_atom (standing p frames branches items) here q.rest a past d) (stay (cc e))
   item_leads {level} {here}
       (group first last end kind inner rest head d past_last c e a_is) p frames branches items
       depth past =
@@ -141,11 +100,12 @@ mutual
       leads_as (leads_to (branch_leads d frames branches depth) one_more) (cc items_are)
   branch_leads {q} (operator last here before a least most greedy d past o e items_are) frames
       branches depth =
-      let over = over_operator last here q least most greedy frames branches before a past o e in
-      leads_as (leads_to (branch_leads d frames branches depth) over) (cc items_are)
+      let s = standing last frames branches (before ++ a ∷ []) in
+      let st = step_operate s here q.rest before a least most greedy past refl o in
+      leads_as (leads_step (branch_leads d frames branches depth) st) (cc (e, items_are))
   branch_leads {q} {items} (directive last here d past s) frames branches depth =
-      let over = over_directive last here q frames branches items past s in
-      leads_to (branch_leads d frames branches depth) over
+      let st = step_direct (standing last frames branches items) here q past s in
+      leads_step (branch_leads d frames branches depth) st
 
   pub alternatives_lead : {level : ℕ} {p q : Point} {branches : List Tree}
       → Alternatives level p q branches

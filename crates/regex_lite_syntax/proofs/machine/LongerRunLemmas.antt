@@ -9,8 +9,8 @@ use Rattle.regex_lite_syntax.specs.Parser.Machine.{atom}
 use Rattle.regex_lite_syntax.proofs.grammar.LongerClassLemmas.{class_longer}
 use Rattle.regex_lite_syntax.proofs.grammar.LongerEscapeLemmas.{NoBraceComes, escape_longer}
 use Rattle.regex_lite_syntax.proofs.grammar.LongerGapLemmas.{GoesOn, Settles, settled, whole_longer}
-use Rattle.regex_lite_syntax.proofs.grammar.LongerHeadLemmas.{longer, operator_longer}
-use Rattle.regex_lite_syntax.proofs.grammar.LongerHeadLemmas.{head_longer, directive_longer}
+use Rattle.regex_lite_syntax.proofs.grammar.LongerHeadLemmas.{longer, operator_longer, head_longer}
+use Rattle.regex_lite_syntax.proofs.grammar.LongerHeadLemmas.{directive_longer}
 use Rattle.regex_lite_syntax.proofs.machine.OneStepLemmas.{at_end}
 use Rattle.regex_lite_syntax.proofs.machine.ReadOnLemmas.{runs_of, reads_of}
 use Rattle.regex_lite_syntax.proofs.machine.SoundLemmas.{leads_keeps, stands_first}
@@ -38,15 +38,16 @@ module _ (more : Text) where
   abbrev pub longer_state : State → State
   longer_state s = record s { point = longer more s.point }
 
-  does_longer : (k : Kind) (s : State) (p : Point) (q : State) → Does k s p q
-      → Settles more q.point.flags.ignore_whitespace q.point.rest
+  -- past it nothing comes to stand that would belong to what was read
+  abbrev pub SettlesPast : State → Type 0
+  SettlesPast s = Settles more s.point.flags.ignore_whitespace s.point.rest
+
+  does_longer : (k : Kind) (s : State) (p : Point) (q : State) → Does k s p q → SettlesPast q
       → Does k (longer_state s) (longer more p) (longer_state q)
   unfolding opened closed parted with_items
   does_longer stop s p q d settles = absurd d
   does_longer paren s p q (inl d) settles =
-      let here =
-      subst (λ (x : State). Settles more x.point.flags.ignore_whitespace x.point.rest) d.3
-      settles in
+      let here = subst SettlesPast d.3 settles in
       inl (longer more d.0, d.1, head_longer more d.2 here, ap longer_state d.3)
   does_longer paren s p q (inr d) settles =
       inr (longer more d.0, directive_longer more d.1, ap longer_state d.2)
@@ -54,9 +55,7 @@ module _ (more : Text) where
       (d.0 ++ more, d.1, d.2, ap (λ u. u ++ more) d.3, d.4, ap longer_state d.5)
   does_longer bar s p q d settles = (d.0 ++ more, ap (λ u. u ++ more) d.1, ap longer_state d.2)
   does_longer operator s p q d settles =
-      let here =
-      subst (λ (x : State). Settles more x.point.flags.ignore_whitespace x.point.rest) d.8
-      settles in (
+      let here = subst SettlesPast d.8 settles in (
         d.0 ++ more,
         d.1,
         d.2,
@@ -68,9 +67,7 @@ module _ (more : Text) where
         ap longer_state d.8,
       )
   does_longer atom s p q d settles =
-      let here =
-      subst (λ (x : State). Settles more x.point.flags.ignore_whitespace x.point.rest) d.3
-      settles in (
+      let here = subst SettlesPast d.3 settles in (
         d.0 ++ more,
         d.1,
         atom_longer p.flags p.rest d.0 d.1 d.2 here.brace,
@@ -82,8 +79,7 @@ module _ (more : Text) where
   kind_longer (c ∷ t) some = refl
 
   -- a step, past which nothing comes to stand that would belong to it
-  pub step_longer : {s q : State} → Step s q
-      → Settles more q.point.flags.ignore_whitespace q.point.rest
+  pub step_longer : {s q : State} → Step s q → SettlesPast q
       → Step (longer_state s) (longer_state q)
   step_longer {s} {q} st settles =
       let verbose = s.point.flags.ignore_whitespace in
@@ -106,17 +102,14 @@ module _ (more : Text) where
   goes_before : {s q : State} → Step s q → GoesOn s.point.flags.ignore_whitespace s.point.rest
   goes_before {s} {q} st g = at_end s q g st
 
-  pub leads_longer : {s q : State} → LeadsOn s q
-      → Settles more q.point.flags.ignore_whitespace q.point.rest
+  pub leads_longer : {s q : State} → LeadsOn s q → SettlesPast q
       → LeadsOn (longer_state s) (longer_state q)
   leads_longer (stay e) settles = stay (ap longer_state e)
   leads_longer {s} {q} (go m st l) settles =
       go (longer_state m) (step_longer st (left l)) (leads_longer l settles)
     where
-      left : {m : State} → LeadsOn m q → Settles more m.point.flags.ignore_whitespace m.point.rest
-      left (stay e) =
-          subst (λ (x : State). Settles more x.point.flags.ignore_whitespace x.point.rest) (sym e)
-          settles
+      left : {m : State} → LeadsOn m q → SettlesPast m
+      left (stay e) = subst SettlesPast (sym e) settles
       left {m} (go n st' l') =
           settled more m.point.flags.ignore_whitespace m.point.rest (goes_before st')
 

@@ -1,13 +1,12 @@
 -- What the machine runs, the grammar derives.
-use Rattle.regex_lite_syntax.proofs.Common.{◌≡◌, ℕ, ◌+◌, Bool, List, [], ◌∷◌, ◌++◌, length, Option}
-use Rattle.regex_lite_syntax.proofs.Common.{sym, refl, ap, ◌∙◌, subst, inl, inr, add-one}
-use Rattle.regex_lite_syntax.proofs.Common.{AreCharacters, group, Branch, nothing, item, directive}
-use Rattle.regex_lite_syntax.proofs.Common.{Alternatives, only, Grammar, Gap, NamesDiffer, Head}
-use Rattle.regex_lite_syntax.proofs.Common.{Directive, Operator, Point, onward, PastGap, start}
-use Rattle.regex_lite_syntax.proofs.Common.{Frame, State, first_state, ended, Kind, stop, kind_at}
-use Rattle.regex_lite_syntax.proofs.Common.{Does, LeadsOn, stay, go, bar, closing, paren, Text, the}
-use Rattle.regex_lite_syntax.proofs.Common.{Tree, sequence_of, choice_of, repeated, Flags}
-use Rattle.regex_lite_syntax.specs.Grammar.{Item, further}
+use Rattle.regex_lite_syntax.proofs.Common.{◌≡◌, ℕ, ◌+◌, List, [], ◌∷◌, ◌++◌, length, sym, refl, ap}
+use Rattle.regex_lite_syntax.proofs.Common.{◌∙◌, subst, inl, inr, add-one, AreCharacters, group}
+use Rattle.regex_lite_syntax.proofs.Common.{Branch, nothing, item, directive, Alternatives, only}
+use Rattle.regex_lite_syntax.proofs.Common.{Grammar, Gap, NamesDiffer, Head, Point, onward, PastGap}
+use Rattle.regex_lite_syntax.proofs.Common.{start, Frame, State, first_state, ended, Kind, stop}
+use Rattle.regex_lite_syntax.proofs.Common.{kind_at, Does, LeadsOn, stay, go, bar, closing, paren}
+use Rattle.regex_lite_syntax.proofs.Common.{Text, the, Tree, sequence_of, choice_of, Flags}
+use Rattle.regex_lite_syntax.specs.Grammar.{further}
 use Rattle.regex_lite_syntax.specs.Grammar.Branch.{operator as operated}
 use Rattle.regex_lite_syntax.specs.Grammar.Item.{atom as atom_item}
 use Rattle.regex_lite_syntax.specs.Parser.Machine.{opened, closed, parted, with_items, operator}
@@ -52,36 +51,13 @@ all_of level from p branches items (first e b) =
 all_of level from p branches items (later last here rest d past e b) =
     further last here branches items rest d past e b refl
 
-with_item : (level : ℕ) (from p here q : Point) (branches items : List Tree) (a : Tree)
-    → Partial level from p branches items → PastGap p here → Item level here q a
-    → Partial level from q branches (items ++ a ∷ [])
-with_item level from p here q branches items a (first e b) past i =
-    first e (item p here items a b past i refl)
-with_item level from p here q branches items a (later last bar_at rest d past_last e b) past i =
-    later last bar_at rest d past_last e (item p here items a b past i refl)
-
-with_operator : (level : ℕ) (from p here q : Point) (branches items before : List Tree) (a : Tree)
-    (least : ℕ) (most : Option ℕ) (greedy : Bool) → items ≡ before ++ a ∷ []
-    → Partial level from p branches items → PastGap p here
-    → Operator here.flags here.rest q.rest least most greedy → q ≡ onward here q.rest
-    → Partial level from q branches (before ++ repeated least most greedy a ∷ [])
-with_operator level from p here q branches items before a least most greedy items_are (first e b)
-    past o q_is =
-    let read = subst (λ x. Branch level from p x) items_are b in
-    first e (operated p here before a least most greedy read past o q_is refl)
-with_operator level from p here q branches items before a least most greedy items_are
-    (later last bar_at rest d past_last e b) past o q_is =
-    let read = subst (λ x. Branch level (onward bar_at rest) p x) items_are b in
-    later last bar_at rest d past_last e
-    (operated p here before a least most greedy read past o q_is refl)
-
-with_directive : (level : ℕ) (from p here q : Point) (branches items : List Tree)
-    → Partial level from p branches items → PastGap p here → Directive here q
-    → Partial level from q branches items
-with_directive level from p here q branches items (first e b) past i =
-    first e (directive p here b past i)
-with_directive level from p here q branches items (later last bar_at rest d past_last e b) past i =
-    later last bar_at rest d past_last e (directive p here b past i)
+-- what is read on from where the branch under way began is read on there
+on_branch : {level : ℕ} {from p q : Point} {branches items next : List Tree}
+    → ((start : Point) → Branch level start p items → Branch level start q next)
+    → Partial level from p branches items → Partial level from q branches next
+on_branch {from} reads (first e b) = first e (reads from b)
+on_branch reads (later last here rest d past e b) =
+    later last here rest d past e (reads (onward here rest) b)
 
 -- what has been read up to a state that a step leads to
 pub record StandsOn (begin : Point) (begun : List Text) (s : State) (p : Point) (q : State)
@@ -114,8 +90,9 @@ closed_on begin begun s p f frames rest e h past c =
       stands = record {
         from = below.0;
         below = below.9;
-        here = with_item (length frames) below.0 below.1 below.2 _ f.branches f.items _ below.4
-            below.5 (group h.from s.point p f.kind (ended s) rest below.6 inner past c after refl);
+        here = on_branch (λ _ b. item below.1 below.2 f.items _ b below.5
+            (group h.from s.point p f.kind (ended s) rest below.6 inner past c after refl) refl)
+            below.4;
       };
       keeps = closes below.2.rest (add-one (length frames) ∙ sym (ap length e)) below.8;
     }
@@ -135,7 +112,7 @@ does_keeps paren begin begun s p q h past (inl d) =
       keeps = opens (sym (add-one (length s.frames))) refl;
     })
 does_keeps paren begin begun s p q h past (inr d) =
-    let partial = with_directive _ h.from s.point p d.0 s.branches s.items h.here past d.1 in
+    let partial = on_branch (λ _ b. directive s.point p b past d.1) h.here in
     subst (λ x. StandsOn begin begun s p x) (sym d.2)
     (same_groups (record { from = h.from; below = h.below; here = partial }) refl)
 does_keeps closing begin begun s p q h past d =
@@ -147,15 +124,13 @@ does_keeps bar begin begun s p q h past d =
     subst (λ x. StandsOn begin begun s p x) (sym d.2)
     (same_groups (record { from = h.from; below = h.below; here = partial }) refl)
 does_keeps operator begin begun s p q h past d =
-    let of_items =
-    with_operator _ h.from s.point p (onward p d.0) s.branches s.items d.1 d.2 d.3 d.4 d.5 d.6 in
-    let partial = of_items h.here past d.7 refl in
+    let partial = on_branch {q = onward p d.0} (λ from b. operated s.point p d.1 d.2 d.3 d.4 d.5
+    (subst (λ x. Branch (length s.frames) from s.point x) d.6 b) past d.7 refl refl) h.here in
     subst (λ x. StandsOn begin begun s p x) (sym d.8)
     (same_groups (record { from = h.from; below = h.below; here = partial }) refl)
 does_keeps atom begin begun s p q h past d =
-    let read = atom_item d.2 refl in
-    let partial =
-    with_item _ h.from s.point p (onward p d.0) s.branches s.items d.1 h.here past read in
+    let partial = on_branch {q = onward p d.0}
+    (λ _ b. item s.point p s.items d.1 b past (atom_item d.2 refl) refl) h.here in
     subst (λ x. StandsOn begin begun s p x) (sym d.3)
     (same_groups (record { from = h.from; below = h.below; here = partial }) refl)
 

@@ -72,29 +72,21 @@ some_past verbose t closed e =
     closed (at_once (subst (λ u. WholeGap verbose u []) (sym e)
     (empty_gap verbose [], ends_nothing verbose)))
 
--- what an item begins with
+-- what an item begins with, and its first part
 pub begins_item : (t u : Text) (c : ℕ) → t ≡ c ∷ u → (Begins (the "]") t
     → ⊥) → (Begins (the "[") t → ⊥) → (BeginsOperator t → ⊥) → BeginsItem t
 begins_item [] u c e close bracket operator = cc e
 begins_item (d ∷ t) u c e close bracket operator =
     (close, bracket, λ is again. operator (is, again))
 
-pub item_begins : (verbose : Bool) (t rest : Text) (s : Set)
-    → (Begins (the "[") t → ⊥) → ClassItem verbose t rest s → BeginsItem t
-item_begins verbose t rest s none (named_class n set x e) =
-    absurd (none (named_begins t rest n set x))
-item_begins verbose t rest s none (character c i p o e) = i
-item_begins verbose t rest s none (escaped_set set i p o e) = i
-item_begins verbose t rest s none (range g h u v i p o q le e) = i
-
 pub item_part : (verbose : Bool) (t rest : Text) (s : Set) → (Begins (the "[") t → ⊥)
     → ClassItem verbose t rest s
-    → (past : Text) × (p : Primitive) × IsElement p × ClassElement verbose t past p
+    → BeginsItem t × (past : Text) × (p : Primitive) × IsElement p × ClassElement verbose t past p
 item_part verbose t rest s none (named_class n set x e) =
     absurd (none (named_begins t rest n set x))
-item_part verbose t rest s none (character c i p o e) = (rest, one c, tt, p)
-item_part verbose t rest s none (escaped_set set i p o e) = (rest, some_of set, tt, p)
-item_part verbose t rest s none (range g h u v i p o q le e) = (u, one g, tt, p)
+item_part verbose t rest s none (character c i p o e) = (i, rest, one c, tt, p)
+item_part verbose t rest s none (escaped_set set i p o e) = (i, rest, some_of set, tt, p)
+item_part verbose t rest s none (range g h u v i p o q le e) = (i, u, one g, tt, p)
 
 -- the item of a set with a name
 pub item_bracketed : (verbose : Bool) (t rest : Text) (s : Set) → Begins (the "[") t

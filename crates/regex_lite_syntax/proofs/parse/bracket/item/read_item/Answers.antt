@@ -12,11 +12,11 @@ use Rattle.regex_lite_syntax.proofs.grammar.LongerClassLemmas.{element_longer, i
 use Rattle.regex_lite_syntax.proofs.grammar.LongerClassLemmas.{follows_longer}
 use Rattle.regex_lite_syntax.proofs.parse.DenialLemmas.{none_at_end, none_of_part}
 use Rattle.regex_lite_syntax.proofs.parse.IndexLemmas.{drop_at, some_at}
-use Rattle.regex_lite_syntax.proofs.parse.bracket.ClassItemLemmas.{begins_item, item_begins}
-use Rattle.regex_lite_syntax.proofs.parse.bracket.ClassItemLemmas.{item_part, item_bracketed}
-use Rattle.regex_lite_syntax.proofs.parse.bracket.ClassItemLemmas.{item_named, item_alone}
-use Rattle.regex_lite_syntax.proofs.parse.bracket.ClassItemLemmas.{item_range, item_range_to}
-use Rattle.regex_lite_syntax.proofs.parse.bracket.ClassItemLemmas.{open_items, some_past}
+use Rattle.regex_lite_syntax.proofs.parse.bracket.ClassItemLemmas.{begins_item, item_part}
+use Rattle.regex_lite_syntax.proofs.parse.bracket.ClassItemLemmas.{item_bracketed, item_named}
+use Rattle.regex_lite_syntax.proofs.parse.bracket.ClassItemLemmas.{item_alone, item_range}
+use Rattle.regex_lite_syntax.proofs.parse.bracket.ClassItemLemmas.{item_range_to, open_items}
+use Rattle.regex_lite_syntax.proofs.parse.bracket.ClassItemLemmas.{some_past}
 use Rattle.regex_lite_syntax.proofs.parse.bracket.CompletedItemLemmas.{closed_named, closed_escape}
 use Rattle.regex_lite_syntax.proofs.parse.bracket.CompletedItemLemmas.{closed_range, closed_ending}
 use Rattle.regex_lite_syntax.proofs.parse.bracket.LongerItemLemmas.{is_named_longer, element_before}
@@ -55,8 +55,8 @@ bare c more =
 pub returns-in-Some-clause-refused : goal.returns-in-Some-clause-refused
 returns-in-Some-clause-refused c more follows items =
     let t = drop c.args.at c.args.chars.now in
-    no_operator more t c.in-Some.ensures.0 (item_begins c.args.verbose (t ++ more) items.3.0 items.0
-    (bare (goal.at.returns-in-Some-clause-refused c).Else-is_at more) items.3.2)
+    no_operator more t c.in-Some.ensures.0 (item_part c.args.verbose (t ++ more) items.3.0 items.0
+    (bare (goal.at.returns-in-Some-clause-refused c).Else-is_at more) items.3.2).0
 
 -- every primitive reaches to the first character
 reaches_zero : (p : Primitive) → ReachesTo 0 p
@@ -70,8 +70,8 @@ returns-in_err-past-clause-refused c =
     let none = bare (goal.at.returns-in_err-past-clause-refused c).Else-is_at in
     at_exit _ _ c.from_residual-in_err-past.ensures.1 (λ more follows items.
     let first = item_part c.args.verbose (t ++ more) _ _ (none more) items.3.2 in
-    let zero_on = reaches_zero first.1 in
-    c.in_err-past.ensures.refused more follows (first.0, first.1, first.3, first.2, zero_on))
+    let zero_on = reaches_zero first.2 in
+    c.in_err-past.ensures.refused more follows (first.1, first.2, first.4, first.3, zero_on))
 
 pub returns-in_err-find_range_end-clause-refused : goal.returns-in_err-find_range_end-clause-refused
 returns-in_err-find_range_end-clause-refused c =
@@ -102,8 +102,8 @@ returns-in_default-element_of-clause-refused c more follows items =
     let t = drop c.args.at c.args.chars.now in
     let none = bare (goal.at.returns-in_default-element_of-clause-refused c).Else-is_at more in
     let first = item_part c.args.verbose (t ++ more) _ _ none items.3.2 in
-    c.in_default-element_of.ensures (element_before more c.args.verbose t _ first.0 _ first.1
-    c.in_ok-past.ensures.ok first.3 first.2)
+    c.in_default-element_of.ensures (element_before more c.args.verbose t _ first.1 _ first.2
+    c.in_ok-past.ensures.ok first.4 first.3)
 
 -- the item of one part alone
 alone : (c : In-None) → BeginsItem (drop c.args.at c.args.chars.now)
