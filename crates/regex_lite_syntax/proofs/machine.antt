@@ -1,10 +1,10 @@
 -- lemmas that several proofs here share
 pub mod AskLemmas
+pub mod ChangeLemmas
 pub mod CompleteLemmas
 pub mod CompletedHeadLemmas
 pub mod CompletedRunLemmas
 pub mod CompletedStepLemmas
-pub mod DepthLemmas
 pub mod FaultEndLemmas
 pub mod FaultLemmas
 pub mod GrowthLemmas

@@ -4,18 +4,18 @@ use Rattle.regex_lite_syntax.proofs.Common.{None, codes, Option, sym, refl, ap, 
 use Rattle.regex_lite_syntax.proofs.Common.{inr, arith, and_parts, eqb-false, false≢true, leb-true}
 use Rattle.regex_lite_syntax.proofs.Common.{ne_eqb, not-true, or_parts, is_one_of, is_white_space}
 use Rattle.regex_lite_syntax.proofs.Common.{is_literal, no_atom, atom_kind, Atom, EndsGap}
-use Rattle.regex_lite_syntax.proofs.Common.{GroupKind, Head, numbered, plain, Directive, sets}
-use Rattle.regex_lite_syntax.proofs.Common.{times, Operator, uncounted, uncounted_lazy, counted}
-use Rattle.regex_lite_syntax.proofs.Common.{counted_lazy, Point, Kind, kind_at, bar, closing, paren}
-use Rattle.regex_lite_syntax.proofs.Common.{Text, the, Tree, Flags}
+use Rattle.regex_lite_syntax.proofs.Common.{GroupKind, Head, Directive, sets, times, Operator}
+use Rattle.regex_lite_syntax.proofs.Common.{uncounted, uncounted_lazy, counted, counted_lazy, Point}
+use Rattle.regex_lite_syntax.proofs.Common.{Kind, kind_at, bar, closing, paren, Text, the, Tree}
+use Rattle.regex_lite_syntax.proofs.Common.{Flags}
 use Rattle.std.proofs.lemmas.Bool.{cases_Bool, cases_eq}
-use Rattle.regex_lite_syntax.specs.Grammar.Heads.{named}
 use Rattle.regex_lite_syntax.specs.Parser.Machine.{operator, atom}
 use Rattle.regex_lite_syntax.proofs.grammar.GapLemmas.{ends_any, ends_before}
 use Rattle.regex_lite_syntax.proofs.grammar.AtomLemmas.{NoSign, no_atom_at, no_literal}
 use Rattle.regex_lite_syntax.specs.Characters.{is_between}
 use Rattle.regex_lite_syntax.proofs.grammar.WordLemmas.{one_passes}
 use Rattle.regex_lite_syntax.proofs.grammar.SpacedLemmas.{printed_ends}
+use Rattle.regex_lite_syntax.proofs.machine.ChangeLemmas.{head_takes}
 
 -- the text asks for this, and no gap goes on where it begins
 pub record Asks (verbose : Bool) (t : Text) (k : Kind) : Type 0 where
@@ -45,11 +45,7 @@ asks_brace verbose t rest e =
 
 pub asks_head : {level : ℕ} {p q : Point} {kind : GroupKind} → Head level p q kind
     → Asks p.flags.ignore_whitespace p.rest paren
-asks_head {p} (numbered rest e none h k) = asks_paren p.flags.ignore_whitespace p.rest rest e
-asks_head {p} (named opened first rest name e g n h k) =
-    asks_paren p.flags.ignore_whitespace p.rest opened e
-asks_head {p} (plain opened first rest new e g letters h k) =
-    asks_paren p.flags.ignore_whitespace p.rest opened e
+asks_head {p} head = asks_paren p.flags.ignore_whitespace p.rest _ (head_takes head).opens
 
 pub asks_directive : {p q : Point} → Directive p q → Asks p.flags.ignore_whitespace p.rest paren
 asks_directive {p} (sets opened first rest new e g n letters h) =

@@ -3,22 +3,21 @@ use Rattle.regex_lite_syntax.proofs.Common.{◌≡◌, ℕ, zero, suc, ◌-◌, 
 use Rattle.regex_lite_syntax.proofs.Common.{List, [], ◌∷◌, ◌++◌, length, take, drop, Some, None}
 use Rattle.regex_lite_syntax.proofs.Common.{MatchBool, Option, option_map, sym, refl, ap, ◌∙◌}
 use Rattle.regex_lite_syntax.proofs.Common.{subst, inl, inr, append_assoc, arith, append-nil}
-use Rattle.regex_lite_syntax.proofs.Common.{is_cut_short, Refusal, syntax_error}
-use Rattle.regex_lite_syntax.proofs.Common.{too_many_groups, out_of_memory}
-use Rattle.regex_lite_syntax.proofs.Common.{kind_of, BeginsNone, BeginsSome}
-use Rattle.regex_lite_syntax.proofs.Common.{HasTree, WholeGap, GoesOnFrom, CanRead, CanReadOn}
-use Rattle.regex_lite_syntax.proofs.Common.{BeginsTooMany, NoReading, Refuses, IfCutShort, Text}
-use Rattle.regex_lite_syntax.proofs.Common.{SyntaxFault, Flags, Parser, Stop}
+use Rattle.regex_lite_syntax.proofs.Common.{is_cut_short, Refusal, syntax_error, too_many_groups}
+use Rattle.regex_lite_syntax.proofs.Common.{out_of_memory, kind_of, BeginsNone, BeginsSome, HasTree}
+use Rattle.regex_lite_syntax.proofs.Common.{WholeGap, GoesOnFrom, CanRead, CanReadOn, BeginsTooMany}
+use Rattle.regex_lite_syntax.proofs.Common.{NoReading, Refuses, IfCutShort, Text, SyntaxFault}
+use Rattle.regex_lite_syntax.proofs.Common.{Flags, Parser, Stop}
 use Rattle.std.proofs.Common.{IfSome}
 use Rattle.regex_lite_syntax.specs.declared.error.ErrorKind.{ErrorKind}
 use Rattle.regex_lite_syntax.specs.declared.error.ErrorKind.TheVariants as kind
 use Rattle.regex_lite_syntax.specs.FaultPlaces.{IsEndOfFault, IsUntold}
 use Rattle.regex_lite_syntax.specs.Parser.FaultEnds.{IsRefusedUnread, IsEndAbove}
 use Rattle.regex_lite_syntax.specs.Parser.States.{state}
-use Rattle.regex_lite_syntax.proofs.machine.DepthLemmas.{head_opens}
 use Rattle.regex_lite_syntax.proofs.machine.CompletedRunLemmas.{reads_on}
 use Rattle.regex_lite_syntax.proofs.machine.FaultLemmas.{Comes, says_for_good}
 use Rattle.regex_lite_syntax.proofs.machine.GrowthLemmas.{more_parens}
+use Rattle.regex_lite_syntax.proofs.machine.ChangeLemmas.{head_takes}
 
 -- the pattern begins an accepted one if it is one
 pub tree_goes_on : (flags : Flags) (pattern : Text) → HasTree flags pattern
@@ -88,8 +87,9 @@ refused_unread flags pattern p t u starts (syntax_error fault) c whole other say
     absurd (other refl)
 refused_unread flags pattern p t u starts too_many_groups c whole other says =
     let here = (state p u c.deepest).point in
-    let begun = head_opens (says.1.1 c.deepest).1 in
-    let more = more_parens (state p t c.deepest) here begun.0 c.leads (whole.0, refl) begun.1 in
+    let begun = head_takes (says.1.1 c.deepest).1 in
+    let more =
+    more_parens (state p t c.deepest) here begun.opened c.leads (whole.0, refl) begun.opens in
     omega (arith, says.0, more.1)
 refused_unread flags pattern p t u starts out_of_memory c whole other says = tt
 refused_unread flags pattern p t u starts _ c whole other says = absurd says

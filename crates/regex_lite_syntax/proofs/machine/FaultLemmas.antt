@@ -3,15 +3,14 @@ use Rattle.regex_lite_syntax.proofs.Common.{◌≡◌, ℕ, ◌+◌, ◌<◌, tr
 use Rattle.regex_lite_syntax.proofs.Common.{map, reverse, length, drop, Some, None, Option}
 use Rattle.regex_lite_syntax.proofs.Common.{option_map, sym, refl, ap, ◌∙◌, subst, inr, arith}
 use Rattle.regex_lite_syntax.proofs.Common.{AreCharacters, is_cut_short, Refusal, syntax_error}
-use Rattle.regex_lite_syntax.proofs.Common.{too_many_groups, out_of_memory}
-use Rattle.regex_lite_syntax.proofs.Common.{kind_of, IsReadTo, BeginsNone}
-use Rattle.regex_lite_syntax.proofs.Common.{HasTree, Gap, WholeGap, NamesDiffer, Point, start}
-use Rattle.regex_lite_syntax.proofs.Common.{State, first_state, ended, kind_at, LeadsOn, stay}
-use Rattle.regex_lite_syntax.proofs.Common.{StepsTo, CanRead, BeginsTooMany, NoReading, Refuses}
-use Rattle.regex_lite_syntax.proofs.Common.{Text, choice_of, SyntaxFault, Flags, Parser, Stop}
+use Rattle.regex_lite_syntax.proofs.Common.{too_many_groups, out_of_memory, kind_of, IsReadTo}
+use Rattle.regex_lite_syntax.proofs.Common.{BeginsNone, HasTree, Gap, WholeGap, NamesDiffer, Point}
+use Rattle.regex_lite_syntax.proofs.Common.{start, State, first_state, ended, kind_at, LeadsOn}
+use Rattle.regex_lite_syntax.proofs.Common.{stay, StepsTo, CanRead, BeginsTooMany, NoReading}
+use Rattle.regex_lite_syntax.proofs.Common.{Refuses, Text, choice_of, SyntaxFault, Flags, Parser}
+use Rattle.regex_lite_syntax.proofs.Common.{Stop}
 use Rattle.std.proofs.Common.{MatchOption, option_to_list, length-drop}
 use Rattle.std.proofs.lemmas.List.{length_push}
-use Rattle.regex_lite_syntax.proofs.machine.DepthLemmas.{head_opens}
 use Rattle.regex_lite_syntax.specs.declared.error.ErrorKind.TheVariants as kind
 use Rattle.regex_lite_syntax.specs.FaultPlaces.{IsStuckAt, IsUnclosedAt, IsFaultAt, IsUntold}
 use Rattle.regex_lite_syntax.specs.Parser.Starts.{Tracks}
@@ -24,9 +23,10 @@ use Rattle.regex_lite_syntax.proofs.machine.OneStepLemmas.{step_over_gap, step_p
 use Rattle.regex_lite_syntax.proofs.machine.ReadOnLemmas.{reads_of, stuck_farthest, unclosed_at}
 use Rattle.regex_lite_syntax.proofs.machine.RunLemmas.{Reaches, frames_are, stuck_refused}
 use Rattle.regex_lite_syntax.proofs.machine.RunLemmas.{open_refused, number_refused}
-use Rattle.regex_lite_syntax.proofs.machine.SoundLemmas.{Stands, Keeps, opens, closes}
-use Rattle.regex_lite_syntax.proofs.machine.SoundLemmas.{stays, stands_first, does_keeps, sound}
+use Rattle.regex_lite_syntax.proofs.machine.SoundLemmas.{Stands, Keeps, opens, closes, stays}
+use Rattle.regex_lite_syntax.proofs.machine.SoundLemmas.{stands_first, does_keeps, sound}
 use Rattle.regex_lite_syntax.proofs.machine.StateLemmas.{none_left, reverse_pushed}
+use Rattle.regex_lite_syntax.proofs.machine.ChangeLemmas.{head_takes}
 
 -- the texts at which groups begin at these indices, the last of them first
 abbrev pub texts_at : Text → List ℕ → List Text
@@ -198,7 +198,7 @@ end_found flags pattern p t starts outer (Some k) before after c gap is many cas
   where
     at_head : IsUnclosedAt flags pattern k → k < length pattern
     at_head u =
-        omega (arith, length-drop k pattern, ap length (sym u.begins ∙ (head_opens u.head).1))
+        omega (arith, length-drop k pattern, ap length (sym u.begins ∙ (head_takes u.head).opens))
 
 none_before : (t more : Text) → t ++ more ≡ [] → t ≡ []
 none_before [] more e = refl

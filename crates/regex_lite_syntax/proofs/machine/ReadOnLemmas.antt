@@ -3,21 +3,16 @@ use Rattle.regex_lite_syntax.proofs.ListLemmas.{same_head}
 use Rattle.regex_lite_syntax.proofs.Common.{◌≡◌, ℕ, ◌+◌, ◌≤◌, ◌⊎◌, List, [], ◌∷◌, ◌++◌, length}
 use Rattle.regex_lite_syntax.proofs.Common.{drop, sym, refl, ap, ◌∙◌, subst, inl, inr, add-one}
 use Rattle.regex_lite_syntax.proofs.Common.{arith, IsReadTo, Alternatives, Gap, NamesDiffer, Point}
-use Rattle.regex_lite_syntax.proofs.Common.{start, Frame, State, first_state, Kind, stop, kind_at}
-use Rattle.regex_lite_syntax.proofs.Common.{Does, Step, LeadsOn, stay, go, bar, closing, paren}
-use Rattle.regex_lite_syntax.proofs.Common.{Text, Tree, sequence_of, Flags}
+use Rattle.regex_lite_syntax.proofs.Common.{start, Frame, State, first_state, Step, LeadsOn, stay}
+use Rattle.regex_lite_syntax.proofs.Common.{go, Text, Tree, sequence_of, Flags}
 use Rattle.regex_lite_syntax.specs.FaultPlaces.{ReadsOn, outside, in_group, IsUnclosedAt}
-use Rattle.regex_lite_syntax.specs.Parser.Machine.{opened, closed, parted, with_items, operator}
-use Rattle.regex_lite_syntax.specs.Parser.Machine.{atom}
 use Rattle.regex_lite_syntax.proofs.grammar.NameLemmas.{differ_before}
 use Rattle.regex_lite_syntax.proofs.machine.CompleteLemmas.{standing, frame_at, into_group}
 use Rattle.regex_lite_syntax.proofs.machine.CompleteLemmas.{alternatives_lead}
-use Rattle.regex_lite_syntax.proofs.machine.GrowthLemmas.{leads_grow, head_takes, directive_reads}
-use Rattle.regex_lite_syntax.proofs.machine.GrowthLemmas.{past_gap_reads}
+use Rattle.regex_lite_syntax.proofs.machine.GrowthLemmas.{leads_grow, past_gap_reads}
 use Rattle.regex_lite_syntax.proofs.machine.OneStepLemmas.{step_once, leads_to}
-use Rattle.regex_lite_syntax.proofs.machine.ParenLemmas.{NoMore, then_read, one_read}
-use Rattle.regex_lite_syntax.proofs.machine.ParenLemmas.{operator_reads, atom_reads}
 use Rattle.regex_lite_syntax.proofs.machine.SoundLemmas.{Partial, all_of, Stacked, Stands}
+use Rattle.regex_lite_syntax.proofs.machine.ChangeLemmas.{step_changes, change_reads}
 
 -- what has been read of the innermost group, inside of those around it
 reads_stacked : (begin : Point) (frames : List Frame) (begun : List Text) (from p : Point)
@@ -81,31 +76,11 @@ either_leads {s} {a} {b} (go m st l) (go n st' l') =
     either_leads l (subst (λ x. LeadsOn x b) (step_once s n m st' st) l')
 
 -- less is left after a step
-does_read : (k : Kind) (s : State) (p : Point) (q : State) → Does k s p q
-    → NoMore p.rest q.point.rest
-unfolding opened closed parted with_items
-does_read stop s p q d = absurd d
-does_read paren s p q (inl d) =
-    let head = head_takes d.2 in
-    subst (λ (x : State). NoMore p.rest x.point.rest) (sym d.3)
-    (then_read (one_read head.opens) head.reads)
-does_read paren s p q (inr d) =
-    subst (λ (x : State). NoMore p.rest x.point.rest) (sym d.2) (directive_reads d.1)
-does_read closing s p q d =
-    subst (λ (x : State). NoMore p.rest x.point.rest) (sym d.5) (one_read d.3)
-does_read bar s p q d =
-    subst (λ (x : State). NoMore p.rest x.point.rest) (sym d.2) (one_read d.1)
-does_read operator s p q d =
-    subst (λ (x : State). NoMore p.rest x.point.rest) (sym d.8) (operator_reads d.7)
-does_read atom s p q d =
-    subst (λ (x : State). NoMore p.rest x.point.rest) (sym d.3)
-    (atom_reads p.flags p.rest d.0 d.1 d.2)
-
 leads_shorter : {s q : State} → LeadsOn s q → length q.point.rest ≤ length s.point.rest
 leads_shorter {s} (stay e) =
     subst (λ (x : State). length x.point.rest ≤ length s.point.rest) e (omega arith)
 leads_shorter {s} {q} (go m st l) =
-    let step = does_read (kind_at st.past.rest) s st.past m st.does in
+    let step = change_reads (step_changes st) in
     omega (arith, (past_gap_reads st.gap).shorter, step.shorter, leads_shorter l)
 
 -- a state with no step, but one to where a name stands twice, is as far as the pattern is read

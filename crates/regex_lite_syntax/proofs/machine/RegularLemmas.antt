@@ -21,7 +21,7 @@ use Rattle.regex_lite_syntax.specs.Tree.Regular.{InOrder, AreRegular}
 use Rattle.regex_lite_syntax.proofs.grammar.ClassCharacterLemmas.{OfCharacters, escape_gives}
 use Rattle.regex_lite_syntax.proofs.grammar.CountLemmas.{counted_in_order}
 use Rattle.regex_lite_syntax.proofs.machine.ParenLemmas.{operator_reads, atom_reads}
-use Rattle.regex_lite_syntax.proofs.machine.GrowthLemmas.{head_takes, directive_reads}
+use Rattle.regex_lite_syntax.proofs.machine.ChangeLemmas.{head_takes, directive_reads}
 use Rattle.regex_lite_syntax.proofs.machine.GrowthLemmas.{past_gap_reads}
 use Rattle.regex_lite_syntax.proofs.TreeLemmas.{repeated_is}
 

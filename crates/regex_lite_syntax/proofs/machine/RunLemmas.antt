@@ -2,27 +2,26 @@
 use Rattle.regex_lite_syntax.proofs.Common.{◌≡◌, ℕ, ◌+◌, ◌^◌, ◌<◌, ◌≤◌, ◌≢◌, List, [], map, reverse}
 use Rattle.regex_lite_syntax.proofs.Common.{length, sym, refl, ap, ◌∙◌, subst, inl, inr, arith}
 use Rattle.regex_lite_syntax.proofs.Common.{AreCharacters, Refusal, syntax_error, too_deep}
-use Rattle.regex_lite_syntax.proofs.Common.{too_many_groups, out_of_memory}
-use Rattle.regex_lite_syntax.proofs.Common.{kind_of, Grammar, HasTree, Gap}
-use Rattle.regex_lite_syntax.proofs.Common.{WholeGap, NamesDiffer, depth, first_state, LeadsOn}
-use Rattle.regex_lite_syntax.proofs.Common.{frame_of, StepsTo, CanRead, BeginsCapture}
+use Rattle.regex_lite_syntax.proofs.Common.{too_many_groups, out_of_memory, kind_of, Grammar}
+use Rattle.regex_lite_syntax.proofs.Common.{HasTree, Gap, WholeGap, NamesDiffer, depth, first_state}
+use Rattle.regex_lite_syntax.proofs.Common.{LeadsOn, frame_of, StepsTo, CanRead, BeginsCapture}
 use Rattle.regex_lite_syntax.proofs.Common.{BeginsTooMany, NoReading, Refuses, Text, Tree}
 use Rattle.regex_lite_syntax.proofs.Common.{IsRegular, Flags, Parser}
 use Rattle.std.proofs.lemmas.List.{length-reverse, length-map}
-use Rattle.regex_lite_syntax.specs.Limits.{IsAdmitted, IsDueToPattern, PassesNesting}
-use Rattle.regex_lite_syntax.specs.Limits.{PassesGroups, NestingRefused, GroupsRefused}
+use Rattle.regex_lite_syntax.specs.Limits.{IsAdmitted, IsDueToPattern, PassesNesting, PassesGroups}
+use Rattle.regex_lite_syntax.specs.Limits.{NestingRefused, GroupsRefused}
 use Rattle.regex_lite_syntax.specs.Parser.States.{state, Finishes, FinishesTooDeep}
 use Rattle.regex_lite_syntax.proofs.grammar.GapLemmas.{gap_to_end}
 use Rattle.regex_lite_syntax.proofs.parse.DenialLemmas.{none_now}
-use Rattle.regex_lite_syntax.proofs.machine.OneStepLemmas.{step_over_gap, step_past_gap}
-use Rattle.regex_lite_syntax.proofs.machine.OneStepLemmas.{at_end, leads_step}
+use Rattle.regex_lite_syntax.proofs.machine.OneStepLemmas.{step_over_gap, step_past_gap, at_end}
+use Rattle.regex_lite_syntax.proofs.machine.OneStepLemmas.{leads_step}
 use Rattle.regex_lite_syntax.proofs.machine.StateLemmas.{none_left}
 use Rattle.regex_lite_syntax.proofs.machine.SoundLemmas.{sound}
 use Rattle.regex_lite_syntax.proofs.machine.WholeLemmas.{refuses, grammar_once}
 use Rattle.regex_lite_syntax.proofs.machine.RegularLemmas.{grammar_regular}
-use Rattle.regex_lite_syntax.proofs.machine.GrowthLemmas.{reaches, frames_in_parens}
-use Rattle.regex_lite_syntax.proofs.machine.GrowthLemmas.{opens_number, more_parens}
-use Rattle.regex_lite_syntax.proofs.machine.DepthLemmas.{head_opens, step_deepest, frames_deep}
+use Rattle.regex_lite_syntax.proofs.machine.GrowthLemmas.{reaches, frames_in_parens, opens_number}
+use Rattle.regex_lite_syntax.proofs.machine.GrowthLemmas.{more_parens, step_deepest, frames_deep}
+use Rattle.regex_lite_syntax.proofs.machine.ChangeLemmas.{head_takes}
 
 -- under these flags the parser has come from the pattern to this text, within the limit
 pub record Reaches (flags : Flags) (nest_limit : ℕ) (pattern : Text) (p : Parser) (rest : Text)
@@ -156,8 +155,8 @@ number_refused flags nest_limit pattern p t u r whole many capture =
     let s = state p t r.deepest in
     let here = (state p u r.deepest).point in
     let head = capture.1 r.deepest in
-    let begun = head_opens head.1 in
-    let more = more_parens s here begun.0 r.leads (whole.0, refl) begun.1 in
+    let begun = head_takes head.1 in
+    let more = more_parens s here begun.opened r.leads (whole.0, refl) begun.opens in
     record {
       with_tree = λ tree groups deepest g.
           omega (arith, many, opens_number s here head.0 r.leads (whole.0, refl) head.1 g);
