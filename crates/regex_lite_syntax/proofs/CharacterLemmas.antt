@@ -1,15 +1,10 @@
 -- The characters of a text are Unicode scalar values.
-use Rattle.regex_lite_syntax.proofs.Common.{◌≡◌, ℕ, zero, suc, Bool, true, false, ◌&&◌, List, []}
-use Rattle.regex_lite_syntax.proofs.Common.{◌∷◌, ◌++◌, take, drop, IsTrue, chars, refl, subst}
-use Rattle.regex_lite_syntax.proofs.Common.{arith, nat_tests, chars_from_encodes, is_character}
-use Rattle.regex_lite_syntax.proofs.Common.{AreCharacters, Text}
+use Rattle.regex_lite_syntax.proofs.Common.{◌≡◌, ℕ, zero, suc, true, List, [], ◌∷◌, ◌++◌, take}
+use Rattle.regex_lite_syntax.proofs.Common.{drop, IsTrue, chars, subst, arith, and_parts, nat_tests}
+use Rattle.regex_lite_syntax.proofs.Common.{chars_from_encodes, is_character, AreCharacters, Text}
 use Rattle.std.specs.Char.{IsScalar}
 use Rattle.std.specs.Str.{IsUtf8, all_scalars}
 use Rattle.std.proofs.Common.{replicate}
-
-both : (a b : Bool) → (a && b) ≡ true → (a ≡ true) × (b ≡ true)
-both true b e = (refl, e)
-both false b e = cc e
 
 scalar_is : (c : ℕ) → IsScalar c → IsTrue (is_character c)
 scalar_is c is = grind (arith, nat_tests)
@@ -17,7 +12,7 @@ scalar_is c is = grind (arith, nat_tests)
 scalars_are : (cs : List ℕ) → all_scalars cs ≡ true → AreCharacters cs
 scalars_are [] e = tt
 scalars_are (c ∷ cs) e =
-    let split = both _ _ e in
+    let split = and_parts _ _ e in
     (scalar_is c split.0, scalars_are cs split.1)
 
 pub chars_are : (bs : List ℕ) → IsUtf8 bs → AreCharacters (chars bs)

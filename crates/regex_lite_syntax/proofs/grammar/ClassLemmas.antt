@@ -6,9 +6,9 @@ use Rattle.regex_lite_syntax.proofs.Common.{list_all-from_AllPass, AllPass, is_l
 use Rattle.regex_lite_syntax.proofs.Common.{RangeFollows, BeginsItem, NamedClass, ClassItem}
 use Rattle.regex_lite_syntax.proofs.Common.{named_class, escaped_set, range, Takes, takes, leaves}
 use Rattle.regex_lite_syntax.proofs.Common.{Dashes, FirstBracket, ClassOpening, ClassItems, only_if}
-use Rattle.regex_lite_syntax.proofs.Common.{class_set, BracketedClass, one, some_of, Escape}
-use Rattle.regex_lite_syntax.proofs.Common.{WholeGap, SetName, members, set_named, Lacks, Set, just}
-use Rattle.regex_lite_syntax.proofs.Common.{span, complement, Text, Begins, the}
+use Rattle.regex_lite_syntax.proofs.Common.{class_set, BracketedClass, one, Escape, WholeGap}
+use Rattle.regex_lite_syntax.proofs.Common.{SetName, members, set_named, Lacks, Set, just, span}
+use Rattle.regex_lite_syntax.proofs.Common.{complement, Text, Begins, the}
 use Rattle.regex_lite_syntax.specs.Grammar.Escapes.{Primitive}
 use Rattle.regex_lite_syntax.specs.Grammar.Classes.{literal, escaped, character}
 use Rattle.regex_lite_syntax.proofs.ListLemmas.{same_head, same_tail}
@@ -18,12 +18,6 @@ use Rattle.regex_lite_syntax.proofs.grammar.WordLemmas.{word_once}
 
 pub one_same : (c d : ℕ) → one c ≡ one d → c ≡ d
 one_same c d e = cc e
-
-some_same : (a b : Set) → some_of a ≡ some_of b → a ≡ b
-some_same a b e = cc e
-
-pub one_or_some : (c : ℕ) (a : Set) → one c ≡ some_of a → ⊥
-one_or_some c a e = cc e
 
 pub begins : (c : ℕ) (t u : Text) → t ≡ c ∷ u → Begins c t
 begins c t u e = subst (λ v. Begins c v) (sym e) refl
@@ -141,20 +135,20 @@ item_once verbose t r s a b (character c i p o e) (character d i' p' o' f) =
     let once = part_once verbose t r s _ _ p p' in
     (once.0, e ∙ ap just (one_same c d once.1) ∙ sym f)
 item_once verbose t r s a b (character c i p o e) (escaped_set y i' p' o' f) =
-    absurd (one_or_some c y (part_once verbose t r s _ _ p p').1)
+    absurd (cc (part_once verbose t r s _ _ p p').1)
 item_once verbose t r s a b (character c i p o e) (range k l past last i' p' o' q' le' f) =
     absurd
     (o last (follows_same verbose past r last (sym (part_once verbose t r past _ _ p p').0) o'))
 item_once verbose t r s a b (escaped_set x i p o e) (character d i' p' o' f) =
-    absurd (one_or_some d x (sym (part_once verbose t r s _ _ p p').1))
+    absurd (cc (part_once verbose t r s _ _ p p').1)
 item_once verbose t r s a b (escaped_set x i p o e) (escaped_set y i' p' o' f) =
-    let once = part_once verbose t r s _ _ p p' in (once.0, e ∙ some_same x y once.1 ∙ sym f)
+    let once = part_once verbose t r s _ _ p p' in (once.0, cc (e, once.1, f))
 item_once verbose t r s a b (escaped_set x i p o e) (range k l past last i' p' o' q' le' f) =
-    absurd (one_or_some k x (sym (part_once verbose t r past _ _ p p').1))
+    absurd (cc (part_once verbose t r past _ _ p p').1)
 item_once verbose t r s a b (range g h u v i p o q le e) (character d i' p' o' f) =
     absurd (o' v (follows_same verbose u s v (sym (part_once verbose t s u _ _ p' p).0) o))
 item_once verbose t r s a b (range g h u v i p o q le e) (escaped_set y i' p' o' f) =
-    absurd (one_or_some g y (part_once verbose t u s _ _ p p').1)
+    absurd (cc (part_once verbose t u s _ _ p p').1)
 item_once verbose t r s a b (range g h u v i p o q le e) (range k l past last i' p' o' q' le' f) =
     let first = part_once verbose t u past _ _ p p' in
     let place =

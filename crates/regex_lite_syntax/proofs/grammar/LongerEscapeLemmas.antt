@@ -76,7 +76,8 @@ module _ (more : Text) where
       → EscapeFrom k verbose t rest p → ((look : Look) → p ≡ look_at look → NoBraceComes rest)
       → EscapeFrom k verbose (t ++ more) (rest ++ more) p
   from_longer (gives q) verbose t rest p d comes = (ap (λ u. u ++ more) d.0, d.1)
-  from_longer word_boundary verbose t rest p d comes = (d.0, boundary_longer d.1 (comes d.0 d.2), d.2)
+  from_longer word_boundary verbose t rest p d comes =
+      (d.0, boundary_longer d.1 (comes d.0 d.2), d.2)
   from_longer (hexadecimal n) verbose t rest p d comes = (d.0, hexadecimal_longer d.1, d.2)
   from_longer refused verbose t rest p d comes = absurd d
 

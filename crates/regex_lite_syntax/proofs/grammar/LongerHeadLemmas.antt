@@ -1,5 +1,5 @@
 -- Operators, heads of groups and directives in a longer text that begins with the text.
-use Rattle.regex_lite_syntax.proofs.Common.{ℕ, Bool, ◌≢◌, [], ◌∷◌, ◌++◌, Option, ap, ◌∙◌, subst}
+use Rattle.regex_lite_syntax.proofs.Common.{ℕ, Bool, ◌∷◌, ◌++◌, Option, ap, ◌∙◌, subst}
 use Rattle.regex_lite_syntax.proofs.Common.{append_assoc, Counted, exactly, at_least, between}
 use Rattle.regex_lite_syntax.proofs.Common.{FlagLetters, setting, clearing, NameWritten}
 use Rattle.regex_lite_syntax.proofs.Common.{NameOpening, with_p, without_p, Named, GroupKind, Head}
@@ -10,6 +10,7 @@ use Rattle.std.proofs.lemmas.List.{append_cancel_right}
 use Rattle.regex_lite_syntax.specs.Grammar.Heads.{named}
 use Rattle.regex_lite_syntax.proofs.grammar.LongerGapLemmas.{Settles, gap_longer, gap_before}
 use Rattle.regex_lite_syntax.proofs.grammar.LongerNumberLemmas.{number_longer}
+use Rattle.regex_lite_syntax.proofs.grammar.NameOpeningLemmas.{named_question}
 
 -- the same point of a longer pattern
 abbrev pub longer : (more : Text) → Point → Point
@@ -76,16 +77,10 @@ module _ (more : Text) where
       let here = subst (λ (x : Point). Settles more x.flags.ignore_whitespace x.rest) h settles in
       numbered (rest ++ more) (ap (λ u. u ++ more) e) (here.past_gap none) (ap (longer more) h) k
   head_longer {p} (named opened first rest name e g n h k) settles =
+      let question = (named_question first rest name n).1 in
       named (opened ++ more) (first ++ more) (rest ++ more) name (ap (λ u. u ++ more) e)
-      (gap_longer more p.flags.ignore_whitespace opened first g (some_named n)) (named_longer n)
-      (ap (longer more) h) k
-    where
-      some_opening : {t past : Text} → NameOpening t past → t ≢ []
-      some_opening (with_p e) empty = cc (e, empty)
-      some_opening (without_p e) empty = cc (e, empty)
-
-      some_named : {t rest name : Text} → Named t rest name → t ≢ []
-      some_named n = some_opening n.opens
+      (gap_longer more p.flags.ignore_whitespace opened first g (λ none. cc (none, question)))
+      (named_longer n) (ap (longer more) h) k
   head_longer {p} (plain opened first rest new e g letters h k) settles =
       plain (opened ++ more) (first ++ more) (rest ++ more) new (ap (λ u. u ++ more) e)
       (gap_before more p.flags.ignore_whitespace opened first _ g) (letters_longer letters)

@@ -1,19 +1,17 @@
 -- Numbers in a longer text that begins with the text.
 use Rattle.regex_lite_syntax.proofs.Common.{◌≡◌, ℕ, ◌^◌, ◌<◌, ◌≤◌, Bool, true, false, ◌≢◌, [], ◌∷◌}
-use Rattle.regex_lite_syntax.proofs.Common.{◌++◌, length, IsTrue, Some, None, Option, sym, refl, ap}
-use Rattle.regex_lite_syntax.proofs.Common.{◌∙◌, subst, inl, inr, arith, append-nil, is_digit}
+use Rattle.regex_lite_syntax.proofs.Common.{◌++◌, length, Some, None, Option, sym, refl, ap, ◌∙◌}
+use Rattle.regex_lite_syntax.proofs.Common.{subst, inl, inr, arith, append-nil, is_digit}
 use Rattle.regex_lite_syntax.proofs.Common.{WhiteSpace, Side, WholeSide, Number, EndsNumber, Limit}
 use Rattle.regex_lite_syntax.proofs.Common.{WholeGap, Spaced, Text, the}
 use Rattle.regex_lite_syntax.specs.Grammar.Counted.{EndsSide}
-use Rattle.regex_lite_syntax.proofs.ListLemmas.{same_head}
 use Rattle.regex_lite_syntax.proofs.grammar.GapLemmas.{empty_gap}
-use Rattle.regex_lite_syntax.proofs.grammar.SpacedLemmas.{whole_gap_leads}
 use Rattle.regex_lite_syntax.proofs.grammar.NumberLemmas.{NoDigit, DigitsRead, side_of, side_leads}
 use Rattle.regex_lite_syntax.proofs.grammar.NumberLemmas.{digits_end, no_number, number_only}
 use Rattle.regex_lite_syntax.proofs.grammar.NumberLemmas.{number_too_large}
 use Rattle.regex_lite_syntax.proofs.grammar.LongerGapLemmas.{GoesOn, some_gap, gap_longer}
 use Rattle.regex_lite_syntax.proofs.grammar.LongerGapLemmas.{whole_longer, gap_before}
-use Rattle.regex_lite_syntax.proofs.grammar.LongerGapLemmas.{longer_gap, spaced_longer}
+use Rattle.regex_lite_syntax.proofs.grammar.LongerGapLemmas.{spaced_longer, no_gap_longer}
 use Rattle.regex_lite_syntax.proofs.grammar.CountLemmas.{limit_before_other}
 
 -- where no more follows, what is read is read of the text itself
@@ -66,11 +64,8 @@ module _ (more : Text) where
   no_digit_longer : (verbose : Bool) (t : Text) → GoesOn verbose t → NoDigit verbose t
       → NoDigit verbose (t ++ more)
   no_digit_longer verbose t goes none c past gap digit =
-      let w = longer_gap more verbose t goes in
-      let same =
-      whole_gap_leads verbose (t ++ more) (w.first ∷ (w.rest ++ more)) (c ∷ past) w.longer gap
-      (digits_end c past digit) in
-      none w.first w.rest w.gap.0 (subst (λ d. IsTrue (is_digit d)) (sym (same_head same)) digit)
+      no_gap_longer more verbose t c (λ u. digits_end c u digit) goes
+      (λ first here. none c first here digit) past gap
 
   pub digits_longer : {verbose : Bool} {read n : ℕ} {t u : Text} → DigitsRead verbose read t u n
       → DigitsRead verbose read (t ++ more) (u ++ more) n

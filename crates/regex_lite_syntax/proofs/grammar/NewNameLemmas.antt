@@ -60,7 +60,8 @@ name_completes names t so_far =
     let n = more_than_all names in
     let name = t ++ underscores n in
     let whole = goes_on n t so_far in
-    let long : n ≤ length name = omega (arith, length-append t (underscores n), length-replicate n (the "_")) in
+    let count = length-replicate n (the "_") in
+    let long : n ≤ length name = omega (arith, length-append t (underscores n), count) in
     record {
       more = underscores n ++ the ">" ∷ [];
       characters = joined_are (underscores n) (the ">" ∷ []) (repeated_are n (the "_") refl)

@@ -8,13 +8,10 @@ use Rattle.regex_lite_syntax.proofs.grammar.GapLemmas.{gap_once}
 use Rattle.regex_lite_syntax.proofs.grammar.CountLemmas.{counted_once}
 use Rattle.regex_lite_syntax.proofs.grammar.LongerGapLemmas.{no_question_past, question_ends}
 
-same_some : {A : Type 0} {x y : A} → Some x ≡ Some y → x ≡ y
-same_some e = cc
-
 same_bounds : (c d least least' : ℕ) (most most' : Option ℕ) → c ≡ d → times c ≡ Some (least, most)
     → times d ≡ Some (least', most') → (least ≡ least') × (most ≡ most')
 same_bounds c d least least' most most' e b b' =
-    let both : (least, most) ≡ (least', most') = same_some (sym b ∙ ap times e ∙ b') in
+    let both : (least, most) ≡ (least', most') = cc (sym b ∙ ap times e ∙ b') in
     (ap (λ (p : ℕ × Option ℕ). p.0) both, ap (λ (p : ℕ × Option ℕ). p.1) both)
 
 -- a lazy operator and one that is not do not stand at one place

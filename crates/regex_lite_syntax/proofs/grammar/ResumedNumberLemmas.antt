@@ -191,7 +191,6 @@ module _ (verbose : Bool) (t : Text) where
       → Number verbose (t ++ more) rest m → EndsNumber rest → Becomes verbose p.last n m
   longer_becomes {n} {m} {rest} more p q ends =
       let own = own_digits p in
-      let on =
-      number_begins (whole_side_longer more verbose t own.0 own.1 own.2) (digits_longer more own.3) q
-      ends in
+      let whole = whole_side_longer more verbose t own.0 own.1 own.2 in
+      let on = number_begins whole (digits_longer more own.3) q ends in
       becomes_with verbose p.last more q.last on.0 n m p.after on.1 on.2

@@ -11,7 +11,7 @@ use Rattle.regex_lite_syntax.specs.Parser.Machine.{closed, with_items}
 use Rattle.regex_lite_syntax.specs.Parser.States.{state}
 use Rattle.regex_lite_syntax.proofs.CharacterLemmas.{joined_are, repeated_are}
 use Rattle.regex_lite_syntax.proofs.ListLemmas.{same_head}
-use Rattle.regex_lite_syntax.proofs.grammar.GapLemmas.{empty_gap, gap_to_end}
+use Rattle.regex_lite_syntax.proofs.grammar.GapLemmas.{empty_gap, gap_to_end, ends_any}
 use Rattle.regex_lite_syntax.proofs.grammar.SpacedLemmas.{printed_ends, whole_gap_leads}
 use Rattle.regex_lite_syntax.proofs.grammar.LongerGapLemmas.{Settles, settled, question_ends}
 use Rattle.regex_lite_syntax.proofs.grammar.LongerGapLemmas.{whole_longer}
@@ -23,6 +23,7 @@ use Rattle.regex_lite_syntax.proofs.machine.LongerRunLemmas.{leads_longer}
 use Rattle.regex_lite_syntax.proofs.machine.OneStepLemmas.{leads_step, step_over_gap}
 use Rattle.regex_lite_syntax.proofs.machine.SoundLemmas.{sound}
 use Rattle.std.proofs.Common.{replicate}
+use Rattle.regex_lite_syntax.proofs.machine.StateLemmas.{none_left}
 
 -- this many parentheses that close
 abbrev closers : ℕ → Text
@@ -32,17 +33,13 @@ closers n = replicate n (the ")")
 abbrev item_and_closers : ℕ → Text
 item_and_closers n = the "_" ∷ closers n
 
-ends_at : (verbose : Bool) (c : ℕ) (t : Text) → EndsGap true (c ∷ t) → EndsGap verbose (c ∷ t)
-ends_at true c t ends = ends
-ends_at false c t ends = tt
-
 item_ends : (verbose : Bool) (t : Text) → EndsGap verbose (the "_" ∷ t)
 item_ends verbose t =
-    ends_at verbose (the "_") t (printed_ends (the "_") t (omega arith) (omega arith))
+    ends_any verbose (the "_" ∷ t) (printed_ends (the "_") t (omega arith) (omega arith))
 
 closer_ends : (verbose : Bool) (t : Text) → EndsGap verbose (the ")" ∷ t)
 closer_ends verbose t =
-    ends_at verbose (the ")") t (printed_ends (the ")") t (omega arith) (omega arith))
+    ends_any verbose (the ")" ∷ t) (printed_ends (the ")") t (omega arith) (omega arith))
 
 -- the item
 item_atom : (flags : Flags) (t : Text) → Atom flags (the "_" ∷ t) t (character (the "_"))
@@ -62,10 +59,6 @@ item_atom flags t = record {
         → AtomFrom (atom_kind flags (the "_")) flags (the "_" ∷ t) t t (character (the "_"))
     of_verbose true e = rw e (refl, tree flags.case_insensitive refl)
     of_verbose false e = rw e (refl, tree flags.case_insensitive refl)
-
-no_frames : (frames : List Frame) → length frames ≡ zero → frames ≡ []
-no_frames [] e = refl
-no_frames (f ∷ frames) e = absurd (omega (arith, e))
 
 -- a state past one of the parentheses
 record PastCloser (s : State) (n : ℕ) : Type 0 where
@@ -106,7 +99,7 @@ closes_all flags pattern zero s leads none left differ all =
       (
         s.point.groups,
         s.point.deepest,
-        sound flags pattern s leads (no_frames s.frames none)
+        sound flags pattern s leads (none_left s.frames none)
             (subst (λ t. Gap verbose s.point.rest t) left (empty_gap verbose s.point.rest)) differ
             all,
       ),

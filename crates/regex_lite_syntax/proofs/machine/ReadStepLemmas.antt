@@ -1,15 +1,15 @@
 -- What the parser reads is a step of the machine, and where it refuses there is none.
 use Rattle.regex_lite_syntax.proofs.Common.{◌≡◌, ℕ, Bool, true, false, List, [], ◌∷◌, ◌++◌, map}
-use Rattle.regex_lite_syntax.proofs.Common.{reverse, Some, Option, sym, refl, ap, ◌∙◌, subst, Atom}
-use Rattle.regex_lite_syntax.proofs.Common.{Counted, EndsGap, NamesDiffer, times, Operator, State}
-use Rattle.regex_lite_syntax.proofs.Common.{Step, frame_of, StepsTo, CanRead, Text, the, Tree}
-use Rattle.regex_lite_syntax.proofs.Common.{repeated, tree_of, Parser}
-use Rattle.regex_lite_syntax.specs.Parser.Machine.{closed, parted, with_items, BeginsAtom}
+use Rattle.regex_lite_syntax.proofs.Common.{reverse, Option, sym, refl, ap, ◌∙◌, subst, Atom}
+use Rattle.regex_lite_syntax.proofs.Common.{Counted, EndsGap, NamesDiffer, Operator, State, Step}
+use Rattle.regex_lite_syntax.proofs.Common.{frame_of, StepsTo, CanRead, Text, the, Tree, repeated}
+use Rattle.regex_lite_syntax.proofs.Common.{tree_of, Parser}
+use Rattle.regex_lite_syntax.specs.Parser.Machine.{closed, parted, with_items, BeginsAtom, operator}
 use Rattle.regex_lite_syntax.specs.Parser.States.{state, FreshStep, Closes, EndsBranch, Adds}
 use Rattle.regex_lite_syntax.proofs.machine.StepLemmas.{at_once, step_close, step_part}
 use Rattle.regex_lite_syntax.proofs.machine.StepLemmas.{step_operate, step_atom, no_close}
-use Rattle.regex_lite_syntax.proofs.machine.StepLemmas.{no_operand, no_counted_operand}
-use Rattle.regex_lite_syntax.proofs.machine.StepLemmas.{no_counts, some_item}
+use Rattle.regex_lite_syntax.proofs.machine.StepLemmas.{no_operand, no_counts, some_item}
+use Rattle.regex_lite_syntax.proofs.machine.AskLemmas.{Asks}
 
 -- a step that adds no name
 pub fresh_step : {s q x : State} → Step s x → q ≡ x → x.point.names ≡ s.point.names → FreshStep s q
@@ -58,19 +58,12 @@ reads_repeated p q t rest items a least most greedy last repeats o d =
           (repeats d) refl,
     )
 
-pub reads_no_operator : (p : Parser) (t rest : Text) (c : ℕ) (b : ℕ × Option ℕ) → t ≡ c ∷ rest
-    → times c ≡ Some b → p.here.items.items ≡ [] → CanRead p t → ⊥
+pub reads_no_operator : (p : Parser) (t : Text) → Asks p.here.flags.ignore_whitespace t operator
+    → p.here.items.items ≡ [] → CanRead p t → ⊥
 unfolding state
-reads_no_operator p t rest c b e has none can =
+reads_no_operator p t asked none can =
     let s = state p t can.0 in
-    no_operand s can.1 s.point c b rest (at_once s.point) e has (ap (map tree_of) none) can.2
-
-pub reads_no_counted : (p : Parser) (t rest : Text)
-    → t ≡ the "{" ∷ rest → p.here.items.items ≡ [] → CanRead p t → ⊥
-unfolding state
-reads_no_counted p t rest e none can =
-    let s = state p t can.0 in
-    no_counted_operand s can.1 s.point rest (at_once s.point) e (ap (map tree_of) none) can.2
+    no_operand s can.1 s.point (at_once s.point) asked (ap (map tree_of) none) can.2
 
 pub reads_no_counts : (p : Parser) (t rest : Text) → t ≡ the "{" ∷ rest
     → ((past : Text) (least : ℕ) (most : Option ℕ)

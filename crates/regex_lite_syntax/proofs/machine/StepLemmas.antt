@@ -4,9 +4,9 @@ use Rattle.regex_lite_syntax.proofs.Common.{Some, Option, sym, refl, ap, ◌∙�
 use Rattle.regex_lite_syntax.proofs.Common.{arith, Atom, Counted, FlagLetters, Gap, EndsGap}
 use Rattle.regex_lite_syntax.proofs.Common.{WholeGap, NameWritten, NameOpening, Named, GroupKind}
 use Rattle.regex_lite_syntax.proofs.Common.{capturing, numbered_on, named_on, inside, Head}
-use Rattle.regex_lite_syntax.proofs.Common.{Directive, times, Operator, Point, onward, PastGap}
-use Rattle.regex_lite_syntax.proofs.Common.{Frame, State, Kind, kind_at, Does, Step, bar, closing}
-use Rattle.regex_lite_syntax.proofs.Common.{paren, Text, the, Tree, repeated, Flags}
+use Rattle.regex_lite_syntax.proofs.Common.{Directive, Operator, Point, onward, PastGap, Frame}
+use Rattle.regex_lite_syntax.proofs.Common.{State, Kind, kind_at, Does, Step, bar, closing, paren}
+use Rattle.regex_lite_syntax.proofs.Common.{Text, the, Tree, repeated, Flags}
 use Rattle.regex_lite_syntax.specs.Parser.Machine.{opened, closed, parted, with_items, operator}
 use Rattle.regex_lite_syntax.specs.Parser.Machine.{atom}
 use Rattle.regex_lite_syntax.proofs.ListLemmas.{no_last}
@@ -19,8 +19,8 @@ use Rattle.regex_lite_syntax.proofs.grammar.NameOpeningLemmas.{opening_or_direct
 use Rattle.regex_lite_syntax.proofs.grammar.HeadLemmas.{named_head, no_head, no_directive}
 use Rattle.regex_lite_syntax.proofs.machine.OneStepLemmas.{past_gap_once}
 use Rattle.regex_lite_syntax.proofs.machine.AskLemmas.{Asks, asks_paren, asks_closing, asks_bar}
-use Rattle.regex_lite_syntax.proofs.machine.AskLemmas.{asks_brace, asks_bounded, asks_head}
-use Rattle.regex_lite_syntax.proofs.machine.AskLemmas.{asks_directive, asks_operator, asks_atom}
+use Rattle.regex_lite_syntax.proofs.machine.AskLemmas.{asks_brace, asks_head, asks_directive}
+use Rattle.regex_lite_syntax.proofs.machine.AskLemmas.{asks_operator, asks_atom}
 
 -- no gap need stand before what is read: so `here` may be the point of the state below
 pub at_once : (p : Point) → PastGap p p
@@ -170,20 +170,10 @@ no_close s q here rest past e outermost st =
     cc (outermost, d.4)
 
 -- nor at an operator that stands after no item
-pub no_operand : (s q : State) (here : Point) (c : ℕ) (b : ℕ × Option ℕ) (rest : Text)
-    → PastGap s.point here → here.rest ≡ c ∷ rest → times c ≡ Some b → s.items ≡ [] → Step s q → ⊥
-no_operand s q here c b rest past e has none st =
-    let asked = asks_bounded here.flags.ignore_whitespace c b here.rest rest e has in
-    let d = does_by operator s here q past asked st in
-    no_last d.1 d.2 (sym none ∙ d.6)
-
--- nor at a counted operator that stands after none
-pub no_counted_operand : (s q : State) (here : Point) (rest : Text) → PastGap s.point here
-    → here.rest ≡ the "{" ∷ rest → s.items ≡ [] → Step s q → ⊥
-no_counted_operand s q here rest past e none st =
-    let d =
-    does_by operator s here q past (asks_brace here.flags.ignore_whitespace here.rest rest e) st in
-    no_last d.1 d.2 (sym none ∙ d.6)
+pub no_operand : (s q : State) (here : Point) → PastGap s.point here
+    → Asks here.flags.ignore_whitespace here.rest operator → s.items ≡ [] → Step s q → ⊥
+no_operand s q here past asked none st =
+    let d = does_by operator s here q past asked st in no_last d.1 d.2 (sym none ∙ d.6)
 
 -- nor at a brace that opens no counts
 pub no_counts : (s q : State) (here : Point) (rest : Text) → PastGap s.point here

@@ -1,7 +1,8 @@
 -- Names that a set of names knows.
 use Rattle.regex_lite_syntax.proofs.Common.{◌≡◌, ℕ, zero, suc, Bool, true, false, cond, ◌||◌, List}
 use Rattle.regex_lite_syntax.proofs.Common.{[], ◌∷◌, ◌++◌, Contains, chars, Global, sym, refl, ap}
-use Rattle.regex_lite_syntax.proofs.Common.{◌∙◌, subst, arith, list_any, RcStr, text_of_name}
+use Rattle.regex_lite_syntax.proofs.Common.{◌∙◌, subst, arith, or_parts, list_any, RcStr}
+use Rattle.regex_lite_syntax.proofs.Common.{text_of_name}
 use Rattle.std.specs.Ordering.{is_eq, nat_cmp}
 use Rattle.std.specs.Cmp.{eq_by_cmp_equiv}
 use Rattle.std.specs.Cmp.Lexicographic.{slice_cmp, nat_list_cmp_total}
@@ -30,10 +31,6 @@ same_bytes xs ys of_xs of_ys e =
 same_or_rest : (same rest : Bool) → same ≡ false → (same || rest) ≡ true → rest ≡ true
 same_or_rest true rest differs e = cc differs
 same_or_rest false rest differs e = e
-
-none_of_both : (same rest : Bool) → (same || rest) ≡ false → (same ≡ false) × (rest ≡ false)
-none_of_both true rest e = cc e
-none_of_both false rest e = (refl, e)
 
 -- the name is among those
 pub name_given : (given : List (RcStr Global)) (name : RcStr Global)
@@ -64,11 +61,11 @@ name_not_given (first ∷ given) name e (zero, inside, is) =
     let same =
     same_bytes (rc_str_bytes first) (rc_str_bytes name) (of_text first) (of_text name) is in
     let found = (bytes_eq-Decides (rc_str_bytes name) (rc_str_bytes first)).1 (sym same) in
-    let none = (none_of_both (bytes_eq (rc_str_bytes name) (rc_str_bytes first))
+    let none = (or_parts (bytes_eq (rc_str_bytes name) (rc_str_bytes first))
     (has_name given (rc_str_bytes name)) e).0 in
     cc (found, none)
 name_not_given (first ∷ given) name e (suc k, inside, is) =
-    name_not_given given name (none_of_both (bytes_eq (rc_str_bytes name) (rc_str_bytes first))
+    name_not_given given name (or_parts (bytes_eq (rc_str_bytes name) (rc_str_bytes first))
     (has_name given (rc_str_bytes name)) e).1 (k, omega (arith, inside), is)
 
 turned : (xs ys : List ℕ) (a b : Bool) → (a ≡ true → xs ≡ ys) × (xs ≡ ys → a ≡ true)

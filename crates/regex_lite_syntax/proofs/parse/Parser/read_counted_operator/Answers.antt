@@ -5,17 +5,19 @@ use Rattle.regex_lite_syntax.specs.Parser.States.{state}
 use Rattle.regex_lite_syntax.proofs.ExitLemmas.{at_exit}
 use Rattle.regex_lite_syntax.proofs.grammar.OperatorLemmas.{counted_greedy}
 use Rattle.regex_lite_syntax.proofs.machine.StateLemmas.{map_pushed, none_left}
-use Rattle.regex_lite_syntax.proofs.machine.ReadStepLemmas.{reads_repeated, reads_no_counted}
+use Rattle.regex_lite_syntax.proofs.machine.ReadStepLemmas.{reads_repeated, reads_no_operator}
 use Rattle.regex_lite_syntax.proofs.machine.ReadStepLemmas.{reads_no_counts}
 use Rattle.regex_lite_syntax.proofs.machine.ResumedOperatorLemmas.{counts_read_on}
 use Rattle.regex_lite_syntax.proofs.parse.Parser.read_counted_operator.Goals as goal
 use Rattle.regex_lite_syntax.proofs.parse.Parser.read_counted_operator.Goals.{then-lazy, else-lazy}
+use Rattle.regex_lite_syntax.proofs.machine.AskLemmas.{asks_brace}
 
 pub returns-in_default-clause-refused : goal.returns-in_default-clause-refused
 returns-in_default-clause-refused c =
     let items = c.args.self.now.here.items in
     rw c.into.ensures
-    (λ more follows. reads_no_counted c.args.self.now _ _ (ap (λ t. t ++ more) c.requires.begins)
+    (λ more follows. reads_no_operator c.args.self.now _
+    (asks_brace _ _ _ (ap (λ t. t ++ more) c.requires.begins))
     (none_left items.items (sym items.ok.0 ∙ c.in_default.ensures.cases.0)))
 
 pub returns-in_err-end-clause-refused : goal.returns-in_err-end-clause-refused

@@ -8,6 +8,7 @@ use Rattle.regex_lite_syntax.proofs.machine.StateLemmas.{map_pushed, none_left}
 use Rattle.regex_lite_syntax.proofs.machine.ReadStepLemmas.{reads_repeated, reads_no_operator}
 use Rattle.regex_lite_syntax.proofs.parse.Parser.read_operator.Goals as goal
 use Rattle.regex_lite_syntax.proofs.parse.Parser.read_operator.Goals.{then-lazy, else-lazy}
+use Rattle.regex_lite_syntax.proofs.machine.AskLemmas.{asks_bounded}
 
 pub returns-in_default-clause-refused : goal.returns-in_default-clause-refused
 returns-in_default-clause-refused c =
@@ -15,8 +16,8 @@ returns-in_default-clause-refused c =
     let items = c.args.self.now.here.items in
     let none = none_left items.items (sym items.ok.0 ∙ c.in_default.ensures.cases.0) in
     rw c.into.ensures
-    (λ more follows. reads_no_operator c.args.self.now _ _ _ _ (ap (λ t. t ++ more) e)
-    (c.requires.bounded _ e) none)
+    (λ more follows. reads_no_operator c.args.self.now _
+    (asks_bounded _ _ _ _ _ (ap (λ t. t ++ more) e) (c.requires.bounded _ e)) none)
 
 pub returns-clause-ok : goal.returns-clause-ok
 unfolding state with_items
