@@ -115,20 +115,13 @@ kind_by flags c literal sign is =
       is,
     ) refl
 
--- an item of one character
-pub single_atom : (flags : Flags) (primitive : Primitive) (c : ℕ) (t rest : Text) (a : Tree)
-    → t ≡ c ∷ rest
-    → atom_kind flags c ≡ single primitive → PrimitiveTree flags primitive a → Atom flags t rest a
-single_atom flags primitive c t rest a e kind tree =
-    atom_by flags (single primitive) c t rest rest a e kind (refl, tree)
-
--- so a character that stands for itself
+-- so a character that stands for itself is an item
 pub literal_atom : (flags : Flags) (c : ℕ) (t rest : Text) (a : Tree) → t ≡ c ∷ rest
     → is_literal flags.ignore_whitespace c ≡ true → PrimitiveTree flags (one c) a
     → Atom flags t rest a
 literal_atom flags c t rest a e literal tree =
     let sign = literal_no_sign flags.ignore_whitespace c literal in
-    single_atom flags (one c) c t rest a e (kind_by flags c true sign literal) tree
+    atom_by flags (single (one c)) c t rest rest a e (kind_by flags c true sign literal) (refl, tree)
 
 -- but a character that neither stands for itself nor is a sign begins no item that is no group
 pub no_literal : (flags : Flags) (t rest : Text) (a : Tree) (c : ℕ) (u : Text) → t ≡ c ∷ u

@@ -10,8 +10,8 @@ use Rattle.regex_lite_syntax.proofs.grammar.GapLemmas.{gap_once}
 use Rattle.regex_lite_syntax.proofs.grammar.FlagLetterLemmas.{colon_ends_flags, paren_ends_flags}
 use Rattle.regex_lite_syntax.proofs.grammar.FlagLetterLemmas.{letters_once, other_end}
 use Rattle.regex_lite_syntax.proofs.grammar.NameLemmas.{named_once}
-use Rattle.regex_lite_syntax.proofs.grammar.NameOpeningLemmas.{named_question, named_or_plain}
-use Rattle.regex_lite_syntax.proofs.grammar.NameOpeningLemmas.{named_or_directive}
+use Rattle.regex_lite_syntax.proofs.grammar.NameOpeningLemmas.{named_question, opening_or_plain}
+use Rattle.regex_lite_syntax.proofs.grammar.NameOpeningLemmas.{opening_or_directive}
 use Rattle.regex_lite_syntax.proofs.grammar.LongerGapLemmas.{question_ends, no_question_past}
 
 named_ends : (t rest name : Text) → Named t rest name → EndsGap true t
@@ -88,12 +88,12 @@ head_once {level} {p} (named o f r w e g n h k) (named o' f' r' w' e' g' n' h' k
     record { same_point = h ∙ further ∙ called ∙ sym h'; same_kind = k ∙ kinds ∙ sym k' }
 head_once {p} (named o f r w e g n h k) (plain o' f' r' new' e' g' letters' h' k') =
     let there = same_named p.flags.ignore_whitespace p.rest o o' f f' r w e e' g g' n in
-    absurd (named_or_plain p.flags new' f' r w r' there letters')
+    absurd (opening_or_plain p.flags new' f' there.past r' there.opens letters')
 head_once {p} (plain o f r new e g letters h k) (numbered r' e' none' h' k') =
     absurd (bare_or_question p.flags.ignore_whitespace p.rest r' o f e' none' e g)
 head_once {p} (plain o f r new e g letters h k) (named o' f' r' w' e' g' n' h' k') =
     let there = same_named p.flags.ignore_whitespace p.rest o' o f' f r' w' e' e g' g n' in
-    absurd (named_or_plain p.flags new f r' w' r there letters)
+    absurd (opening_or_plain p.flags new f there.past r there.opens letters)
 head_once {level} {p} (plain o f r new e g letters h k) (plain o' f' r' new' e' g' letters' h' k') =
     let past = same_past p.flags.ignore_whitespace p.rest o o' f f' e e' g g' in
     let from = subst (λ t. FlagLetters p.flags t (the ":" ∷ r') new') (sym past) letters' in
@@ -117,7 +117,7 @@ head_or_directive {p} (numbered r e none h k) (sets o' f' r' new' e' g' n' lette
     bare_or_question p.flags.ignore_whitespace p.rest r o' f' e none e' g'
 head_or_directive {p} (named o f r w e g n h k) (sets o' f' r' new' e' g' n' letters' h') =
     let there = same_named p.flags.ignore_whitespace p.rest o o' f f' r w e e' g g' n in
-    named_or_directive p.flags new' f' r w r' there letters'
+    opening_or_directive p.flags new' f' there.past r' there.opens letters'
 head_or_directive {p} (plain o f r new e g letters h k) (sets o' f' r' new' e' g' n' letters' h') =
     let past = same_past p.flags.ignore_whitespace p.rest o o' f f' e e' g g' in
     let from = subst (λ t. FlagLetters p.flags t (the ")" ∷ r') new') (sym past) letters' in

@@ -39,17 +39,6 @@ opening_or_directive old new t past rest (without_p e) letters =
     flags_elsewhere old new t past (the "<") (the ")") rest less_ends_flags paren_ends_flags
     (same_tail e) (λ c. omega (arith, c)) letters
 
-pub named_or_plain : (old new : Flags) (t rest name rest' : Text) → Named (the "?" ∷ t) rest name
-    → FlagLetters old t (the ":" ∷ rest') new → ⊥
-named_or_plain old new t rest name rest' n letters =
-    opening_or_plain old new t n.past rest' n.opens letters
-
-pub named_or_directive : (old new : Flags) (t rest name rest' : Text)
-    → Named (the "?" ∷ t) rest name
-    → FlagLetters old t (the ")" ∷ rest') new → ⊥
-named_or_directive old new t rest name rest' n letters =
-    opening_or_directive old new t n.past rest' n.opens letters
-
 -- no name is opened by a `?` and another character
 pub no_opening : (c : ℕ) (t past : Text) → c ≢ the "P" → c ≢ the "<"
     → NameOpening (the "?" ∷ c ∷ t) past → ⊥

@@ -3,8 +3,9 @@ use Rattle.regex_lite_syntax.proofs.Common.{◌≡◌, ℕ, ◌+◌, ◌-◌, �
 use Rattle.regex_lite_syntax.proofs.Common.{take, drop, IsTrue, slice_range, sym, refl, ap, ◌∙◌}
 use Rattle.regex_lite_syntax.proofs.Common.{subst, arith, and_from, and_parts, eqb-false, ne_eqb}
 use Rattle.regex_lite_syntax.proofs.Common.{not-true, not_from_false, drop_more, drop_split}
-use Rattle.regex_lite_syntax.proofs.Common.{AllPass-from_list_all, list_all-from_AllPass, AllPass}
-use Rattle.regex_lite_syntax.proofs.Common.{list_all, is_no_end, NameWritten, Text, the}
+use Rattle.regex_lite_syntax.proofs.Common.{list_all-append, AllPass-from_list_all}
+use Rattle.regex_lite_syntax.proofs.Common.{list_all-from_AllPass, AllPass, list_all, is_no_end}
+use Rattle.regex_lite_syntax.proofs.Common.{NameWritten, Text, the}
 use Rattle.std.proofs.lemmas.List.Edits.{between_more}
 use Rattle.regex_lite_syntax.specs.Grammar.GroupNames.{begins_name, continues_name, is_name}
 use Rattle.regex_lite_syntax.proofs.ListLemmas.{same_head, same_tail}
@@ -81,13 +82,8 @@ is_inside c going = not_from_false _ (ne_eqb c (the ">") going)
 
 all_continue : (name : Text) (c : ℕ) → IsTrue (list_all continues_name name)
     → IsTrue (continues_name c) → IsTrue (list_all continues_name (name ++ c ∷ []))
-all_continue [] c h continues = and_from _ _ continues refl
-all_continue (d ∷ ds) c h continues =
-    let parts = and_parts _ _ h in and_from _ _ parts.0 (all_continue ds c parts.1 continues)
-
-all_inside : (name : Text) (c : ℕ) → AllPass is_no_end name → c ≢ the ">"
-    → AllPass is_no_end (name ++ c ∷ [])
-all_inside name c h going = pass_push is_no_end name c h (is_inside c going)
+all_continue name c h continues =
+    list_all-append continues_name name (c ∷ []) ∙ and_from _ _ h (and_from _ _ continues refl)
 
 still_name : (name : Text) (c : ℕ) → IsTrue (is_name name) → IsTrue (continues_name c)
     → IsTrue (is_name (name ++ c ∷ []))
@@ -99,7 +95,7 @@ pub name_goes_on : (name longer : Text) (c : ℕ) → longer ≡ name ++ c ∷ [
     → IsTrue (continues_name c) → c ≢ the ">" → NameSoFar name → NameSoFar longer
 name_goes_on name longer c is continues going n =
     subst (λ w. NameSoFar w) (sym is) (record {
-      inside = all_inside name c n.inside going;
+      inside = pass_push is_no_end name c n.inside (is_inside c going);
       is_a_name = still_name name c n.is_a_name continues;
     })
 

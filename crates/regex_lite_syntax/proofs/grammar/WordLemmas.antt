@@ -1,13 +1,13 @@
 -- Characters of one kind that stand one after another, up to one of another kind.
 use Rattle.regex_lite_syntax.proofs.Common.{◌≡◌, ℕ, ◌+◌, ◌-◌, ◌<◌, ◌≤◌, Bool, false, [], ◌∷◌, ◌++◌}
-use Rattle.regex_lite_syntax.proofs.Common.{length, get_or, take, drop, IsTrue, ◌==◌, sym, refl, ap}
-use Rattle.regex_lite_syntax.proofs.Common.{◌∙◌, subst, inl, inr, append_assoc, arith, and_from}
-use Rattle.regex_lite_syntax.proofs.Common.{and_parts, both_ways, eqb-true, or_cases, get_or-drop}
+use Rattle.regex_lite_syntax.proofs.Common.{length, get_or, IsTrue, ◌==◌, slice_range, sym, refl}
+use Rattle.regex_lite_syntax.proofs.Common.{ap, ◌∙◌, subst, inl, inr, append_assoc, and_from}
+use Rattle.regex_lite_syntax.proofs.Common.{and_parts, both_ways, eqb-true, or_cases}
 use Rattle.regex_lite_syntax.proofs.Common.{list_all-append, AllPass-from_list_all}
 use Rattle.regex_lite_syntax.proofs.Common.{list_all-from_AllPass, AllPass, list_all, is_character}
 use Rattle.regex_lite_syntax.proofs.Common.{AreCharacters, is_one_of, Lacks, Text, is_text}
-use Rattle.std.proofs.lemmas.List.{take_more, length-drop}
 use Rattle.regex_lite_syntax.proofs.ListLemmas.{same_head, same_tail}
+use Rattle.std.proofs.lemmas.List.Edits.{between_more}
 
 -- a word that is as long as it can be is the only one
 longest_once : (kind : ℕ → Bool) (v w t r s : Text) → t ≡ v ++ r → t ≡ w ++ s
@@ -69,12 +69,7 @@ pass_push kind w c p h =
 pub spelled_push : (w t u v : Text) (c : ℕ) → t ≡ w ++ u → u ≡ c ∷ v → t ≡ (w ++ c ∷ []) ++ v
 spelled_push w t u v c s e = s ∙ ap (λ x. w ++ x) e ∙ sym (append_assoc w (c ∷ []) v)
 
-pub take_push : (xs : Text) (at end c : ℕ) → at ≤ end → end < length xs → c ≡ get_or xs end 0
-    → take (end + 1 - at) (drop at xs) ≡ take (end - at) (drop at xs) ++ c ∷ []
-take_push xs at end c l h e =
-    let longer : end + 1 - at ≡ (end - at) + 1 = omega arith in
-    let place : at + (end - at) ≡ end = omega arith in
-    ap (λ n. take n (drop at xs)) longer
-    ∙ take_more (drop at xs) (end - at) 0 (simp length-drop (omega arith))
-    ∙ ap (λ d. take (end - at) (drop at xs) ++ d ∷ [])
-    (get_or-drop at xs (end - at) 0 ∙ ap (λ n. get_or xs n 0) place ∙ sym e)
+pub slice_more : (xs : Text) (at end c : ℕ) → at ≤ end → end < length xs → c ≡ get_or xs end c
+    → slice_range xs at (end + 1) ≡ slice_range xs at end ++ c ∷ []
+slice_more xs at end c low high e =
+    between_more xs at end c low high ∙ ap (λ d. slice_range xs at end ++ d ∷ []) (sym e)

@@ -4,8 +4,8 @@ use Rattle.regex_lite_syntax.proofs.Common.{◌++◌, length, sym, refl, subst, 
 use Rattle.regex_lite_syntax.proofs.Common.{AreCharacters, BeginsSome, HasTree, atom_kind}
 use Rattle.regex_lite_syntax.proofs.Common.{PrimitiveTree, AtomFrom, Atom, one, Gap, EndsGap}
 use Rattle.regex_lite_syntax.proofs.Common.{WholeGap, NamesDiffer, onward, Frame, State}
-use Rattle.regex_lite_syntax.proofs.Common.{first_state, ended, kind_at, Does, Step, LeadsOn}
-use Rattle.regex_lite_syntax.proofs.Common.{CanReadOn, Text, Begins, the, choice_of, Flags, Parser}
+use Rattle.regex_lite_syntax.proofs.Common.{first_state, ended, Step, LeadsOn, CanReadOn, Text}
+use Rattle.regex_lite_syntax.proofs.Common.{Begins, the, choice_of, Flags, Parser}
 use Rattle.regex_lite_syntax.specs.Tree.{character}
 use Rattle.regex_lite_syntax.specs.Parser.Machine.{closed, with_items}
 use Rattle.regex_lite_syntax.specs.Parser.States.{state}
@@ -24,6 +24,7 @@ use Rattle.regex_lite_syntax.proofs.machine.OneStepLemmas.{leads_step, step_over
 use Rattle.regex_lite_syntax.proofs.machine.SoundLemmas.{sound}
 use Rattle.std.proofs.Common.{replicate}
 use Rattle.regex_lite_syntax.proofs.machine.StateLemmas.{none_left}
+use Rattle.regex_lite_syntax.proofs.machine.StepLemmas.{at_once, step_close, step_atom}
 
 -- this many parentheses that close
 abbrev closers : ℕ → Text
@@ -36,10 +37,6 @@ item_and_closers n = the "_" ∷ closers n
 item_ends : (verbose : Bool) (t : Text) → EndsGap verbose (the "_" ∷ t)
 item_ends verbose t =
     ends_any verbose (the "_" ∷ t) (printed_ends (the "_") t (omega arith) (omega arith))
-
-closer_ends : (verbose : Bool) (t : Text) → EndsGap verbose (the ")" ∷ t)
-closer_ends verbose t =
-    ends_any verbose (the ")" ∷ t) (printed_ends (the ")") t (omega arith) (omega arith))
 
 -- the item
 item_atom : (flags : Flags) (t : Text) → Atom flags (the "_" ∷ t) t (character (the "_"))
@@ -73,17 +70,9 @@ past_closer : (s : State) (n : ℕ) (frames : List Frame) → s.frames ≡ frame
 unfolding closed
 past_closer s n [] e many left = absurd (omega (arith, many))
 past_closer s n (f ∷ frames) e many left =
-    let verbose = s.point.flags.ignore_whitespace in
-    let after = closed s s.point f frames (closers n) in
     record {
-      after = after;
-      step = record {
-        past = s.point;
-        gap = (empty_gap verbose s.point.rest, refl);
-        ends = subst (λ t. EndsGap verbose t) (sym left) (closer_ends verbose (closers n));
-        does = subst (λ t. Does (kind_at t) s s.point after) (sym left)
-            (closers n, f, frames, left, e, refl);
-      };
+      after = closed s s.point f frames (closers n);
+      step = step_close s s.point f frames (closers n) (at_once s.point) left e;
       fewer = omega (arith, many);
       left = refl;
       names = refl;
@@ -118,12 +107,8 @@ unfolding with_items
 item_then_closers flags pattern s leads gap differ all =
     let n = length s.frames in
     let after = with_items s (onward s.point (closers n)) (s.items ++ character (the "_") ∷ []) in
-    let step : Step s after = record {
-      past = onward s.point (item_and_closers n);
-      gap = (gap, refl);
-      ends = item_ends s.point.flags.ignore_whitespace (closers n);
-      does = (closers n, character (the "_"), item_atom s.point.flags (closers n), refl);
-    } in
+    let step : Step s after = step_atom s (onward s.point (item_and_closers n)) (closers n)
+    (character (the "_")) (gap, refl) (item_atom s.point.flags (closers n)) in
     closes_all flags pattern n after (leads_step leads step) refl refl differ all
 
 -- where the pattern can be read on, it is the beginning of an accepted one

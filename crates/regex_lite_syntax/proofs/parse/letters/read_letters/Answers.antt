@@ -4,15 +4,15 @@ use Rattle.regex_lite_syntax.proofs.Common.{drop_split, AllPass, is_one_of, is_f
 use Rattle.regex_lite_syntax.proofs.Common.{with_flags, all_differ, EndsRun, LetterRun, Text}
 use Rattle.std.proofs.lemmas.Result.{err_from_is_err_and}
 use Rattle.regex_lite_syntax.specs.Grammar.FlagLetters.{with_flag}
-use Rattle.regex_lite_syntax.proofs.grammar.WordLemmas.{pass_push}
+use Rattle.regex_lite_syntax.proofs.grammar.WordLemmas.{pass_push, slice_more}
 use Rattle.regex_lite_syntax.proofs.parse.IndexLemmas.{drop_char}
 use Rattle.regex_lite_syntax.proofs.parse.DenialLemmas.{none_at_end}
 use Rattle.regex_lite_syntax.specs.declared.error.syntax.SyntaxFault.TheVariants.{CutShort}
 use Rattle.regex_lite_syntax.specs.declared.error.unexpected_eof.UnexpectedEof.TheVariants.{Flag}
-use Rattle.regex_lite_syntax.proofs.parse.letters.SliceLemmas.{slice_more, spelled_longer}
-use Rattle.regex_lite_syntax.proofs.parse.letters.FlagRunLemmas.{with_flags_more}
-use Rattle.regex_lite_syntax.proofs.parse.letters.FlagRunLemmas.{differ_more, no_run_end}
-use Rattle.regex_lite_syntax.proofs.parse.letters.FlagRunLemmas.{no_run_other, no_run_twice}
+use Rattle.regex_lite_syntax.proofs.parse.letters.SliceLemmas.{spelled_longer}
+use Rattle.regex_lite_syntax.proofs.parse.letters.FlagRunLemmas.{with_flags_more, differ_more}
+use Rattle.regex_lite_syntax.proofs.parse.letters.FlagRunLemmas.{no_run_end, no_run_other}
+use Rattle.regex_lite_syntax.proofs.parse.letters.FlagRunLemmas.{no_run_twice}
 use Rattle.regex_lite_syntax.proofs.parse.letters.read_letters.Goals as goal
 use Rattle.regex_lite_syntax.proofs.parse.letters.read_letters.Goals.{
   then-contains-via-then-contains,

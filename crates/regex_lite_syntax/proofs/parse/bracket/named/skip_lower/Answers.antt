@@ -1,7 +1,6 @@
 use Rattle.regex_lite_syntax.proofs.Common.{◌≡◌, ◌+◌, ◌<◌, ◌++◌, length, drop, IsTrue, sym, subst}
 use Rattle.regex_lite_syntax.proofs.Common.{arith, AllPass, is_lower}
-use Rattle.std.proofs.lemmas.List.{get_or_read}
-use Rattle.regex_lite_syntax.proofs.grammar.WordLemmas.{pass_push, spelled_push, take_push}
+use Rattle.regex_lite_syntax.proofs.grammar.WordLemmas.{pass_push, spelled_push, slice_more}
 use Rattle.regex_lite_syntax.proofs.parse.IndexLemmas.{drop_char}
 use Rattle.regex_lite_syntax.proofs.parse.bracket.named.skip_lower.Goals as goal
 
@@ -14,8 +13,7 @@ loop-end-preserved c =
     sym c.if-is_ascii_lowercase.ensures.value in
     let here = drop_char xs end c.index-chars-end.result below c.index-chars-end.is in
     let longer =
-    take_push xs c.args.at end c.index-chars-end.result c.loop-end.invariant.inside.0 below
-    (get_or_read xs _ _ below c.index-chars-end.is 0) in
+    slice_more xs c.args.at end _ c.loop-end.invariant.inside.0 below c.index-chars-end.is in
     record {
       inside = (omega arith, omega arith);
       letters = subst (λ w. AllPass is_lower w) (sym longer)
