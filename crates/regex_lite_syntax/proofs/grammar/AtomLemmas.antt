@@ -121,7 +121,8 @@ pub literal_atom : (flags : Flags) (c : ℕ) (t rest : Text) (a : Tree) → t �
     → Atom flags t rest a
 literal_atom flags c t rest a e literal tree =
     let sign = literal_no_sign flags.ignore_whitespace c literal in
-    atom_by flags (single (one c)) c t rest rest a e (kind_by flags c true sign literal) (refl, tree)
+    let kind = kind_by flags c true sign literal in
+    atom_by flags (single (one c)) c t rest rest a e kind (refl, tree)
 
 -- but a character that neither stands for itself nor is a sign begins no item that is no group
 pub no_literal : (flags : Flags) (t rest : Text) (a : Tree) (c : ℕ) (u : Text) → t ≡ c ∷ u

@@ -1,9 +1,10 @@
 -- What completes a part of a pattern that ends inside a gap.
 use Rattle.regex_lite_syntax.proofs.Common.{ℕ, Bool, [], ◌∷◌, ◌++◌, IsTrue, sym, refl, subst}
-use Rattle.regex_lite_syntax.proofs.Common.{append_assoc, and_from, and_parts, list_all, Gap}
-use Rattle.regex_lite_syntax.proofs.Common.{Spaced, Text}
+use Rattle.regex_lite_syntax.proofs.Common.{append_assoc, and_from, and_parts, list_all}
+use Rattle.regex_lite_syntax.proofs.Common.{AreCharacters, Gap, Spaced, Completable, Text}
 use Rattle.regex_lite_syntax.proofs.grammar.GapLemmas.{empty_gap}
 use Rattle.regex_lite_syntax.proofs.grammar.ResumedGapLemmas.{resumed, gap_resumed}
+use Rattle.regex_lite_syntax.proofs.grammar.ResumedGapLemmas.{resumed_characters}
 
 -- characters that stand together
 pub spaced_together : (verbose : Bool) (kind : ℕ → Bool) (cs next : Text)
@@ -28,6 +29,16 @@ spaced_on verbose kind (c ∷ cs) t next all gap =
       (cs ++ next, gap, parts.0, spaced_together verbose kind cs next parts.1),
       empty_gap verbose next,
     )
+
+-- what goes on past a gap, or a side, that led to the end
+pub past_gap : (verbose : Bool) (R : Text → Text → Type 0) (t ends : Text) → AreCharacters ends
+    → ((next : Text) → R (t ++ (resumed verbose ++ (ends ++ next))) next) → Completable R t
+past_gap verbose R t ends all reads = record {
+  more = resumed verbose ++ ends;
+  characters = resumed_characters verbose ends all;
+  reads = λ next.
+      subst (λ u. R (t ++ u) next) (sym (append_assoc (resumed verbose) ends next)) (reads next);
+}
 
 -- the same past a gap at the end of the pattern
 pub gap_completed : (verbose : Bool) (t more next : Text) → Gap verbose t []

@@ -1,28 +1,18 @@
 -- Counted operators at the end of a pattern that goes on.
 use Rattle.regex_lite_syntax.proofs.Common.{◌≡◌, ℕ, ◌-◌, ◌^◌, ◌<◌, ◌≤◌, Bool, [], ◌∷◌, ◌++◌, Some}
 use Rattle.regex_lite_syntax.proofs.Common.{None, codes, Option, sym, refl, ap, subst, inr, arith}
-use Rattle.regex_lite_syntax.proofs.Common.{AreCharacters, Number, Limit, Counted, exactly, Gap}
-use Rattle.regex_lite_syntax.proofs.Common.{Becomes, IsNotBelow, Completable, Text, the}
+use Rattle.regex_lite_syntax.proofs.Common.{Number, Limit, Counted, exactly, Gap, Becomes}
+use Rattle.regex_lite_syntax.proofs.Common.{IsNotBelow, Completable, Text, the}
 use Rattle.std.proofs.lemmas.List.{append_assoc}
 use Rattle.regex_lite_syntax.specs.Parser.Numbers.{CanReach}
 use Rattle.regex_lite_syntax.proofs.CharacterLemmas.{joined_are}
 use Rattle.regex_lite_syntax.proofs.grammar.NumberLemmas.{side_of}
 use Rattle.regex_lite_syntax.proofs.grammar.CountLemmas.{counted_to}
 use Rattle.regex_lite_syntax.proofs.grammar.LongerNumberLemmas.{number_longer}
-use Rattle.regex_lite_syntax.proofs.grammar.ResumedGapLemmas.{resumed, resumed_characters}
-use Rattle.regex_lite_syntax.proofs.grammar.ResumedGapLemmas.{gap_resumed}
+use Rattle.regex_lite_syntax.proofs.grammar.ResumedGapLemmas.{resumed, gap_resumed}
 use Rattle.regex_lite_syntax.proofs.grammar.ResumedNumberLemmas.{becomes_resumed, longer_becomes}
 use Rattle.regex_lite_syntax.proofs.grammar.ResumedNumberLemmas.{number_begun, number_resumed}
-
--- what goes on past a gap, or a side, that led to the end
-pub past_gap : (verbose : Bool) (R : Text → Text → Type 0) (t ends : Text) → AreCharacters ends
-    → ((next : Text) → R (t ++ (resumed verbose ++ (ends ++ next))) next) → Completable R t
-past_gap verbose R t ends all reads = record {
-  more = resumed verbose ++ ends;
-  characters = resumed_characters verbose ends all;
-  reads = λ next.
-      subst (λ u. R (t ++ u) next) (sym (append_assoc (resumed verbose) ends next)) (reads next);
-}
+use Rattle.regex_lite_syntax.proofs.grammar.CompletedGapLemmas.{past_gap}
 
 -- the greatest number, where one can follow, and the brace that closes
 brace_past_greatest : (verbose : Bool) (R : Text → Text → Type 0) (t : Text)

@@ -79,11 +79,7 @@ does_from : (k : Kind) (s : State) (here p : Point) (q : State) → Does k s p q
     → Does k (record s { point = here }) p q
 unfolding opened closed parted with_items
 does_from stop s here p q d = d
-does_from paren s here p q d = d
-does_from closing s here p q d = d
-does_from bar s here p q d = d
-does_from operator s here p q d = d
-does_from atom s here p q d = d
+does_from _ s here p q d = d
 
 -- the same state with another rest of the pattern
 abbrev pub moved : State → Text → State

@@ -1,18 +1,18 @@
 -- A class that more of the pattern completes.
-use Rattle.regex_lite_syntax.proofs.Common.{◌≡◌, ℕ, zero, suc, Bool, true, List, [], ◌∷◌, ◌++◌, sym}
-use Rattle.regex_lite_syntax.proofs.Common.{refl, ap, subst, append_assoc, arith, false≢true}
-use Rattle.regex_lite_syntax.proofs.Common.{ClassItem, Takes, takes, leaves, Dashes, FirstBracket}
-use Rattle.regex_lite_syntax.proofs.Common.{ClassOpening, ClassItems, BracketedClass, EndsGap}
-use Rattle.regex_lite_syntax.proofs.Common.{WholeGap, Completable, Set, just, Text, Begins, the}
+use Rattle.regex_lite_syntax.proofs.Common.{◌≡◌, ℕ, zero, suc, Bool, true, List, [], ◌∷◌, ◌++◌}
+use Rattle.regex_lite_syntax.proofs.Common.{codes, refl, ap, arith, false≢true, ClassItem, Takes}
+use Rattle.regex_lite_syntax.proofs.Common.{takes, leaves, Dashes, FirstBracket, ClassOpening}
+use Rattle.regex_lite_syntax.proofs.Common.{ClassItems, BracketedClass, EndsGap, WholeGap}
+use Rattle.regex_lite_syntax.proofs.Common.{Completable, Set, just, Text, Begins, the}
 use Rattle.regex_lite_syntax.specs.Grammar.Classes.{character}
 use Rattle.regex_lite_syntax.proofs.grammar.GapLemmas.{ends_any}
 use Rattle.regex_lite_syntax.proofs.grammar.LongerGapLemmas.{whole_longer}
-use Rattle.regex_lite_syntax.proofs.grammar.ResumedGapLemmas.{resumed, resumed_characters}
-use Rattle.regex_lite_syntax.proofs.grammar.ResumedGapLemmas.{gap_resumed}
+use Rattle.regex_lite_syntax.proofs.grammar.ResumedGapLemmas.{resumed, gap_resumed}
 use Rattle.regex_lite_syntax.proofs.parse.bracket.ClassItemLemmas.{part_literal}
 use Rattle.regex_lite_syntax.proofs.parse.bracket.ClassOpeningLemmas.{class_from}
 use Rattle.regex_lite_syntax.proofs.parse.bracket.CompletedItemLemmas.{bracket_ends, bracket_gap}
 use Rattle.regex_lite_syntax.proofs.parse.bracket.CompletedItemLemmas.{no_range}
+use Rattle.regex_lite_syntax.proofs.grammar.CompletedGapLemmas.{past_gap}
 
 -- the items of a class up to the rest
 abbrev pub ClassTo : (verbose : Bool) → (t rest : Text) → Type 0
@@ -33,19 +33,14 @@ pub closes_after : (verbose : Bool) (t u past : Text) (sets : List Set) (s : Set
     → ((more : Text) (all : List Set) (rest : Text) → ClassItems verbose all (u ++ more) rest
     → ClassItems verbose (sets ++ all) (t ++ more) rest)
     → Completable (ClassTo verbose) t
-closes_after verbose t u past sets s gap item goes = record {
-  more = resumed verbose ++ the "]" ∷ [];
-  characters = resumed_characters verbose (the "]" ∷ []) (refl, tt);
-  reads = λ next.
-      let more = resumed verbose ++ the "]" ∷ next in
-      let closes : WholeGap verbose (past ++ more) (the "]" ∷ next) =
-      (gap_resumed verbose past (the "]" ∷ next) gap.0, bracket_ends verbose next) in
-      subst (λ v. ClassTo verbose (t ++ v) next)
-      (sym (append_assoc (resumed verbose) (the "]" ∷ []) next)) (
-        sets ++ s ∷ [],
-        goes more (s ∷ []) next (past ++ more, the "]" ∷ next, item more, closes, refl),
-      );
-}
+closes_after verbose t u past sets s gap item goes =
+    past_gap verbose (ClassTo verbose) t (the "]" ∷ []) (refl, tt) (λ next.
+    let more = resumed verbose ++ the "]" ∷ next in
+    let closes : WholeGap verbose (past ++ more) (the "]" ∷ next) =
+    (gap_resumed verbose past (the "]" ∷ next) gap.0, bracket_ends verbose next) in (
+      sets ++ s ∷ [],
+      goes more (s ∷ []) next (past ++ more, the "]" ∷ next, item more, closes, refl),
+    ))
 
 -- what a class begins with, where the text ends in it or past it and then goes on
 module _ (verbose : Bool) (next : Text) (ends : EndsGap true next) where
@@ -129,17 +124,13 @@ one_item verbose next =
 pub completes_opening : (insensitive verbose : Bool) (t : Text) (negated dash bracket : Bool)
     → ClassOpening verbose t [] negated dash bracket
     → Completable (λ t rest. (s : Set) × BracketedClass insensitive verbose t rest s) t
-completes_opening insensitive verbose t negated dash bracket o = record {
-  more = resumed verbose ++ the "a" ∷ the "]" ∷ [];
-  characters = resumed_characters verbose (the "a" ∷ the "]" ∷ []) (refl, (refl, tt));
-  reads = λ next.
-      let closing = the "a" ∷ the "]" ∷ next in
-      let opens = opening_onto verbose closing (refl, λ sign. omega (arith, sign)) t negated dash
-      bracket (λ e. omega (arith, e)) (λ e. omega (arith, e)) (λ e. omega (arith, e)) o in
-      subst (λ u. (s : Set) × BracketedClass insensitive verbose (t ++ u) next s)
-      (sym (append_assoc (resumed verbose) (the "a" ∷ the "]" ∷ []) next)) (
-        _,
-        class_from insensitive verbose (t ++ (resumed verbose ++ closing)) closing next negated
-            dash bracket (just (the "a") ∷ []) opens (one_item verbose next),
-      );
-}
+completes_opening insensitive verbose t negated dash bracket o =
+    past_gap verbose (λ u rest. (s : Set) × BracketedClass insensitive verbose u rest s) t
+    (codes "a]") (refl, (refl, tt)) (λ next.
+    let closing = the "a" ∷ the "]" ∷ next in
+    let opens = opening_onto verbose closing (refl, λ sign. omega (arith, sign)) t negated dash
+    bracket (λ e. omega (arith, e)) (λ e. omega (arith, e)) (λ e. omega (arith, e)) o in (
+      _,
+      class_from insensitive verbose (t ++ (resumed verbose ++ closing)) closing next negated dash
+          bracket (just (the "a") ∷ []) opens (one_item verbose next),
+    ))

@@ -17,11 +17,11 @@ use Rattle.regex_lite_syntax.proofs.grammar.GapLemmas.{empty_gap, ends_any, gap_
 use Rattle.regex_lite_syntax.proofs.grammar.LongerGapLemmas.{whole_longer}
 use Rattle.regex_lite_syntax.proofs.grammar.LongerClassLemmas.{element_two, begins_item}
 use Rattle.regex_lite_syntax.proofs.grammar.LongerClassLemmas.{element_longer, follows_longer}
-use Rattle.regex_lite_syntax.proofs.grammar.ResumedGapLemmas.{resumed, resumed_characters}
-use Rattle.regex_lite_syntax.proofs.grammar.ResumedGapLemmas.{gap_resumed}
+use Rattle.regex_lite_syntax.proofs.grammar.ResumedGapLemmas.{resumed, gap_resumed}
 use Rattle.regex_lite_syntax.proofs.parse.bracket.ClassItemLemmas.{part_literal, no_dash, no_end}
 use Rattle.regex_lite_syntax.proofs.parse.bracket.ClassItemLemmas.{item_alone, item_range}
 use Rattle.regex_lite_syntax.proofs.parse.bracket.LongerItemLemmas.{part_longer}
+use Rattle.regex_lite_syntax.proofs.grammar.CompletedGapLemmas.{past_gap}
 
 -- some items follow up to the rest
 abbrev pub ItemsTo : (verbose : Bool) → (t rest : Text) → Type 0
@@ -182,11 +182,6 @@ items_ending verbose t past next element begins part (past_dash u gap gap') =
 pub closed_ending : (verbose : Bool) (t past : Text) (element : Element) → BeginsItem t
     → ClassElement verbose t past (element_primitive element) → EndsOpen verbose past
     → Completable (ItemsTo verbose) t
-closed_ending verbose t past element begins part ends = record {
-  more = resumed verbose ++ the "]" ∷ [];
-  characters = resumed_characters verbose (the "]" ∷ []) (refl, tt);
-  reads = λ next.
-      subst (λ u. ItemsTo verbose (t ++ u) next)
-      (sym (append_assoc (resumed verbose) (the "]" ∷ []) next))
-      (items_ending verbose t past next element begins part ends);
-}
+closed_ending verbose t past element begins part ends =
+    past_gap verbose (ItemsTo verbose) t (the "]" ∷ []) (refl, tt)
+    (λ next. items_ending verbose t past next element begins part ends)

@@ -81,26 +81,15 @@ completes_name t opened begin name more m set opens negation are written letters
 
 -- past the one bracket any name completes it
 pub completes_bracket : (t : Text) → t ≡ the "[" ∷ [] → Completable NamedTo t
-completes_bracket t e = record {
-  more = codes ":word:]";
-  characters = (refl, (refl, (refl, (refl, (refl, (refl, (refl, tt)))))));
-  reads = λ next. (
-    false,
-    word,
+completes_bracket t e =
+    let past_colon = completes_name (codes "[:") [] [] (codes "word") (codes "word:]") false word
+    refl refl (refl, (refl, (refl, (refl, (refl, (refl, tt)))))) (λ next. refl) refl refl in
     record {
-      opened = codes "word:]" ++ next;
-      begin = codes "word:]" ++ next;
-      end = codes ":]" ++ next;
-      name = codes "word";
-      opens = ap (λ u. u ++ (codes ":word:]" ++ next)) e;
-      negation = refl;
-      written = refl;
-      letters = AllPass-from_list_all is_lower (codes "word") refl;
-      closes = refl;
-      named = refl;
-    },
-  );
-}
+      more = the ":" ∷ past_colon.more;
+      characters = (refl, past_colon.characters);
+      reads = λ next. subst (λ u. NamedTo (u ++ (the ":" ∷ (past_colon.more ++ next))) next)
+          (sym e) (past_colon.reads next);
+    }
 
 -- whether the text ends at the index, and what stands before it is begun
 pub begun_at_end : (xs : Text) (i : ℕ) (begun : Bool) → (begun && (i == length xs)) ≡ true

@@ -6,10 +6,10 @@ use Rattle.regex_lite_syntax.proofs.grammar.LongerNumberLemmas.{of_text, longer_
 use Rattle.regex_lite_syntax.proofs.grammar.LongerNumberLemmas.{longer_number_only}
 use Rattle.regex_lite_syntax.proofs.grammar.LongerNumberLemmas.{no_longer_number}
 use Rattle.regex_lite_syntax.proofs.grammar.ResumedNumberLemmas.{number_begun, digit_is_character}
-use Rattle.regex_lite_syntax.proofs.grammar.ResumedCountLemmas.{past_gap}
 use Rattle.regex_lite_syntax.proofs.parse.IndexLemmas.{left_at_end, some_at}
 use Rattle.regex_lite_syntax.proofs.parse.counted.read_number.Goals as goal
 use Rattle.regex_lite_syntax.proofs.grammar.WordLemmas.{all_characters}
+use Rattle.regex_lite_syntax.proofs.grammar.CompletedGapLemmas.{past_gap}
 
 pub returns-then-first-chars-clause-refused : goal.returns-then-first-chars-clause-refused
 returns-then-first-chars-clause-refused c =

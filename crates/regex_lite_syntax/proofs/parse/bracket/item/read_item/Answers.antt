@@ -61,8 +61,7 @@ returns-in-Some-clause-refused c more follows items =
 -- every primitive reaches to the first character
 reaches_zero : (p : Primitive) → ReachesTo 0 p
 reaches_zero (one c) = omega arith
-reaches_zero (some_of set) = tt
-reaches_zero (look_at look) = tt
+reaches_zero _ = tt
 
 pub returns-in_err-past-clause-refused : goal.returns-in_err-past-clause-refused
 returns-in_err-past-clause-refused c =

@@ -13,8 +13,7 @@ use Rattle.regex_lite_syntax.proofs.parse.bracket.item.read_range.Goals as goal
 no_char : (p : Primitive) (c : ℕ) → ((d : ℕ) → p ≡ primitives.Char d → ⊥)
     → primitive_of p ≡ one c → ⊥
 no_char (primitives.Char d) c none is = none d refl
-no_char (primitives.Set set negated) c none is = cc is
-no_char (primitives.Look look) c none is = cc is
+no_char _ c none is = cc is
 
 pub returns-in_err-past-clause-refused : goal.returns-in_err-past-clause-refused
 returns-in_err-past-clause-refused c =
