@@ -1,5 +1,5 @@
 -- Characters of one kind that stand one after another, up to one of another kind.
-use Rattle.regex_lite_syntax.proofs.Common.{◌≡◌, ℕ, ◌+◌, ◌-◌, ◌<◌, ◌≤◌, Bool, false, [], ◌∷◌, ◌++◌}
+use Rattle.regex_lite_syntax.proofs.Common.{◌≡◌, ℕ, ◌+◌, ◌<◌, ◌≤◌, Bool, false, [], ◌∷◌, ◌++◌}
 use Rattle.regex_lite_syntax.proofs.Common.{length, get_or, IsTrue, ◌==◌, slice_range, sym, refl}
 use Rattle.regex_lite_syntax.proofs.Common.{ap, ◌∙◌, subst, inl, inr, append_assoc, and_from}
 use Rattle.regex_lite_syntax.proofs.Common.{and_parts, both_ways, eqb-true, or_cases}

@@ -1,6 +1,6 @@
 -- Parts of the pattern as slices of its characters.
-use Rattle.regex_lite_syntax.proofs.Common.{◌≡◌, ℕ, ◌+◌, ◌-◌, ◌≤◌, ◌++◌, length, drop, slice_range}
-use Rattle.regex_lite_syntax.proofs.Common.{ap, ◌∙◌, append_assoc, arith, Text}
+use Rattle.regex_lite_syntax.proofs.Common.{◌≡◌, ℕ, ◌-◌, ◌≤◌, ◌++◌, length, drop, slice_range, ap}
+use Rattle.regex_lite_syntax.proofs.Common.{◌∙◌, append_assoc, arith, Text}
 use Rattle.std.proofs.Common.{length-take, length-drop}
 
 pub slice_length : (xs : Text) (at end : ℕ) → end ≤ length xs

@@ -1,7 +1,7 @@
 use Rattle.regex_lite_syntax.proofs.Common.{◌≢◌, [], ◌++◌, drop, sym, refl, ap, subst, arith}
 use Rattle.regex_lite_syntax.proofs.Common.{both_ways, IfErr-weaker, IfOk-weaker, ClassElement}
-use Rattle.regex_lite_syntax.proofs.Common.{BeginsItem, ClassItem, one, some_of, look_at}
-use Rattle.regex_lite_syntax.proofs.Common.{element_set, RangeTo, ReachesTo, Set, Text, Begins, the}
+use Rattle.regex_lite_syntax.proofs.Common.{BeginsItem, ClassItem, one, element_set, RangeTo}
+use Rattle.regex_lite_syntax.proofs.Common.{ReachesTo, Set, Text, Begins, the}
 use Rattle.regex_lite_syntax.specs.Grammar.Escapes.{Primitive}
 use Rattle.regex_lite_syntax.specs.Parser.Readings.{primitive_of}
 use Rattle.regex_lite_syntax.specs.Parser.ClassReadings.{HasItems}
