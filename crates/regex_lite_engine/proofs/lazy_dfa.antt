@@ -6,6 +6,7 @@ pub mod KnownEndLemmas
 pub mod LeapLemmas
 pub mod LearnLemmas
 pub mod NoLookLemmas
+pub mod OnwardLemmas
 pub mod RememberedLemmas
 pub mod ResumeLemmas
 pub mod RunLemmas

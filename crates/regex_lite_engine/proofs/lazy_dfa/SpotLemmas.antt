@@ -1,11 +1,11 @@
 -- A search that goes by remembered turns, by offsets alone.
 use Rattle.regex_lite_engine.proofs.Common.{◌≡◌, ℕ, suc, ◌+◌, ◌^◌, ◌<◌, ◌≤◌, ◌⊎◌, List, [], length}
-use Rattle.regex_lite_engine.proofs.Common.{drop, IfSome, slice_get, Some, None, IsUtf8, Option}
-use Rattle.regex_lite_engine.proofs.Common.{chars, IsCharBoundary, sym, refl, ap, ◌∙◌, subst, inl}
-use Rattle.regex_lite_engine.proofs.Common.{inr, arith, len_utf8, Text, Automaton, threads_of}
-use Rattle.regex_lite_engine.proofs.Common.{best_left, class_of, side_of, best_told, IsIdleAt}
-use Rattle.regex_lite_engine.proofs.Common.{IsSince, IsScanning, IsComing, IsBestOutcomeOf}
-use Rattle.regex_lite_engine.proofs.Common.{IsOffset, position_at, IsHere, Standing, Origin, Here}
+use Rattle.regex_lite_engine.proofs.Common.{drop, slice_get, Some, None, IsUtf8, Option, chars}
+use Rattle.regex_lite_engine.proofs.Common.{IsCharBoundary, sym, refl, ap, ◌∙◌, subst, inl, inr}
+use Rattle.regex_lite_engine.proofs.Common.{arith, len_utf8, Text, Automaton, threads_of, best_left}
+use Rattle.regex_lite_engine.proofs.Common.{class_of, side_of, best_told, IsSince, IsScanning}
+use Rattle.regex_lite_engine.proofs.Common.{IsComing, IsBestOutcomeOf, IsOffset, position_at}
+use Rattle.regex_lite_engine.proofs.Common.{IsHere, Standing, Origin, Here}
 use Rattle.regex_lite_engine.specs.declared.lazy_dfa.spot.Spot.{Spot}
 use Rattle.regex_lite_engine.specs.declared.lazy_dfa.spot.Step.{Step}
 use Rattle.regex_lite_engine.specs.declared.lazy_dfa.spot.Step.TheVariants.{On, Over, Stuck}
@@ -85,31 +85,6 @@ unmoved spot turn state before after Stuck stuck elsewhere same = stuck
 
 module _ (table : List (Place ℕ)) (entries : List ℕ) (bs : List ℕ) (u : IsUtf8 bs)
     (fits : length bs + 1 < 2 ^ 64) (low : ℕ) where
-  -- where there was nothing to go on from is an offset of a character
-  pub since_edge : (p before first : ℕ) → IsSince table entries (chars bs) low p before first
-      → (first ≡ before) ⊎ IsCharBoundary bs first
-  since_edge p before first (inl e) = inl e
-  since_edge p before first (inr (here, at, idle)) =
-      let is = idle.is in
-      inr (boundary_at bs idle.r first u (is.inside, sym at ∙ is.bytes))
-
-  pub since_idle : (p before first : ℕ) → IsSince table entries (chars bs) low p before first
-      → (idle : Option Here) → IfSome idle (λ here. here.at ≡ first)
-      → IfSome idle (IsHere (chars bs) (position_at bs first))
-      → IfSome idle (λ _. first ≡ before → ⊥)
-      → IfSome idle (IsIdleAt table entries (chars bs) low p)
-  since_idle p before first since None at is other = tt
-  since_idle p before first (inl e) (Some x) at is other = absurd (other e)
-  since_idle p before first (inr (here, at', idle)) (Some x) at is other =
-      let own = idle.is in
-      record {
-        r = idle.r;
-        later = idle.later;
-        is = subst (λ z. IsHere (chars bs) z x)
-            (position_of bs u idle.r first (own.inside, sym at' ∙ own.bytes)) is;
-        coming = idle.coming;
-      }
-
   module _ (p : ℕ) (automaton : Automaton) (spot : Spot) (told : Standing)
       (is : IsSpotAt table entries (chars bs) low p automaton spot told) where
     own_offset : IsOffset (chars bs) p spot.at
@@ -240,20 +215,3 @@ module _ (table : List (Place ℕ)) (entries : List ℕ) (bs : List ℕ) (u : Is
             ap (λ (s : State). s.ways)
                 (same_some (sym led.is_state ∙ leads.is_to)) ∙ over.none,
           ))
-
-  -- a search has gone by offsets
-  pub ran : (p before : ℕ) (automaton : Automaton) (spot : Spot) (told at : Standing)
-      → (q : ℕ) × (p ≤ q) × IsSpotAt table entries (chars bs) low q automaton spot told
-      × IsSince table entries (chars bs) low p before told.first →
-      IsHere (chars bs) (position_at bs spot.at) at.here →
-      at ≡ record told { here = at.here; state = spot.state } →
-      (q : ℕ) × (p ≤ q) × IsScanning table entries (chars bs) low q automaton at
-      × IsSince table entries (chars bs) low p before at.first
-  ran p before automaton spot told at (q, le, is, since) here e = (
-    q,
-    le,
-    subst (IsScanning table entries (chars bs) low q automaton) (sym e)
-        (standing_there q automaton spot told is at.here here),
-    subst (IsSince table entries (chars bs) low p before) (sym (ap (λ (s : Standing). s.first) e))
-        since,
-  )

@@ -1,20 +1,12 @@
-use Rattle.regex_lite_engine.proofs.Common.{◌≡◌, ℕ, ◌-◌, ◌≤◌, length, None, chars, IsSince}
-use Rattle.regex_lite_engine.proofs.Common.{IsScanning}
+use Rattle.regex_lite_engine.proofs.Common.{◌≡◌, ◌-◌, length, None, chars}
+use Rattle.regex_lite_engine.proofs.lazy_dfa.OnwardLemmas.{GoesOn}
 use Rattle.regex_lite_engine.proofs.lazy_dfa.automaton.LazyDfa.scan_shortest.Given as goal
 
 abbrev pub invariant-positions : goal.invariant-positions
 invariant-positions g l = record {
   none : l.at.best ≡ None;
-  on : (low p : ℕ)
-      → IsScanning (g.P.Patterns.table l.patterns) (g.P.Patterns.entries l.patterns) (chars
-      l.haystack) low p l.self
-      l.fn.from
-      → (q : ℕ) × (p ≤ q)
-      × IsScanning (g.P.Patterns.table l.patterns) (g.P.Patterns.entries l.patterns) (chars
-      l.haystack) low q l.self l.at
-      × IsSince (g.P.Patterns.table l.patterns) (g.P.Patterns.entries l.patterns) (chars l.haystack)
-      low p l.fn.from.first
-      l.at.first;
+  on : GoesOn (g.P.Patterns.table l.patterns) (g.P.Patterns.entries l.patterns)
+      (chars l.haystack) l.self l.fn.from l.at;
 }
 
 abbrev pub decreases-positions : goal.decreases-positions
