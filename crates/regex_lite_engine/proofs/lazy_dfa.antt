@@ -12,6 +12,7 @@ pub mod ResumeLemmas
 pub mod RunLemmas
 pub mod ScanLemmas
 pub mod SpotLemmas
+pub mod StandsLemmas
 pub mod StoredChangeLemmas
 pub mod StoredStateLemmas
 pub mod AlikeLemmas
