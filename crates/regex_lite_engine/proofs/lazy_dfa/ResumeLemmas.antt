@@ -5,17 +5,17 @@ use Rattle.regex_lite_engine.proofs.Common.{slice_get, Some, None, All, Option, 
 use Rattle.regex_lite_engine.proofs.Common.{subst, inl, inr, true≢false, arith, nat_tests}
 use Rattle.regex_lite_engine.proofs.Common.{length-map, Text, reading_of, Way, Automaton, told_by}
 use Rattle.regex_lite_engine.proofs.Common.{threads_of, ways_of, Suits, FitsTable, IsFirstStart}
-use Rattle.regex_lite_engine.proofs.Common.{IsIn, IsOnItsWay, best_told, IsIdleAt, IsScanning}
-use Rattle.regex_lite_engine.proofs.Common.{way_in, Thread, thread_at, ThreadsBelow, IsBetween}
-use Rattle.regex_lite_engine.proofs.Common.{best_of, IsComing, WayTold, ThreadsHold, Told}
-use Rattle.regex_lite_engine.proofs.Common.{StepCounts, Best, Node, Offer, offset, Row, IsHere}
-use Rattle.regex_lite_engine.proofs.Common.{Standing, StoredWay, Origin, Cache, Here}
+use Rattle.regex_lite_engine.proofs.Common.{IsIn, IsOnItsWay, MatchOption, Stands, best_told}
+use Rattle.regex_lite_engine.proofs.Common.{IsIdleAt, IsScanning, way_in, Thread, thread_at}
+use Rattle.regex_lite_engine.proofs.Common.{ThreadsBelow, IsBetween, best_of, IsComing, WayTold}
+use Rattle.regex_lite_engine.proofs.Common.{ThreadsHold, Told, StepCounts, Best, Node, Offer}
+use Rattle.regex_lite_engine.proofs.Common.{offset, Row, Standing, StoredWay, Cache}
+use Rattle.regex_lite_engine.proofs.Common.{Here}
 use Rattle.regex_lite_engine.specs.Graph.Places.{Place}
-use Rattle.regex_lite_engine.specs.LazyDfa.Automaton.{began}
-use Rattle.regex_lite_engine.specs.LazyDfa.Automaton.{origin_of, told_if}
+use Rattle.regex_lite_engine.specs.LazyDfa.Automaton.{began, IsEmptyState, origin_of, told_if}
 use Rattle.regex_lite_engine.specs.LazyDfa.Running.{GoesOnWith, thread_from}
 use Rattle.regex_lite_engine.specs.Search.Beginnings.{IsTold}
-use Rattle.regex_lite_engine.proofs.lazy_dfa.RunLemmas.{moved_on}
+use Rattle.regex_lite_engine.proofs.lazy_dfa.RunLemmas.{maybe_in_empty, moved_on, own_first}
 use Rattle.regex_lite_engine.proofs.OptionLemmas.{not_there}
 use Rattle.regex_lite_engine.proofs.count.ReadingCountLemmas.{reads_within}
 
@@ -74,36 +74,6 @@ module _ (first : ℕ) where
       best_holds = u.best_holds;
       from_is = u.from_is;
     }
-
--- a search whose state is known may go by remembered turns
-pub scanning_from : (table : List (Place ℕ)) (h : Text) (entries : List ℕ) (s p : ℕ) {S : Type 0}
-    (automaton : Automaton) (x first : ℕ) (here : Here) (cache : Cache S) (best : Option (Origin ×
-    ℕ))
-    → IsHere h p here →
-    IsOnItsWay table h entries s p cache → IsIn automaton x first here.before cache
-    → IsFirstStart first here.at cache.walk.memory.threads → best_of cache.best ≡ best_told best →
-    IsScanning table entries h s p automaton
-    (record { here = here; state = x; first = first; best = best })
-scanning_from table h entries s p automaton x first here cache best is on is_in own same = record {
-  state = is_in.state;
-  is_state = is_in.is_state;
-  is = is;
-  later = on.low;
-  own = λ none. first_of cache.walk.memory.threads own (is_in.ways ∙ none);
-  suits = subst (Suits is_in.state.searching) same is_in.suits;
-  sees = is_in.sees;
-  coming =
-      subst (λ ways.
-      IsComing table h entries s (length h) p (threads_of first ways) (best_told best)) is_in.ways
-      (coming_less first table h entries s (length h) p cache.walk.memory.threads (best_told best)
-      (subst (λ b. IsComing table h entries s (length h) p cache.walk.memory.threads b) same
-      on.coming));
-}
-  where
-    first_of : (ts : List Thread) → IsFirstStart first here.at ts → ways_of first ts ≡ []
-        → first ≡ here.at
-    first_of [] own none = own
-    first_of (t ∷ ts) own none = absurd cc
 
 -- the threads of ways that all began at the first start
 module _ (first : ℕ) where
@@ -201,7 +171,7 @@ module _ (table : List (Place ℕ)) (h : Text) (entries : List ℕ) (s p : ℕ) 
         let w = ap (λ (xs : List Way). length xs) ways in let few = fits.few in
         omega (arith, same, n, m, w, few)
 
-    pub taken_up : IsOnItsWay table h entries s q new
+    taken_up : IsOnItsWay table h entries s q new
     taken_up =
         moved_on table h entries s p q old new on
         (between_again few_threads (subst (ThreadsBelow (length table)) (sym threads)
@@ -218,7 +188,7 @@ module _ (table : List (Place ℕ)) (h : Text) (entries : List ℕ) (s p : ℕ) 
         (subst (λ b. IsComing table h entries s (length h) q
         (threads_of stuck.first scanning.state.ways) (best_told b)) no_best scanning.coming)))))
 
-    pub is_in_stuck : IsIn automaton stuck.state stuck.first stuck.here.before new
+    is_in_stuck : IsIn automaton stuck.state stuck.first stuck.here.before new
     is_in_stuck = record {
       state = scanning.state;
       is_state = scanning.is_state;
@@ -228,7 +198,7 @@ module _ (table : List (Place ℕ)) (h : Text) (entries : List ℕ) (s p : ℕ) 
       sees = scanning.sees;
     }
 
-    pub first_stuck : (ws ≡ []) ⊎ (stuck.first < stuck.here.at)
+    first_stuck : (ws ≡ []) ⊎ (stuck.first < stuck.here.at)
         → (stuck.first ≤ stuck.here.at)
         × IsFirstStart stuck.first stuck.here.at new.walk.memory.threads
     first_stuck (inl empty) =
@@ -247,8 +217,24 @@ module _ (table : List (Place ℕ)) (h : Text) (entries : List ℕ) (s p : ℕ) 
         by_ways [] e = scanning.own (sym e)
         by_ways (v ∷ vs) e = λ f. omega (arith, f, below)
 
+    pub stands_stuck : (ws ≡ []) ⊎ (stuck.first < stuck.here.at) → (until : ℕ) →
+        Stands table h entries s automaton (record {
+          here = stuck.here;
+          state = Some stuck.state;
+          first = stuck.first;
+          until = until;
+        }) new
+    stands_stuck before until = let first = first_stuck before in record {
+      p = q;
+      is = scanning.is;
+      on = taken_up;
+      first = first.0;
+      own = first.1;
+      state = is_in_stuck;
+    }
+
   -- or from nothing
-  pub let_gone : (here : Here) (idle : IsIdleAt table entries h s p here) → p < idle.r
+  let_gone : (here : Here) (idle : IsIdleAt table entries h s p here) → p < idle.r
       → new.walk.memory.threads ≡ [] → IsOnItsWay table h entries s idle.r new
   let_gone here idle later threads =
       moved_on table h entries s p idle.r old new on
@@ -259,6 +245,20 @@ module _ (table : List (Place ℕ)) (h : Text) (entries : List ℕ) (s p : ℕ) 
       (subst (λ ts. IsComing table h entries s (length h) idle.r ts (best_of new.best))
       (sym threads)
       (subst (λ b. IsComing table h entries s (length h) idle.r [] b) (sym none) idle.coming))
+
+  pub stands_gone : (here : Here) (idle : IsIdleAt table entries h s p here) → p < idle.r
+      → new.walk.memory.threads ≡ [] → (state : Option ℕ)
+      → MatchOption state (Unit {0}) (λ y. IsEmptyState automaton y here.before) → (until : ℕ) →
+      Stands table h entries s automaton
+      (record { here = here; state = state; first = here.at; until = until }) new
+  stands_gone here idle later threads state empty until = record {
+    p = idle.r;
+    is = idle.is;
+    on = let_gone here idle later threads;
+    first = omega arith;
+    own = own_first here.at new.walk.memory.threads threads;
+    state = maybe_in_empty automaton state here.at here.before new empty threads none;
+  }
 
 pub none_by : {A : Type 0} (o : Option A) (told : Bool) → is_some o ≡ not told → told ≡ true
     → o ≡ None

@@ -1,5 +1,5 @@
 -- A search that goes on at the same position or at a later one.
-use Rattle.regex_lite_engine.proofs.Common.{◌≡◌, ℕ, zero, suc, ◌+◌, ◌-◌, ◌*◌, ◌^◌, ◌<◌, ◌≤◌, Bool}
+use Rattle.regex_lite_engine.proofs.Common.{◌≡◌, ℕ, zero, suc, ◌+◌, ◌-◌, ◌*◌, ◌^◌, ◌<◌, ◌≤◌}
 use Rattle.regex_lite_engine.proofs.Common.{true, ◌⊎◌, List, [], ◌∷◌, length, IfSome, Some, None}
 use Rattle.regex_lite_engine.proofs.Common.{Option, MatchOption, option_map, sym, refl, ap, ◌∙◌}
 use Rattle.regex_lite_engine.proofs.Common.{subst, inl, inr, arith, mul-le-mul_left, mul-suc}
@@ -9,12 +9,9 @@ use Rattle.regex_lite_engine.proofs.Common.{IsFirstStart, IsIn, IsOnItsWay, Thre
 use Rattle.regex_lite_engine.proofs.Common.{best_of, IsComing, StepCounts, IsBoundedBy, IsEntry}
 use Rattle.regex_lite_engine.proofs.Common.{Best, best_kept, offset, Row, IsHere, AreDeadAt}
 use Rattle.regex_lite_engine.proofs.Common.{IsAmong, AreStartsAt, PassesTo, Origin, Cache, Here}
-use Rattle.regex_lite_engine.proofs.Common.{Start}
 use Rattle.regex_lite_engine.specs.Graph.Places.{Place}
 use Rattle.regex_lite_engine.specs.LazyDfa.Automaton.{IsEmptyState}
-use Rattle.regex_lite_engine.specs.LazyDfa.Learning.{HasTurned}
-use Rattle.regex_lite_engine.specs.LazyDfa.Running.{started_at}
-use Rattle.regex_lite_engine.specs.Pikevm.Searching.{IsFresh, IsHit, TurnsAgain}
+use Rattle.regex_lite_engine.specs.Pikevm.Searching.{IsFresh}
 use Rattle.regex_lite_engine.specs.Search.Starts.{AreAllStarts}
 use Rattle.regex_lite_engine.proofs.OffsetLemmas.{offset_less}
 use Rattle.regex_lite_engine.proofs.OptionLemmas.{not_there, same_some}
@@ -200,6 +197,11 @@ at_later h p q a b is js le = elim (cases_lt p q) [
       omega (arith, same, is.bytes, js.bytes))
 ]
 
+pub at_next : (h : Text) (p : ℕ) (a b : Here) → IsHere h p a → IsHere h (p + 1) b → a.at < b.at
+at_next h p a b is next =
+    let less = offset_less h p (p + 1) (omega arith) next.inside in
+    omega (arith, less, is.bytes, next.bytes)
+
 -- the same offset is the same position
 pub other_at : (h : Text) (p q : ℕ) (a b : Here) → IsHere h p a → IsHere h q b → p ≤ q
     → (b.at ≡ a.at → ⊥) → p < q
@@ -224,33 +226,6 @@ begun_on table h entries s cache fresh width =
       entries_left = u.entries;
       rounds = u.rounds;
       width = width;
-    }
-
--- a turn was taken from the state, if that was known
-pub turned_from : (table : List (Place ℕ)) (entries : List ℕ) (starts : List Start)
-    (automaton : Automaton) (state : Option ℕ) (first : ℕ) (here : Here) (hit : Bool) {S : Type 0}
-    (before now : Cache S)
-    → AreAllStarts table entries starts
-    → MatchOption state (Unit {0}) (λ x. IsIn automaton x first here.before before) →
-    TurnsAgain table starts here (started_at here.at) before now hit
-    → IsHit hit (best_of before.best) (best_of now.best) →
-    IsFirstStart first here.at before.walk.memory.threads
-    → MatchOption state (Unit {0}) (λ x. HasTurned table entries automaton x first here hit now)
-turned_from table entries starts automaton None first here hit before now all known again is_hit
-    own =
-    tt
-turned_from table entries starts automaton (Some x) first here hit before now all known again is_hit
-    own =
-    record {
-      before = before;
-      starts = starts;
-      told = started_at here.at;
-      is_in = known;
-      again = again;
-      is_hit = is_hit;
-      tells = λ number. record { start_told = refl; number_told = refl };
-      is_first = own;
-      suffice = λ h p there is. all.at_each h p;
     }
 
 -- a match was not complete before a place was entered

@@ -1,19 +1,23 @@
 -- A search that stands at a position, and takes a turn from there.
-use Rattle.regex_lite_engine.proofs.Common.{◌≡◌, ℕ, ◌+◌, ◌≤◌, Bool, ◌⊎◌, List, length, Some, None}
-use Rattle.regex_lite_engine.proofs.Common.{Option, MatchOption, sym, ap, ◌∙◌, subst, arith}
+use Rattle.regex_lite_engine.proofs.Common.{[], ◌∷◌, refl, Suits, threads_of, ways_of, IsComing}
+use Rattle.regex_lite_engine.proofs.Common.{IsFirstStart, Thread, AreDeadAt, PassesTo, Here, ◌≡◌, ℕ}
+use Rattle.regex_lite_engine.proofs.Common.{◌+◌, ◌≤◌, Bool, ◌⊎◌, List, length, Some, None, Option}
+use Rattle.regex_lite_engine.proofs.Common.{MatchOption, sym, ap, ◌∙◌, subst, arith}
 use Rattle.regex_lite_engine.proofs.Common.{nil_from_length, Text, arrows_of, Automaton, IsIn}
 use Rattle.regex_lite_engine.proofs.Common.{IsOnItsWay, Stands, best_told, IsScanning, best_of}
 use Rattle.regex_lite_engine.proofs.Common.{IsBoundedBy, best_kept, IsBestOutcomeOf}
 use Rattle.regex_lite_engine.proofs.Common.{IsNumberedEndOf, Origin, Cache, Start}
 use Rattle.regex_lite_engine.specs.declared.lazy_dfa.run.Progress.{Progress}
 use Rattle.regex_lite_engine.specs.Graph.Places.{Place}
+use Rattle.regex_lite_engine.specs.LazyDfa.Automaton.{IsEmptyState}
 use Rattle.regex_lite_engine.specs.LazyDfa.Learning.{HasTurned}
 use Rattle.regex_lite_engine.specs.LazyDfa.Running.{started_at}
 use Rattle.regex_lite_engine.specs.Pikevm.Searching.{IsHit, TurnsAgain}
 use Rattle.regex_lite_engine.specs.Pikevm.Turns.{EndsAt}
 use Rattle.regex_lite_engine.specs.Search.Starts.{AreAllStarts}
-use Rattle.regex_lite_engine.proofs.lazy_dfa.ResumeLemmas.{scanning_from}
-use Rattle.regex_lite_engine.proofs.lazy_dfa.RunLemmas.{bounded_on, turned_from}
+use Rattle.regex_lite_engine.proofs.lazy_dfa.ResumeLemmas.{coming_less}
+use Rattle.regex_lite_engine.proofs.lazy_dfa.RunLemmas.{at_later, bounded_on, maybe_in_empty}
+use Rattle.regex_lite_engine.proofs.lazy_dfa.RunLemmas.{own_first, passed_over}
 use Rattle.regex_lite_engine.proofs.pikevm.EndLemmas.{ended_all}
 use Rattle.regex_lite_engine.proofs.pikevm.ShortestLemmas.{shortest_known}
 use Rattle.regex_lite_engine.proofs.search.here.HereLemmas.{over_at}
@@ -25,11 +29,33 @@ module _ {table : List (Place ℕ)} {h : Text} {entries : List ℕ} {s : ℕ} {a
   pub scanning_there : {x : ℕ} → at.state ≡ Some x → (best : Option (Origin × ℕ))
       → best_of cache.best ≡ best_told best → IsScanning table entries h s stands.p automaton
       (record { here = at.here; state = x; first = at.first; best = best })
-  scanning_there {x} known best same =
-      scanning_from table h entries s stands.p automaton x at.first at.here cache best stands.is
-      stands.on
-      (subst (λ o. MatchOption o (Unit {0}) (λ y. IsIn automaton y at.first at.here.before cache))
-      known stands.state) stands.own same
+  scanning_there {x} known best same = record {
+    state = is_in.state;
+    is_state = is_in.is_state;
+    is = stands.is;
+    later = stands.on.low;
+    own = λ none. first_of cache.walk.memory.threads stands.own (is_in.ways ∙ none);
+    suits = subst (Suits is_in.state.searching) same is_in.suits;
+    sees = is_in.sees;
+    coming =
+        subst (λ ways. IsComing table h entries s (length h) stands.p (threads_of at.first ways)
+        (best_told best)) is_in.ways
+        (coming_less at.first table h entries s (length h) stands.p cache.walk.memory.threads
+        (best_told best)
+        (subst (IsComing table h entries s (length h) stands.p cache.walk.memory.threads) same
+        stands.on.coming));
+  }
+    where
+      is_in : IsIn automaton x at.first at.here.before cache
+      is_in =
+          subst
+          (λ o. MatchOption o (Unit {0}) (λ y. IsIn automaton y at.first at.here.before cache))
+          known stands.state
+
+      first_of : (ts : List Thread) → IsFirstStart at.first at.here.at ts
+          → ways_of at.first ts ≡ [] → at.first ≡ at.here.at
+      first_of [] own none = own
+      first_of (t ∷ ts) own none = absurd cc
 
   -- no slots are kept
   pub told_there : (best : Option (Origin × ℕ))
@@ -50,6 +76,25 @@ module _ {table : List (Place ℕ)} {h : Text} {entries : List ℕ} {s : ℕ} {a
       let inside = stands.is.inside in
       bounded_on table h entries s stands.p now (omega (arith, low, inside)) (omega (arith, inside))
       (subst (IsOnItsWay table h entries s stands.p) (sym same) stands.on)
+
+  -- positions are passed over at which no match can begin
+  module _ {here : Here} (passes : PassesTo (AreDeadAt table h entries) h stands.p here) where
+    pub later_there : at.here.at ≤ here.at
+    later_there = at_later h stands.p passes.q at.here here stands.is passes.is passes.later
+
+    pub passed_there : cache.walk.memory.threads ≡ [] → best_of cache.best ≡ None
+        → (now : Automaton) (state : Option ℕ)
+        → MatchOption state (Unit {0}) (λ y. IsEmptyState now y here.before) → (until : ℕ) →
+        Stands table h entries s now
+        (record { here = here; state = state; first = here.at; until = until }) cache
+    passed_there none no_match now state empty until = record {
+      p = passes.q;
+      is = passes.is;
+      on = passed_over table h entries s stands.p cache here stands.on none no_match passes;
+      first = omega arith;
+      own = own_first here.at cache.walk.memory.threads none;
+      state = maybe_in_empty now state here.at here.before cache empty none no_match;
+    }
 
   -- after the turn
   module _ {new : Cache S} (on : IsOnItsWay table h entries s (stands.p + 1) new) where
@@ -90,6 +135,21 @@ module _ {table : List (Place ℕ)} {h : Text} {entries : List ℕ} {s : ℕ} {a
         → IsHit hit (best_of cache.best) (best_of new.best) →
         MatchOption at.state (Unit {0})
         (λ x. HasTurned table entries automaton x at.first at.here hit new)
-    turned_there {starts} hit all again is_hit =
-        turned_from table entries starts automaton at.state at.first at.here hit cache new all
-        stands.state again is_hit stands.own
+    turned_there {starts} hit all again is_hit = by_state at.state stands.state
+      where
+        by_state : (state : Option ℕ)
+            → MatchOption state (Unit {0}) (λ x. IsIn automaton x at.first at.here.before cache) →
+            MatchOption state (Unit {0})
+            (λ x. HasTurned table entries automaton x at.first at.here hit new)
+        by_state None known = tt
+        by_state (Some x) known = record {
+          before = cache;
+          starts = starts;
+          told = started_at at.here.at;
+          is_in = known;
+          again = again;
+          is_hit = is_hit;
+          tells = λ number. record { start_told = refl; number_told = refl };
+          is_first = stands.own;
+          suffice = λ h p there is. all.at_each h p;
+        }

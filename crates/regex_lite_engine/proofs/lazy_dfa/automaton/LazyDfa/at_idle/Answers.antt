@@ -1,7 +1,7 @@
 use Rattle.regex_lite_engine.proofs.Common.{◌≡◌, None, chars, sym, subst, arith, rules}
 use Rattle.regex_lite_engine.proofs.Common.{nil_from_length, IsFirstStart, best_of, IsHere}
-use Rattle.regex_lite_engine.proofs.lazy_dfa.RunLemmas.{at_later, maybe_in_empty}
-use Rattle.regex_lite_engine.proofs.lazy_dfa.RunLemmas.{own_first, passed_over}
+use Rattle.regex_lite_engine.proofs.lazy_dfa.RunLemmas.{maybe_in_empty, own_first}
+use Rattle.regex_lite_engine.proofs.lazy_dfa.StandsLemmas.{later_there, passed_there}
 use Rattle.regex_lite_engine.proofs.lazy_dfa.automaton.LazyDfa.at_idle.Goals as goal
 
 pub returns-clause-remembers : goal.returns-clause-remembers
@@ -33,31 +33,14 @@ returns-in-Some-clause-stands g c = λ s stands.
 
 pub returns-clause-stands : goal.returns-clause-stands
 returns-clause-stands g c = λ s stands.
-    let a = c.args in
-    let passes = c.leave_idle-here.ensures stands.p stands.is in
     let few = c.if-threads-gt0.false in
     let same = c.threads.ensures.same in
-    let none = nil_from_length a.cache.now.walk.memory.threads (omega (arith, few, same)) in
-    let no_match : best_of a.cache.now.best ≡ None = search rules in
-    record {
-      p = passes.q;
-      is = passes.is;
-      on =
-          passed_over (g.P.Patterns.table c.args.patterns.now) (chars c.args.haystack.now)
-          (g.P.Patterns.entries c.args.patterns.now) s stands.p a.cache.now c.leave_idle-here.result
-          stands.on
-          none no_match passes;
-      first = omega arith;
-      own = own_first c.leave_idle-here.result.at a.cache.now.walk.memory.threads none;
-      state =
-          maybe_in_empty c.idle_state-state.new.self c.idle_state-state.result
-          c.leave_idle-here.result.at c.leave_idle-here.result.before a.cache.now
-          c.idle_state-state.ensures.state none no_match;
-    }
+    let none = nil_from_length c.args.cache.now.walk.memory.threads (omega (arith, few, same)) in
+    passed_there stands (c.leave_idle-here.ensures stands.p stands.is) none (search rules)
+    c.idle_state-state.new.self c.idle_state-state.result c.idle_state-state.ensures.state
+    c.args.at.until
 
 pub returns-clause-later : goal.returns-clause-later
 returns-clause-later g c =
     let stands = c.requires.stands.1 in
-    let passes = c.leave_idle-here.ensures stands.p stands.is in
-    at_later (chars c.args.haystack.now) stands.p passes.q c.args.at.here c.leave_idle-here.result
-    stands.is passes.is passes.later
+    later_there stands (c.leave_idle-here.ensures stands.p stands.is)

@@ -5,24 +5,18 @@ pub find_shortest_from-requires-clause-stands : goal.find_shortest_from-requires
 find_shortest_from-requires-clause-stands g c = (
   position_at c.args.haystack.now c.args.start,
   c.requires.counts,
-  c.begun-at.ensures (g.P.Patterns.table c.args.patterns.now) (g.P.Patterns.entries
-      c.args.patterns.now) c.args.self.now
-      c.args.cache.now c.requires.fresh c.requires.width,
+  c.begun-at.ensures _ _ c.args.self.now c.args.cache.now c.requires.fresh c.requires.width,
 )
 
 pub returns-clause-found : goal.returns-clause-found
 returns-clause-found g c =
     c.find_shortest_from.ensures.found (position_at c.args.haystack.now c.args.start)
-    (c.begun-at.ensures (g.P.Patterns.table c.args.patterns.now) (g.P.Patterns.entries
-    c.args.patterns.now) c.args.self.now
-    c.args.cache.now c.requires.fresh c.requires.width)
+    (c.begun-at.ensures _ _ c.args.self.now c.args.cache.now c.requires.fresh c.requires.width)
 
 pub returns-clause-bounded : goal.returns-clause-bounded
 returns-clause-bounded g c =
     c.find_shortest_from.ensures.bounded (position_at c.args.haystack.now c.args.start)
-    (c.begun-at.ensures (g.P.Patterns.table c.args.patterns.now) (g.P.Patterns.entries
-    c.args.patterns.now) c.args.self.now
-    c.args.cache.now c.requires.fresh c.requires.width)
+    (c.begun-at.ensures _ _ c.args.self.now c.args.cache.now c.requires.fresh c.requires.width)
 
 pub find_shortest_from-requires-clause-none : goal.find_shortest_from-requires-clause-none
 find_shortest_from-requires-clause-none g c = c.requires.fresh.none

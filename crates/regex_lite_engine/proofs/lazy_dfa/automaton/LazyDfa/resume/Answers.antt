@@ -1,9 +1,7 @@
 use Rattle.regex_lite_engine.proofs.Common.{length, IfSome, refl, ap, subst, arith, length-map}
 use Rattle.regex_lite_engine.proofs.Common.{IsIdleAt, way_in}
-use Rattle.regex_lite_engine.proofs.lazy_dfa.RunLemmas.{at_later, maybe_in_empty}
-use Rattle.regex_lite_engine.proofs.lazy_dfa.RunLemmas.{other_at, own_first}
-use Rattle.regex_lite_engine.proofs.lazy_dfa.ResumeLemmas.{first_stuck, is_in_stuck}
-use Rattle.regex_lite_engine.proofs.lazy_dfa.ResumeLemmas.{let_gone, none_by, taken_up}
+use Rattle.regex_lite_engine.proofs.lazy_dfa.RunLemmas.{at_later, other_at}
+use Rattle.regex_lite_engine.proofs.lazy_dfa.ResumeLemmas.{none_by, stands_gone, stands_stuck}
 use Rattle.regex_lite_engine.proofs.lazy_dfa.automaton.LazyDfa.resume.Goals as goal
 
 pub take_up_ways-requires-clause-few : goal.take_up_ways-requires-clause-few
@@ -21,36 +19,17 @@ returns-then-may_take_up-clause-stands g c = λ haystack s stands scanned.
     let q = scanned.0.0 in
     let scanning = scanned.0.2 in
     let stuck = c.args.stuck in
-    let new = c.take_up_ways.new.self in
-    let kept = c.take_up_ways.ensures.kept in
-    let none = c.take_up_ways.ensures.none in
-    let threads = c.take_up_ways.ensures.threads in
     let later = other_at haystack stands.p q c.args.at.now.here stuck.here stands.is scanning.is
     scanned.0.1 c.if-stuck-at.false in
     let ways = c.ways-ways.ensures scanning.state scanning.is_state in
-    let all = c.if-may_take_up.ensures.all refl in
     let fits = c.requires.remembers.fit stuck.state scanning.state scanning.is_state in
     let no_best = none_by stuck.best c.is_none.result c.is_none.ensures c.if-is_none.true in
-    let first = first_stuck (g.P.Patterns.table c.args.patterns.now) haystack (g.P.Patterns.entries
-    c.args.patterns.now) s
-    stands.p c.args.self.now c.args.cache.now new stands.on kept none q stuck scanning later
-    c.ways-ways.result.now ways all fits no_best threads (c.if-may_take_up.ensures.before refl) in
-    record {
-      p = q;
-      is = scanning.is;
-      on =
-          taken_up (g.P.Patterns.table c.args.patterns.now) haystack
-          (g.P.Patterns.entries c.args.patterns.now) s stands.p c.args.self.now c.args.cache.now new
-          stands.on
-          kept none q stuck scanning later c.ways-ways.result.now ways all fits no_best threads;
-      first = first.0;
-      own = first.1;
-      state =
-          is_in_stuck (g.P.Patterns.table c.args.patterns.now) haystack
-          (g.P.Patterns.entries c.args.patterns.now) s stands.p c.args.self.now c.args.cache.now new
-          stands.on
-          kept none q stuck scanning later c.ways-ways.result.now ways all fits no_best threads;
-    }
+    stands_stuck (g.P.Patterns.table c.args.patterns.now) haystack
+    (g.P.Patterns.entries c.args.patterns.now) s stands.p c.args.self.now c.args.cache.now
+    c.take_up_ways.new.self stands.on c.take_up_ways.ensures.kept c.take_up_ways.ensures.none q
+    stuck scanning later c.ways-ways.result.now ways (c.if-may_take_up.ensures.all refl) fits
+    no_best c.take_up_ways.ensures.threads (c.if-may_take_up.ensures.before refl)
+    c.args.at.now.until
 
 pub returns-then-may_take_up-clause-later : goal.returns-then-may_take_up-clause-later
 returns-then-may_take_up-clause-later g c =
@@ -63,7 +42,6 @@ returns-then-may_take_up-clause-later g c =
 pub returns-then-here-at-clause-stands : goal.returns-then-here-at-clause-stands
 returns-then-here-at-clause-stands g c = λ haystack s stands scanned.
     let here = c.in-Some.here in
-    let new = c.let_go.new.self in
     let idle = subst (λ o. IfSome o
     (IsIdleAt (g.P.Patterns.table c.args.patterns.now) (g.P.Patterns.entries c.args.patterns.now)
     haystack s stands.p))
@@ -72,17 +50,7 @@ returns-then-here-at-clause-stands g c = λ haystack s stands scanned.
     let later =
     other_at haystack stands.p idle.r c.args.at.now.here here stands.is idle.is idle.later
     (λ e. omega (arith, e, more)) in
-    record {
-      p = idle.r;
-      is = idle.is;
-      on =
-          let_gone (g.P.Patterns.table c.args.patterns.now) haystack
-          (g.P.Patterns.entries c.args.patterns.now) s stands.p c.args.self.now c.args.cache.now new
-          stands.on
-          c.let_go.ensures.kept c.let_go.ensures.none here idle later c.let_go.ensures.threads;
-      first = omega arith;
-      own = own_first here.at new.walk.memory.threads c.let_go.ensures.threads;
-      state =
-          maybe_in_empty c.args.self.now c.empty_state-at.result here.at here.before new
-          c.empty_state-at.ensures c.let_go.ensures.threads c.let_go.ensures.none;
-    }
+    stands_gone (g.P.Patterns.table c.args.patterns.now) haystack
+    (g.P.Patterns.entries c.args.patterns.now) s stands.p c.args.self.now c.args.cache.now
+    c.let_go.new.self stands.on c.let_go.ensures.kept c.let_go.ensures.none here idle later
+    c.let_go.ensures.threads c.empty_state-at.result c.empty_state-at.ensures _
