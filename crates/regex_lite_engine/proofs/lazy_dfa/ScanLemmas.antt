@@ -37,79 +37,79 @@ next_before h p here next is on = on.behind ∙ ap (before h) more ∙ sym is.ah
     more : p + 1 ≡ suc p
     more = omega arith
 
+-- the turn before this character leads to a state in which this match is known
+pub record TurnsTo (table : List (Place ℕ)) (entries : List ℕ) (automaton : Automaton) (x : ℕ)
+    (after : Option ℕ) (y : ℕ) (hit : Option KeptOrigin) : Type 0 where
+  pub class : ℕ
+  pub is_class : class_of automaton.intervals.boundaries after ≡ class
+  pub from : State
+  pub is_from : slice_get automaton.states x ≡ Some from
+  pub to : State
+  pub is_to : slice_get automaton.states y ≡ Some to
+  pub leads : LeadsOn table entries automaton.intervals from class to
+  pub is_hit : to.hit ≡ hit
+
 module _ (table : List (Place ℕ)) (entries : List ℕ) (h : Text) (low p : ℕ) (automaton : Automaton)
     (at : Standing) (scanning : IsScanning table entries h low p automaton at) where
-  pub led : (class y : ℕ) (to : State) → slice_get automaton.states y ≡ Some to
-      → LeadsOn table entries automaton.intervals scanning.state class to →
-      class_of automaton.intervals.boundaries at.here.after ≡ class → (best : Option (Origin × ℕ))
-      → best_told best ≡ best_left to.hit at.first at.here.at (best_told at.best) →
-      LedTo table entries h low p automaton at y best
-  led class y to to_at leads class_is best left = record {
-    state = to;
-    is_state = to_at;
-    suits =
-        subst (λ b. Suits b (best_told best)) (sym leads.searching)
-        (subst (Suits (searching_after to.hit scanning.state.searching)) (sym left)
-        (still_suits to.hit scanning.state.searching at.first at.here.at
-        (best_told at.best) scanning.suits));
-    sees = λ looks. leads.before looks at.here class_is;
-    coming =
-        subst (λ z. IsComing table h entries low (length h) (p + 1) (threads_of at.first to.ways) z)
-        (sym left)
-        (leads.on at.here (record { ahead = class_is; behind = scanning.sees }) at.first
-        scanning.own (best_told at.best) scanning.suits h p low
-        (length h) scanning.is scanning.later scanning.is.inside scanning.coming);
-  }
+  module _ {y : ℕ} {hit : Option KeptOrigin}
+      (turn : TurnsTo table entries automaton at.state at.here.after y hit) where
+    leads_here : LeadsOn table entries automaton.intervals scanning.state turn.class turn.to
+    leads_here =
+        subst (λ s. LeadsOn table entries automaton.intervals s turn.class turn.to)
+        (same_some (sym turn.is_from ∙ scanning.is_state)) turn.leads
 
-  -- the same, by what is stored
-  pub led_step : (class y : ℕ) (from to : State) → slice_get automaton.states at.state ≡ Some from
-      → slice_get automaton.states y ≡ Some to
-      → LeadsOn table entries automaton.intervals from class to →
-      class_of automaton.intervals.boundaries at.here.after ≡ class → (hit : Option KeptOrigin)
-      → to.hit ≡ hit → (best : Option (Origin × ℕ))
-      → best_told best ≡ best_left hit at.first at.here.at (best_told at.best) →
-      LedTo table entries h low p automaton at y best
-  led_step class y from to from_at to_at leads class_is hit is_hit best left =
-      led class y to to_at (subst (λ s. LeadsOn table entries automaton.intervals s class to)
-      (same_some (sym from_at ∙ scanning.is_state)) leads) class_is best
-      (left ∙ ap (λ z. best_left z at.first at.here.at (best_told at.best)) (sym is_hit))
+    coming_next : (best : Best) → Suits scanning.state.searching best →
+        IsComing table h entries low (length h) p (threads_of at.first scanning.state.ways) best →
+        IsComing table h entries low (length h) (p + 1) (threads_of at.first turn.to.ways)
+        (best_left hit at.first at.here.at best)
+    coming_next best suits coming =
+        subst (λ z. IsComing table h entries low (length h) (p + 1)
+        (threads_of at.first turn.to.ways) (best_left z at.first at.here.at best)) turn.is_hit
+        (leads_here.on at.here (record { ahead = turn.is_class; behind = scanning.sees }) at.first
+        scanning.own best suits h p low (length h) scanning.is scanning.later scanning.is.inside
+        coming)
 
-  -- a turn without a match before it ends the search where it completes one, or at the end
-  pub end_led : at.best ≡ None → (class y : ℕ) (from to : State)
-      → slice_get automaton.states at.state ≡ Some from
-      → LeadsOn table entries automaton.intervals from class to →
-      class_of automaton.intervals.boundaries at.here.after ≡ class → (hit : Option KeptOrigin)
-      → to.hit ≡ hit → ((p ≡ length h) ⊎ (best_left hit at.first at.here.at None ≡ None → ⊥)) →
-      IsNumberedEndOf table h entries low (best_left hit at.first at.here.at None)
-  end_led none class y from to from_at leads class_is hit is_hit over =
-      shortest_known table h entries low p at.here.at (threads_of at.first scanning.state.ways)
-      (threads_of at.first to.ways) None
-      (best_left hit at.first at.here.at None) scanning.later scanning.is.inside
-      refl scanning.is.bytes (ends hit) over before
-      (subst (λ z. IsComing table h entries low (length h) (p + 1) (threads_of at.first to.ways)
-      (best_left z at.first at.here.at None)) is_hit
-      (leads_here.on at.here
-      (record { ahead = class_is; behind = scanning.sees }) at.first scanning.own None suits h p low
-      (length h) scanning.is scanning.later scanning.is.inside before))
-    where
-      leads_here : LeadsOn table entries automaton.intervals scanning.state class to
-      leads_here =
-          subst (λ s. LeadsOn table entries automaton.intervals s class to)
-          (same_some (sym from_at ∙ scanning.is_state)) leads
+    pub led_step : (best : Option (Origin × ℕ))
+        → best_told best ≡ best_left hit at.first at.here.at (best_told at.best) →
+        LedTo table entries h low p automaton at y best
+    led_step best left = record {
+      state = turn.to;
+      is_state = turn.is_to;
+      suits =
+          subst (λ b. Suits b (best_told best))
+          (ap (λ hit. searching_after hit scanning.state.searching) (sym turn.is_hit)
+          ∙ sym leads_here.searching)
+          (subst (Suits (searching_after hit scanning.state.searching)) (sym left)
+          (still_suits hit scanning.state.searching at.first at.here.at (best_told at.best)
+          scanning.suits));
+      sees = λ looks. leads_here.before looks at.here turn.is_class;
+      coming =
+          subst
+          (IsComing table h entries low (length h) (p + 1) (threads_of at.first turn.to.ways))
+          (sym left) (coming_next (best_told at.best) scanning.suits scanning.coming);
+    }
 
-      before : IsComing table h entries low (length h) p
-          (threads_of at.first scanning.state.ways) None
-      before =
-          subst (λ b. IsComing table h entries low (length h) p
-          (threads_of at.first scanning.state.ways) (best_told b)) none scanning.coming
+    -- a turn without a match before it ends the search where it completes one, or at the end
+    pub end_led : at.best ≡ None
+        → ((p ≡ length h) ⊎ (best_left hit at.first at.here.at None ≡ None → ⊥)) →
+        IsNumberedEndOf table h entries low (best_left hit at.first at.here.at None)
+    end_led none over =
+        shortest_known table h entries low p at.here.at (threads_of at.first scanning.state.ways)
+        (threads_of at.first turn.to.ways) None (best_left hit at.first at.here.at None)
+        scanning.later scanning.is.inside refl scanning.is.bytes (ends hit) over before
+        (coming_next None (subst (λ b. Suits scanning.state.searching (best_told b)) none
+        scanning.suits) before)
+      where
+        before : IsComing table h entries low (length h) p
+            (threads_of at.first scanning.state.ways) None
+        before =
+            subst (λ b. IsComing table h entries low (length h) p
+            (threads_of at.first scanning.state.ways) (best_told b)) none scanning.coming
 
-      suits : Suits scanning.state.searching None
-      suits = subst (λ b. Suits scanning.state.searching (best_told b)) none scanning.suits
-
-      ends : (hit : Option KeptOrigin) → EndsAt at.here.at None (best_left hit at.first at.here.at
-          None)
-      ends None = inl refl
-      ends (Some origin) = inr (told_by at.first origin, [], refl)
+        ends : (hit : Option KeptOrigin)
+            → EndsAt at.here.at None (best_left hit at.first at.here.at None)
+        ends None = inl refl
+        ends (Some origin) = inr (told_by at.first origin, [], refl)
 
   module _ (y : ℕ) (best : Option (Origin × ℕ))
       (to : LedTo table entries h low p automaton at y best) where

@@ -130,16 +130,26 @@ module _ (table : List (Place ℕ)) (entries : List ℕ) (bs : List ℕ) (u : Is
           subst (λ z. z ≤ length bs)
           (ap (λ z. z + len_utf8 next_character) is.at ∙ sym leads.ahead.ends) edge.0
 
+      led_with : (best : Option (Origin × ℕ))
+          → best_told best ≡ best_left leads.to.hit told.first spot.at (best_told told.best) →
+          LedTo table entries (chars bs) low p automaton from turn.to best
+      led_with best left =
+          led_step table entries (chars bs) low p automaton from is.scanning (record {
+            class = leads.class;
+            is_class = ap (class_of automaton.intervals.boundaries) after_is ∙ leads.ahead.class;
+            from = leads.from;
+            is_from = leads.is_from;
+            to = leads.to;
+            is_to = leads.is_to;
+            leads = leads.leads;
+            is_hit = refl;
+          }) best
+          (left ∙ ap (λ z. best_left leads.to.hit told.first z (best_told told.best)) (sym is.at))
+
       module _ (after : Standing) (on : Spot)
           (taken : IsTaken spot turn leads.to told after on) where
         led : LedTo table entries (chars bs) low p automaton from turn.to after.best
-        led =
-            led_step table entries (chars bs) low p automaton from is.scanning leads.class turn.to
-            leads.from leads.to leads.is_from leads.is_to leads.leads
-            (ap (class_of automaton.intervals.boundaries) after_is ∙ leads.ahead.class)
-            leads.to.hit refl after.best
-            (taken.best
-            ∙ ap (λ z. best_left leads.to.hit told.first z (best_told told.best)) (sym is.at))
+        led = led_with after.best taken.best
 
         abbrev next : Here
         next = record {
@@ -202,13 +212,7 @@ module _ (table : List (Place ℕ)) (entries : List ℕ) (bs : List ℕ) (u : Is
       pub spot_over : (after : Standing) → EndsScan spot leads.to told after
           → IsBestOutcomeOf table (chars bs) entries low (best_told after.best)
       spot_over after over =
-          let led : LedTo table entries (chars bs) low p automaton from turn.to after.best =
-          led_step table entries (chars bs) low p automaton from is.scanning leads.class turn.to
-          leads.from leads.to leads.is_from leads.is_to leads.leads
-          (ap (class_of automaton.intervals.boundaries) after_is ∙ leads.ahead.class)
-          leads.to.hit refl after.best
-          (over.best
-          ∙ ap (λ z. best_left leads.to.hit told.first z (best_told told.best)) (sym is.at)) in
+          let led = led_with after.best over.best in
           scan_over table entries (chars bs) low p automaton from is.scanning turn.to after.best led
           (inr (
             over.some,

@@ -1,18 +1,19 @@
 -- The automaton that stored states, targets and ways stand for, and what is known of each state.
-use Rattle.regex_lite_engine.proofs.Common.{◌≡◌, ℕ, zero, suc, ◌+◌, ◌*◌, ◌<◌, ◌≤◌, List, []}
-use Rattle.regex_lite_engine.proofs.Common.{◌∷◌, map, length, take, drop, slice_get, slice_index}
+use Rattle.regex_lite_engine.proofs.Common.{◌≡◌, ℕ, zero, suc, ◌+◌, ◌*◌, ◌<◌, ◌≤◌, List, [], ◌∷◌}
+use Rattle.regex_lite_engine.proofs.Common.{map, length, take, drop, slice_get, slice_index}
 use Rattle.regex_lite_engine.proofs.Common.{slice_index_or, Option, Some, sym, refl, ap, ◌∙◌, subst}
 use Rattle.regex_lite_engine.proofs.Common.{arith, get_or-take, length-drop, length-map}
 use Rattle.regex_lite_engine.proofs.Common.{length-take-le, mul-le-mul_right, nil_from_length}
 use Rattle.regex_lite_engine.proofs.Common.{slice_get_within, get_or_from_slice_get, suc-mul}
 use Rattle.regex_lite_engine.proofs.Common.{Automaton, Intervals, LeadsOn, Remembers, StoredState}
 use Rattle.regex_lite_engine.proofs.Common.{StoredWay, classes_in, state_in, states_in, unknown}
-use Rattle.regex_lite_engine.proofs.Common.{Target, way_in}
+use Rattle.regex_lite_engine.proofs.Common.{Target, way_in, class_of, hit_in}
 use Rattle.std.proofs.lemmas.List.{get_or-drop, get_or-map}
 use Rattle.regex_lite_engine.specs.Graph.Places.{Place}
 use Rattle.regex_lite_engine.specs.LazyDfa.Automaton.{KeptOrigin, State}
 use Rattle.regex_lite_engine.specs.LazyDfa.Stored.{HasWays, LieWithin}
 use Rattle.regex_lite_engine.proofs.LookupLemmas.{there_is}
+use Rattle.regex_lite_engine.proofs.lazy_dfa.ScanLemmas.{TurnsTo}
 use Rattle.regex_lite_engine.proofs.OptionLemmas.{same_some}
 
 -- the targets of a state, one for each class
@@ -164,24 +165,45 @@ module _ (intervals : Intervals) (states : List StoredState) (targets : List Tar
       ∙ ap (λ s. Some (state_in ways (row (classes_in intervals) targets x) s)) (sym stored)
 
   -- a turn that is remembered leads on
-  pub known_turn : (table : List (Place ℕ)) (entries : List ℕ)
-      → Remembers table entries automaton → (x class y : ℕ) → x < length automaton.states
-      → class < classes_in intervals
-      → (y ≡ unknown → ⊥) × ((state : State) → slice_get automaton.states x ≡ Some state
-      → slice_index state.next class ≡ y) →
-      (from to : State) × (slice_get automaton.states x ≡ Some from)
-      × (slice_get automaton.states y ≡ Some to)
-      × LeadsOn table entries automaton.intervals from class to
-  known_turn table entries remembers x class y inside few known =
-      let from = there_is automaton.states x inside in
-      let same = known.1 from.0 from.1 in
-      let led = subst
-      (λ z. (to : State) × (slice_get automaton.states z ≡ Some to)
-      × LeadsOn table entries automaton.intervals from.0 class to)
-      same (remembers.leads x from.0 class from.1
-      (subst (λ (z : Automaton). class < classes_in z.intervals) view few)
-      (λ e. known.0 (sym same ∙ e))) in
-      (from.0, led.0, from.1, led.1, led.2)
+  module _ (table : List (Place ℕ)) (entries : List ℕ) (remembers : Remembers table entries
+      automaton) (x class y : ℕ) (inside : x < length automaton.states)
+      (few : class < classes_in intervals)
+      (known : (y ≡ unknown → ⊥) × ((state : State) → slice_get automaton.states x ≡ Some state
+      → slice_index state.next class ≡ y)) where
+    pub known_turn : (from to : State) × (slice_get automaton.states x ≡ Some from)
+        × (slice_get automaton.states y ≡ Some to)
+        × LeadsOn table entries automaton.intervals from class to
+    known_turn =
+        let from = there_is automaton.states x inside in
+        let same = known.1 from.0 from.1 in
+        let led = subst
+        (λ z. (to : State) × (slice_get automaton.states z ≡ Some to)
+        × LeadsOn table entries automaton.intervals from.0 class to)
+        same (remembers.leads x from.0 class from.1
+        (subst (λ (z : Automaton). class < classes_in z.intervals) view few)
+        (λ e. known.0 (sym same ∙ e))) in
+        (from.0, led.0, from.1, led.1, led.2)
+
+    pub turn_stored : y < length states
+    turn_stored =
+        let turn = known_turn in
+        stored_within y (slice_get_within automaton.states y turn.1 turn.3)
+
+    pub turn_led : (after : Option ℕ) → class ≡ class_of intervals.boundaries after
+        → (found : StoredState) → found ≡ slice_index_or states y found →
+        TurnsTo table entries automaton x after y (hit_in found.hit)
+    turn_led after same found stored = let turn = known_turn in record {
+      class = class;
+      is_class = sym (same ∙ ap (λ (z : Automaton). class_of z.intervals.boundaries after) view);
+      from = turn.0;
+      is_from = turn.2;
+      to = turn.1;
+      is_to = turn.3;
+      leads = turn.4;
+      is_hit =
+          ap (λ (s : State). s.hit) (same_some (sym turn.3
+          ∙ is_stored y found stored (slice_get_within automaton.states y turn.1 turn.3)));
+    }
 
   module _ (full : length targets ≡ length states * classes_in intervals) (x class : ℕ)
       (inside : x < length automaton.states) (few : class < classes_in automaton.intervals) where
