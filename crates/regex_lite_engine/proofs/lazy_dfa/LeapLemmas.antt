@@ -1,7 +1,7 @@
 -- A search that goes by remembered turns passes over positions in the same state.
-use Rattle.regex_lite_engine.proofs.Common.{◌≡◌, ℕ, Bool, true, false, List, [], slice_get, Some}
-use Rattle.regex_lite_engine.proofs.Common.{None, sym, refl, ap, subst, inr, Text, Automaton, Suits}
-use Rattle.regex_lite_engine.proofs.Common.{best_told, IsSince, IsScanning, Best, AreDeadAt}
+use Rattle.regex_lite_engine.proofs.Common.{◌≡◌, ℕ, ◌≤◌, Bool, true, false, List, [], slice_get}
+use Rattle.regex_lite_engine.proofs.Common.{Some, None, sym, refl, ap, subst, inr, Text, Automaton}
+use Rattle.regex_lite_engine.proofs.Common.{Suits, best_told, IsSince, IsScanning, Best, AreDeadAt}
 use Rattle.regex_lite_engine.proofs.Common.{PassesTo, Standing, Here}
 use Rattle.regex_lite_engine.specs.Graph.Places.{Place}
 use Rattle.regex_lite_engine.specs.LazyDfa.Automaton.{State}
@@ -22,21 +22,22 @@ module _ (table : List (Place ℕ)) (entries : List ℕ) (h : Text) (low p : ℕ
   idle = empty scanning.state scanning.is_state
 
   -- without looks it is in the same state there
-  pub leapt : automaton.intervals.looks ≡ false
-      → IsScanning table entries h low passes.q automaton
-      (record at { here = next; first = next.at })
-  leapt no_looks =
-      subst
-      (λ best. IsScanning table entries h low passes.q automaton
-      (record { here = next; state = at.state; first = next.at; best = best })) (sym none)
-      (skipped table entries h low p automaton at scanning next passes idle (ap best_told none)
-      at.state scanning.state scanning.is_state idle
-      (still_searching scanning.state.searching (best_told at.best) scanning.suits
-      (ap best_told none)) (λ looks. absurd cc))
-
-  pub leapt_since : IsSince table entries h low p at.first next.at
-  leapt_since = inr (
-    next,
-    refl,
-    is_idle table entries h low p automaton at scanning next passes idle (ap best_told none),
+  pub leapt : automaton.intervals.looks ≡ false → (q : ℕ) × (p ≤ q)
+      × IsScanning table entries h low q automaton (record at { here = next; first = next.at })
+      × IsSince table entries h low p at.first next.at
+  leapt no_looks = (
+    passes.q,
+    passes.later,
+    subst
+        (λ best. IsScanning table entries h low passes.q automaton
+        (record { here = next; state = at.state; first = next.at; best = best })) (sym none)
+        (skipped table entries h low p automaton at scanning next passes idle (ap best_told none)
+        at.state scanning.state scanning.is_state idle
+        (still_searching scanning.state.searching (best_told at.best) scanning.suits
+        (ap best_told none)) (λ looks. absurd cc)),
+    inr (
+      next,
+      refl,
+      is_idle table entries h low p automaton at scanning next passes idle (ap best_told none),
+    ),
   )

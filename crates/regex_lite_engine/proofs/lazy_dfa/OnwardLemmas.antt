@@ -15,7 +15,7 @@ use Rattle.regex_lite_engine.specs.LazyDfa.Stored.{known_hit}
 use Rattle.regex_lite_engine.proofs.OffsetLemmas.{boundary_at}
 use Rattle.regex_lite_engine.proofs.OptionLemmas.{same_some}
 use Rattle.regex_lite_engine.proofs.PositionLemmas.{position_of}
-use Rattle.regex_lite_engine.proofs.lazy_dfa.ScanLemmas.{scanned_on}
+use Rattle.regex_lite_engine.proofs.lazy_dfa.ScanLemmas.{IsFirstAfter, scanned_on}
 use Rattle.regex_lite_engine.proofs.lazy_dfa.SpotLemmas.{IsSpotAt, since_led, since_on, spot_edge}
 use Rattle.regex_lite_engine.proofs.lazy_dfa.SpotLemmas.{spot_of, spot_on, spot_over, spot_since}
 use Rattle.regex_lite_engine.proofs.lazy_dfa.SpotLemmas.{standing_there}
@@ -72,8 +72,8 @@ module _ {table : List (Place ℕ)} {entries : List ℕ} {h : Text} {automaton :
       → ((p : ℕ) → IsHere h p b.here → IsHere h (p + 1) next.here)
       → next ≡ record next { state = to; best = best }
       → ((state : State) → slice_get automaton.states to ≡ Some state
-      → ((state.ways ≡ []) × (next.first ≡ next.here.at))
-      ⊎ ((state.ways ≡ [] → ⊥) × (next.first ≡ b.first))) → GoesOn table entries h automaton a next
+      → IsFirstAfter state.ways next.here.at b.first next.first)
+      → GoesOn table entries h automaton a next
   then_turned {b = b} {next = next} {to = to} {best = best} there led none here same first =
       then_on there (λ low p scanning.
       let state = led low p scanning in

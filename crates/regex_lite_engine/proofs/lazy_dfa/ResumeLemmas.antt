@@ -1,16 +1,15 @@
 -- A search that is taken up where remembered turns end.
 use Rattle.regex_lite_engine.proofs.Common.{◌≡◌, ℕ, zero, suc, ◌<◌, ◌≤◌, Bool, true, false, not}
 use Rattle.regex_lite_engine.proofs.Common.{◌⊎◌, List, [], ◌∷◌, map, length, is_some, IsSome, ◌==◌}
-use Rattle.regex_lite_engine.proofs.Common.{slice_get, Some, None, All, Option, sym, refl, ap, ◌∙◌}
-use Rattle.regex_lite_engine.proofs.Common.{subst, inl, inr, true≢false, arith, nat_tests}
-use Rattle.regex_lite_engine.proofs.Common.{length-map, Text, reading_of, Way, Automaton, told_by}
-use Rattle.regex_lite_engine.proofs.Common.{threads_of, ways_of, Suits, FitsTable, IsFirstStart}
-use Rattle.regex_lite_engine.proofs.Common.{IsIn, IsOnItsWay, MatchOption, Stands, best_told}
+use Rattle.regex_lite_engine.proofs.Common.{slice_get, Some, None, All, Option, MatchOption, sym}
+use Rattle.regex_lite_engine.proofs.Common.{refl, ap, ◌∙◌, subst, inl, inr, true≢false, arith}
+use Rattle.regex_lite_engine.proofs.Common.{nat_tests, length-map, Text, reading_of, Way, Automaton}
+use Rattle.regex_lite_engine.proofs.Common.{told_by, threads_of, ways_of, Suits, FitsTable}
+use Rattle.regex_lite_engine.proofs.Common.{IsFirstStart, IsIn, IsOnItsWay, Stands, best_told}
 use Rattle.regex_lite_engine.proofs.Common.{IsIdleAt, IsScanning, way_in, Thread, thread_at}
 use Rattle.regex_lite_engine.proofs.Common.{ThreadsBelow, IsBetween, best_of, IsComing, WayTold}
 use Rattle.regex_lite_engine.proofs.Common.{ThreadsHold, Told, StepCounts, Best, Node, Offer}
-use Rattle.regex_lite_engine.proofs.Common.{offset, Row, Standing, StoredWay, Cache}
-use Rattle.regex_lite_engine.proofs.Common.{Here}
+use Rattle.regex_lite_engine.proofs.Common.{offset, Row, Standing, StoredWay, Cache, Here}
 use Rattle.regex_lite_engine.specs.Graph.Places.{Place}
 use Rattle.regex_lite_engine.specs.LazyDfa.Automaton.{began, IsEmptyState, origin_of, told_if}
 use Rattle.regex_lite_engine.specs.LazyDfa.Running.{GoesOnWith, thread_from}

@@ -1,10 +1,10 @@
 -- A search that goes on at the same position or at a later one.
-use Rattle.regex_lite_engine.proofs.Common.{◌≡◌, ℕ, zero, suc, ◌+◌, ◌-◌, ◌*◌, ◌^◌, ◌<◌, ◌≤◌}
-use Rattle.regex_lite_engine.proofs.Common.{true, ◌⊎◌, List, [], ◌∷◌, length, IfSome, Some, None}
-use Rattle.regex_lite_engine.proofs.Common.{Option, MatchOption, option_map, sym, refl, ap, ◌∙◌}
-use Rattle.regex_lite_engine.proofs.Common.{subst, inl, inr, arith, mul-le-mul_left, mul-suc}
-use Rattle.regex_lite_engine.proofs.Common.{cases_lt, length-map, Text, arrows_of, StoredGraph}
-use Rattle.regex_lite_engine.proofs.Common.{place_of, table_of, Automaton, ways_of, Suits, side_of}
+use Rattle.regex_lite_engine.proofs.Common.{◌≡◌, ℕ, zero, suc, ◌+◌, ◌-◌, ◌*◌, ◌^◌, ◌<◌, ◌≤◌, true}
+use Rattle.regex_lite_engine.proofs.Common.{◌⊎◌, List, [], ◌∷◌, length, IfSome, Some, None, Option}
+use Rattle.regex_lite_engine.proofs.Common.{MatchOption, option_map, sym, refl, ap, ◌∙◌, subst, inl}
+use Rattle.regex_lite_engine.proofs.Common.{inr, arith, mul-le-mul_left, mul-suc, cases_lt}
+use Rattle.regex_lite_engine.proofs.Common.{length-map, Text, arrows_of, StoredGraph, place_of}
+use Rattle.regex_lite_engine.proofs.Common.{table_of, Automaton, ways_of, Suits, side_of}
 use Rattle.regex_lite_engine.proofs.Common.{IsFirstStart, IsIn, IsOnItsWay, Thread, IsBetween}
 use Rattle.regex_lite_engine.proofs.Common.{best_of, IsComing, StepCounts, IsBoundedBy, IsEntry}
 use Rattle.regex_lite_engine.proofs.Common.{Best, best_kept, offset, Row, IsHere, AreDeadAt}

@@ -29,6 +29,11 @@ same_threads : (i j : ℕ) (ways : List Way) → (ways ≡ []) ⊎ (j ≡ i)
 same_threads i j ways (inl e) = ap (threads_of i) e ∙ sym (ap (threads_of j) e)
 same_threads i j ways (inr e) = ap (λ z. threads_of z ways) (sym e)
 
+-- the first start after a turn to these ways
+abbrev pub IsFirstAfter : List Way → (at before first : ℕ) → Type 0
+IsFirstAfter ways at before first =
+    ((ways ≡ []) × (first ≡ at)) ⊎ ((ways ≡ [] → ⊥) × (first ≡ before))
+
 -- the character before the next position
 pub next_before : (h : Text) (p : ℕ) (here next : Here) → IsHere h p here → IsHere h (p + 1) next
     → next.before ≡ here.after
@@ -114,8 +119,7 @@ module _ (table : List (Place ℕ)) (entries : List ℕ) (h : Text) (low p : ℕ
   module _ (y : ℕ) (best : Option (Origin × ℕ))
       (to : LedTo table entries h low p automaton at y best) where
     pub scanned_on : (next : Here) (first : ℕ) → IsHere h (p + 1) next
-        → ((to.state.ways ≡ []) × (first ≡ next.at))
-        ⊎ ((to.state.ways ≡ [] → ⊥) × (first ≡ at.first)) →
+        → IsFirstAfter to.state.ways next.at at.first first →
         IsScanning table entries h low (p + 1) automaton
         (record { here = next; state = y; first = first; best = best })
     scanned_on next first is told = let later = scanning.later in record {
@@ -131,14 +135,11 @@ module _ (table : List (Place ℕ)) (entries : List ℕ) (h : Text) (low p : ℕ
           (same_threads at.first first to.state.ways (firsts told)) to.coming;
     }
       where
-        own : ((to.state.ways ≡ []) × (first ≡ next.at))
-            ⊎ ((to.state.ways ≡ [] → ⊥) × (first ≡ at.first))
-            → to.state.ways ≡ [] → first ≡ next.at
+        own : IsFirstAfter to.state.ways next.at at.first first → to.state.ways ≡ [] → first ≡ next.at
         own (inl (none, e)) empty = e
         own (inr (some, e)) empty = absurd (some empty)
 
-        firsts : ((to.state.ways ≡ []) × (first ≡ next.at))
-            ⊎ ((to.state.ways ≡ [] → ⊥) × (first ≡ at.first))
+        firsts : IsFirstAfter to.state.ways next.at at.first first
             → (to.state.ways ≡ []) ⊎ (first ≡ at.first)
         firsts (inl (none, e)) = inl none
         firsts (inr (some, e)) = inr e

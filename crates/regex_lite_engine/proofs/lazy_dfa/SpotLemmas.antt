@@ -15,7 +15,8 @@ use Rattle.regex_lite_engine.specs.LazyDfa.Automaton.{State}
 use Rattle.regex_lite_engine.specs.LazyDfa.Scanning.{LedTo}
 use Rattle.regex_lite_engine.specs.LazyDfa.Spots.{EndsScan, IsTaken, IsTurn, Takes}
 use Rattle.regex_lite_engine.proofs.PositionLemmas.{position_of, after_at}
-use Rattle.regex_lite_engine.proofs.lazy_dfa.ScanLemmas.{led_step, scan_over, scanned_on}
+use Rattle.regex_lite_engine.proofs.lazy_dfa.ScanLemmas.{IsFirstAfter, led_step, scan_over}
+use Rattle.regex_lite_engine.proofs.lazy_dfa.ScanLemmas.{scanned_on}
 use Rattle.regex_lite_engine.proofs.OptionLemmas.{same_some}
 use Rattle.regex_lite_engine.proofs.OffsetLemmas.{boundary_at}
 use Rattle.regex_lite_engine.proofs.search.here.HereLemmas.{here_next, moved}
@@ -56,9 +57,8 @@ module _ (table : List (Place ℕ)) (entries : List ℕ) (h : Text) (low : ℕ) 
   pub since_led : (q : ℕ) (automaton : Automaton) (at : Standing) (to : ℕ)
       (best : Option (Origin × ℕ)) → (led : LedTo table entries h low q automaton at to best)
       → (next : Here) (first : ℕ) → IsHere h (q + 1) next → (led.state.ways ≡ [] → best ≡ None)
-      → ((led.state.ways ≡ []) × (first ≡ next.at))
-      ⊎ ((led.state.ways ≡ [] → ⊥) × (first ≡ at.first)) → IsSince table entries h low q at.first
-      first
+      → IsFirstAfter led.state.ways next.at at.first first
+      → IsSince table entries h low q at.first first
   since_led q automaton at to best led next first is over (inr (some, e)) = inl e
   since_led q automaton at to best led next first is over (inl (none, e)) = inr (
     next,
@@ -168,17 +168,14 @@ module _ (table : List (Place ℕ)) (entries : List ℕ) (bs : List ℕ) (u : Is
         same : leads.to ≡ led.state
         same = same_some (sym leads.is_to ∙ led.is_state)
 
-        first_is : ((led.state.ways ≡ []) × (after.first ≡ next.at))
-            ⊎ ((led.state.ways ≡ [] → ⊥) × (after.first ≡ told.first))
+        first_is : IsFirstAfter led.state.ways next.at told.first after.first
         first_is =
-            subst
-            (λ s. ((s.ways ≡ []) × (after.first ≡ on.at))
-            ⊎ ((s.ways ≡ [] → ⊥) × (after.first ≡ told.first))) same (by_ways taken.first)
+            subst (λ (s : State). IsFirstAfter s.ways on.at told.first after.first) same
+            (by_ways taken.first)
           where
             by_ways : ((leads.to.ways ≡ []) × (after.first ≡ on.at) × (after.best ≡ None))
                 ⊎ ((leads.to.ways ≡ [] → ⊥) × (after.first ≡ told.first))
-                → ((leads.to.ways ≡ []) × (after.first ≡ on.at))
-                ⊎ ((leads.to.ways ≡ [] → ⊥) × (after.first ≡ told.first))
+                → IsFirstAfter leads.to.ways on.at told.first after.first
             by_ways (inl (none, e, free)) = inl (none, e)
             by_ways (inr (some, e)) = inr (some, e)
 

@@ -1,12 +1,12 @@
 -- A search that stands at a position, and takes a turn from there.
-use Rattle.regex_lite_engine.proofs.Common.{[], ◌∷◌, refl, Suits, threads_of, ways_of, IsComing}
-use Rattle.regex_lite_engine.proofs.Common.{IsFirstStart, Thread, AreDeadAt, PassesTo, Here, ◌≡◌, ℕ}
-use Rattle.regex_lite_engine.proofs.Common.{◌+◌, ◌≤◌, Bool, ◌⊎◌, List, length, Some, None, Option}
-use Rattle.regex_lite_engine.proofs.Common.{MatchOption, sym, ap, ◌∙◌, subst, arith}
-use Rattle.regex_lite_engine.proofs.Common.{nil_from_length, Text, arrows_of, Automaton, IsIn}
-use Rattle.regex_lite_engine.proofs.Common.{IsOnItsWay, Stands, best_told, IsScanning, best_of}
-use Rattle.regex_lite_engine.proofs.Common.{IsBoundedBy, best_kept, IsBestOutcomeOf}
-use Rattle.regex_lite_engine.proofs.Common.{IsNumberedEndOf, Origin, Cache, Start}
+use Rattle.regex_lite_engine.proofs.Common.{◌≡◌, ℕ, ◌+◌, ◌≤◌, Bool, ◌⊎◌, List, [], ◌∷◌, length}
+use Rattle.regex_lite_engine.proofs.Common.{Some, None, Option, MatchOption, sym, refl, ap, ◌∙◌}
+use Rattle.regex_lite_engine.proofs.Common.{subst, arith, nil_from_length, Text, arrows_of}
+use Rattle.regex_lite_engine.proofs.Common.{Automaton, threads_of, ways_of, Suits, IsFirstStart}
+use Rattle.regex_lite_engine.proofs.Common.{IsIn, IsOnItsWay, Stands, best_told, IsScanning, Thread}
+use Rattle.regex_lite_engine.proofs.Common.{best_of, IsComing, IsBoundedBy, best_kept}
+use Rattle.regex_lite_engine.proofs.Common.{IsBestOutcomeOf, IsNumberedEndOf, AreDeadAt, PassesTo}
+use Rattle.regex_lite_engine.proofs.Common.{Origin, Cache, Here, Start}
 use Rattle.regex_lite_engine.specs.declared.lazy_dfa.run.Progress.{Progress}
 use Rattle.regex_lite_engine.specs.Graph.Places.{Place}
 use Rattle.regex_lite_engine.specs.LazyDfa.Automaton.{IsEmptyState}

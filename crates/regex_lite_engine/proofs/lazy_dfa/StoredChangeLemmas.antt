@@ -1,14 +1,13 @@
 -- How an automaton changes when a way, a state or a turn is stored, or pending ways are dropped.
-use Rattle.regex_lite_engine.proofs.Common.{◌≡◌, ℕ, zero, suc, ◌+◌, ◌-◌, ◌*◌, ◌<◌, ◌≤◌, List, []}
-use Rattle.regex_lite_engine.proofs.Common.{◌∷◌, ◌++◌, map, length, take, drop, replicate}
-use Rattle.regex_lite_engine.proofs.Common.{slice_get, slice_index, slice_set, Some, sym, refl}
-use Rattle.regex_lite_engine.proofs.Common.{ap, ◌∙◌, arith, drop-append-le, get_or-replicate}
-use Rattle.regex_lite_engine.proofs.Common.{length-drop, length-replicate, length-take-le}
-use Rattle.regex_lite_engine.proofs.Common.{map-append, map-set, nil_from_length, suc-mul}
-use Rattle.regex_lite_engine.proofs.Common.{take-append-drop, take-append-le, Automaton, Extends}
-use Rattle.regex_lite_engine.proofs.Common.{StoredState, StoredWay, classes_in, state_in, states_in}
-use Rattle.regex_lite_engine.proofs.Common.{Intervals, Option, None, Target, unknown}
-use Rattle.regex_lite_engine.proofs.Common.{Bool, Way, way_in}
+use Rattle.regex_lite_engine.proofs.Common.{◌≡◌, ℕ, zero, suc, ◌+◌, ◌-◌, ◌*◌, ◌<◌, ◌≤◌, Bool, List}
+use Rattle.regex_lite_engine.proofs.Common.{[], ◌∷◌, ◌++◌, map, length, take, drop, replicate}
+use Rattle.regex_lite_engine.proofs.Common.{slice_get, slice_index, slice_set, Some, None, Option}
+use Rattle.regex_lite_engine.proofs.Common.{sym, refl, ap, ◌∙◌, arith, length-drop, suc-mul}
+use Rattle.regex_lite_engine.proofs.Common.{drop-append-le, get_or-replicate, length-replicate}
+use Rattle.regex_lite_engine.proofs.Common.{length-take-le, map-append, map-set, nil_from_length}
+use Rattle.regex_lite_engine.proofs.Common.{take-append-drop, take-append-le, Way, Automaton}
+use Rattle.regex_lite_engine.proofs.Common.{unknown, Extends, Intervals, classes_in, way_in}
+use Rattle.regex_lite_engine.proofs.Common.{state_in, states_in, StoredState, StoredWay, Target}
 use Rattle.std.proofs.lemmas.List.{take_rest, drop-set-add, drop-set-lt, get_or-map, take-set-le}
 use Rattle.std.proofs.lemmas.List.Elements.{All-append, All-replicate}
 use Rattle.std.proofs.Math.Seq.{drop-length, take-length, take-set-lt}
@@ -131,13 +130,11 @@ module _ (intervals : Intervals) (states : List StoredState) (targets : List Tar
   abbrev now : List State
   now = states_in ways (classes_in intervals) targets states
 
-  pub seen_pushed : (way : StoredWay) (more : List StoredWay) → more ≡ ways ++ way ∷ [] →
-      seen intervals states targets used more ≡ record {
-        intervals = intervals;
-        states = states_in ways (classes_in intervals) targets states;
-        pending = map way_in (drop used ways) ++ way_in way ∷ [];
-      }
-  seen_pushed way more e =
+  pub seen_pushed : (automaton : Automaton) → seen intervals states targets used ways ≡ automaton
+      → (way : StoredWay) (more : List StoredWay) → more ≡ ways ++ way ∷ [] →
+      seen intervals states targets used more
+      ≡ record automaton { pending = automaton.pending ++ way_in way ∷ [] }
+  seen_pushed automaton view way more e =
       ap (seen intervals states targets used) e
       ∙ ap (λ ss. record {
         intervals = intervals;
@@ -146,6 +143,7 @@ module _ (intervals : Intervals) (states : List StoredState) (targets : List Tar
       }) (states_same states used ways (way ∷ []) (classes_in intervals) targets within fits)
       ∙ ap (λ more. record { intervals = intervals; states = now; pending = more })
       (pending_more used ways way fits)
+      ∙ ap (λ (z : Automaton). record z { pending = z.pending ++ way_in way ∷ [] }) view
 
   pub seen_cut : (less : List StoredWay) → less ≡ take used ways →
       seen intervals states targets used less ≡ record {
@@ -285,6 +283,13 @@ blank_row classes class blank none lt =
     get_or-map (λ (target : Target). target.state) (replicate classes blank) class blank 0
     (let n = length-replicate classes blank in omega (arith, n, lt))
     ∙ ap (λ (target : Target). target.state) (get_or-replicate classes class blank blank lt) ∙ none
+
+-- nothing else changes
+pub but_for_pending : (old new : Automaton) (pending : List Way)
+    → new ≡ record old { pending = pending } → new ≡ record old { pending = new.pending }
+but_for_pending old new pending same =
+    same
+    ∙ ap (λ ways. record old { pending = ways }) (sym (ap (λ (z : Automaton). z.pending) same))
 
 -- it extends what has the same states
 pub extends_same : (old new : Automaton) → new.intervals ≡ old.intervals

@@ -1,13 +1,14 @@
 -- The automaton that stored states, targets and ways stand for, and what is known of each state.
 use Rattle.regex_lite_engine.proofs.Common.{◌≡◌, ℕ, zero, suc, ◌+◌, ◌*◌, ◌<◌, ◌≤◌, List, [], ◌∷◌}
 use Rattle.regex_lite_engine.proofs.Common.{map, length, take, drop, slice_get, slice_index}
-use Rattle.regex_lite_engine.proofs.Common.{slice_index_or, Option, Some, sym, refl, ap, ◌∙◌, subst}
-use Rattle.regex_lite_engine.proofs.Common.{arith, get_or-take, length-drop, length-map}
-use Rattle.regex_lite_engine.proofs.Common.{length-take-le, mul-le-mul_right, nil_from_length}
-use Rattle.regex_lite_engine.proofs.Common.{slice_get_within, get_or_from_slice_get, suc-mul}
-use Rattle.regex_lite_engine.proofs.Common.{Automaton, Intervals, LeadsOn, Remembers, StoredState}
-use Rattle.regex_lite_engine.proofs.Common.{StoredWay, classes_in, state_in, states_in, unknown}
-use Rattle.regex_lite_engine.proofs.Common.{Target, way_in, class_of, hit_in}
+use Rattle.regex_lite_engine.proofs.Common.{slice_index_or, Some, Option, sym, refl, ap, ◌∙◌, subst}
+use Rattle.regex_lite_engine.proofs.Common.{arith, length-drop, mul-le-mul_right, suc-mul}
+use Rattle.regex_lite_engine.proofs.Common.{get_or-take, length-map, length-take-le}
+use Rattle.regex_lite_engine.proofs.Common.{nil_from_length, get_or_from_slice_get}
+use Rattle.regex_lite_engine.proofs.Common.{slice_get_within, Automaton, unknown, LeadsOn}
+use Rattle.regex_lite_engine.proofs.Common.{Remembers, Intervals, class_of, classes_in, way_in}
+use Rattle.regex_lite_engine.proofs.Common.{hit_in, state_in, states_in, StoredState, StoredWay}
+use Rattle.regex_lite_engine.proofs.Common.{Target}
 use Rattle.std.proofs.lemmas.List.{get_or-drop, get_or-map}
 use Rattle.regex_lite_engine.specs.Graph.Places.{Place}
 use Rattle.regex_lite_engine.specs.LazyDfa.Automaton.{KeptOrigin, State}

@@ -1,9 +1,9 @@
-use Rattle.regex_lite_engine.proofs.Common.{◌≡◌, ◌+◌, ◌-◌, ◌*◌, ◌<◌, ◌≤◌, suc, false, List, [], ◌∷◌}
-use Rattle.regex_lite_engine.proofs.Common.{◌++◌, length, map, drop, take, replicate, refl, ap, ◌∙◌}
-use Rattle.regex_lite_engine.proofs.Common.{sym, subst, arith, length-append, length-replicate}
-use Rattle.regex_lite_engine.proofs.Common.{rules, suc-mul, take-append-le, take_all, way_in}
-use Rattle.regex_lite_engine.proofs.Common.{Automaton, StoredState, Target, classes_in, hit_in}
-use Rattle.regex_lite_engine.proofs.Common.{unknown}
+use Rattle.regex_lite_engine.proofs.Common.{◌≡◌, suc, ◌+◌, ◌-◌, ◌*◌, ◌<◌, ◌≤◌, false, List, [], ◌∷◌}
+use Rattle.regex_lite_engine.proofs.Common.{◌++◌, map, length, take, drop, replicate, sym, refl, ap}
+use Rattle.regex_lite_engine.proofs.Common.{◌∙◌, subst, arith, length-append, rules, suc-mul}
+use Rattle.regex_lite_engine.proofs.Common.{length-replicate, take-append-le, take_all, Automaton}
+use Rattle.regex_lite_engine.proofs.Common.{unknown, classes_in, way_in, hit_in, StoredState}
+use Rattle.regex_lite_engine.proofs.Common.{Target}
 use Rattle.std.proofs.Math.Seq.{drop-length}
 use Rattle.std.specs.Vec.{vec_len}
 use Rattle.regex_lite_engine.specs.LazyDfa.Automaton.{State}
@@ -79,6 +79,16 @@ invariant_of-self-in-Ok-push c =
       v.6,
     )
 
+abbrev new_state : After-len-self-inside → State
+new_state c = record {
+  ways = c.args.self.now.pending;
+  searching = c.args.searching;
+  before = c.args.before;
+  hit = hit_in c.args.hit;
+  next = map (λ (target : Target). target.state)
+      (replicate (classes_in c.self.inside.classes) blank);
+}
+
 added : (c : After-len-self-inside) →
     c.resize.new.self.items
     ≡ c.self.inside.targets.items ++ replicate (classes_in c.self.inside.classes) blank →
@@ -86,14 +96,7 @@ added : (c : After-len-self-inside) →
     c.len-self-inside.result c.self.inside.ways.items
     ≡ record {
       intervals = c.args.self.now.intervals;
-      states = c.args.self.now.states ++ record {
-        ways = c.args.self.now.pending;
-        searching = c.args.searching;
-        before = c.args.before;
-        hit = hit_in c.args.hit;
-        next = map (λ (target : Target). target.state)
-            (replicate (classes_in c.self.inside.classes) blank);
-      } ∷ [];
+      states = c.args.self.now.states ++ new_state c ∷ [];
       pending = [];
     }
 added c all =
@@ -101,13 +104,6 @@ added c all =
     let v = c.self.invariant in
     let n = classes_in i.classes in
     let count : vec_len i.ways ≡ length i.ways.items = search rules in
-    let state : State = record {
-      ways = c.args.self.now.pending;
-      searching = c.args.searching;
-      before = c.args.before;
-      hit = hit_in c.args.hit;
-      next = map (λ (target : Target). target.state) (replicate n blank);
-    } in
     ap (λ k. seen i.classes c.push.new.self.items c.resize.new.self.items k i.ways.items)
     (c.len-self-inside.ensures ∙ count)
     ∙ seen_added i.classes i.states.items i.targets.items i.used i.ways.items v.0 v.1 _ refl
@@ -116,7 +112,7 @@ added c all =
     (length-replicate n blank)
     ∙ ap (λ (z : Automaton). record {
       intervals = z.intervals;
-      states = z.states ++ record state { ways = z.pending } ∷ [];
+      states = z.states ++ record (new_state c) { ways = z.pending } ∷ [];
       pending = [];
     }) c.self.view_is
 

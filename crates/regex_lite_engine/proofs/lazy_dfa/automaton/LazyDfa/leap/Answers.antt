@@ -1,5 +1,5 @@
 use Rattle.regex_lite_engine.proofs.Common.{◌≡◌, true, chars, rules, slice_get_within}
-use Rattle.regex_lite_engine.proofs.lazy_dfa.LeapLemmas.{leapt, leapt_since}
+use Rattle.regex_lite_engine.proofs.lazy_dfa.LeapLemmas.{leapt}
 use Rattle.regex_lite_engine.proofs.lazy_dfa.automaton.LazyDfa.leap.Goals as goal
 
 pub may_leap-requires : goal.may_leap-requires
@@ -12,18 +12,8 @@ pass_over-next-requires g c = let from = c.requires.scanning in (from.1, from.2.
 
 pub returns-clause-on : goal.returns-clause-on
 returns-clause-on g c = λ _ low p is.
-    let table = g.P.Patterns.table c.args.patterns.now in
-    let entries = g.P.Patterns.entries c.args.patterns.now in
-    let h = chars c.args.haystack.now in
-    let now = c.args.self.now in
-    let at = c.args.at.now in
     let may : c.may_leap.result ≡ true = search rules in
-    let empty = c.may_leap.ensures.empty may in
-    let none = c.may_leap.ensures.none may in
-    let next = c.pass_over-next.result in
-    let passes = c.pass_over-next.ensures p is.is in (
-      passes.q,
-      passes.later,
-      leapt table entries h low p now at is next passes empty none (c.may_leap.ensures.looks may),
-      leapt_since table entries h low p now at is next passes empty none,
-    )
+    leapt (g.P.Patterns.table c.args.patterns.now) (g.P.Patterns.entries c.args.patterns.now)
+    (chars c.args.haystack.now) low p c.args.self.now c.args.at.now is c.pass_over-next.result
+    (c.pass_over-next.ensures p is.is) (c.may_leap.ensures.empty may) (c.may_leap.ensures.none may)
+    (c.may_leap.ensures.looks may)

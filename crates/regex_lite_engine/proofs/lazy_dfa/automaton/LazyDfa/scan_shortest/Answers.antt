@@ -1,5 +1,5 @@
-use Rattle.regex_lite_engine.proofs.Common.{chars, refl, ap, ◌∙◌, subst, arith, slice_get_within, ℕ}
-use Rattle.regex_lite_engine.proofs.Common.{None, IsScanning, Standing}
+use Rattle.regex_lite_engine.proofs.Common.{ℕ, None, chars, refl, ap, ◌∙◌, subst, arith}
+use Rattle.regex_lite_engine.proofs.Common.{slice_get_within, IsScanning, Standing}
 use Rattle.regex_lite_engine.specs.LazyDfa.Scanning.{EndsOrLeads, LedTo}
 use Rattle.regex_lite_engine.proofs.lazy_dfa.OnwardLemmas.{GoesOn, idle_edge, state_there}
 use Rattle.regex_lite_engine.proofs.lazy_dfa.OnwardLemmas.{stays_there, stuck_there, then_on}

@@ -1,5 +1,6 @@
-use Rattle.regex_lite_engine.proofs.Common.{◌≡◌, ℕ, None, sym, ap, ◌∙◌, inr, rules, Text, best_left}
-use Rattle.regex_lite_engine.proofs.Common.{best_told, hit_in, IsNumberedEndOf, IsScanning, subst}
+use Rattle.regex_lite_engine.proofs.Common.{◌≡◌, ℕ, None, sym, ap, ◌∙◌, subst, inr, rules, Text}
+use Rattle.regex_lite_engine.proofs.Common.{best_left, best_told, IsScanning, hit_in}
+use Rattle.regex_lite_engine.proofs.Common.{IsNumberedEndOf}
 use Rattle.regex_lite_engine.specs.declared.lazy_dfa.state.Hit.{Hit}
 use Rattle.regex_lite_engine.specs.declared.lazy_dfa.state.Hit.TheVariants as stored
 use Rattle.regex_lite_engine.proofs.lazy_dfa.StoredStateLemmas.{turn_led, turn_stored}
