@@ -138,17 +138,19 @@ other_first first at (t ∷ ts) some other = other
 pub own_first : (at : ℕ) (threads : List Thread) → threads ≡ [] → IsFirstStart at at threads
 own_first at threads none = subst (IsFirstStart at at) (sym none) refl
 
--- a search without threads is in its state whatever the first start
-pub in_from : {S : Type 0} (automaton : Automaton) (y first first' : ℕ) (before before' : Option ℕ)
-    (cache : Cache S)
+-- a search without threads is in its state, if that is known, whatever the first start
+pub state_from : {S : Type 0} (automaton : Automaton) (state : Option ℕ) (first first' : ℕ)
+    (before before' : Option ℕ) (cache : Cache S)
     → before' ≡ before → (cache.walk.memory.threads ≡ []) ⊎ (first' ≡ first) →
-    IsIn automaton y first before cache → IsIn automaton y first' before' cache
-in_from automaton y first first' before before' cache e told is_in = record {
-  state = is_in.state;
-  is_state = is_in.is_state;
-  ways = same told ∙ is_in.ways;
-  suits = is_in.suits;
-  sees = λ looks. ap side_of e ∙ is_in.sees looks;
+    MatchOption state (Unit {0}) (λ y. IsIn automaton y first before cache)
+    → MatchOption state (Unit {0}) (λ y. IsIn automaton y first' before' cache)
+state_from automaton None first first' before before' cache e told known = tt
+state_from automaton (Some y) first first' before before' cache e told known = record {
+  state = known.state;
+  is_state = known.is_state;
+  ways = same told ∙ known.ways;
+  suits = known.suits;
+  sees = λ looks. ap side_of e ∙ known.sees looks;
 }
   where
     same : (cache.walk.memory.threads ≡ []) ⊎ (first' ≡ first)
@@ -156,36 +158,20 @@ in_from automaton y first first' before before' cache e told is_in = record {
     same (inl none) = ap (ways_of first') none ∙ sym (ap (ways_of first) none)
     same (inr f) = ap (λ z. ways_of z cache.walk.memory.threads) f
 
-pub state_from : {S : Type 0} (automaton : Automaton) (state : Option ℕ) (first first' : ℕ)
-    (before before' : Option ℕ) (cache : Cache S)
-    → before' ≡ before → (cache.walk.memory.threads ≡ []) ⊎ (first' ≡ first) →
-    MatchOption state (Unit {0}) (λ y. IsIn automaton y first before cache)
-    → MatchOption state (Unit {0}) (λ y. IsIn automaton y first' before' cache)
-state_from automaton None first first' before before' cache e told known = tt
-state_from automaton (Some y) first first' before before' cache e told known =
-    in_from automaton y first first' before before' cache e told known
-
--- a search that has nothing to go on from is in an empty state
-pub in_empty : {S : Type 0} (automaton : Automaton) (y first : ℕ) (before : Option ℕ)
-    (cache : Cache S)
-    → IsEmptyState automaton y before → cache.walk.memory.threads ≡ [] → best_of cache.best ≡ None
-    → IsIn automaton y first before cache
-in_empty automaton y first before cache empty none no_match = record {
-  state = empty.state;
-  is_state = empty.is_state;
-  ways = ap (ways_of first) none ∙ sym empty.none;
-  suits = subst (λ b. Suits b (best_of cache.best)) (sym empty.searching) no_match;
-  sees = λ looks. sym (empty.sees looks);
-}
-
+-- a search that has nothing to go on from is in an empty state, if that is known
 pub maybe_in_empty : {S : Type 0} (automaton : Automaton) (state : Option ℕ) (first : ℕ)
     (before : Option ℕ) (cache : Cache S)
     → MatchOption state (Unit {0}) (λ y. IsEmptyState automaton y before) →
     cache.walk.memory.threads ≡ [] → best_of cache.best ≡ None
     → MatchOption state (Unit {0}) (λ y. IsIn automaton y first before cache)
 maybe_in_empty automaton None first before cache empty none no_match = tt
-maybe_in_empty automaton (Some y) first before cache empty none no_match =
-    in_empty automaton y first before cache empty none no_match
+maybe_in_empty automaton (Some y) first before cache empty none no_match = record {
+  state = empty.state;
+  is_state = empty.is_state;
+  ways = ap (ways_of first) none ∙ sym empty.none;
+  suits = subst (λ b. Suits b (best_of cache.best)) (sym empty.searching) no_match;
+  sees = λ looks. sym (empty.sees looks);
+}
 
 -- later positions have higher offsets
 pub at_later : (h : Text) (p q : ℕ) (a b : Here) → IsHere h p a → IsHere h q b → p ≤ q → a.at ≤ b.at
