@@ -135,7 +135,8 @@ module _ (table : List (Place ℕ)) (entries : List ℕ) (h : Text) (low p : ℕ
           (same_threads at.first first to.state.ways (firsts told)) to.coming;
     }
       where
-        own : IsFirstAfter to.state.ways next.at at.first first → to.state.ways ≡ [] → first ≡ next.at
+        own : IsFirstAfter to.state.ways next.at at.first first
+            → to.state.ways ≡ [] → first ≡ next.at
         own (inl (none, e)) empty = e
         own (inr (some, e)) empty = absurd (some empty)
 

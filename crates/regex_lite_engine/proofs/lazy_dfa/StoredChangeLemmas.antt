@@ -284,13 +284,6 @@ blank_row classes class blank none lt =
     (let n = length-replicate classes blank in omega (arith, n, lt))
     ∙ ap (λ (target : Target). target.state) (get_or-replicate classes class blank blank lt) ∙ none
 
--- nothing else changes
-pub but_for_pending : (old new : Automaton) (pending : List Way)
-    → new ≡ record old { pending = pending } → new ≡ record old { pending = new.pending }
-but_for_pending old new pending same =
-    same
-    ∙ ap (λ ways. record old { pending = ways }) (sym (ap (λ (z : Automaton). z.pending) same))
-
 -- it extends what has the same states
 pub extends_same : (old new : Automaton) → new.intervals ≡ old.intervals
     → new.states ≡ old.states → Extends old new

@@ -1,5 +1,6 @@
-use Rattle.regex_lite_engine.proofs.Common.{sym, ap, ◌∙◌, true≢false, StoredWay}
-use Rattle.regex_lite_engine.proofs.lazy_dfa.StoredChangeLemmas.{but_for_pending, seen_pushed}
+use Rattle.regex_lite_engine.proofs.Common.{◌≡◌, List, sym, ap, ◌∙◌, true≢false, Way, Automaton}
+use Rattle.regex_lite_engine.proofs.Common.{StoredWay}
+use Rattle.regex_lite_engine.proofs.lazy_dfa.StoredChangeLemmas.{seen_pushed}
 use Rattle.regex_lite_engine.proofs.lazy_dfa.StoredStateLemmas.{seen}
 use Rattle.regex_lite_engine.proofs.lazy_dfa.automaton.LazyDfa.push_way.Goals as goal
 use Rattle.regex_lite_engine.proofs.lazy_dfa.automaton.LazyDfa.push_way.Goals.{in-Ok, in-Err}
@@ -15,6 +16,13 @@ returns-clause-pushed c = λ told.
           c.args.self.now c.self.view_is way c.push.new.self.items w.in-Ok.ensures.items
       | in-Err w ↦ absurd (true≢false (sym told ∙ w.result-is))
     ]
+
+-- nothing but the pending ways changes
+but_for_pending : (old new : Automaton) (pending : List Way)
+    → new ≡ record old { pending = pending } → new ≡ record old { pending = new.pending }
+but_for_pending old new pending same =
+    same
+    ∙ ap (λ ways. record old { pending = ways }) (sym (ap (λ (z : Automaton). z.pending) same))
 
 pub returns-clause-same : goal.returns-clause-same
 returns-clause-same c =
