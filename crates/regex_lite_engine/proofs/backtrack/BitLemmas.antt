@@ -123,7 +123,7 @@ pairs_of v words =
     record { entered = bits_of words v.count; places = v.places; first = v.first }
 
 -- what the fields say of one pair
-module _ (v : Inside) (pairs : Pairs) (same : pairs_of v (words_of v.words) ≡ pairs)
+module _ (v : Inside) {pairs : Pairs} (same : pairs_of v (words_of v.words) ≡ pairs)
     (place at : ℕ) where
   abbrev k : ℕ
   k = pair_number v.places v.first place at

@@ -21,43 +21,51 @@ use Rattle.regex_lite_engine.proofs.pikevm.WalkLemmas.{none_held}
 use Rattle.regex_lite_engine.proofs.OptionLemmas.{not_there, same_some}
 use Rattle.regex_lite_engine.proofs.pikevm.InStepNextLemmas as deep
 
-taken_in_text : (haystack : Text) (a : Condition) (i j : ℕ) → i ≤ length haystack
-    → taken haystack a i ≡ Some j
-    → j ≤ length haystack
-taken_in_text haystack free i j le e = let same : i ≡ j = same_some e in omega (arith, le, same)
-taken_in_text haystack (holding l) i j le e =
+-- an arrow leads to no earlier position, and to none after the haystack
+abbrev IsOnward : Text → (i j : ℕ) → Type 0
+IsOnward haystack i j = (i ≤ j) × (i ≤ length haystack → j ≤ length haystack)
+
+same_onward : (haystack : Text) {i j : ℕ} → i ≡ j → IsOnward haystack i j
+same_onward haystack same = (omega (arith, same), λ le. omega (arith, le, same))
+
+taken_onward : (haystack : Text) (a : Condition) (i j : ℕ) → taken haystack a i ≡ Some j
+    → IsOnward haystack i j
+taken_onward haystack free i j e = same_onward haystack (same_some e)
+taken_onward haystack (holding l) i j e =
     go (holds_between l (before haystack i) (after haystack i)) e
   where
-    go : (b : Bool) → (if b then Some i else None) ≡ Some j → j ≤ length haystack
-    go true e = let same : i ≡ j = same_some e in omega (arith, le, same)
+    go : (b : Bool) → (if b then Some i else None) ≡ Some j → IsOnward haystack i j
+    go true e = same_onward haystack (same_some e)
     go false e = absurd (not_there e)
-taken_in_text haystack (reading set) i j le e = go (after haystack i) refl e
+taken_onward haystack (reading set) i j e = go (after haystack i) refl e
   where
-    go : (o : Option ℕ) → after haystack i ≡ o → read_past set i o ≡ Some j → j ≤ length haystack
+    go : (o : Option ℕ) → after haystack i ≡ o → read_past set i o ≡ Some j
+        → IsOnward haystack i j
     go None at e = absurd (not_there e)
     go (Some c) at e = fits (set c) e
       where
-        fits : (b : Bool) → (if b then Some (suc i) else None) ≡ Some j → j ≤ length haystack
+        fits : (b : Bool) → (if b then Some (suc i) else None) ≡ Some j → IsOnward haystack i j
         fits true e =
-            let within = slice_get_within haystack i c at in let same : suc i ≡ j = same_some e in
-            omega (arith, within, same)
+            let within = slice_get_within haystack i c at in
+            let same : suc i ≡ j = same_some e in
+            (omega (arith, same), λ le. omega (arith, within, same))
         fits false e = absurd (not_there e)
 
-pub step_in_text : (haystack : Text) (x : Place ℕ) (i k : ℕ) (m : Node) → i ≤ length haystack
-    → step_from haystack x i k ≡ Some m → m.1 ≤ length haystack
-step_in_text haystack complete i k m le e = absurd (not_there e)
-step_in_text haystack (with_arrows arrows) i k m le e = go (slice_get arrows k) e
+pub step_onward : (haystack : Text) (x : Place ℕ) (i k : ℕ) (m : Node)
+    → step_from haystack x i k ≡ Some m → IsOnward haystack i m.1
+step_onward haystack complete i k m e = absurd (not_there e)
+step_onward haystack (with_arrows arrows) i k m e = go (slice_get arrows k) e
   where
-    go : (o : Option (Arrow ℕ)) → arrow_taken haystack i o ≡ Some m → m.1 ≤ length haystack
+    go : (o : Option (Arrow ℕ)) → arrow_taken haystack i o ≡ Some m → IsOnward haystack i m.1
     go None e = absurd (not_there e)
     go (Some a) e = by_end (taken haystack a.condition i) refl e
       where
         by_end : (o : Option ℕ) → taken haystack a.condition i ≡ o → arrived a.to o ≡ Some m
-            → m.1 ≤ length haystack
+            → IsOnward haystack i m.1
         by_end None t e = absurd (not_there e)
         by_end (Some j) t e =
-            let le' = taken_in_text haystack a.condition i j le t in
-            let same : j ≡ m.1 = ap (λ (z : Node). z.1) (same_some e) in omega (arith, le', same)
+            subst (IsOnward haystack i) (ap (λ (z : Node). z.1) (same_some e))
+            (taken_onward haystack a.condition i j t)
 
 module _ (table : List (Place ℕ)) (haystack : Text) (s : List ℕ) (first : ℕ) where
   nothing_beyond : (p from : ℕ) (recorded : Node → Option (List ℕ)) (coming : List (Offer Node))
@@ -77,8 +85,8 @@ module _ (table : List (Place ℕ)) (haystack : Text) (s : List ℕ) (first : �
           let same : o.0.1 ≡ i = ap (λ (z : Node). z.1) at' in omega (arith, high, past, pos, same)
       go (inr (m, v, k, r, hops, e)) pos =
           let below = before m v r in
-          let le =
-          step_in_text haystack (place_with table m.0) m.1 k o.0 (omega (arith, below, at)) hops in
+          let le = (step_onward haystack (place_with table m.0) m.1 k o.0 hops).1
+          (omega (arith, below, at)) in
           omega (arith, le, past, pos)
 
   explored : (q from : ℕ) (recorded : Node → Option (List ℕ)) (way : Option (List ℕ))

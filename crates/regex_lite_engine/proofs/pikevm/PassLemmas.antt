@@ -1,11 +1,11 @@
 -- What holds of a search between two positions, from its start to its end.
-use Rattle.regex_lite_engine.proofs.Common.{ℕ, ◌+◌, ◌-◌, ◌*◌, ◌≤◌, List, length, sym, ap, subst}
+use Rattle.regex_lite_engine.proofs.Common.{◌≡◌, ℕ, ◌+◌, ◌-◌, ◌*◌, ◌≤◌, List, length, sym, ap, subst}
 use Rattle.regex_lite_engine.proofs.Common.{inl, inr, arith, mul-le-mul_left, Text, row_of}
 use Rattle.regex_lite_engine.proofs.Common.{IsOwnPart, arrows_of, Thread, IsComing, IsBoundedBy}
 use Rattle.regex_lite_engine.proofs.Common.{Best, IsHere, Cache, Here}
 use Rattle.regex_lite_engine.specs.Graph.Places.{Place}
 use Rattle.regex_lite_engine.specs.Pikevm.Searching.{IsFresh}
-use Rattle.regex_lite_engine.specs.Pikevm.Passing.{GoesOnAt, IsUnderWay}
+use Rattle.regex_lite_engine.specs.Pikevm.Passing.{GoesOnAt, IsUnderWay, Passes}
 use Rattle.regex_lite_engine.proofs.pikevm.EndLemmas.{bound_more}
 use Rattle.regex_lite_engine.proofs.search.SkipLemmas.{bound_later}
 use Rattle.regex_lite_engine.proofs.pikevm.ComingLemmas.{jumped, none_coming}
@@ -42,46 +42,20 @@ module _ (table : List (Place ℕ)) (haystack : Text) (entries : List ℕ) (s : 
   bound_on a b p q m low later bound more =
       bound_more a b q s m (omega (arith, low, later)) (bound_later a p q s m later bound) more
 
-  within_haystack : (q : ℕ) → s ≤ q → q ≤ length haystack → q + 1 - s ≤ length haystack - s + 1
-  within_haystack q low high = omega (arith, low, high)
-
-  -- a search that has gone over a position of the haystack did no more than is allowed in the part
-  -- of the table that is its own
-  pub bounded_within : {S : Type 0} (q : ℕ) (cache : Cache S) → s ≤ q → q ≤ length haystack
-      → IsUnderWay table haystack entries s (q + 1) cache → (low len : ℕ)
-      → IsOwnPart table entries low len
-      → IsBoundedBy len (arrows_of (row_of table low len) + length entries) haystack s
+-- a search that has gone over a position of the haystack
+module _ {S : Type 0} {table : List (Place ℕ)} {haystack : Text} {entries : List ℕ} {s q : ℕ}
+    {cache : Cache S} (low : s ≤ q) (high : q ≤ length haystack)
+    (on : IsUnderWay table haystack entries s (q + 1) cache) where
+  bounded_by : (size ways : ℕ)
+      → cache.walk.steps.tried + length cache.walk.memory.threads ≤ ways * (q + 1 - s)
+      → cache.walk.steps.entered ≤ size * (q + 1 - s) → IsBoundedBy size ways haystack s
       cache.walk.steps.tried cache.walk.steps.entered cache.walk.steps.looked
-  bounded_within q cache first last on low len part =
-      let own = on.own low len part in
-      let tries = own.tries in
-      let all_entered = own.entries in
+  bounded_by size ways tries all_entered =
       let entered = on.ready.entered_tried in
       let looked = on.ready.looked_entered in
-      let most = within_haystack q first last in
-      let all_tries = mul-le-mul_left (arrows_of (row_of table low len) + length entries) most in
-      let all_entries = mul-le-mul_left len most in
-      record {
-        few_tried = omega (arith, tries, all_tries);
-        entered_tried = entered;
-        few_entered = omega (arith, all_entered, all_entries);
-        few_looked = omega (arith, looked);
-        none_beyond = λ lt. absurd (omega (arith, lt, first, last));
-      }
-
-  -- a search that has gone over a position of the haystack did no more than is allowed
-  pub bounded : {S : Type 0} (q : ℕ) (cache : Cache S) → s ≤ q → q ≤ length haystack
-      → IsUnderWay table haystack entries s (q + 1) cache
-      → IsBoundedBy (length table)
-      (arrows_of table + length entries) haystack s cache.walk.steps.tried
-      cache.walk.steps.entered cache.walk.steps.looked
-  bounded q cache low high on =
-      let tries = on.tries in
-      let all_entered = on.entries in
-      let entered = on.ready.entered_tried in
-      let looked = on.ready.looked_entered in
-      let all_tries = mul-le-mul_left (arrows_of table + length entries) (within q low high) in
-      let all_entries = mul-le-mul_left (length table) (within q low high) in
+      let most : q + 1 - s ≤ length haystack - s + 1 = omega (arith, low, high) in
+      let all_tries = mul-le-mul_left ways most in
+      let all_entries = mul-le-mul_left size most in
       record {
         few_tried = omega (arith, tries, all_tries);
         entered_tried = entered;
@@ -89,9 +63,27 @@ module _ (table : List (Place ℕ)) (haystack : Text) (entries : List ℕ) (s : 
         few_looked = omega (arith, looked);
         none_beyond = λ lt. absurd (omega (arith, lt, low, high));
       }
-    where
-      within : (q : ℕ) → s ≤ q → q ≤ length haystack → q + 1 - s ≤ length haystack - s + 1
-      within q low high = omega (arith, low, high)
+
+  -- it did no more than is allowed
+  pub bounded : IsBoundedBy (length table) (arrows_of table + length entries) haystack s
+      cache.walk.steps.tried cache.walk.steps.entered cache.walk.steps.looked
+  bounded = bounded_by (length table) (arrows_of table + length entries) on.tries on.entries
+
+  -- nor more than is allowed in the part of the table that is its own
+  pub bounded_within : (begin len : ℕ) → IsOwnPart table entries begin len
+      → IsBoundedBy len (arrows_of (row_of table begin len) + length entries) haystack s
+      cache.walk.steps.tried cache.walk.steps.entered cache.walk.steps.looked
+  bounded_within begin len part =
+      let own = on.own begin len part in
+      bounded_by len (arrows_of (row_of table begin len) + length entries) own.tries own.entries
+
+-- what it did is said of the same patterns
+pub passed_as : {S : Type 0} {table table' : List (Place ℕ)} {haystack : Text}
+    {entries entries' : List ℕ} {s p : ℕ} {before after : Cache S} {here : Here}
+    → table' ≡ table → entries' ≡ entries
+    → Passes table' haystack entries' s p before after here
+    → Passes table haystack entries s p before after here
+passed_as same_table same_entries passes = rw (same_table, same_entries) at passes
 
 -- where a search stands after the positions that it passes over
 pub record Onward (table : List (Place ℕ)) (haystack : Text) (s : List ℕ) (first last p : ℕ)

@@ -18,63 +18,23 @@ use Rattle.regex_lite_engine.specs.Pikevm.Turns.{EndsAt}
 use Rattle.regex_lite_engine.specs.Pikevm.Walking.{BestHolds}
 use Rattle.regex_lite_engine.proofs.laws.several.OverListLemmas.{differ}
 use Rattle.regex_lite_engine.proofs.laws.search.RecordedWayLemmas.{traced, recorded_once}
-use Rattle.regex_lite_engine.proofs.pikevm.EndLemmas.{step_in_text}
+use Rattle.regex_lite_engine.proofs.pikevm.EndLemmas.{step_onward}
 use Rattle.regex_lite_engine.proofs.search.OneStartLemmas.{only_entry}
 use Rattle.regex_lite_engine.proofs.search.OutcomeLemmas.{IsNumberedEnd}
 use Rattle.regex_lite_engine.proofs.OptionLemmas.{not_there, same_some}
 use Rattle.regex_lite_engine.proofs.PositionLemmas.{same_position}
 
--- no arrow leads back to an earlier position
-taken_on : (haystack : Text) (a : Condition) (i j : ℕ) → taken haystack a i ≡ Some j → i ≤ j
-taken_on haystack free i j e = let same : i ≡ j = same_some e in omega (arith, same)
-taken_on haystack (holding test) i j e =
-    by_test (holds_between test (before haystack i) (after haystack i)) e
-  where
-    by_test : (b : Bool) → (if b then Some i else None) ≡ Some j → i ≤ j
-    by_test true e = let same : i ≡ j = same_some e in omega (arith, same)
-    by_test false e = absurd (not_there e)
-taken_on haystack (reading set) i j e = by_next (after haystack i) e
-  where
-    by_next : (o : Option ℕ) → read_past set i o ≡ Some j → i ≤ j
-    by_next None e = absurd (not_there e)
-    by_next (Some c) e = by_test (set c) e
-      where
-        by_test : (b : Bool) → (if b then Some (suc i) else None) ≡ Some j → i ≤ j
-        by_test true e = let same : suc i ≡ j = same_some e in omega (arith, same)
-        by_test false e = absurd (not_there e)
-
-step_on : (haystack : Text) (place : Place ℕ) (i k : ℕ) (m : Node)
-    → step_from haystack place i k ≡ Some m → i ≤ m.1
-step_on haystack complete i k m e = absurd (not_there e)
-step_on haystack (with_arrows arrows) i k m e = by_arrow (slice_get arrows k) e
-  where
-    by_arrow : (o : Option (Arrow ℕ)) → arrow_taken haystack i o ≡ Some m → i ≤ m.1
-    by_arrow None e = absurd (not_there e)
-    by_arrow (Some a) e = by_end (taken haystack a.condition i) refl e
-      where
-        by_end : (o : Option ℕ) → taken haystack a.condition i ≡ o → arrived a.to o ≡ Some m
-            → i ≤ m.1
-        by_end None t e = absurd (not_there e)
-        by_end (Some j) t e =
-            let low = taken_on haystack a.condition i j t in
-            let same : j ≡ m.1 = ap (λ (z : Node). z.1) (same_some e) in
-            omega (arith, low, same)
-
 module _ (table : List (Place ℕ)) (haystack : Text) where
-  leads_on : (ks : List ℕ) (m n : Node) → Leads Node (numbered_step table haystack) m ks n
-      → m.1 ≤ n.1
-  leads_on [] m n e = let same : m.1 ≡ n.1 = ap (λ (z : Node). z.1) e in omega (arith, same)
-  leads_on (k ∷ ks) m n (l, s, along) =
-      let first = step_on haystack (place_with table m.0) m.1 k l s in
-      let rest = leads_on ks l n along in
-      omega (arith, first, rest)
-
-  leads_in_text : (ks : List ℕ) (m n : Node) → m.1 ≤ length haystack
-      → Leads Node (numbered_step table haystack) m ks n → n.1 ≤ length haystack
-  leads_in_text [] m n low e =
-      let same : m.1 ≡ n.1 = ap (λ (z : Node). z.1) e in omega (arith, low, same)
-  leads_in_text (k ∷ ks) m n low (l, s, along) =
-      leads_in_text ks l n (step_in_text haystack (place_with table m.0) m.1 k l low s) along
+  -- arrows lead to no earlier position, and to none after the haystack
+  leads_onward : (ks : List ℕ) (m n : Node) → Leads Node (numbered_step table haystack) m ks n
+      → (m.1 ≤ n.1) × (m.1 ≤ length haystack → n.1 ≤ length haystack)
+  leads_onward [] m n e =
+      let same : m.1 ≡ n.1 = ap (λ (z : Node). z.1) e in
+      (omega (arith, same), λ low. omega (arith, low, same))
+  leads_onward (k ∷ ks) m n (l, s, along) =
+      let first = step_onward haystack (place_with table m.0) m.1 k l s in
+      let rest = leads_onward ks l n along in
+      (omega (arith, first, rest), λ low. rest.1 (first.1 low))
 
   module _ (entries : List ℕ) (s : ℕ) where
     abbrev Answered : (Node → Option (List ℕ)) → Option (List ℕ) → Node → List ℕ → Type 0
@@ -111,7 +71,7 @@ module _ (table : List (Place ℕ)) (haystack : Text) where
           by_case on (inr (inr none)) = absurd none
           by_case on (inr (inl i)) =
               let at = u.now_stands l (v ++ k ∷ []) i in
-              let rest = leads_on ks l n along in
+              let rest = (leads_onward ks l n along).0 in
               omega (arith, at, rest)
 
       later_than_start : (i number entry : ℕ) (ks : List ℕ) (n : Node)
@@ -130,7 +90,7 @@ module _ (table : List (Place ℕ)) (haystack : Text) where
           by_case (inl (inr (inr none))) = absurd none
           by_case (inl (inr (inl i'))) =
               let at = u.now_stands (entry, i) (i ∷ (number ∷ [])) i' in
-              let rest = leads_on ks (entry, i) n along in
+              let rest = (leads_onward ks (entry, i) n along).0 in
               omega (arith, at, rest)
 
           by_from : (i < from) ⊎ (from ≤ i) → p ≤ n.1
@@ -138,7 +98,7 @@ module _ (table : List (Place ℕ)) (haystack : Text) where
               by_case (u.starts (i ∷ (number ∷ [])) (entry, i)
               (i, number, entry, low, high, is, refl, refl) less)
           by_from (inr le) =
-              let rest = leads_on ks (entry, i) n along in omega (arith, le, same, rest)
+              let rest = (leads_onward ks (entry, i) n along).0 in omega (arith, le, same, rest)
 
     -- then each match ends at the position or later
     ends_later : (p : ℕ) (threads : List Thread) → Coming p threads None → (i k : ℕ)
@@ -229,8 +189,8 @@ module _ (table : List (Place ℕ)) (haystack : Text) where
         by_best None e = λ i k way q j m. (
             let later = ends_later (p + 1) threads'
             (subst (λ z. Coming (p + 1) threads' z) e after) i k way q j m in
-            let inside = leads_in_text way (m.entry, i) (q, j) m.is_match.inside
-            m.is_match.leads.is_way.0 in
+            let inside = (leads_onward way (m.entry, i) (q, j) m.is_match.leads.is_way.0).1
+            m.is_match.inside in
             over known later inside)
           where
             over : {j : ℕ} → (p ≡ length haystack) ⊎ (best' ≡ None → ⊥) → p + 1 ≤ j
@@ -241,8 +201,8 @@ module _ (table : List (Place ℕ)) (haystack : Text) where
             let found = best_matches (p + 1) threads' b
             (subst (λ z. Coming (p + 1) threads' z) e after) in
             let m = found.is_match in
-            let inside = leads_in_text found.way (m.entry, found.start) (found.last, found.end)
-            m.is_match.inside m.is_match.leads.is_way.0 in
+            let inside = (leads_onward found.way (m.entry, found.start) (found.last, found.end)
+            m.is_match.leads.is_way.0).1 m.is_match.inside in
             let here : found.end ≡ p = same_position haystack found.end p inside high
             (sym found.ends_at ∙ ends_here ends ∙ is_at) in (
               found.end,

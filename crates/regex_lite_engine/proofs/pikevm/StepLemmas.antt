@@ -1,16 +1,19 @@
 -- From thread to thread of a position.
-use Rattle.regex_lite_engine.proofs.Common.{◌≡◌, ℕ, ◌+◌, ◌^◌, ◌<◌, Bool, List, [], ◌∷◌, ◌++◌}
-use Rattle.regex_lite_engine.proofs.Common.{length, if◌then◌else◌, Some, sym, refl, ap, subst}
-use Rattle.regex_lite_engine.proofs.Common.{arith, kept_back, kept_back_of, Thread, Between}
+use Rattle.regex_lite_engine.proofs.Common.{◌≡◌, ℕ, ◌+◌, ◌^◌, ◌<◌, ◌≤◌, Bool, false, List, [], ◌∷◌}
+use Rattle.regex_lite_engine.proofs.Common.{◌++◌, length, drop, if◌then◌else◌, Some, sym, refl, ap}
+use Rattle.regex_lite_engine.proofs.Common.{◌∙◌, subst, arith, kept_back, kept_back_of, AreAlike}
+use Rattle.regex_lite_engine.proofs.Common.{retold, all_retold, state_retold, KeepsPosition, Thread}
+use Rattle.regex_lite_engine.proofs.Common.{Between}
 use Rattle.regex_lite_engine.proofs.Common.{StepsTo, WayTold, ThreadsHold, InStep, SearchAt, Told}
 use Rattle.regex_lite_engine.proofs.Common.{untold, Best, Node, Offer, Here}
 use Rattle.regex_lite_engine.specs.declared.pikevm.walk.Walk.{Walk}
 use Rattle.regex_lite_engine.specs.Graph.Places.{Place}
 use Rattle.regex_lite_engine.specs.Pikevm.Machine.{explore, State}
 use Rattle.regex_lite_engine.specs.Pikevm.Room.{with_frames, HasRoom, Explores, IsFit, GoesOn}
-use Rattle.regex_lite_engine.specs.Pikevm.Room.{WalksTo, due_tries}
+use Rattle.regex_lite_engine.specs.Pikevm.Room.{WalksTo, due_tries, due_entries, explores}
 use Rattle.regex_lite_engine.specs.Pikevm.Walking.{IsWalking}
 use Rattle.regex_lite_engine.proofs.pikevm.RoomLemmas.{left_most}
+use Rattle.regex_lite_engine.proofs.pikevm.StateLemmas.{takes_up}
 use Rattle.regex_lite_engine.proofs.pikevm.WalkLemmas.{walk_framed}
 use Rattle.regex_lite_engine.proofs.pikevm.WentLemmas.{walk_is}
 
@@ -104,3 +107,58 @@ module _ (table : List (Place ℕ)) {S : Type 0} (w x : Walk S) (q : ℕ)
       → GoesOn table here i taken (with_frames y []) done
   goes_up here i y done explored =
       subst (λ (z : Walk S). GoesOn table here i z (with_frames y []) done) is_taken explored
+
+-- The first k of the ways were followed, up to a complete match of the last of them, which began
+-- at `start`, where one is done
+pub record HasFollowed {S : Type 0} (table : List (Place ℕ)) (here : Here) (ways : List Thread)
+    (best : Best) (first : Walk S) (start : Told) (walk : Walk S) (k : ℕ) (done : Bool)
+    : Type 0 where
+  pub steps :
+      StepsTo table here first.memory ways best walk.memory (if done then [] else drop k ways)
+      (if done then Some (start, here.at, walk.memory.row) else best)
+  pub again : (tell : Told → Told) (there : Here) (b : Best) → AreAlike table here there
+      → StepsTo table there (state_retold tell first.memory) (all_retold tell ways) b
+      (state_retold tell walk.memory) (if done then [] else all_retold tell (drop k ways))
+      (if done then Some (tell start, there.at, []) else b)
+  pub kept : KeepsPosition first.memory walk.memory
+  pub spent : due_tries table walk ≤ due_tries table first + k
+  pub spent_entries : due_entries table walk ≤ due_entries table first
+  pub empty : walk.memory.frames ≡ []
+
+-- the next of them is taken up and followed too
+pub follows_on : {S : Type 0} {table : List (Place ℕ)} {here : Here} {ways : List Thread}
+    {best : Best} {first w x y : Walk S} {before start : Told} {k q : ℕ} {done : Bool}
+    → HasFollowed table here ways best first before w k false
+    → drop k ways ≡ (q, start, x.memory.row) ∷ drop (k + 1) ways
+    → x.memory ≡ record w.memory { row = x.memory.row }
+    → length x.memory.row ≡ length w.memory.row → x.steps ≡ w.steps
+    → Explores table here start x y (explore q ∷ x.memory.frames) done
+    → y.memory.frames ≡ [] → KeepsPosition x.memory y.memory
+    → HasFollowed table here ways best first start y (k + 1) done
+follows_on {table = table} {here} {ways} {best} {w = w} {x} {y} {start = start} {k} {q} {done} v
+    next same width counts explored empty kept =
+    let em = takes_up w.memory x.memory same v.empty in
+    let on = goes_up table w x q em counts here start y done explored in
+    let left = drop (k + 1) ways in let thread : Thread = (q, start, x.memory.row) in
+    let idle : explores y.memory.frames ≡ 0 = ap (λ fs. explores fs) empty in
+    let spent = on.spent in let so_far = v.spent in
+    let entries = on.spent_entries in let entries_so_far = v.spent_entries in
+    record {
+      steps = λ at is u.
+          stepped table here w.memory y.memory thread left best done on.walks at is
+          (subst (λ (ts : List Thread). Between table at w.memory ts best) next (v.steps at is u));
+      again = λ tell there b alike at is u.
+          stepped table there (state_retold tell w.memory) (state_retold tell y.memory)
+          (retold tell thread) (all_retold tell left) b done (on.again tell there alike) at is
+          (subst (λ (ts : List Thread). Between table at (state_retold tell w.memory)
+          (all_retold tell ts) b) next (v.again tell there b alike at is u));
+      kept = record {
+        round = kept.round ∙ ap (λ (m : State). m.now) em ∙ v.kept.round;
+        threads = kept.threads ∙ ap (λ (m : State). m.threads) em ∙ v.kept.threads;
+        room = kept.room ∙ ap (λ (m : State). m.room) em ∙ v.kept.room;
+        row = kept.row ∙ width ∙ v.kept.row;
+      };
+      spent = omega (arith, spent, so_far, idle);
+      spent_entries = omega (arith, entries, entries_so_far);
+      empty = empty;
+    }

@@ -9,7 +9,7 @@ use Rattle.regex_lite_engine.specs.Graph.Places.{Place}
 use Rattle.regex_lite_engine.proofs.search.FirstByteLemmas.{ascii_there, begins_later, first_byte}
 use Rattle.regex_lite_engine.proofs.search.FirstByteLemmas.{inside, next_at}
 use Rattle.regex_lite_engine.proofs.LookupLemmas.{there_is}
-use Rattle.regex_lite_engine.proofs.OffsetLemmas.{offset_less, positions_order}
+use Rattle.regex_lite_engine.proofs.search.SkipLemmas.{passes_where}
 
 module _ (table : List (Place ℕ)) (entries : List ℕ) (heads : ListHeads)
     (w : AreListHeadsOf table entries heads) (bs : List ℕ) (u : IsUtf8 bs) where
@@ -60,37 +60,17 @@ module _ (table : List (Place ℕ)) (entries : List ℕ) (heads : ListHeads)
           (subst (λ k. slice_index bs k < 128) (sym later) second_in)
           ∙ ap (λ k. Some (slice_index bs k)) later
 
-  module _ (p q : ℕ) (x y : Here) (is : IsHere (chars bs) p x) (js : IsHere (chars bs) q y)
-      (le : x.at ≤ y.at) (most : y.at ≤ length bs)
-      (pass : (k : ℕ) → x.at ≤ k → k < y.at → IsPassedByAll heads bs k)
-      (start : p ≡ 0 → MayBegin heads.any (chars bs) 0 → ⊥) where
-    a : x.at ≡ offset (chars bs) p
-    a = is.bytes
-
-    b : y.at ≡ offset (chars bs) q
-    b = js.bytes
-
-    within : q ≤ length (chars bs)
-    within = js.inside
-
-    later : p ≤ q
-    later = positions_order (chars bs) p q is.inside (omega (arith, a, b, le))
-
-    dead : (i : ℕ) → p ≤ i → i < q → AreDeadAt table (chars bs) entries i
-    dead zero low high = w.any (chars bs) 0 (start (omega (arith, low)))
-    dead (suc i) low high =
-        let less = offset_less (chars bs) (suc i) q high within in
-        dead_later i (omega (arith, high, within)) (omega (arith, less, b, most))
-        (pass (offset (chars bs) (suc i)) (from (cases_lt p (suc i))) (omega (arith, less, b)))
-      where
-        from : (p < suc i) ⊎ (suc i ≤ p) → x.at ≤ offset (chars bs) (suc i)
-        from (inl lt) =
-            let more = offset_less (chars bs) p (suc i) lt (omega (arith, high, within)) in
-            omega (arith, a, more)
-        from (inr ge) =
-            let same : p ≡ suc i = omega (arith, ge, low) in
-            let equal = a ∙ ap (offset (chars bs)) same in
-            omega (arith, equal)
-
-    pub passes_to : PassesTo (AreDeadAt table (chars bs) entries) (chars bs) p y
-    passes_to = record { q = q; later = later; is = js; passed = dead }
+  pub passes_to : {p q : ℕ} {x y : Here} → IsHere (chars bs) p x → IsHere (chars bs) q y
+      → x.at ≤ y.at → y.at ≤ length bs
+      → ((k : ℕ) → x.at ≤ k → k < y.at → IsPassedByAll heads bs k)
+      → (p ≡ 0 → MayBegin heads.any (chars bs) 0 → ⊥)
+      → PassesTo (AreDeadAt table (chars bs) entries) (chars bs) p y
+  passes_to {p} is js le most pass start =
+      passes_where is js le (λ i low within from below. dead i low within
+      (pass (offset (chars bs) i) from below) (omega (arith, below, most)))
+    where
+      dead : (i : ℕ) → p ≤ i → i < length (chars bs)
+          → IsPassedByAll heads bs (offset (chars bs) i) → offset (chars bs) i < length bs
+          → AreDeadAt table (chars bs) entries i
+      dead zero low within off short = w.any (chars bs) 0 (start (omega (arith, low)))
+      dead (suc i) low within off short = dead_later i within short off

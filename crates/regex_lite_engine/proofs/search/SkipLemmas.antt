@@ -47,56 +47,58 @@ cut_off_here heads bs p x u is cut =
         let end = is.bytes ∙ ap (offset (chars bs)) last ∙ whole bs u in
         absurd (omega (arith, end, short heads.second cut))
 
-module _ (heads : Heads) (bs : List ℕ) (p q : ℕ) (x y : Here) (utf8 : IsUtf8 bs)
-    (is : IsHere (chars bs) p x) (js : IsHere (chars bs) q y)
-    (not_here : NeverBegins heads (chars bs) p) (le : x.at ≤ y.at) (most : y.at ≤ length bs)
-    (pass : (k : ℕ) → x.at ≤ k → k < y.at → IsPassed heads bs k) where
-  a : x.at ≡ offset (chars bs) p
-  a = is.bytes
+-- positions are passed where their offsets say so
+pub passes_where : {Passed : ℕ → Type 0} {h : Text} {p q : ℕ} {x y : Here} → IsHere h p x
+    → IsHere h q y → x.at ≤ y.at
+    → ((i : ℕ) → p ≤ i → i < length h → x.at ≤ offset h i → offset h i < y.at → Passed i)
+    → PassesTo Passed h p y
+passes_where {h = h} {p} {q} {x} is js le each = record {
+  q = q;
+  later = positions_order h p q is.inside (omega (arith, is.bytes, js.bytes, le));
+  is = js;
+  passed = λ i low high. (
+      let within : i < length h = omega (arith, high, js.inside) in
+      let less = offset_less h i q high js.inside in
+      each i low within (from i low within) (omega (arith, less, js.bytes)));
+}
+  where
+    from : (i : ℕ) → p ≤ i → i < length h → x.at ≤ offset h i
+    from i low within = elim (cases_lt p i) [
+      | inl lt ↦
+          let more = offset_less h p i lt (omega (arith, within)) in
+          omega (arith, is.bytes, more)
+      | inr ge ↦
+          let same : p ≡ i = omega (arith, ge, low) in
+          let equal = is.bytes ∙ ap (offset h) same in
+          omega (arith, equal)
+    ]
 
-  b : y.at ≡ offset (chars bs) q
-  b = js.bytes
+-- none begins where a search stands, nor at the offsets that it passes
+pub passes_between : (heads : Heads) (bs : List ℕ) {p q : ℕ} {x y : Here} → IsUtf8 bs
+    → IsHere (chars bs) p x → IsHere (chars bs) q y → NeverBegins heads (chars bs) p
+    → x.at ≤ y.at → y.at ≤ length bs
+    → ((k : ℕ) → x.at ≤ k → k < y.at → IsPassed heads bs k)
+    → PassesTo (NeverBegins heads (chars bs)) (chars bs) p y
+passes_between heads bs {p} {q} {x} {y} utf8 is js not_here le most pass =
+    passes_where is js le (λ i low within from below. by_order i (cases_eq i p) low within
+    (pass (offset (chars bs) i) from below) (omega (arith, below, most)))
+  where
+    passed : (i : ℕ) → suc i < length (chars bs) → offset (chars bs) (suc i) < length bs
+        → IsPassed heads bs (offset (chars bs) (suc i)) → NeverBegins heads (chars bs) (suc i)
+    passed i within short (inl off) =
+        let next = there_is (chars bs) (suc i) within in
+        inl (begins_later heads.first (chars bs) i
+        (there_is (chars bs) i (omega (arith, within)))
+        (next.0, next.1, first_byte heads.first bs (suc i) next.0 utf8 next.1 within short ∙ off))
+    passed i within short (inr cut) = cut_off_never heads bs (suc i) utf8 within cut
 
-  within : q ≤ length (chars bs)
-  within = js.inside
-
-  later : p ≤ q
-  later = positions_order (chars bs) p q is.inside (omega (arith, a, b, le))
-
-  never_later : (i : ℕ) → p < i → i < q → NeverBegins heads (chars bs) i
-  never_later zero low high = absurd (omega (arith, low))
-  never_later (suc i) low high =
-      let next = there_is (chars bs) (suc i) (omega (arith, high, within)) in
-      let less = offset_less (chars bs) (suc i) q high within in
-      let more = offset_less (chars bs) p (suc i) low (omega (arith, high, within)) in
-      elim (pass (offset (chars bs) (suc i)) (omega (arith, a, more)) (omega (arith, b, less))) [
-        | inl off ↦
-            let none =
-            first_byte heads.first bs (suc i) next.0 utf8 next.1 (omega (arith, high, within))
-            (omega (arith, less, b, most))
-            ∙ off in
-            inl (begins_later heads.first (chars bs) i
-            (there_is (chars bs) i (omega (arith, high, within))) (next.0, next.1, none))
-        | inr cut ↦ cut_off_never heads bs (suc i) utf8 (omega (arith, high, within)) cut
-      ]
-
-  pub passes_between : PassesTo (NeverBegins heads (chars bs)) (chars bs) p y
-  passes_between = record {
-    q = q;
-    later = later;
-    is = js;
-    passed = λ i low high. by_order i low high (cases_eq i p);
-  }
-    where
-      by_order : (i : ℕ) → p ≤ i → i < q → (i ≡ p) ⊎ (i ≡ p → ⊥) → NeverBegins heads (chars bs) i
-      by_order i low high (inl same) = subst (NeverBegins heads (chars bs)) (sym same) not_here
-      by_order i low high (inr apart) = never_later i (above i low apart) high
-        where
-          above : (i : ℕ) → p ≤ i → (i ≡ p → ⊥) → p < i
-          above i low apart = elim (cases_lt p i) [
-            | inl lt ↦ lt
-            | inr le' ↦ absurd (apart (omega (arith, low, le')))
-          ]
+    by_order : (i : ℕ) → (i ≡ p) ⊎ (i ≡ p → ⊥) → p ≤ i → i < length (chars bs)
+        → IsPassed heads bs (offset (chars bs) i) → offset (chars bs) i < length bs
+        → NeverBegins heads (chars bs) i
+    by_order i (inl same) low within off short =
+        subst (NeverBegins heads (chars bs)) (sym same) not_here
+    by_order zero (inr apart) low within off short = absurd (apart (omega (arith, low)))
+    by_order (suc i) (inr apart) low within off short = passed i within short off
 
 pub passes_as : (Passed Other : ℕ → Type 0) (h : Text) (p : ℕ) (x : Here)
     → ((i : ℕ) → Passed i → Other i) → PassesTo Passed h p x → PassesTo Other h p x

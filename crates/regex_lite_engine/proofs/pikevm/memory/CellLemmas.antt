@@ -1,5 +1,5 @@
 -- What a change of one cell changes.
-use Rattle.regex_lite_engine.proofs.Common.{◌≡◌, ℕ, zero, suc, ◌+◌, ◌-◌, ◌*◌, ◌<◌, ◌≤◌, Bool, ◌⊎◌}
+use Rattle.regex_lite_engine.proofs.Common.{◌≡◌, ℕ, zero, suc, ◌+◌, ◌-◌, ◌*◌, ◌<◌, ◌≤◌, ◌⊎◌}
 use Rattle.regex_lite_engine.proofs.Common.{List, [], ◌∷◌, ◌++◌, map, reverse, length, take, set}
 use Rattle.regex_lite_engine.proofs.Common.{slice_index, slice_index_or, sym, refl, ap, ◌∙◌, inl}
 use Rattle.regex_lite_engine.proofs.Common.{inr, arith, length-map, length-take-le, map-set}
@@ -109,31 +109,17 @@ frames_long cells depth le =
     length-reverse (take depth (map frame_in cells))
     ∙ length-take-le depth (map frame_in cells) (omega (arith, le, length-map cells frame_in))
 
-abbrev state : List ℕ → ℕ → List Frame → Row → List Thread → List Thread → ℕ → Bool → State
-state rounds now frames row threads next room ready = record {
-  rounds = rounds;
-  now = now;
-  frames = frames;
-  row = row;
-  threads = threads;
-  next = next;
-  room = room;
-  ready = ready;
-}
-
--- states with the same parts
-pub state_is : (a b : State) → a.rounds ≡ b.rounds → a.now ≡ b.now → a.frames ≡ b.frames
-    → a.row ≡ b.row → a.threads ≡ b.threads → a.next ≡ b.next → a.room ≡ b.room
-    → a.ready ≡ b.ready → a ≡ b
-state_is a b rounds now frames row threads next room ready =
-    ap (λ z. state z a.now a.frames a.row a.threads a.next a.room a.ready) rounds
-    ∙ ap (λ z. state b.rounds z a.frames a.row a.threads a.next a.room a.ready) now
-    ∙ ap (λ z. state b.rounds b.now z a.row a.threads a.next a.room a.ready) frames
-    ∙ ap (λ z. state b.rounds b.now b.frames z a.threads a.next a.room a.ready) row
-    ∙ ap (λ z. state b.rounds b.now b.frames b.row z a.next a.room a.ready) threads
-    ∙ ap (λ z. state b.rounds b.now b.frames b.row b.threads z a.room a.ready) next
-    ∙ ap (λ z. state b.rounds b.now b.frames b.row b.threads b.next z a.ready) room
-    ∙ ap (λ z. state b.rounds b.now b.frames b.row b.threads b.next b.room z) ready
+-- a state in which these parts are the same
+pub state_with : (m : State) {rounds : List ℕ} {frames : List Frame} {row : Row}
+    {threads next : List Thread} → rounds ≡ m.rounds → frames ≡ m.frames → row ≡ m.row
+    → threads ≡ m.threads → next ≡ m.next →
+    record m { rounds = rounds; frames = frames; row = row; threads = threads; next = next } ≡ m
+state_with m {frames = frames} {row} {threads} {next} er ef ew et en =
+    ap (λ z. record m { rounds = z; frames = frames; row = row; threads = threads; next = next }) er
+    ∙ ap (λ z. record m { frames = z; row = row; threads = threads; next = next }) ef
+    ∙ ap (λ z. record m { row = z; threads = threads; next = next }) ew
+    ∙ ap (λ z. record m { threads = z; next = next }) et
+    ∙ ap (λ z. record m { next = z }) en
 
 -- what a cell without threads of its own change keeps of its threads
 pub with_round : {S : Type 0} (s : Side) (x : Cell S) (round : ℕ)

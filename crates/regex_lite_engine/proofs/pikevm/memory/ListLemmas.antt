@@ -60,25 +60,22 @@ module _ (rows rows' : List Row) (row : Row) (put : rows' ≡ set rows 0 row) wh
       ap (λ z. threads_on told s cells z room n) put
       ∙ first_row_alone told s cells rows room n row
 
+-- a thread with its parts
+thread_told : {S : Type 0} (told : S → Told) {a p : ℕ} {b : Told} {s : S} {row : Row} {is : ℕ × S}
+    → a ≡ p → b ≡ told s → is ≡ (p, s) → ◌≡◌ {A = Thread} (a, b, row) (is.0, told is.1, row)
+thread_told told ea eb et = cc
+
 -- what is read of a thread: its place, and what is kept of where its way began
-module _ {S : Type 0} (told : S → Told) (s : Side) (cells : List (Cell S)) (rows : List Row)
-    (room n k : ℕ) (x : Cell S) (lt : k < n) (short : k < length cells)
-    (at : x ≡ slice_index_or cells k x) (ts : List Thread)
-    (are : threads_on told s cells rows room n ≡ ts) (read : ℕ × S)
-    (is : read ≡ (place_on s x, start_on s x)) where
-  there : thread_at ts k ≡ thread_on told s cells rows room k
-  there = ap (λ z. thread_at z k) (sym are) ∙ thread_is told s cells rows room n k lt
-
-  pub place_read : read.0 ≡ (thread_at ts k).0
-  place_read =
-      ap (λ (r : ℕ × S). r.0) is ∙ sym (told_at (place_on s) 0 cells k x short at)
-      ∙ sym (ap (λ (t : Thread). t.0) there)
-
-  pub start_read : told read.1 ≡ (thread_at ts k).1
-  start_read =
-      ap (λ (r : ℕ × S). told r.1) is
-      ∙ sym (told_at (start_told told s) untold cells k x short at)
-      ∙ sym (ap (λ (t : Thread). t.1) there)
+pub thread_read : {S : Type 0} (told : S → Told) (s : Side) (cells : List (Cell S)) (rows : List Row)
+    (room : ℕ) {n k : ℕ} {x : Cell S} {ts : List Thread} {read : ℕ × S}
+    → k < n → k < length cells → x ≡ slice_index_or cells k x
+    → threads_on told s cells rows room n ≡ ts → read ≡ (place_on s x, start_on s x) →
+    thread_at ts k ≡ (read.0, told read.1, nth_row rows (row_on s k))
+thread_read told s cells rows room {n} {k} {x} lt short at are is =
+    ap (λ z. thread_at z k) (sym are)
+    ∙ thread_is told s cells rows room n k lt
+    ∙ thread_told told (told_at (place_on s) 0 cells k x short at)
+    (told_at (start_told told s) untold cells k x short at) is
 
 module _ {S : Type 0} (told : S → Told) (s : Side) (cells : List (Cell S)) (rows : List Row)
     (room n place : ℕ) (start : S) (x : Cell S) (row : Row) (is : x ≡ slice_index_or cells n x)
@@ -153,13 +150,6 @@ module _ {S : Type 0} (told : S → Told) (s : Side) (cells : List (Cell S)) (ro
       cc
       ))
 
--- a thread with its parts
-pub thread_told : {S : Type 0} (told : S → Told) (a : ℕ) (b : Told) (p : ℕ) (s : S) (row row' : Row)
-    (is : ℕ × S)
-    → a ≡ p → b ≡ told s → is ≡ (p, s) → row' ≡ row
-    → ◌≡◌ {A = Thread} (a, b, row) (is.0, told is.1, row')
-thread_told told a b p s row row' is ea eb et er = cc
-
 -- a cell in which the threads are as they were
 pub threads_kept : {S : Type 0} (told : S → Told) (s : Side) (cells : List (Cell S))
     (rows : List Row) (room n i : ℕ) (x y : Cell S)
@@ -170,35 +160,35 @@ threads_kept told s cells rows room n i x y is same =
     (not_told (place_on s) cells i x y is same.0)
     (not_told (start_told told s) cells i x y is (ap told same.1))
 
--- a thread is added to the list s
-module _ {S : Type 0} (told : S → Told) (s t : Side) (apart : t ≡ other s) (cells : List (Cell S))
-    (rows rows' : List Row) (room n m place : ℕ) (start : S) (x y : Cell S) (row : Row)
-    (is : x ≡ slice_index_or cells n x) (written : y ≡ with_thread s place start x)
-    (copied : rows' ≡ set rows (row_on s n) row)
-    (lt : n < room) (le : m ≤ room) (fits : n < length cells)
-    (all : length rows ≡ 2 * room + 1) where
-  pub rounds_stay : map round_in (set cells n y) ≡ map round_in cells
-  rounds_stay = not_told round_in cells n x y is (ap round_in written ∙ same_round place start x s)
-
-  pub frames_stay : map frame_in (set cells n y) ≡ map frame_in cells
-  frames_stay = not_told frame_in cells n x y is (ap frame_in written ∙ same_frame place start x s)
-
-  pub row_stays : nth_row rows' 0 ≡ nth_row rows 0
-  row_stays =
-      ap (λ z. nth_row z 0) copied
-      ∙ get_or-set_other rows (row_on s n) 0 row [] (λ e. row_after_first s room n (sym e))
-
-  pub own_list : threads_on told s (set cells n y) rows' room (n + 1)
-      ≡ threads_on told s cells rows room n ++ (place, told start, row) ∷ []
-  own_list =
-      ap (λ z. threads_on told s (set cells n z) rows' room (n + 1)) written
-      ∙ ap (λ z. threads_on told s (set cells n (with_thread s place start x)) z room (n + 1))
-      copied
-      ∙ thread_added told s cells rows room n place start x row is lt fits all
-
-  pub other_list : threads_on told t (set cells n y) rows' room m
-      ≡ threads_on told t cells rows room m
-  other_list =
-      ap (λ z. threads_on told t (set cells n z) rows' room m) written
-      ∙ ap (λ z. threads_on told t (set cells n (with_thread s place start x)) z room m) copied
-      ∙ others_kept told s cells rows room n place start x row is lt fits all t m apart le
+-- a thread is added to the list s, and the other one, t, keeps its own
+pub list_grown : {S : Type 0} (told : S → Told) (s : Side) {t : Side} (cells : List (Cell S))
+    (rows : List Row) {rows' : List Row} {room n m : ℕ} (place : ℕ) (start : S) (row : Row)
+    {x y : Cell S}
+    → t ≡ other s → x ≡ slice_index_or cells n x → y ≡ with_thread s place start x
+    → rows' ≡ set rows (row_on s n) row → n < room → m ≤ room → n < length cells
+    → length rows ≡ 2 * room + 1 → record {
+      rounds : map round_in (set cells n y) ≡ map round_in cells;
+      frames : map frame_in (set cells n y) ≡ map frame_in cells;
+      first : nth_row rows' 0 ≡ nth_row rows 0;
+      own : threads_on told s (set cells n y) rows' room (n + 1)
+          ≡ threads_on told s cells rows room n ++ (place, told start, row) ∷ [];
+      others : threads_on told t (set cells n y) rows' room m
+          ≡ threads_on told t cells rows room m;
+    }
+list_grown told s {t} cells rows {rows'} {room} {n} {m} place start row {x} {y} apart is
+    written copied lt le fits all = record {
+      rounds = not_told round_in cells n x y is (ap round_in written ∙ same_round place start x s);
+      frames = not_told frame_in cells n x y is (ap frame_in written ∙ same_frame place start x s);
+      first =
+          ap (λ z. nth_row z 0) copied
+          ∙ get_or-set_other rows (row_on s n) 0 row [] (λ e. row_after_first s room n (sym e));
+      own =
+          ap (λ z. threads_on told s (set cells n z) rows' room (n + 1)) written
+          ∙ ap (λ z. threads_on told s (set cells n (with_thread s place start x)) z room (n + 1))
+          copied
+          ∙ thread_added told s cells rows room n place start x row is lt fits all;
+      others =
+          ap (λ z. threads_on told t (set cells n z) rows' room m) written
+          ∙ ap (λ z. threads_on told t (set cells n (with_thread s place start x)) z room m) copied
+          ∙ others_kept told s cells rows room n place start x row is lt fits all t m apart le;
+    }

@@ -5,26 +5,28 @@ use Rattle.regex_lite_engine.proofs.Common.{slice_index, slice_index_or, sym, re
 use Rattle.regex_lite_engine.proofs.Common.{length-append, length-set, get_or-take, length-map}
 use Rattle.regex_lite_engine.proofs.Common.{length-replicate, length-take, map-set, take-take}
 use Rattle.regex_lite_engine.proofs.Common.{nth_row, frame_in, round_in, other, place_on, start_on}
-use Rattle.regex_lite_engine.proofs.Common.{start_told, threads_on, without_round, Told, untold}
-use Rattle.regex_lite_engine.proofs.Common.{Row, Cell}
+use Rattle.regex_lite_engine.proofs.Common.{row_on, start_told, threads_on, without_round, Thread, Told}
+use Rattle.regex_lite_engine.proofs.Common.{untold, vec_capacity, Row, Cell}
 use Rattle.std.proofs.lemmas.List.{get_or-append_right}
 use Rattle.std.proofs.lemmas.List.{set-append_right}
 use Rattle.regex_lite_engine.specs.declared.pikevm.cell.Side.{Side}
 use Rattle.regex_lite_engine.specs.declared.pikevm.cell.Side.TheVariants.{First, Second}
-use Rattle.regex_lite_engine.specs.Pikevm.Cells.{frames_in}
-use Rattle.regex_lite_engine.specs.Pikevm.Cells.{thread_on}
-use Rattle.regex_lite_engine.specs.Pikevm.Cells.{rounds_in, HoldTogether}
-use Rattle.regex_lite_engine.specs.Pikevm.Cells.{MakesReady}
-use Rattle.regex_lite_engine.specs.Pikevm.Machine.{State}
-use Rattle.regex_lite_engine.proofs.pikevm.memory.CellLemmas.{state_is, told_at}
+use Rattle.regex_lite_engine.specs.declared.pikevm.memory.Memory.TheInside.{Inside}
+use Rattle.regex_lite_engine.specs.Pikevm.Cells.{frames_in, thread_on, with_thread}
+use Rattle.regex_lite_engine.specs.Pikevm.Cells.{rounds_in, HoldTogether, MakesReady}
+use Rattle.regex_lite_engine.specs.Pikevm.Machine.{Frame, State}
+use Rattle.regex_lite_engine.proofs.pikevm.memory.CellLemmas.{back, told_at, frames_long}
+use Rattle.regex_lite_engine.proofs.pikevm.memory.CellLemmas.{state_with}
+use Rattle.regex_lite_engine.proofs.pikevm.memory.ListLemmas.{list_grown, list_kept, threads_kept}
+use Rattle.regex_lite_engine.proofs.pikevm.memory.ListLemmas.{threads_long}
 use Rattle.regex_lite_engine.proofs.pikevm.rows.RowLemmas.{listed_alike}
 
 -- there is room for the same where a cell is written over
-pub together_set : {S : Type 0} (cells : List (Cell S)) (k : ℕ) (x : Cell S)
-    (capacity low : ℕ) (ready : Bool) (rows : List Row) (room depth len next_len : ℕ)
+pub together_set : {S : Type 0} {cells : List (Cell S)} {capacity low : ℕ} {ready : Bool}
+    {rows : List Row} {room depth len next_len : ℕ} (k : ℕ) (x : Cell S)
     → HoldTogether cells capacity low ready rows room depth len next_len
     → HoldTogether (set cells k x) capacity low ready rows room depth len next_len
-together_set cells k x capacity low ready rows room depth len next_len fit =
+together_set {cells = cells} k x fit =
     let same = length-set cells k x in
     record {
       all_ready = fit.all_ready;
@@ -38,15 +40,15 @@ together_set cells k x capacity low ready rows room depth len next_len fit =
       rows_fit = fit.rows_fit;
     }
 
--- and where there are other rows, as many as before
-pub together_rows : {S : Type 0} (cells : List (Cell S)) (capacity low : ℕ) (ready : Bool)
-    (rows rows' : List Row) (room depth len next_len : ℕ) → length rows' ≡ length rows
-    → HoldTogether cells capacity low ready rows room depth len next_len
-    → HoldTogether cells capacity low ready rows' room depth len next_len
-together_rows cells capacity low ready rows rows' room depth len next_len same fit = record {
+-- and where there are other rows, as many as before, or other frames, for which there are cells
+pub together_with : {S : Type 0} {cells : List (Cell S)} {capacity low : ℕ} {ready : Bool}
+    {rows rows' : List Row} {room depth depth' len next_len : ℕ} → length rows' ≡ length rows
+    → depth' ≤ length cells → HoldTogether cells capacity low ready rows room depth len next_len
+    → HoldTogether cells capacity low ready rows' room depth' len next_len
+together_with same deep fit = record {
   all_ready = fit.all_ready;
   cells_fit = fit.cells_fit;
-  frames_fit = fit.frames_fit;
+  frames_fit = deep;
   threads_fit = fit.threads_fit;
   next_fit = fit.next_fit;
   threads_few = fit.threads_few;
@@ -77,7 +79,7 @@ start_alike : {S : Type 0} (s : Side) (x : Cell S) → start_on s (without_round
 start_alike First x = refl
 start_alike Second x = refl
 
-module _ {S : Type 0} (low low' : ℕ) (cells cells' : List (Cell S))
+module _ {S : Type 0} {low low' : ℕ} {cells cells' : List (Cell S)}
     (made : MakesReady low cells low' cells') where
   pub places_stay : low' + length cells' ≡ low + length cells
   places_stay =
@@ -105,18 +107,16 @@ module _ {S : Type 0} (low low' : ℕ) (cells cells' : List (Cell S))
       )
 
   -- the rounds where those of the cells do not change
-  pub rounds_still : (cells'' : List (Cell S)) (rounds : List ℕ)
+  pub rounds_still : (cells'' : List (Cell S)) {rounds : List ℕ}
       → map round_in cells'' ≡ map round_in cells' → rounds_in low cells ≡ rounds
       → rounds_in low' cells'' ≡ rounds
-  rounds_still cells'' rounds same is =
-      ap (λ rs. replicate low' 0 ++ rs) same ∙ made.rounds ∙ is
+  rounds_still cells'' same is = ap (λ rs. replicate low' 0 ++ rs) same ∙ made.rounds ∙ is
 
-  pub still_together : (capacity capacity' : ℕ) (ready : Bool) (rows : List Row)
-      (room depth len next_len : ℕ)
-      → capacity ≤ capacity' →
-      HoldTogether cells capacity low ready rows room depth len next_len
+  pub still_together : {capacity capacity' : ℕ} {ready : Bool} {rows : List Row}
+      {room depth len next_len : ℕ} → capacity ≤ capacity'
+      → HoldTogether cells capacity low ready rows room depth len next_len
       → HoldTogether cells' capacity' low' ready rows room depth len next_len
-  still_together capacity capacity' ready rows room depth len next_len le fit = record {
+  still_together le fit = record {
     all_ready = λ all. omega (arith, fit.all_ready all, places_stay, more_ready);
     cells_fit = omega (arith, le, places_stay, fit.cells_fit);
     frames_fit = omega (arith, more_ready, fit.frames_fit);
@@ -128,15 +128,16 @@ module _ {S : Type 0} (low low' : ℕ) (cells cells' : List (Cell S))
     rows_fit = fit.rows_fit;
   }
 
-  pub frames_stay : (depth : ℕ) → depth ≤ length cells
+  pub frames_stay : {depth : ℕ} → depth ≤ length cells
       → frames_in cells' depth ≡ frames_in cells depth
-  frames_stay depth le =
+  frames_stay {depth} le =
       ap reverse (sym (take-take depth (length cells) (map frame_in cells') le)
       ∙ ap (take depth) (alike frame_in (λ x. refl) cells cells' made.kept))
 
-  pub threads_stay : (told : S → Told) (s : Side) (rows : List Row) (room n : ℕ) → n ≤ length cells
+  pub threads_stay : (told : S → Told) (s : Side) (rows : List Row) (room : ℕ) {n : ℕ}
+      → n ≤ length cells
       → threads_on told s cells' rows room n ≡ threads_on told s cells rows room n
-  threads_stay told s rows room n le =
+  threads_stay told s rows room {n} le =
       listed_alike (thread_on told s cells' rows room) (thread_on told s cells rows room) 0 n
       (λ k low lt. here k (omega (arith, lt, le)))
     where
@@ -155,36 +156,127 @@ module _ {S : Type 0} (low low' : ℕ) (cells cells' : List (Cell S))
           ∙ ap (λ ss. slice_index_or ss k untold) starts in
           cc
 
--- what a memory with these parts stands for
-module _ {S : Type 0} (told : S → Told) (side : Side) (rows : List Row)
-    (now room depth len next_len : ℕ) where
-  abbrev stands : (low : ℕ) → List (Cell S) → (ready : Bool) → State
-  stands low cells ready = record {
-    rounds = rounds_in low cells;
-    now = now;
-    frames = frames_in cells depth;
-    row = nth_row rows 0;
-    threads = threads_on told side cells rows room len;
-    next = threads_on told (other side) cells rows room next_len;
-    room = room;
-    ready = ready;
-  }
+-- how many rounds there are
+pub rounds_long : {S : Type 0} (low : ℕ) (cells : List (Cell S))
+    → length (rounds_in low cells) ≡ low + length cells
+rounds_long low cells = omega (
+  arith,
+  length-append (replicate low 0) (map round_in cells),
+  length-replicate {A = ℕ} low 0,
+  length-map cells round_in,
+)
 
-  -- the same where more cells are ready
-  pub still_stands : (low low' : ℕ) (cells cells' : List (Cell S)) (ready ready' : Bool) (m : State)
-      → MakesReady low cells low' cells' → depth ≤ length cells → len ≤ length cells
-      → next_len ≤ length cells → stands low cells ready ≡ m →
-      stands low' cells' ready' ≡ record m { ready = ready' }
-  still_stands low low' cells cells' ready ready' m made deep long longer is =
-      state_is (stands low' cells' ready') (record m { ready = ready' })
-      (made.rounds ∙ ap (λ (z : State). z.rounds) is) (ap (λ (z : State). z.now) is)
-      (frames_stay low low' cells cells' made depth deep ∙ ap (λ (z : State). z.frames) is)
-      (ap (λ (z : State). z.row) is)
-      (threads_stay low low' cells cells' made told side rows room len long
-      ∙ ap (λ (z : State). z.threads) is)
-      (threads_stay low low' cells cells' made told (other side) rows room next_len longer
-      ∙ ap (λ (z : State). z.next) is)
-      (ap (λ (z : State). z.room) is) refl
+-- what a memory with these parts stands for
+abbrev stands : {S : Type 0} → (S → Told) → Inside S → State
+stands told i = record {
+  rounds = rounds_in i.low i.cells.items;
+  now = i.round;
+  frames = frames_in i.cells.items i.depth;
+  row = nth_row i.rows 0;
+  threads = threads_on told i.side i.cells.items i.rows i.room i.len;
+  next = threads_on told (other i.side) i.cells.items i.rows i.room i.next_len;
+  room = i.room;
+  ready = i.ready;
+}
+
+module _ {S : Type 0} (told : S → Told) (i : Inside S) {m : State} (is : stands told i ≡ m)
+    (fit : HoldTogether i.cells.items (vec_capacity i.cells) i.low i.ready i.rows i.room i.depth
+    i.len i.next_len) where
+  abbrev threads_in : List (Cell S) → List Row → List Thread
+  threads_in cells rows = threads_on told i.side cells rows i.room i.len
+
+  abbrev next_in : List (Cell S) → List Row → List Thread
+  next_in cells rows = threads_on told (other i.side) cells rows i.room i.next_len
+
+  -- what is counted of it
+  pub counted : (length m.rounds ≡ i.low + length i.cells.items) × (length m.frames ≡ i.depth)
+      × (length m.threads ≡ i.len) × (length m.next ≡ i.next_len)
+  counted = (
+    sym (ap (λ (z : State). length z.rounds) is) ∙ rounds_long i.low i.cells.items,
+    sym (ap (λ (z : State). length z.frames) is) ∙ frames_long i.cells.items i.depth fit.frames_fit,
+    sym (ap (λ (z : State). length z.threads) is)
+        ∙ threads_long told i.side i.cells.items i.rows i.room i.len,
+    sym (ap (λ (z : State). length z.next) is)
+        ∙ threads_long told (other i.side) i.cells.items i.rows i.room i.next_len,
+  )
+
+  -- the same where the first row is replaced
+  pub stands_put : {rows' : List Row} (row : Row) {row' : Row} → rows' ≡ set i.rows 0 row
+      → nth_row rows' 0 ≡ row'
+      → record (stands told i) {
+        row = nth_row rows' 0;
+        threads = threads_in i.cells.items rows';
+        next = next_in i.cells.items rows';
+      } ≡ record m { row = row' }
+  stands_put {rows'} row {row'} put first =
+      state_with (record (stands told i) { row = row' }) refl refl first
+      (list_kept i.rows rows' row put told i.side i.cells.items i.room i.len)
+      (list_kept i.rows rows' row put told (other i.side) i.cells.items i.room i.next_len)
+      ∙ ap (λ (z : State). record z { row = row' }) is
+
+  -- where more cells are ready
+  module _ {low' : ℕ} {cells' : List (Cell S)} (made : MakesReady i.low i.cells.items low' cells')
+    where
+      threads_made : threads_in cells' i.rows ≡ threads_in i.cells.items i.rows
+      threads_made = threads_stay made told i.side i.rows i.room fit.threads_fit
+
+      next_made : next_in cells' i.rows ≡ next_in i.cells.items i.rows
+      next_made = threads_stay made told (other i.side) i.rows i.room fit.next_fit
+
+      pub still_stands : (ready' : Bool) → record (stands told i) {
+        rounds = rounds_in low' cells';
+        frames = frames_in cells' i.depth;
+        threads = threads_in cells' i.rows;
+        next = next_in cells' i.rows;
+        ready = ready';
+      } ≡ record m { ready = ready' }
+      still_stands ready' =
+          state_with (record (stands told i) { ready = ready' }) made.rounds
+          (frames_stay made fit.frames_fit) refl threads_made next_made
+          ∙ ap (λ (z : State). record z { ready = ready' }) is
+
+      -- and one of them is written over, which has the threads that it had
+      pub stands_set : (k : ℕ) {x : Cell S} (y : Cell S) → x ≡ slice_index_or cells' k x
+          → ((s : Side) → (place_on s y ≡ place_on s x) × (start_on s y ≡ start_on s x))
+          → (depth' : ℕ) {rounds' : List ℕ} {frames' : List Frame}
+          → rounds_in low' (set cells' k y) ≡ rounds' → frames_in (set cells' k y) depth' ≡ frames'
+          → record (stands told i) {
+            rounds = rounds_in low' (set cells' k y);
+            frames = frames_in (set cells' k y) depth';
+            threads = threads_in (set cells' k y) i.rows;
+            next = next_in (set cells' k y) i.rows;
+          } ≡ record m { rounds = rounds'; frames = frames' }
+      stands_set k {x} y at same depth' {rounds'} {frames'} rounds frames =
+          state_with (record (stands told i) { rounds = rounds'; frames = frames' }) rounds frames
+          refl
+          (threads_kept told i.side cells' i.rows i.room i.len k x y at (same i.side) ∙ threads_made)
+          (threads_kept told (other i.side) cells' i.rows i.room i.next_len k x y at
+          (same (other i.side)) ∙ next_made)
+          ∙ ap (λ (z : State). record z { rounds = rounds'; frames = frames' }) is
+
+      -- and one of them gets a thread of the next position
+      pub stands_grown : (place : ℕ) (start : S) {x y : Cell S} {rows' : List Row}
+          → x ≡ slice_index_or cells' i.next_len x → y ≡ with_thread (other i.side) place start x
+          → rows' ≡ set i.rows (row_on (other i.side) i.next_len) (nth_row i.rows 0)
+          → i.next_len < i.room → i.next_len < length cells' →
+          record (stands told i) {
+            rounds = rounds_in low' (set cells' i.next_len y);
+            frames = frames_in (set cells' i.next_len y) i.depth;
+            row = nth_row rows' 0;
+            threads = threads_in (set cells' i.next_len y) rows';
+            next = threads_on told (other i.side) (set cells' i.next_len y) rows' i.room
+                (i.next_len + 1);
+          } ≡ record m { next = m.next ++ (place, told start, m.row) ∷ [] }
+      stands_grown place start {y = y} at written copied few fits =
+          let w = list_grown told (other i.side) cells' i.rows place start (nth_row i.rows 0)
+          (back i.side) at written copied few fit.threads_few fits fit.rows_fit in
+          state_with (record (stands told i) {
+            next = next_in i.cells.items i.rows ++ (place, told start, nth_row i.rows 0) ∷ [];
+          }) (rounds_still made (set cells' i.next_len y) w.rounds refl)
+          (ap (λ fs. reverse (take i.depth fs)) w.frames ∙ frames_stay made fit.frames_fit) w.first
+          (w.others ∙ threads_made)
+          (w.own ∙ ap (λ ts. ts ++ (place, told start, nth_row i.rows 0) ∷ []) next_made)
+          ∙ ap (λ (z : State). record z { next = z.next ++ (place, told start, z.row) ∷ [] }) is
 
 -- the round of a place that has a cell
 pub round_put : {S : Type 0} (low : ℕ) (cells : List (Cell S)) (place k : ℕ) (y : Cell S)
@@ -207,8 +299,8 @@ round_read low cells place k x e lt is =
     ∙ told_at round_in 0 cells k x (omega (arith, e, lt)) is
 
 -- the round of a place that has been made ready, and the rounds where it is written
-module _ {S : Type 0} (low low' : ℕ) (cells cells' : List (Cell S))
-    (made : MakesReady low cells low' cells') (rounds : List ℕ) (is : rounds_in low cells ≡ rounds)
+module _ {S : Type 0} {low low' : ℕ} {cells cells' : List (Cell S)}
+    (made : MakesReady low cells low' cells') {rounds : List ℕ} (is : rounds_in low cells ≡ rounds)
     (place k : ℕ) (number : low' + k ≡ place) where
   pub round_held : (x : Cell S) → place < low' + length cells' → x ≡ slice_index_or cells' k x
       → slice_index rounds place ≡ x.entered
@@ -224,16 +316,6 @@ module _ {S : Type 0} (low low' : ℕ) (cells cells' : List (Cell S))
       ∙ ap (λ rs. set rs place y.entered) (made.rounds ∙ is)
       ∙ ap (λ n. set rounds place n) e
 
--- how many rounds there are
-pub rounds_long : {S : Type 0} (low : ℕ) (cells : List (Cell S))
-    → length (rounds_in low cells) ≡ low + length cells
-rounds_long low cells = omega (
-  arith,
-  length-append (replicate low 0) (map round_in cells),
-  length-replicate {A = ℕ} low 0,
-  length-map cells round_in,
-)
-
 -- where no cell has a round, no place does
 pub none_entered : {S : Type 0} (low : ℕ) (cells : List (Cell S))
     → ((q : ℕ) → slice_index (map round_in cells) q ≤ 0) → (q : ℕ)
@@ -243,20 +325,19 @@ none_entered (suc low) cells none zero = omega arith
 none_entered (suc low) cells none (suc q) = none_entered low cells none q
 
 -- nothing is left
-pub none_left : {S : Type 0} (cells cells' : List (Cell S)) (capacity capacity' low : ℕ)
-    (ready : Bool) (rows : List Row) (room depth len next_len : ℕ)
+pub none_left : {S : Type 0} {cells cells' : List (Cell S)} {capacity capacity' low : ℕ}
+    {ready : Bool} {rows : List Row} {room depth len next_len : ℕ}
     → length cells' ≡ length cells → capacity' ≡ capacity →
     HoldTogether cells capacity low ready rows room depth len next_len
     → HoldTogether cells' capacity' low ready rows room 0 0 0
-none_left cells cells' capacity capacity' low ready rows room depth len next_len long same fit =
-    record {
-      all_ready = fit.all_ready;
-      cells_fit = omega (arith, long, same, fit.cells_fit);
-      frames_fit = omega arith;
-      threads_fit = omega arith;
-      next_fit = omega arith;
-      threads_few = omega arith;
-      next_few = omega arith;
-      room_few = omega (arith, long, fit.room_few);
-      rows_fit = fit.rows_fit;
-    }
+none_left long same fit = record {
+  all_ready = fit.all_ready;
+  cells_fit = omega (arith, long, same, fit.cells_fit);
+  frames_fit = omega arith;
+  threads_fit = omega arith;
+  next_fit = omega arith;
+  threads_few = omega arith;
+  next_few = omega arith;
+  room_few = omega (arith, long, fit.room_few);
+  rows_fit = fit.rows_fit;
+}

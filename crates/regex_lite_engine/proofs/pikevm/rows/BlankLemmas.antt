@@ -2,8 +2,9 @@
 use Rattle.regex_lite_engine.proofs.Common.{◌≡◌, ℕ, ◌+◌, ◌-◌, ◌*◌, ◌<◌, ◌≤◌, List, [], ◌++◌, length}
 use Rattle.regex_lite_engine.proofs.Common.{take, drop, set, replicate, slice_index_or, None}
 use Rattle.regex_lite_engine.proofs.Common.{Option, sym, ap, ◌∙◌, arith, length-append, length-drop}
-use Rattle.regex_lite_engine.proofs.Common.{length-set, drop-append-le, length-replicate}
-use Rattle.regex_lite_engine.proofs.Common.{length-take-le, take-append-le, padded, Row}
+use Rattle.regex_lite_engine.proofs.Common.{length-set, append-nil, drop-append-le}
+use Rattle.regex_lite_engine.proofs.Common.{length-replicate, length-take-le, take-append-le}
+use Rattle.regex_lite_engine.proofs.Common.{padded, Row}
 use Rattle.std.proofs.lemmas.List.{append_assoc}
 use Rattle.std.proofs.lemmas.List.{replicate-append-replicate, set-append_left}
 use Rattle.regex_lite_engine.specs.Pikevm.Cells.{rows_in, AreRows}
@@ -84,6 +85,12 @@ filled slots slots' end n e le le' =
       omega (arith, long),
     )
 
+-- none is missing up to an end that they reach
+pub padded_there : (slots : Row) (end : ℕ) → end ≤ length slots → slots ≡ padded slots end
+padded_there slots end le =
+    let none : 0 ≡ end - length slots = omega (arith, le) in
+    sym (append-nil slots) ∙ ap (λ k. slots ++ blanks k) none
+
 pub over_long : (slots mid : Row) (i w : ℕ) → i + w ≤ length slots → length mid ≡ w
     → length (take i slots ++ (mid ++ drop (i + w) slots)) ≡ length slots
 over_long slots mid i w le long =
@@ -106,22 +113,27 @@ blank_wide slots w count few some =
     ∙ row_long (padded slots (count * w)) w 0
     (row_inside w count 0 (length (padded slots (count * w))) (sym all) some)
 
--- rows that are seen as a list
-module _ (slots : Row) (capacity w count : ℕ) (rows : List Row)
-    (view : rows_in (padded slots (count * w)) w count ≡ rows)
-    (ok : AreRows slots capacity w count) where
+-- a list of rows that is seen in slots
+module _ {slots : Row} {capacity w count : ℕ} {rows : List Row}
+    (ok : AreRows slots capacity w count)
+    (view : rows_in (padded slots (count * w)) w count ≡ rows) where
   abbrev all_slots : Row
   all_slots = padded slots (count * w)
 
   all : count * w ≡ length all_slots
   all = sym (padded_long slots (count * w) ok.within)
 
-  pub row_within : (k : ℕ) → k < length rows → k * w + w ≤ count * w
-  row_within k lt =
+  pub row_within : {k : ℕ} → k < length rows → k * w + w ≤ count * w
+  row_within {k} lt =
       let inside = inside_slots all_slots w count rows view all k lt in omega (arith, inside, all)
 
-  pub row_wide : (k : ℕ) → k < length rows → length (slice_index_or rows k []) ≡ w
-  row_wide k lt = row_of_view_long all_slots w count rows view all k lt
+  pub row_wide : {k : ℕ} → k < length rows → length (slice_index_or rows k []) ≡ w
+  row_wide {k} lt = row_of_view_long all_slots w count rows view all k lt
+
+  -- two rows are equally wide
+  pub rows_wide : {j k : ℕ} → j < length rows → k < length rows
+      → length (slice_index_or rows j []) ≡ length (slice_index_or rows k [])
+  rows_wide lt lt' = row_wide lt ∙ sym (row_wide lt')
 
   -- the first row is there
   pub first_there : 0 < length rows → w ≤ length slots
@@ -137,41 +149,53 @@ module _ (slots : Row) (capacity w count : ℕ) (rows : List Row)
       rows_in (padded (set slots slot held) (count * w)) w count
       ≡ set rows 0 (set (slice_index_or rows 0 []) slot held)
   slot_put_over slot held some lt =
-      let there = first_there some in let wide = row_wide 0 some in
+      let there = first_there some in let wide = row_wide some in
       ap (λ z. rows_in z w count)
       (padded_put slots slot held (count * w) (omega (arith, lt, there, wide)))
       ∙ view_put all_slots w count rows view all slot held some lt
 
-  -- a row is written over, once the slots up to its end are there
-  pub row_put_over : (there after mid : Row) (k : ℕ) → padded there (count * w) ≡ all_slots
-      → k < length rows → k * w + w ≤ length there → length mid ≡ w →
-      after ≡ take (k * w) there ++ (mid ++ drop (k * w + w) there)
-      → rows_in (padded after (count * w)) w count ≡ set rows k mid
-  row_put_over there after mid k same lt le long e =
-      view_over all_slots w count rows view all (padded after (count * w)) mid k lt long
-      (padded_over there after mid (k * w) (k * w + w) (count * w) (omega (arith, le)) le
-      (ap length e ∙ over_long there mid (k * w) w le long) e
-      ∙ ap (λ z. take (k * w) z ++ (mid ++ drop (k * w + w) z)) same)
+  -- a row is written over, once the slots up to this end are there
+  pub row_put_over : {there after : Row} {k capacity' : ℕ} (mid : Row) (end : ℕ)
+      → there ≡ padded slots end → k < length rows → k * w + w ≤ end → end ≤ count * w
+      → length mid ≡ w → capacity ≤ capacity'
+      → after ≡ take (k * w) there ++ (mid ++ drop (k * w + w) there) →
+      (rows_in (padded after (count * w)) w count ≡ set rows k mid)
+      × AreRows after capacity' w count
+  row_put_over {there} {after} {k} mid end is lt le last long more e =
+      let one = filled slots there end (count * w) is last ok.within in
+      let within = one.1 in let reached = one.2 in let longer = one.3 in
+      let inside : k * w + w ≤ length there = omega (arith, le, reached) in
+      let same : length after ≡ length there =
+      ap length e ∙ over_long there mid (k * w) w inside long in (
+        view_over all_slots w count rows view all (padded after (count * w)) mid k lt long
+            (padded_over there after mid (k * w) (k * w + w) (count * w) (omega (arith, inside))
+            inside same e
+            ∙ ap (λ z. take (k * w) z ++ (mid ++ drop (k * w + w) z)) one.0),
+        record {
+          within = omega (arith, same, within);
+          fitting = omega (arith, ok.fitting, more);
+          first = λ some. (let first = ok.first some in omega (arith, first, same, longer));
+        },
+      )
 
   -- a row that is there
-  pub row_read : (there : Row) (k : ℕ) → padded there (count * w) ≡ all_slots → k < length rows
+  row_read : (there : Row) (k : ℕ) → padded there (count * w) ≡ all_slots → k < length rows
       → k * w + w ≤ length there → take w (drop (k * w) there) ≡ slice_index_or rows k []
   row_read there k same lt le =
       sym (padded_part there (k * w) w (count * w) le) ∙ ap (λ z. take w (drop (k * w) z)) same
       ∙ sym (row_of_view all_slots w count rows view all k lt)
 
   -- a row is written over another one, once the slots up to the ends of both are there
-  pub row_copied : (there after : Row) (from to : ℕ) → padded there (count * w) ≡ all_slots
-      → from < length rows → to < length rows → from * w + w ≤ length there
-      → to * w + w ≤ length there →
-      after ≡ take (to * w) there ++ (take w (drop (from * w) there) ++ drop (to * w + w) there) →
+  pub row_copied : {there after : Row} {from to capacity' : ℕ} (end : ℕ) → there ≡ padded slots end
+      → from < length rows → to < length rows → from * w + w ≤ end → to * w + w ≤ end
+      → end ≤ count * w → capacity ≤ capacity'
+      → after ≡ take (to * w) there ++ (take w (drop (from * w) there) ++ drop (to * w + w) there) →
       (rows_in (padded after (count * w)) w count ≡ set rows to (slice_index_or rows from []))
-      × (length after ≡ length there)
-  row_copied there after from to same lt_from lt_to le_from le_to e =
-      let held = row_read there from same lt_from le_from in
-      let long : length (take w (drop (from * w) there)) ≡ w =
-      ap length held ∙ row_wide from lt_from in (
-        row_put_over there after (take w (drop (from * w) there)) to same lt_to le_to long e
-            ∙ ap (λ row. set rows to row) held,
-        ap length e ∙ over_long there (take w (drop (from * w) there)) (to * w) w le_to long,
-      )
+      × AreRows after capacity' w count
+  row_copied {there} {after} {from} {to} end is lt_from lt_to le_from le_to last more e =
+      let one = filled slots there end (count * w) is last ok.within in
+      let reached = one.2 in
+      let held = row_read there from one.0 lt_from (omega (arith, le_from, reached)) in
+      let put = row_put_over (take w (drop (from * w) there)) end is lt_to le_to last
+      (ap length held ∙ row_wide lt_from) more e in
+      (put.0 ∙ ap (λ row. set rows to row) held, put.1)

@@ -32,7 +32,7 @@ starts-init c =
           a.walk.now c.requires.counts c.requires.fresh;
       width = refl;
       room = refl;
-      counts = counted_at_first a.walk.now.steps;
+      counts = counted_at_first;
     }
 
 pub explore-requires-clause-room : goal.explore-requires-clause-room
@@ -120,6 +120,5 @@ starts-preserved c =
           c.explore.new.self w.passed explored;
       width = explored.on.kept.row ∙ v.width;
       room = explored.on.kept.room ∙ v.room;
-      counts = still_counted a.walk.now.steps c.starts.walk.steps c.explore.new.self.steps v.counts
-          c.explore.ensures.counts;
+      counts = still_counted v.counts c.explore.ensures.counts;
     }

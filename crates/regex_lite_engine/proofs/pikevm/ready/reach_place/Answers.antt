@@ -5,8 +5,7 @@ use Rattle.regex_lite_engine.proofs.pikevm.ready.reach_place.Goals as goal
 
 pub returns-then-place-low-clause-ready : goal.returns-then-place-low-clause-ready
 returns-then-place-low-clause-ready g c =
-    let all = places_stay c.args.low.now c.make_ready.result c.args.cells.now.items
-    c.make_ready.new.cells.items c.make_ready.ensures.made in
+    let all = places_stay c.make_ready.ensures.made in
     omega
     (arith, all, c.make_ready.ensures.ready, c.len.ensures, c.requires.place, c.if-place-low.true)
 

@@ -1,35 +1,13 @@
-use Rattle.regex_lite_engine.proofs.Common.{ℕ, ◌+◌, ◌≤◌, length, chars, sym, refl, ◌∙◌, subst}
-use Rattle.regex_lite_engine.proofs.Common.{arith, rules, best_of, characters_left, CanCount}
+use Rattle.regex_lite_engine.proofs.Common.{ℕ, ◌+◌, ◌≤◌, chars, refl, ◌∙◌}
+use Rattle.regex_lite_engine.proofs.Common.{arith, rules, best_of, characters_left}
 use Rattle.regex_lite_engine.proofs.Common.{position_at}
-use Rattle.regex_lite_engine.specs.Pikevm.Passing.{Passes}
 use Rattle.regex_lite_engine.proofs.search.here.HereLemmas.{less_left, over_at}
 use Rattle.regex_lite_engine.proofs.search.CountLemmas.{counted_at_first, still_counted}
 use Rattle.regex_lite_engine.proofs.pikevm.EndLemmas.{some_after}
 use Rattle.regex_lite_engine.proofs.pikevm.PassLemmas.{begun, bounded, bounded_within}
+use Rattle.regex_lite_engine.proofs.pikevm.PassLemmas.{passed_as}
 use Rattle.regex_lite_engine.proofs.pikevm.ShortestLemmas.{shortest_known, not_true}
-use Rattle.regex_lite_engine.proofs.pikevm.shortest.run_shortest.Given as given
 use Rattle.regex_lite_engine.proofs.pikevm.shortest.run_shortest.Goals as goal
-use Rattle.regex_lite_engine.proofs.pikevm.shortest.run_shortest.Goals.{After-pass-here}
-
--- what the position did is said of the patterns as they were at the start
-passed : (g : given.Over) (c : goal.After-pass-here g)
-    → Passes (g.P.Patterns.table c.args.patterns.now) (chars c.args.haystack.now)
-    (g.P.Patterns.entries c.args.patterns.now) (position_at c.args.haystack.now c.args.start)
-    c.positions.invariant.p c.positions.cache c.pass-here.new.self c.pass-here.result
-passed g c =
-    let a = c.args in
-    let v = c.positions.invariant in
-    let haystack = chars a.haystack.now in
-    let s : ℕ = position_at a.haystack.now a.start in
-    let now = c.pass-here.new.self in
-    let here = c.pass-here.result in
-    subst (λ t. Passes t haystack (g.P.Patterns.entries a.patterns.now) s v.p c.positions.cache
-    now here)
-    (c.pass-here.ensures.table ∙ v.table)
-    (subst (λ es. Passes (g.P.Patterns.table c.pass-here.new.patterns) haystack es s v.p
-    c.positions.cache now here)
-    (c.pass-here.ensures.entries ∙ v.entries)
-    (c.pass-here.ensures.passes s v.p v.is v.under_way))
 
 pub positions-init : goal.positions-init
 positions-init g c =
@@ -44,7 +22,7 @@ positions-init g c =
           (g.P.Patterns.entries a.patterns.now) s a.cache.now
           c.requires.fresh;
       none = c.requires.fresh.none;
-      counts = counted_at_first a.cache.now.walk.steps;
+      counts = counted_at_first;
     }
 
 pub pass-here-requires : goal.pass-here-requires
@@ -55,11 +33,7 @@ pass-here-requires g c =
       s,
       v.p,
       v.is,
-      subst
-          (λ table. CanCount table (length (g.P.Patterns.entries c.positions.patterns)) characters)
-          (sym v.table)
-          (subst (λ es. CanCount (g.P.Patterns.table c.args.patterns.now) (length es) characters)
-          (sym v.entries) c.requires.counts),
+      rw (v.table, v.entries) c.requires.counts,
       v.under_way,
     )
 
@@ -86,8 +60,7 @@ positions-preserved g c =
       entries = c.pass-here.ensures.entries ∙ v.entries;
       under_way = w.after;
       none = c.is_known.ensures.none_yet (not_true c.is_known.result c.if-is_known.false);
-      counts = still_counted c.args.cache.now.walk.steps c.positions.cache.walk.steps
-          c.pass-here.new.self.walk.steps v.counts c.pass-here.ensures.counts;
+      counts = still_counted v.counts c.pass-here.ensures.counts;
     }
 
 pub positions-smaller : goal.positions-smaller
@@ -107,7 +80,8 @@ returns-then-is_known g c =
     let table = g.P.Patterns.table a.patterns.now in
     let entries = g.P.Patterns.entries a.patterns.now in
     let now = c.pass-here.new.self in
-    let w = passed g (goal.at.returns-then-is_known g c).After-pass-here in
+    let w = passed_as (c.pass-here.ensures.table ∙ v.table) (c.pass-here.ensures.entries ∙ v.entries)
+    (c.pass-here.ensures.passes s v.p v.is v.under_way) in
     let low = v.under_way.low in
     let later = w.later in
     let first : s ≤ w.q = omega (arith, low, later) in
@@ -119,10 +93,9 @@ returns-then-is_known g c =
           w.ends (over_at haystack w.q c.pass-here.result w.is
           (c.is_known.ensures.known (search rules)))
           w.before w.after.coming;
-      bounded = bounded table haystack entries s w.q now first w.is.inside w.after;
-      own = bounded_within table haystack entries s w.q now first w.is.inside w.after;
+      bounded = bounded first w.is.inside w.after;
+      own = bounded_within first w.is.inside w.after;
       between = w.after.ready;
-      counts = still_counted a.cache.now.walk.steps c.positions.cache.walk.steps now.walk.steps
-          v.counts c.pass-here.ensures.counts;
+      counts = still_counted v.counts c.pass-here.ensures.counts;
       entry = w.after.ready.match_entered;
     }

@@ -1,6 +1,6 @@
 use Rattle.regex_lite_engine.proofs.Common.{◌≡◌, ◌≤◌, true, false, length, is_some, chars, sym, ap}
 use Rattle.regex_lite_engine.proofs.Common.{◌∙◌, subst, arith, table_of_list, IsPassedByAll}
-use Rattle.regex_lite_engine.proofs.Common.{MayBegin, position_at}
+use Rattle.regex_lite_engine.proofs.Common.{MayBegin}
 use Rattle.regex_lite_syntax.specs.Text.{before}
 use Rattle.regex_lite_engine.proofs.search.here.HereLemmas.{at_most}
 use Rattle.regex_lite_engine.proofs.search.ListSkipLemmas.{passes_to}
@@ -44,9 +44,7 @@ returns c = λ p is.
           never (sym w.if-is_none.ensures ∙ none)
     ] in
     passes_to (table_of_list list) list.entries heads c.heads-heads.ensures bytes
-    c.utf8.haystack p
-    (position_at bytes c.next_offset-at.result) c.args.here c.at.result is c.at.ensures.here
-    (omega (arith, at, low))
+    c.utf8.haystack is c.at.ensures.here (omega (arith, at, low))
     (subst (λ z. c.at.result.at ≤ length z) same (omega (arith, at, high)))
     (λ k from below. subst (λ z. IsPassedByAll heads z k) same
     (c.next_offset-at.ensures.passed k from (omega (arith, below, at)))) start

@@ -41,8 +41,8 @@ returns-clause-passes c = λ p is.
     ] in
     subst (λ h. PassesTo (NeverBegins h (chars bytes)) (chars bytes) p c.at.result)
     c.heads-heads.ensures
-    (passes_between heads bytes p (position_at bytes c.next_offset-at.result) c.args.here
-    c.at.result c.utf8.haystack is c.at.ensures.here not_here (omega (arith, at, low))
+    (passes_between heads bytes c.utf8.haystack is c.at.ensures.here not_here
+    (omega (arith, at, low))
     (subst (λ z. c.at.result.at ≤ length z) same (omega (arith, at, high)))
     (λ k from below. subst (λ z. IsPassed heads z k) same
     (c.next_offset-at.ensures.passed k from (omega (arith, below, at)))))

@@ -59,8 +59,7 @@ returns-clause-taken c =
       entered = w.steps.entered + 1;
       looked = w.steps.looked + 1;
     }) c.insert.ensures.added
-    (counted_all w.steps c.count_try.new.self c.count_entry.new.self c.look-found.new.steps
-    c.count_try.ensures c.count_entry.ensures c.look-found.ensures.counted)))
+    (counted_all w.steps c.count_try.ensures c.count_entry.ensures c.look-found.ensures.counted)))
     (went_entered table bytes w a.place a.at fit c.utf8.haystack new place got held done inside
     c.enter.ensures.entered c.enter.ensures.room
     (leads_entered bytes c.utf8.haystack table w fit.all a.place a.at fit.below.0 fit.below.1
@@ -82,21 +81,17 @@ insert-requires-clause-inside c =
 
 pub returns-then-not-insert-clause-counts : goal.returns-then-not-insert-clause-counts
 returns-then-not-insert-clause-counts c =
-    tried_once c.args.self.now.steps c.count_try.new.self c.count_try.ensures
+    tried_once c.args.self.now.steps c.count_try.ensures
 
 pub enter-requires-clause-boundary : goal.enter-requires-clause-boundary
 enter-requires-clause-boundary c = c.requires.below.2
 
 pub returns-clause-counts : goal.returns-clause-counts
 returns-clause-counts c =
-    (entered_once c.args.self.now.steps c.look-found.new.steps
-    (counted_all c.args.self.now.steps c.count_try.new.self c.count_entry.new.self
-    c.look-found.new.steps c.count_try.ensures c.count_entry.ensures
-    c.look-found.ensures.counted)).0
+    (entered_once c.args.self.now.steps c.count_try.ensures c.count_entry.ensures
+    c.look-found.ensures.counted).0
 
 pub returns-clause-entry : goal.returns-clause-entry
 returns-clause-entry c = λ done.
-    (entered_once c.args.self.now.steps c.look-found.new.steps
-    (counted_all c.args.self.now.steps c.count_try.new.self c.count_entry.new.self
-    c.look-found.new.steps c.count_try.ensures c.count_entry.ensures
-    c.look-found.ensures.counted)).1
+    (entered_once c.args.self.now.steps c.count_try.ensures c.count_entry.ensures
+    c.look-found.ensures.counted).1

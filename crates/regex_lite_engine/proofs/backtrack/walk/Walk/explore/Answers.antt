@@ -32,13 +32,12 @@ ways-init c =
     record {
       room = subst (λ fs. HasRoom t h w fs) at_start c.requires.room;
       on = subst (λ fs. GoesOn t h first (with_frames w fs) None) at_start (stays t h first);
-      counts = counted_at_first w.steps;
+      counts = counted_at_first;
     }
 
 pub returns-in-Complete-clause-counts : goal.returns-in-Complete-clause-counts
 returns-in-Complete-clause-counts c =
-    still_counted c.args.self.now.steps c.ways.self.steps c.come_to.new.self.steps
-    c.ways.invariant.counts c.come_to.ensures.counts
+    still_counted c.ways.invariant.counts c.come_to.ensures.counts
 
 pub returns-in-Complete-clause-entry : goal.returns-in-Complete-clause-entry
 returns-in-Complete-clause-entry c = c.come_to.ensures.entry (ap completes c.in-Complete.is)
@@ -47,8 +46,7 @@ pub returns-in_err-place-in-Back-clause-counts : goal.returns-in_err-place-in-Ba
 returns-in_err-place-in-Back-clause-counts c =
     subst (StaysCounted c.args.self.now.steps)
     (sym (ap (λ (z : Walk). z.steps) c.go_back.ensures.same))
-    (still_counted c.args.self.now.steps c.ways.self.steps c.come_to.new.self.steps
-    c.ways.invariant.counts c.come_to.ensures.counts)
+    (still_counted c.ways.invariant.counts c.come_to.ensures.counts)
 
 pub returns-in-Complete-clause-explored : goal.returns-in-Complete-clause-explored
 returns-in-Complete-clause-explored c =
@@ -82,8 +80,7 @@ ways-preserved-in-To c =
           goes_further t h first (with_frames w next)
           (with_frames v (explore c.in-To.to c.in-To.past ∷ v.stack.frames)) None
           c.ways.invariant.on went.on;
-      counts = still_counted a.self.now.steps w.steps v.steps c.ways.invariant.counts
-          c.come_to.ensures.counts;
+      counts = still_counted c.ways.invariant.counts c.come_to.ensures.counts;
     }
 
 pub go_back-requires : goal.go_back-requires
@@ -147,6 +144,5 @@ ways-preserved c =
           (goes_further t h first (with_frames w next) v None c.ways.invariant.on went.on)
           back.on;
       counts = subst (StaysCounted a.self.now.steps) (sym (ap (λ (z : Walk). z.steps) e.same))
-          (still_counted a.self.now.steps w.steps v.steps c.ways.invariant.counts
-          c.come_to.ensures.counts);
+          (still_counted c.ways.invariant.counts c.come_to.ensures.counts);
     }

@@ -1,8 +1,8 @@
 use Rattle.regex_lite_engine.proofs.Common.{◌≡◌, ℕ, suc, ◌+◌, ◌<◌, ◌≤◌, true, List, [], ◌∷◌, ◌++◌}
-use Rattle.regex_lite_engine.proofs.Common.{length, drop, replicate, if◌then◌else◌, Some, None, sym}
-use Rattle.regex_lite_engine.proofs.Common.{refl, ap, ◌∙◌, subst, arith, drop-cons, retold}
+use Rattle.regex_lite_engine.proofs.Common.{length, drop, replicate, Some, None, sym}
+use Rattle.regex_lite_engine.proofs.Common.{refl, ap, ◌∙◌, subst, arith, drop-cons}
 use Rattle.regex_lite_engine.proofs.Common.{state_retold, best_again, Thread, thread_at, BestState}
-use Rattle.regex_lite_engine.proofs.Common.{KeepsPosition, best_of, Between, StepsTo, begun}
+use Rattle.regex_lite_engine.proofs.Common.{KeepsPosition, best_of, StepsTo, begun}
 use Rattle.regex_lite_engine.proofs.Common.{with_starts, Told, untold, StaysCounted, Best, Row}
 use Rattle.regex_lite_engine.proofs.Common.{Start, all_retold, inl, inr}
 use Rattle.std.proofs.Math.ListN.{drop_of_length-le}
@@ -11,9 +11,11 @@ use Rattle.regex_lite_engine.specs.Pikevm.Room.{explores}
 use Rattle.regex_lite_engine.specs.Pikevm.Searching.{ways_at}
 use Rattle.regex_lite_engine.proofs.search.CountLemmas.{counted_at_first, still_counted}
 use Rattle.regex_lite_engine.proofs.pikevm.StateLemmas.{takes_up}
-use Rattle.regex_lite_engine.proofs.pikevm.StepLemmas.{goes_up, room_pushed, stepped}
+use Rattle.regex_lite_engine.proofs.pikevm.StepLemmas.{follows_on, room_pushed, HasFollowed}
 use Rattle.regex_lite_engine.proofs.pikevm.RoundLemmas.{begun_below, start_begun, start_taken}
+use Rattle.regex_lite_engine.proofs.pikevm.cache.Cache.follow_ways.Given as given
 use Rattle.regex_lite_engine.proofs.pikevm.cache.Cache.follow_ways.Goals as goal
+use Rattle.regex_lite_engine.proofs.pikevm.cache.Cache.follow_ways.Goals.{After-explore}
 
 -- the best match with a row that is the same
 has_row : (best : Best) (i : Told) (at : ℕ) (row row' : Row) → best ≡ Some (i, at, row) → row ≡ row'
@@ -54,7 +56,7 @@ take_up-place-requires g c =
     omega (arith, t, e)) in
     let taken = start_taken (g.P.Patterns.starts a.patterns.now) (g.S.Beginning.told_of a.here.at)
     (length i.row) (best_of a.self.now.best) i.threads c.ways.k lt in
-    let few = taken.0 in let same = ap (λ (ts : List Thread). length ts) v.kept.threads in
+    let few = taken.0 in let same = ap (λ (ts : List Thread). length ts) v.followed.kept.threads in
     omega (arith, few, same)
 
 pub explore-requires-clause-room : goal.explore-requires-clause-room
@@ -66,14 +68,15 @@ explore-requires-clause-room g c =
     let ws = ways_at starts told a.self.now in
     let lt : c.ways.k < length ws =
     (let t = c.ways-test.true in let e = c.ways-k-end.ensures told in omega (arith, t, e)) in
-    let at = taken_at starts told (best_of a.self.now.best) i w.memory c.ways.k v.kept lt
+    let at = taken_at starts told (best_of a.self.now.best) i w.memory c.ways.k v.followed.kept lt
     (c.take_up-place.result.0, g.S.Beginning.told c.take_up-place.result.1, x.memory.row)
     up.thread in
     let below = begun_below (length table) (best_of a.self.now.best) starts told i.threads ws
     c.requires.inside c.requires.placed.below
     (start_begun starts told (length i.row) (best_of a.self.now.best) i.threads) in
-    let budget = c.requires.placed.budget in let spent = v.spent in
-    room_pushed table w x c.take_up-place.result.0 (takes_up w.memory x.memory up.memory v.empty)
+    let budget = c.requires.placed.budget in let spent = v.followed.spent in
+    room_pushed table w x c.take_up-place.result.0
+    (takes_up w.memory x.memory up.memory v.followed.empty)
     up.steps (subst (λ (t : Thread). t.0 < length table) at (below c.ways.k lt))
     c.requires.placed.stack_room (omega (arith, budget, spent, lt)) v.room
 
@@ -85,150 +88,109 @@ explore-requires-clause-ready g c = λ all.
 pub ways-init : goal.ways-init
 ways-init g c = record {
   room = c.requires.room;
-  steps = λ at is u. u;
-  again = λ tell there b alike at is u. u;
+  followed = record {
+    steps = λ at is u. u;
+    again = λ tell there b alike at is u. u;
+    kept = record { round = refl; threads = refl; room = refl; row = refl };
+    spent = omega arith;
+    spent_entries = omega arith;
+    empty = c.requires.placed.stack_empty;
+  };
   best = refl;
-  kept = record { round = refl; threads = refl; room = refl; row = refl };
-  spent = omega arith;
-  spent_entries = omega arith;
-  empty = c.requires.placed.stack_empty;
-  counts = counted_at_first c.args.self.now.walk.steps;
+  counts = counted_at_first;
   ready = refl;
 }
 
+-- the k-th of the ways was followed
+went : (g : given.Over) (c : After-explore g) → HasFollowed
+    (g.P.Patterns.table c.args.patterns.now) c.args.here
+    (ways_at (g.P.Patterns.starts c.args.patterns.now) (g.S.Beginning.told_of c.args.here.at)
+    c.args.self.now) (best_of c.args.self.now.best) c.args.self.now.walk
+    (g.S.Beginning.told c.take_up-place.result.1) c.explore.new.self (c.ways.k + 1) c.explore.result
+went g c =
+    let a = c.args in let i = a.self.now.walk in let v = c.ways.invariant in
+    let up = c.take_up-place.ensures in let more = c.explore.ensures in
+    let starts = g.P.Patterns.starts a.patterns.now in let told = g.S.Beginning.told_of a.here.at in
+    let lt : c.ways.k < length (ways_at starts told a.self.now) =
+    (let t = c.ways-test.true in let e = c.ways-k-end.ensures told in omega (arith, t, e)) in
+    follows_on v.followed
+    (taken_first starts told (best_of a.self.now.best) i.memory c.ways.self.walk.memory c.ways.k
+    v.followed.kept lt (
+      c.take_up-place.result.0,
+      g.S.Beginning.told c.take_up-place.result.1,
+      c.take_up-place.new.self.memory.row,
+    ) up.thread)
+    up.memory up.row up.steps more.explored more.empty more.kept
+
 pub ways-preserved : goal.ways-preserved
 ways-preserved g c =
-    let a = c.args in let i = a.self.now.walk in let w = c.ways.self.walk in
-    let v = c.ways.invariant in let up = c.take_up-place.ensures in
-    let x = c.take_up-place.new.self in let y = c.explore.new.self in
-    let table = g.P.Patterns.table a.patterns.now in
-    let starts = g.P.Patterns.starts a.patterns.now in let told = g.S.Beginning.told_of a.here.at in
-    let best = best_of a.self.now.best in
-    let q : ℕ = c.take_up-place.result.0 in
-    let start : Told = g.S.Beginning.told c.take_up-place.result.1 in
-    let thread : Thread = (q, start, x.memory.row) in
-    let ws = ways_at starts told a.self.now in
-    let lt : c.ways.k < length ws =
-    (let t = c.ways-test.true in let e = c.ways-k-end.ensures told in omega (arith, t, e)) in
-    let em = takes_up w.memory x.memory up.memory v.empty in
-    let more = c.explore.ensures in
-    let first = taken_first starts told best i.memory w.memory c.ways.k v.kept lt
-    thread up.thread in
-    let left = drop (c.ways.k + 1) ws in
-    let on = goes_up table w x q em up.steps a.here start y c.explore.result more.explored in
-    let spent = on.spent in let so_far = v.spent in
-    let idle : explores y.memory.frames ≡ 0 = ap (λ fs. explores fs) more.empty in
-    let entries = on.spent_entries in let entries_so_far = v.spent_entries in
+    let a = c.args in let v = c.ways.invariant in let up = c.take_up-place.ensures in
+    let y = c.explore.new.self in let more = c.explore.ensures in
+    let told = g.S.Beginning.told_of a.here.at in
+    let w = subst (HasFollowed (g.P.Patterns.table a.patterns.now) a.here
+    (ways_at (g.P.Patterns.starts a.patterns.now) told a.self.now) (best_of a.self.now.best)
+    a.self.now.walk (g.S.Beginning.told c.take_up-place.result.1) y (c.ways.k + 1))
+    c.if-explore.false (went g (goal.at.ways-preserved g c).After-explore) in
     record {
       room = more.room;
-      steps =
-          subst (λ d. StepsTo table a.here i.memory ws best y.memory (if d then [] else left)
-          (if d then Some (start, a.here.at, y.memory.row) else best)) c.if-explore.false
-          (λ at is u. stepped table a.here w.memory y.memory thread left best c.explore.result
-          on.walks at is
-          (subst (λ (ts : List Thread). Between table at w.memory ts best) first
-          (v.steps at is u)));
-      again = λ tell there b alike.
-          subst (λ d. StepsTo table there (state_retold tell i.memory) (all_retold tell ws) b
-          (state_retold tell y.memory) (if d then [] else all_retold tell left)
-          (if d then Some (tell start, there.at, []) else b)) c.if-explore.false
-          (λ at is u. stepped table there (state_retold tell w.memory)
-          (state_retold tell y.memory) (retold tell thread) (all_retold tell left) b
-          c.explore.result (on.again tell there alike) at is
-          (subst (λ (ts : List Thread). Between table at (state_retold tell w.memory)
-          (all_retold tell ts) b) first (v.again tell there b alike at is u)));
-      best = v.best;
-      kept = record {
-        round = more.kept.round ∙ ap (λ (m : State). m.now) em ∙ v.kept.round;
-        threads = more.kept.threads ∙ ap (λ (m : State). m.threads) em ∙ v.kept.threads;
-        room = more.kept.room ∙ ap (λ (m : State). m.room) em ∙ v.kept.room;
-        row = more.kept.row ∙ up.row ∙ v.kept.row;
+      followed = record {
+        steps = w.steps;
+        again = w.again;
+        kept = w.kept;
+        spent = w.spent;
+        spent_entries = w.spent_entries;
+        empty = w.empty;
       };
-      spent = omega (arith, spent, so_far, idle);
-      spent_entries = omega (arith, entries, entries_so_far);
-      empty = more.empty;
-      counts = still_counted i.steps w.steps y.steps v.counts
+      best = v.best;
+      counts = still_counted v.counts
           (subst (λ s. StaysCounted s y.steps) up.steps more.counts);
-      ready = more.ready ∙ ap (λ (m : State). m.ready) em ∙ v.ready;
+      ready = more.ready ∙ ap (λ (m : State). m.ready) up.memory ∙ v.ready;
     }
+
+-- it comes to a match, and nothing is left
+matched : (g : given.Over) (c : After-explore g) → c.explore.result ≡ true → HasFollowed
+    (g.P.Patterns.table c.args.patterns.now) c.args.here
+    (ways_at (g.P.Patterns.starts c.args.patterns.now) (g.S.Beginning.told_of c.args.here.at)
+    c.args.self.now) (best_of c.args.self.now.best) c.args.self.now.walk
+    (g.S.Beginning.told c.take_up-place.result.1) c.explore.new.self (c.ways.k + 1) true
+matched g c is = rw is at (went g c)
 
 pub returns-then-explore-clause-followed : goal.returns-then-explore-clause-followed
 returns-then-explore-clause-followed g c =
-    let a = c.args in let i = a.self.now.walk in let w = c.ways.self.walk in
-    let v = c.ways.invariant in let up = c.take_up-place.ensures in
-    let x = c.take_up-place.new.self in let y = c.explore.new.self in
-    let table = g.P.Patterns.table a.patterns.now in
-    let starts = g.P.Patterns.starts a.patterns.now in let told = g.S.Beginning.told_of a.here.at in
-    let best = best_of a.self.now.best in
-    let q : ℕ = c.take_up-place.result.0 in
-    let start : Told = g.S.Beginning.told c.take_up-place.result.1 in
-    let thread : Thread = (q, start, x.memory.row) in
-    let ws = ways_at starts told a.self.now in
+    let a = c.args in let y = c.explore.new.self in
+    let told = g.S.Beginning.told_of a.here.at in
+    let ws = ways_at (g.P.Patterns.starts a.patterns.now) told a.self.now in
     let lt : c.ways.k < length ws =
     (let t = c.ways-test.true in let e = c.ways-k-end.ensures told in omega (arith, t, e)) in
-    let em = takes_up w.memory x.memory up.memory v.empty in
-    let more = c.explore.ensures in
-    let first = taken_first starts told best i.memory w.memory c.ways.k v.kept lt
-    thread up.thread in
-    let left = drop (c.ways.k + 1) ws in
-    let on = goes_up table w x q em up.steps a.here start y c.explore.result more.explored in
-    let spent = on.spent in let so_far = v.spent in
-    let idle : explores y.memory.frames ≡ 0 = ap (λ fs. explores fs) more.empty in
-    let entries = on.spent_entries in let entries_so_far = v.spent_entries in
-    let found : best_of c.set.new.self ≡ Some (start, a.here.at, y.memory.row) =
-    has_row (best_of c.set.new.self) start a.here.at c.row.result.now y.memory.row
-    c.set.ensures.found c.row.ensures in
+    let w = matched g (goal.at.returns-then-explore-clause-followed g c).After-explore
+    c.if-explore.true in
+    let spent = w.spent in let idle = ap (λ fs. explores fs) w.empty in
+    let found = has_row (best_of c.set.new.self) (g.S.Beginning.told c.take_up-place.result.1)
+    a.here.at c.row.result.now y.memory.row c.set.ensures.found c.row.ensures in
     record {
       steps =
-          subst (λ z. StepsTo table a.here i.memory ws best y.memory [] z) (sym found)
-          (subst (λ d. StepsTo table a.here i.memory ws best y.memory (if d then [] else left)
-          (if d then Some (start, a.here.at, y.memory.row) else best)) c.if-explore.true
-          (λ at is u. stepped table a.here w.memory y.memory thread left best c.explore.result
-          on.walks at is
-          (subst (λ (ts : List Thread). Between table at w.memory ts best) first
-          (v.steps at is u))));
-      spent = omega (arith, spent, so_far, idle, lt);
-      spent_entries = omega (arith, entries, entries_so_far);
-      stack_empty = more.empty;
-      kept = record {
-        round = more.kept.round ∙ ap (λ (m : State). m.now) em ∙ v.kept.round;
-        threads = more.kept.threads ∙ ap (λ (m : State). m.threads) em ∙ v.kept.threads;
-        room = more.kept.room ∙ ap (λ (m : State). m.room) em ∙ v.kept.room;
-        row = more.kept.row ∙ up.row ∙ v.kept.row;
-      };
-      best_width = c.set.ensures.width ∙ ap (λ (b : BestState). length b.row) v.best;
+          subst (λ z. StepsTo (g.P.Patterns.table a.patterns.now) a.here a.self.now.walk.memory ws
+          (best_of a.self.now.best) y.memory [] z) (sym found) w.steps;
+      spent = omega (arith, spent, idle, lt);
+      spent_entries = w.spent_entries;
+      stack_empty = w.empty;
+      kept = w.kept;
+      best_width =
+          c.set.ensures.width ∙ ap (λ (b : BestState). length b.row) c.ways.invariant.best;
     }
 
 pub returns-then-explore-clause-again : goal.returns-then-explore-clause-again
 returns-then-explore-clause-again g c = λ tell there b alike.
-    let a = c.args in let i = a.self.now.walk in let w = c.ways.self.walk in
-    let v = c.ways.invariant in let up = c.take_up-place.ensures in
-    let x = c.take_up-place.new.self in let y = c.explore.new.self in
-    let table = g.P.Patterns.table a.patterns.now in
-    let starts = g.P.Patterns.starts a.patterns.now in let told = g.S.Beginning.told_of a.here.at in
-    let q : ℕ = c.take_up-place.result.0 in
-    let start : Told = g.S.Beginning.told c.take_up-place.result.1 in
-    let thread : Thread = (q, start, x.memory.row) in
-    let ws = ways_at starts told a.self.now in
-    let lt : c.ways.k < length ws =
-    (let t = c.ways-test.true in let e = c.ways-k-end.ensures told in omega (arith, t, e)) in
-    let first = taken_first starts told (best_of a.self.now.best) i.memory w.memory c.ways.k v.kept
-    lt thread up.thread in
-    let on = goes_up table w x q (takes_up w.memory x.memory up.memory v.empty) up.steps a.here
-    start y c.explore.result c.explore.ensures.explored in
-    let left = all_retold tell (drop (c.ways.k + 1) ws) in
-    let found : best_of c.set.new.self ≡ Some (start, a.here.at, y.memory.row) =
-    has_row (best_of c.set.new.self) start a.here.at c.row.result.now y.memory.row
-    c.set.ensures.found c.row.ensures in
-    subst (λ z. StepsTo table there (state_retold tell i.memory) (all_retold tell ws) b
-    (state_retold tell y.memory) [] (best_again tell there.at true z b)) (sym found)
-    (subst (λ d. StepsTo table there (state_retold tell i.memory) (all_retold tell ws) b
-    (state_retold tell y.memory) (if d then [] else left)
-    (if d then Some (tell start, there.at, []) else b)) c.if-explore.true
-    (λ at is u. stepped table there (state_retold tell w.memory) (state_retold tell y.memory)
-    (retold tell thread) left b c.explore.result (on.again tell there alike) at is
-    (subst (λ (ts : List Thread). Between table at (state_retold tell w.memory) (all_retold tell ts)
-    b) first (v.again tell there b alike at is u))))
+    let a = c.args in let y = c.explore.new.self in
+    let told = g.S.Beginning.told_of a.here.at in
+    let ws = ways_at (g.P.Patterns.starts a.patterns.now) told a.self.now in
+    let w = matched g (goal.at.returns-then-explore-clause-again g c).After-explore
+    c.if-explore.true in
+    let found = has_row (best_of c.set.new.self) (g.S.Beginning.told c.take_up-place.result.1)
+    a.here.at c.row.result.now y.memory.row c.set.ensures.found c.row.ensures in
+    subst (λ z. StepsTo (g.P.Patterns.table a.patterns.now) there
+    (state_retold tell a.self.now.walk.memory) (all_retold tell ws) b (state_retold tell y.memory)
+    [] (best_again tell there.at true z b)) (sym found) (w.again tell there b alike)
 
 pub returns-clause-followed : goal.returns-clause-followed
 returns-clause-followed g c =
@@ -239,18 +201,18 @@ returns-clause-followed g c =
     let e = c.ways-k-end.ensures told in
     let t = c.ways-test.false in
     let far : c.ways.k ≤ c.ways-k-end.result = search in
-    let spent = v.spent in
+    let spent = v.followed.spent in
     record {
       steps =
           subst (λ b. StepsTo table a.here a.self.now.walk.memory ws (best_of a.self.now.best)
           c.ways.self.walk.memory [] b) (sym (ap best_of v.best))
           (subst (λ ts. StepsTo table a.here a.self.now.walk.memory ws (best_of a.self.now.best)
           c.ways.self.walk.memory ts (best_of a.self.now.best))
-          (drop_of_length-le ws (omega (arith, t, e))) v.steps);
+          (drop_of_length-le ws (omega (arith, t, e))) v.followed.steps);
       spent = omega (arith, e, far, spent);
-      spent_entries = v.spent_entries;
-      stack_empty = v.empty;
-      kept = v.kept;
+      spent_entries = v.followed.spent_entries;
+      stack_empty = v.followed.empty;
+      kept = v.followed.kept;
       best_width = ap (λ (b : BestState). length b.row) v.best;
     }
 
@@ -264,7 +226,7 @@ returns-clause-again g c = λ tell there b alike.
     subst (λ (ts : List Thread). StepsTo (g.P.Patterns.table a.patterns.now) there
     (state_retold tell i) (all_retold tell ws) b (state_retold tell c.ways.self.walk.memory)
     (all_retold tell ts) b) (drop_of_length-le ws (omega (arith, t, e)))
-    (c.ways.invariant.again tell there b alike)
+    (c.ways.invariant.followed.again tell there b alike)
 
 pub returns-then-explore-clause-hit : goal.returns-then-explore-clause-hit
 returns-then-explore-clause-hit g c = λ none.
@@ -284,8 +246,7 @@ returns-then-explore-clause-kept g c = λ none.
 pub returns-then-explore-clause-counts : goal.returns-then-explore-clause-counts
 returns-then-explore-clause-counts g c =
     let y = c.explore.new.self in
-    still_counted c.args.self.now.walk.steps c.ways.self.walk.steps y.steps
-    c.ways.invariant.counts
+    still_counted c.ways.invariant.counts
     (subst (λ s. StaysCounted s y.steps) c.take_up-place.ensures.steps c.explore.ensures.counts)
 
 pub returns-then-explore-clause-entry : goal.returns-then-explore-clause-entry
@@ -315,5 +276,5 @@ ways-k-end-requires g c = c.requires.few_ways
 pub set-requires : goal.set-requires
 set-requires g c =
     ap length c.row.ensures ∙ c.explore.ensures.kept.row ∙ c.take_up-place.ensures.row
-    ∙ c.ways.invariant.kept.row ∙ sym c.requires.placed.best_width
+    ∙ c.ways.invariant.followed.kept.row ∙ sym c.requires.placed.best_width
     ∙ sym (ap (λ (b : BestState). length b.row) c.ways.invariant.best)

@@ -1,8 +1,6 @@
-use Rattle.regex_lite_engine.proofs.Common.{◌≡◌, ℕ, ◌+◌, ◌-◌, ◌≤◌, length, arith, length-append}
-use Rattle.regex_lite_engine.proofs.Common.{length-map, length-replicate, map, replicate}
-use Rattle.regex_lite_engine.specs.Pikevm.Cells.{round_in}
+use Rattle.regex_lite_engine.proofs.Common.{◌≡◌, ◌+◌, ◌-◌, length, arith}
 use Rattle.std.proofs.lemmas.Bool.{eqb-true}
-use Rattle.regex_lite_engine.proofs.pikevm.memory.ReadyLemmas.{none_entered}
+use Rattle.regex_lite_engine.proofs.pikevm.memory.ReadyLemmas.{none_entered, rounds_long}
 use Rattle.regex_lite_engine.proofs.pikevm.memory.Memory.blank.Goals as goal
 
 pub returns-clause-old : goal.returns-clause-old
@@ -16,17 +14,7 @@ pub returns-clause-rounds : goal.returns-clause-rounds
 returns-clause-rounds g c =
     let cells = c.in_ok-cells.cells.items in
     let low = c.args.places - c.len.result in
-    omega (
-      arith,
-      length-append (replicate low 0) (map round_in cells),
-      length-replicate {A = ℕ} low 0,
-      length-map cells round_in,
-      c.in_ok-cells.ensures.few,
-      c.len.ensures,
-    )
-
-none_fit : (n : ℕ) → 0 ≤ n
-none_fit n = omega arith
+    omega (arith, rounds_long low cells, c.in_ok-cells.ensures.few, c.len.ensures)
 
 pub invariant_of-result : goal.invariant_of-result
 invariant_of-result g c =
@@ -38,11 +26,11 @@ invariant_of-result g c =
     record {
       all_ready = λ ready. eqb-true _ _ ready;
       cells_fit = omega (arith, all, room);
-      frames_fit = none_fit _;
-      threads_fit = none_fit _;
-      next_fit = none_fit _;
-      threads_few = none_fit _;
-      next_few = none_fit _;
+      frames_fit = omega arith;
+      threads_fit = omega arith;
+      next_fit = omega arith;
+      threads_few = omega arith;
+      next_few = omega arith;
       room_few = omega (arith, all, c.requires);
       rows_fit = c.in_ok-rows.ensures.count;
     }

@@ -1,6 +1,7 @@
-use Rattle.regex_lite_engine.proofs.Common.{◌<◌, sym, refl, ap, ◌∙◌, arith}
+use Rattle.regex_lite_engine.proofs.Common.{◌-◌, ◌<◌, sym, refl, ap, ◌∙◌, arith}
 use Rattle.regex_lite_engine.specs.Pikevm.Machine.{State}
-use Rattle.regex_lite_engine.proofs.pikevm.memory.CellLemmas.{frame_taken, state_is}
+use Rattle.regex_lite_engine.proofs.pikevm.memory.CellLemmas.{frame_taken}
+use Rattle.regex_lite_engine.proofs.pikevm.memory.ReadyLemmas.{together_with}
 use Rattle.regex_lite_engine.specs.Pikevm.Cells.{frames_in}
 use Rattle.regex_lite_engine.proofs.pikevm.memory.Memory.pop.Goals as goal
 
@@ -11,10 +12,7 @@ returns g c =
       sym (ap (λ (z : State). z.frames) v)
           ∙ frame_taken i.cells.items i.depth c.index.result.now some c.self.invariant.frames_fit
           c.index.ensures,
-      state_is _ _ (ap (λ (z : State). z.rounds) v) (ap (λ (z : State). z.now) v) refl
-          (ap (λ (z : State). z.row) v) (ap (λ (z : State). z.threads) v)
-          (ap (λ (z : State). z.next) v) (ap (λ (z : State). z.room) v)
-          (ap (λ (z : State). z.ready) v),
+      ap (λ (z : State). record z { frames = frames_in i.cells.items (i.depth - 1) }) v,
     )
 
 pub returns-then-self-eq0 : goal.returns-then-self-eq0
@@ -29,14 +27,4 @@ index-requires g c = omega (arith, c.self.invariant.frames_fit, c.if-self-eq0.fa
 
 pub invariant_of-self : goal.invariant_of-self
 invariant_of-self g c =
-    let fit = c.self.invariant in record {
-      all_ready = fit.all_ready;
-      cells_fit = fit.cells_fit;
-      frames_fit = omega (arith, fit.frames_fit);
-      threads_fit = fit.threads_fit;
-      next_fit = fit.next_fit;
-      threads_few = fit.threads_few;
-      next_few = fit.next_few;
-      room_few = fit.room_few;
-      rows_fit = fit.rows_fit;
-    }
+    together_with refl (omega (arith, c.self.invariant.frames_fit)) c.self.invariant

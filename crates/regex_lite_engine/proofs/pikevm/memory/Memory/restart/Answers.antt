@@ -12,19 +12,15 @@ use Rattle.regex_lite_engine.proofs.pikevm.memory.Memory.restart.Goals.{
 
 pub invariant_of-self : goal.invariant_of-self
 invariant_of-self g c =
-    let i = c.self.inside in
     elim c.if-self-ge-MOST_ROUNDS.branch [
       | then-self-ge-MOST_ROUNDS w ↦
           subst (λ (z : Inside _). HoldTogether z.cells.items
           (vec_capacity z.cells) z.low z.ready z.rows z.room 0 0 0) (sym w.self-inside-is)
-          (none_left i.cells.items w.clear_rounds.new.cells.items (vec_capacity i.cells)
-          (vec_capacity w.clear_rounds.new.cells) i.low i.ready i.rows i.room i.depth i.len
-          i.next_len w.clear_rounds.ensures.length w.clear_rounds.ensures.capacity c.self.invariant)
+          (none_left w.clear_rounds.ensures.length w.clear_rounds.ensures.capacity c.self.invariant)
       | else-self-ge-MOST_ROUNDS w ↦
           subst (λ (z : Inside _). HoldTogether z.cells.items
           (vec_capacity z.cells) z.low z.ready z.rows z.room 0 0 0) (sym w.self-inside-is)
-          (none_left i.cells.items i.cells.items (vec_capacity i.cells) (vec_capacity i.cells) i.low
-          i.ready i.rows i.room i.depth i.len i.next_len refl refl c.self.invariant)
+          (none_left refl refl c.self.invariant)
     ]
 
 pub returns-clause-old : goal.returns-clause-old

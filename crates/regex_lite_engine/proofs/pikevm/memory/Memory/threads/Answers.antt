@@ -1,6 +1,5 @@
-use Rattle.regex_lite_engine.proofs.Common.{length, sym, ap, ◌∙◌, arith}
-use Rattle.regex_lite_engine.specs.Pikevm.Machine.{State}
-use Rattle.regex_lite_engine.proofs.pikevm.memory.ListLemmas.{threads_long}
+use Rattle.regex_lite_engine.proofs.Common.{sym, arith}
+use Rattle.regex_lite_engine.proofs.pikevm.memory.ReadyLemmas.{counted}
 use Rattle.regex_lite_engine.proofs.pikevm.memory.Memory.threads.Goals as goal
 
 pub returns-clause-few : goal.returns-clause-few
@@ -10,6 +9,4 @@ returns-clause-few g c =
 
 pub returns-clause-same : goal.returns-clause-same
 returns-clause-same g c =
-    let i = c.self.inside in
-    sym (threads_long g.S.Beginning.told i.side i.cells.items i.rows i.room i.len)
-    ∙ ap (λ (z : State). length z.threads) c.self.view_is
+    sym (counted g.S.Beginning.told c.self.inside c.self.view_is c.self.invariant).2

@@ -1,8 +1,5 @@
-use Rattle.regex_lite_engine.proofs.Common.{ℕ, ◌≤◌, arith}
+use Rattle.regex_lite_engine.proofs.Common.{arith}
 use Rattle.regex_lite_engine.proofs.pikevm.memory.Memory.turn_over.Goals as goal
-
-none_fit : (n : ℕ) → 0 ≤ n
-none_fit n = omega arith
 
 pub invariant_of-self : goal.invariant_of-self
 invariant_of-self g c =
@@ -11,9 +8,9 @@ invariant_of-self g c =
       cells_fit = fit.cells_fit;
       frames_fit = fit.frames_fit;
       threads_fit = fit.next_fit;
-      next_fit = none_fit _;
+      next_fit = omega arith;
       threads_few = fit.next_few;
-      next_few = none_fit _;
+      next_few = omega arith;
       room_few = fit.room_few;
       rows_fit = fit.rows_fit;
     }

@@ -66,8 +66,7 @@ returns-in-Complete-clause-taken g c =
     c.requires.room (c.insert.ensures.fresh.0 (search rules))
     (got_place a.table.now.places a.place x c.look-found.ensures.found) enters same after
     c.drop_frames.ensures
-    (counted_all w.steps c.count_try.new.self c.count_entry.new.self c.look-found.new.steps
-    c.count_try.ensures c.count_entry.ensures c.look-found.ensures.counted))
+    (counted_all w.steps c.count_try.ensures c.count_entry.ensures c.look-found.ensures.counted))
 
 pub returns-in_default-clause-taken : goal.returns-in_default-clause-taken
 returns-in_default-clause-taken g c =
@@ -89,8 +88,7 @@ returns-in_default-clause-taken g c =
     (record w { memory = e; steps = c.look-found.new.steps })
     (ap (λ b. record e { frames = if b then [] else left })
     (sym (goes_on o c.in_default.not-Complete)))
-    (counted_all w.steps c.count_try.new.self c.count_entry.new.self c.look-found.new.steps
-    c.count_try.ensures c.count_entry.ensures c.look-found.ensures.counted)
+    (counted_all w.steps c.count_try.ensures c.count_entry.ensures c.look-found.ensures.counted)
 
 pub look-found-requires-clause-inside : goal.look-found-requires-clause-inside
 look-found-requires-clause-inside g c =
@@ -166,7 +164,7 @@ returns-then-not-insert-clause-tries g c =
 
 pub returns-then-not-insert-clause-counts : goal.returns-then-not-insert-clause-counts
 returns-then-not-insert-clause-counts g c =
-    tried_once c.args.self.now.steps c.count_try.new.self c.count_try.ensures
+    tried_once c.args.self.now.steps c.count_try.ensures
 
 pub returns-in-Complete-clause-kept : goal.returns-in-Complete-clause-kept
 returns-in-Complete-clause-kept g c =
@@ -194,23 +192,18 @@ returns-in-Complete-clause-ready g c =
 
 pub returns-in-Complete-clause-tries : goal.returns-in-Complete-clause-tries
 returns-in-Complete-clause-tries g c =
-    ap (λ (s : StepCounts). s.tried) (counted_all c.args.self.now.steps c.count_try.new.self
-    c.count_entry.new.self c.look-found.new.steps c.count_try.ensures c.count_entry.ensures
-    c.look-found.ensures.counted)
+    (entered_once c.args.self.now.steps c.count_try.ensures c.count_entry.ensures
+    c.look-found.ensures.counted).2
 
 pub returns-in-Complete-clause-counts : goal.returns-in-Complete-clause-counts
 returns-in-Complete-clause-counts g c =
-    (entered_once c.args.self.now.steps c.look-found.new.steps
-    (counted_all c.args.self.now.steps c.count_try.new.self c.count_entry.new.self
-    c.look-found.new.steps c.count_try.ensures c.count_entry.ensures
-    c.look-found.ensures.counted)).0
+    (entered_once c.args.self.now.steps c.count_try.ensures c.count_entry.ensures
+    c.look-found.ensures.counted).0
 
 pub returns-in-Complete-clause-entry : goal.returns-in-Complete-clause-entry
 returns-in-Complete-clause-entry g c = λ done.
-    (entered_once c.args.self.now.steps c.look-found.new.steps
-    (counted_all c.args.self.now.steps c.count_try.new.self c.count_entry.new.self
-    c.look-found.new.steps c.count_try.ensures c.count_entry.ensures
-    c.look-found.ensures.counted)).1
+    (entered_once c.args.self.now.steps c.count_try.ensures c.count_entry.ensures
+    c.look-found.ensures.counted).1
 
 pub returns-in_default-clause-ready : goal.returns-in_default-clause-ready
 returns-in_default-clause-ready g c =
@@ -219,20 +212,15 @@ returns-in_default-clause-ready g c =
 
 pub returns-in_default-clause-tries : goal.returns-in_default-clause-tries
 returns-in_default-clause-tries g c =
-    ap (λ (s : StepCounts). s.tried) (counted_all c.args.self.now.steps c.count_try.new.self
-    c.count_entry.new.self c.look-found.new.steps c.count_try.ensures c.count_entry.ensures
-    c.look-found.ensures.counted)
+    (entered_once c.args.self.now.steps c.count_try.ensures c.count_entry.ensures
+    c.look-found.ensures.counted).2
 
 pub returns-in_default-clause-counts : goal.returns-in_default-clause-counts
 returns-in_default-clause-counts g c =
-    (entered_once c.args.self.now.steps c.look-found.new.steps
-    (counted_all c.args.self.now.steps c.count_try.new.self c.count_entry.new.self
-    c.look-found.new.steps c.count_try.ensures c.count_entry.ensures
-    c.look-found.ensures.counted)).0
+    (entered_once c.args.self.now.steps c.count_try.ensures c.count_entry.ensures
+    c.look-found.ensures.counted).0
 
 pub returns-in_default-clause-entry : goal.returns-in_default-clause-entry
 returns-in_default-clause-entry g c = λ done.
-    (entered_once c.args.self.now.steps c.look-found.new.steps
-    (counted_all c.args.self.now.steps c.count_try.new.self c.count_entry.new.self
-    c.look-found.new.steps c.count_try.ensures c.count_entry.ensures
-    c.look-found.ensures.counted)).1
+    (entered_once c.args.self.now.steps c.count_try.ensures c.count_entry.ensures
+    c.look-found.ensures.counted).1

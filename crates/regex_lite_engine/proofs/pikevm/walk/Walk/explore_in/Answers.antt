@@ -61,7 +61,7 @@ places-preserved g c =
         room = kept.room ∙ c.in-Back.ensures.kept.room ∙ v.kept.room;
         row = c.next_place.ensures.width ∙ c.in-Back.ensures.kept.row ∙ v.kept.row;
       };
-      counts = still_counted a.self.now.steps w.steps x.steps v.counts c.in-Back.ensures.counts;
+      counts = still_counted v.counts c.in-Back.ensures.counts;
       ready = kept.ready ∙ c.in-Back.ensures.ready ∙ v.ready;
     }
 
@@ -94,7 +94,7 @@ places-preserved-in-To g c =
         room = c.in-To.ensures.kept.room ∙ v.kept.room;
         row = c.in-To.ensures.kept.row ∙ v.kept.row;
       };
-      counts = still_counted a.self.now.steps w.steps x.steps v.counts c.in-To.ensures.counts;
+      counts = still_counted v.counts c.in-To.ensures.counts;
       ready = c.in-To.ensures.ready ∙ v.ready;
     }
 
@@ -111,8 +111,7 @@ returns-in-Complete-clause-room g c =
 pub returns-in-Complete-clause-counts : goal.returns-in-Complete-clause-counts
 returns-in-Complete-clause-counts g c =
     let a = c.args in
-    still_counted a.self.now.steps c.places.self.steps c.come_to.new.self.steps
-    c.places.invariant.counts c.in-Complete.ensures.counts
+    still_counted c.places.invariant.counts c.in-Complete.ensures.counts
 
 pub returns-in-Complete-clause-entry : goal.returns-in-Complete-clause-entry
 returns-in-Complete-clause-entry g c = λ _. c.in-Complete.ensures.entry refl
@@ -120,8 +119,7 @@ returns-in-Complete-clause-entry g c = λ _. c.in-Complete.ensures.entry refl
 pub returns-in-None-clause-counts : goal.returns-in-None-clause-counts
 returns-in-None-clause-counts g c =
     let a = c.args in
-    still_counted a.self.now.steps c.places.self.steps c.come_to.new.self.steps
-    c.places.invariant.counts c.in-Back.ensures.counts
+    still_counted c.places.invariant.counts c.in-Back.ensures.counts
 
 pub returns-in-None-clause-entry : goal.returns-in-None-clause-entry
 returns-in-None-clause-entry g c = λ never. absurd (false≢true never)
@@ -139,6 +137,6 @@ places-init g c = record {
     spent_entries = omega arith;
   };
   kept = record { round = refl; threads = refl; room = refl; row = refl };
-  counts = counted_at_first c.args.self.now.steps;
+  counts = counted_at_first;
   ready = refl;
 }
