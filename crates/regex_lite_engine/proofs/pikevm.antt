@@ -7,7 +7,6 @@ pub mod EndLemmas
 pub mod InStepLemmas
 pub mod InStepMatchLemmas
 pub mod InStepNextLemmas
-pub mod InStepPassedLemmas
 pub mod OwnPartLemmas
 pub mod PassLemmas
 pub mod RoomLemmas

@@ -186,9 +186,8 @@ module _ (table : List (Place ℕ)) (search : SearchFrom) (pairs : Pairs) (held 
           by_test true d =
               let within = slice_get_within haystack p c some in
               let next = offset_next haystack p c some in
-              let here = is_offset.1 in
               walk_single (go_reading set to) to (suc p) (at + len_utf8 c) row frames e
-              (first_step ∙ fits true d) (omega (arith, within), omega (arith, next, here))
+              (first_step ∙ fits true d) (omega (arith, within), omega (arith, next, is_offset.1))
               (unmarked 0 (ap (λ x. mark_of x 0) e)) (λ rest waits. waits)
 
   -- the empty set has no arrow

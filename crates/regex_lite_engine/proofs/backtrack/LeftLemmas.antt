@@ -118,8 +118,6 @@ module _ (table : List (Place ℕ)) (haystack : List ℕ) (utf8 : IsUtf8 haystac
   pub pair_inside : (q at : ℕ) → q < length table → pairs.first ≤ at → at ≤ length haystack
       → pair_number pairs.places pairs.first q at < length pairs.entered
   pair_inside q at lt low high =
-      let own = all.places in
-      let cells = all.all in
       let count = length table in
       let next : suc (at - pairs.first) ≤ length haystack - pairs.first + 1 =
       omega (arith, low, high) in
@@ -127,8 +125,8 @@ module _ (table : List (Place ℕ)) (haystack : List ℕ) (utf8 : IsUtf8 haystac
       mul-le-mul_left count next in
       let one = mul-suc count (at - pairs.first) in
       let a : (at - pairs.first) * pairs.places ≡ count * (at - pairs.first)
-      = ap (λ z. (at - pairs.first) * z) own ∙ mul_comm (at - pairs.first) count in
-      omega (arith, lt, cells, more, one, a)
+      = ap (λ z. (at - pairs.first) * z) all.places ∙ mul_comm (at - pairs.first) count in
+      omega (arith, lt, all.all, more, one, a)
 
   module _ (f : Place ℕ → ℕ) (q : ℕ) (x : Place ℕ) (got : slice_get table q ≡ Some x) (at : ℕ)
       (edge : IsCharBoundary haystack at) (low : pairs.first ≤ at) where
@@ -212,17 +210,13 @@ module _ (table : List (Place ℕ)) (haystack : List ℕ) (utf8 : IsUtf8 haystac
     left_enter new =
         let start = position_is haystack pairs.first utf8 all.boundary in
         let here = position_is haystack at utf8 edge in
-        let first_inside = start.0 in
-        let first_is = start.1 in
-        let here_inside = here.0 in
-        let here_is = here.1 in
         let order = positions_order (chars haystack) (position_at haystack pairs.first)
         (position_at haystack at)
-        first_inside (omega (arith, first_is, here_is, low)) in
+        start.0 (omega (arith, start.1, here.1, low)) in
         from_enter new (position_at haystack pairs.first)
         (characters_left (chars haystack) (position_at haystack pairs.first) + 1) order
-        (omega (arith, first_inside, here_inside)) (omega (arith, first_inside))
-        (omega (arith, first_is))
+        (omega (arith, start.0, here.0)) (omega (arith, start.0))
+        (omega (arith, start.1))
 
     -- what is left has room for a pair that is new
     pub left_room : was_entered pairs q at ≡ false → f x ≤ left_of table haystack f pairs

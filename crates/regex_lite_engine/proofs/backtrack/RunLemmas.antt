@@ -72,9 +72,6 @@ module _ (table : List (Place ℕ)) (haystack : List ℕ) (utf8 : IsUtf8 haystac
       → IsUnderWay table haystack start s first walk
   begun walk counts fresh =
       let inside = (position_is haystack start utf8 edge).0 in
-      let tried = fresh.tried in
-      let entered = fresh.entered in
-      let looked = fresh.looked in
       let arrows : left_of table haystack arrow_count walk.visited ≡ arrows_of table * (left + 1)
       = all_left walk fresh arrow_count in
       let keeps : Place ℕ → ℕ = kept_back_with (length walk.stack.row) in
@@ -94,18 +91,18 @@ module _ (table : List (Place ℕ)) (haystack : List ℕ) (utf8 : IsUtf8 haystac
           all = fresh.all;
           below = tt;
           stack_room = omega (arith, kept, fits, room);
-          few_tries = omega (arith, tried, arrows, one_more, few_tries);
-          few_entries = omega (arith, entered, each, few_entries);
-          entered_tried = omega (arith, entered);
-          looked_entered = omega (arith, looked);
+          few_tries = omega (arith, fresh.tried, arrows, one_more, few_tries);
+          few_entries = omega (arith, fresh.entered, each, few_entries);
+          entered_tried = omega (arith, fresh.entered);
+          looked_entered = omega (arith, fresh.looked);
         };
         room = room;
         empty = fresh.frames;
         walking =
             walk_begun table (searching table haystack s first first 0)
             (length table * (bytes_left + 1)) walk.visited walk.stack fresh.none fresh.blank;
-        tries = omega (arith, tried, arrows, one_more, inside, ap explores fresh.frames);
-        entries = omega (arith, entered, each);
+        tries = omega (arith, fresh.tried, arrows, one_more, inside, ap explores fresh.frames);
+        entries = omega (arith, fresh.entered, each);
       }
 
   -- from position p it comes to position q
@@ -120,28 +117,22 @@ module _ (table : List (Place ℕ)) (haystack : List ℕ) (utf8 : IsUtf8 haystac
     start_fits counts lt =
         let start_is = (position_is haystack start utf8 edge).1 in
         let grows = offset_grows (chars haystack) first q low in
-        let there = is.1 in
-        let begins = on.first in
-        let inside = is.0 in
         let keeps : Place ℕ → ℕ = kept_back_with (length walk.stack.row) in
         let most : left_of table haystack keeps walk.visited ≤ sum_by keeps table * (left + 1)
         = subst (λ z. left_of table haystack keeps walk.visited
         ≤ sum_by keeps table * (characters_left (chars haystack) (position_at haystack z) + 1))
         on.first (left_most table haystack keeps walk.visited) in
         let fits = kept_fits (sum_by keeps table) in
-        let room = on.room in
-        let tries = on.tries in
-        let few = counts.tries in
         record {
           all = on.fit.all;
           below = (
             lt,
-            omega (arith, begins, start_is, grows, there),
+            omega (arith, on.first, start_is, grows, is.1),
             boundary_at haystack q at utf8 is,
             tt,
           );
-          stack_room = omega (arith, most, fits, room);
-          few_tries = omega (arith, tries, few, inside, later);
+          stack_room = omega (arith, most, fits, on.room);
+          few_tries = omega (arith, on.tries, counts.tries, is.0, later);
           few_entries = on.fit.few_entries;
           entered_tried = on.fit.entered_tried;
           looked_entered = on.fit.looked_entered;
@@ -154,14 +145,9 @@ module _ (table : List (Place ℕ)) (haystack : List ℕ) (utf8 : IsUtf8 haystac
         → IsUnderWay table haystack start s (q + 1) walk'
     went_on walk' dead explored =
         let from = low in
-        let inside = is.0 in
-        let room = on.room in
         let tries = on.tries in
-        let spent = explored.on.spent in
         let idle = ap explores (explored.empty refl) in
         let entries = on.entries in
-        let spent_entries = explored.on.spent_entries in
-        let same_room = explored.on.kept.room in
         record {
           low = omega (arith, from);
           first = explored.on.kept.first ∙ on.first;
@@ -169,7 +155,7 @@ module _ (table : List (Place ℕ)) (haystack : List ℕ) (utf8 : IsUtf8 haystac
           room =
               subst
               (λ width. sum_by (kept_back_with width) table * (bytes_left + 1) ≤ walk'.stack.room)
-              (sym explored.on.kept.row) (omega (arith, room, same_room));
+              (sym explored.on.kept.row) (omega (arith, on.room, explored.on.kept.room));
           empty = explored.empty refl;
           walking =
               subst
@@ -178,6 +164,6 @@ module _ (table : List (Place ℕ)) (haystack : List ℕ) (utf8 : IsUtf8 haystac
               (omega arith)
               (start_left haystack utf8 table s start p q at walk walk' on.first later low is dead
               on.walking explored.on.walks);
-          tries = omega (arith, tries, spent, later, inside, idle);
-          entries = omega (arith, entries, spent_entries);
+          tries = omega (arith, tries, explored.on.spent, later, is.0, idle);
+          entries = omega (arith, entries, explored.on.spent_entries);
         }

@@ -35,8 +35,6 @@ module _ (table : List (Place ℕ)) (haystack : List ℕ) (walk : Walk) (q at : 
       (record walk { steps = record walk.steps { tried = walk.steps.tried + 1 } }) None
   went_passed walks =
       let room = fit.stack_room in
-      let few = fit.few_tries in
-      let entered = fit.entered_tried in
       record {
         on = record {
           walks = walks;
@@ -48,13 +46,13 @@ module _ (table : List (Place ℕ)) (haystack : List ℕ) (walk : Walk) (q at : 
           all = fit.all;
           below = fit.below.3;
           stack_room = omega (arith, room);
-          few_tries = omega (arith, few);
+          few_tries = omega (arith, fit.few_tries);
           few_entries = fit.few_entries;
-          entered_tried = omega (arith, entered);
+          entered_tried = omega (arith, fit.entered_tried);
           looked_entered = fit.looked_entered;
         };
         less = λ e. omega arith;
-        entered_tried = omega (arith, entered);
+        entered_tried = omega (arith, fit.entered_tried);
         looked_entered = fit.looked_entered;
       }
 
@@ -75,8 +73,7 @@ module _ (table : List (Place ℕ)) (haystack : List ℕ) (walk : Walk) (q at : 
         let left =
         left_room table haystack utf8 walk.visited fit.all (kept_back_with (length walk.stack.row))
         q (place_of x) got at fit.below.2 fit.below.1 new in
-        let room = fit.stack_room in
-        omega (arith, left, room)
+        omega (arith, left, fit.stack_room)
 
     -- the pair is new
     pub went_entered : (held : Held) (done : Bool) → LeadsBelow (length table) (place_of x)
@@ -99,9 +96,6 @@ module _ (table : List (Place ℕ)) (haystack : List ℕ) (walk : Walk) (q at : 
         enters in
         let within = enters_within table haystack utf8 walk.visited.first at fit.below.1 fit.below.2
         walk.stack held done fit.below.3 x inside enters in
-        let arrows = few.0 in
-        let longer = few.1 in
-        let keeps = few.2 in
         let arrows_left = less_left arrow_count in
         let kept_left = less_left (kept_back_with (length walk.stack.row)) in
         let lone_left : left_of table haystack lone (entered_at walk.visited q at) + 1
@@ -111,7 +105,6 @@ module _ (table : List (Place ℕ)) (haystack : List ℕ) (walk : Walk) (q at : 
         + (arrow_count (place_of x) + 1)
         ≡ left_of table haystack weight walk.visited
         = less_left weight in
-        let stack_room = fit.stack_room in
         let few_tries = fit.few_tries in
         let few_entries = fit.few_entries in
         let entered_tried = fit.entered_tried in
@@ -121,7 +114,7 @@ module _ (table : List (Place ℕ)) (haystack : List ℕ) (walk : Walk) (q at : 
           on = record {
             walks = walks;
             kept = record { places = refl; first = refl; row = few.3; room = same };
-            spent = omega (arith, arrows_left, arrows);
+            spent = omega (arith, arrows_left, few.0);
             spent_entries = omega (arith, lone_left);
           };
           fit = λ e. record {
@@ -134,13 +127,13 @@ module _ (table : List (Place ℕ)) (haystack : List ℕ) (walk : Walk) (q at : 
             stack_room =
                 subst (λ width. length held.frames + left_of table haystack (kept_back_with width)
                 (entered_at walk.visited q at) ≤ held.room + 1)
-                (sym few.3) (omega (arith, kept_left, stack_room, keeps, same));
-            few_tries = omega (arith, arrows_left, arrows, few_tries);
+                (sym few.3) (omega (arith, kept_left, fit.stack_room, few.2, same));
+            few_tries = omega (arith, arrows_left, few.0, few_tries);
             few_entries = omega (arith, lone_left, few_entries);
             entered_tried = omega (arith, entered_tried);
             looked_entered = omega (arith, looked_entered);
           };
-          less = λ e. omega (arith, work_left, longer);
+          less = λ e. omega (arith, work_left, few.1);
           entered_tried = omega (arith, entered_tried);
           looked_entered = omega (arith, looked_entered);
         }

@@ -23,18 +23,16 @@ bounded_both haystack s places tries a b c places' tries' a' b' c' most first se
     let entered = first.few_entered in
     let entered' = second.few_entered in
     let both = first.entered_tried in
-    let both' = second.entered_tried in
     let looked = first.few_looked in
-    let looked' = second.few_looked in
     record {
       few_tried =
           omega (arith, min-le_left (a + a') most, tried, tried', add-mul tries tries' positions);
-      entered_tried = le-min (omega (arith, min-le_left (b + b') most, both, both'))
+      entered_tried = le-min (omega (arith, min-le_left (b + b') most, both, second.entered_tried))
           (min-le_right (b + b') most);
       few_entered =
           omega
           (arith, min-le_left (b + b') most, entered, entered', add-mul places places' positions);
-      few_looked = twice_cut (c + c') (b + b') most (omega (arith, looked, looked'));
+      few_looked = twice_cut (c + c') (b + b') most (omega (arith, looked, second.few_looked));
       none_beyond = λ lt. (
           let none = first.none_beyond lt in
           let none' = second.none_beyond lt in

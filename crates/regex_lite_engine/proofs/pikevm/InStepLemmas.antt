@@ -1,7 +1,7 @@
 -- What a walk keeps true when it enters a node.
 use Rattle.regex_lite_engine.proofs.Common.{◌≡◌, ℕ, suc, ◌≤◌, Bool, ◌⊎◌, List, [], ◌∷◌, ◌++◌}
 use Rattle.regex_lite_engine.proofs.Common.{IsTrue, Some, None, Option, sym, refl, ap, ◌∙◌, subst}
-use Rattle.regex_lite_engine.proofs.Common.{inl, inr, arith, NotAfter, IsAnswered, IsGrown}
+use Rattle.regex_lite_engine.proofs.Common.{inl, inr, ⊎_elim, arith, NotAfter, IsAnswered, IsGrown}
 use Rattle.regex_lite_engine.proofs.Common.{StartsBelow, IsPreferred}
 use Rattle.regex_lite_engine.specs.Pikevm.InStep as walk
 use Rattle.regex_lite_engine.specs.Search.Offers as offer
@@ -73,9 +73,30 @@ module _ (N : Type 0) (step : N → ℕ → Option N) (same : (x y : N) → (x �
     settle_on rest' next' f g m x (inr (inl (inl e))) =
         inl (inl (w, ap extended e.0 ∙ extended_here, inl (sym e.1)))
 
-    arrow_offered : (k : ℕ) (l : N) → step n k ≡ Some l
-        → In l (w ++ k ∷ []) (offers n w (width n) 0)
+    -- its own arrows
+    abbrev own : List Offer
+    own = offers n w (width n) 0
+
+    arrow_offered : (k : ℕ) (l : N) → step n k ≡ Some l → In l (w ++ k ∷ []) own
     arrow_offered = order.arrow_offered N step n w (width n) (no_more n)
+
+    one_of : (m : N) (v : List ℕ) → In m v own
+        → (j : ℕ) × (0 ≤ j) × (step n j ≡ Some m) × (v ≡ w ++ j ∷ [])
+    one_of = order.offered N step n w (width n) 0
+
+    own_grown : (m : N) (v : List ℕ) → In m v own → IsGrown N step is_end IsStart extended best m v
+    own_grown m v i = let r = one_of m v i in inr (n, w, r.0, extended_here, r.2, r.3)
+
+    own_below : (m : N) (v : List ℕ) → In m v own → StartsBelow from v
+    own_below m v i =
+        let r = one_of m v i in
+        subst (StartsBelow from) (sym r.3) (below_append from w (r.0 ∷ []) (known.now_below n w here))
+
+    own_better : (m : N) (v b : List ℕ) → best ≡ Some b → In m v own → IsPreferred v b
+    own_better m v b e i =
+        let r = one_of m v i in
+        subst (λ z. IsPreferred z b) (sym r.3)
+        (preferred_append w b (r.0 ∷ []) (known.now_better n w b here e))
 
     pub past_now : (m : N) (v : List ℕ) → extended m ≡ Some v → position m ≤ p
     past_now m v r = by_case (back m v r)
@@ -120,64 +141,57 @@ module _ (N : Type 0) (step : N → ℕ → Option N) (same : (x y : N) → (x �
     -- where all arrows stay at the position, they come first of what is left there
     pub in_step_free : (IsTrue (is_end n) → ⊥)
         → ((k : ℕ) (l : N) → step n k ≡ Some l → position l ≡ position n) →
-        IsInStep p from extended (offers n w (width n) 0 ++ rest) next best
+        IsInStep p from extended (own ++ rest) next best
     in_step_free open_still stays = record {
       grown = grown_extended;
       now_grown = λ m v i.
-          by_now_grown m v (order.in_either N step m v (offers n w (width n) 0) rest i);
+          ⊎_elim (own_grown m v) (λ j. grown_still m v (known.now_grown m v (inr j)))
+          (either m v i);
       next_grown = λ m v i. grown_still m v (known.next_grown m v i);
       starts = λ front m is below.
-          or_dead (settle_on (offers n w (width n) 0 ++ rest) next
-          (λ m v j. order.in_right N step m v (offers n w (width n) 0) rest j) (λ m v j. j) m front)
+          or_dead (settle_on (own ++ rest) next
+          (λ m v j. order.in_right N step m v own rest j) (λ m v j. j) m front)
           (known.starts front m is below);
       arrows =
-          arrows_settled (offers n w (width n) 0 ++ rest) next
-          (λ m v j. order.in_right N step m v (offers n w (width n) 0) rest j) (λ m v j. j)
-          (λ k l s. inl (order.in_left N step l (w ++ k ∷ []) (offers n w (width n) 0) rest
-          (arrow_offered k l s)));
+          arrows_settled (own ++ rest) next
+          (λ m v j. order.in_right N step m v own rest j) (λ m v j. j)
+          (λ k l s. inl (order.in_left N step l (w ++ k ∷ []) own rest (arrow_offered k l s)));
       best_ends = best_ends_now;
       best_least = not_ended open_still;
       now_ordered =
           order.offers_ordered N step n w (width n) 0 rest known.now_ordered.1 known.now_ordered.0;
       next_ordered = known.next_ordered;
-      now_after = λ m v l x i j.
-          by_now_after m v l x i (order.in_either N step l x (offers n w (width n) 0) rest j);
-      ahead = λ m v l x i r q.
-          by_ahead m v l x q (order.in_either N step m v (offers n w (width n) 0) rest i)
-          (back l x r);
-      now_stands = λ m v i. by_pos m v (order.in_either N step m v (offers n w (width n) 0) rest i);
+      now_after = λ m v l x i j. by_now_after m v l x i (either l x j);
+      ahead = λ m v l x i r q. by_ahead m v l x q (either m v i) (back l x r);
+      now_stands = λ m v i. ⊎_elim (by_pos m v) (λ j. known.now_stands m v (inr j)) (either m v i);
       next_stands = known.next_stands;
       past = past_now;
       now_below = λ m v i.
-          by_first m v (order.in_either N step m v (offers n w (width n) 0) rest i);
+          ⊎_elim (own_below m v) (λ j. known.now_below m v (inr j)) (either m v i);
       next_below = known.next_below;
       best_below = known.best_below;
       now_better = λ m v b i e.
-          by_better m v b e (order.in_either N step m v (offers n w (width n) 0) rest i);
+          ⊎_elim (own_better m v b e) (λ j. known.now_better m v b (inr j) e) (either m v i);
       next_better = known.next_better;
     }
       where
-        by_now_grown : (m : N) (v : List ℕ) → In m v (offers n w (width n) 0) ⊎ In m v rest
-            → IsGrown N step is_end IsStart extended best m v
-        by_now_grown m v (inr i) = grown_still m v (known.now_grown m v (inr i))
-        by_now_grown m v (inl i) =
-            let r = order.offered N step n w (width n) 0 m v i in
-            inr (n, w, r.0, extended_here, r.2, r.3)
+        either : (m : N) (v : List ℕ) → In m v (own ++ rest) → In m v own ⊎ In m v rest
+        either m v i = order.in_either N step m v own rest i
 
         by_now_after : (m : N) (v : List ℕ) (l : N) (x : List ℕ) → In m v next
-            → In l x (offers n w (width n) 0) ⊎ In l x rest → IsPreferred v x
+            → In l x own ⊎ In l x rest → IsPreferred v x
         by_now_after m v l x i (inr j) = known.now_after m v l x i (inr j)
-        by_now_after m v l x i (inl j) = let r = order.offered N step n w (width n) 0 l x j in
+        by_now_after m v l x i (inl j) = let r = one_of l x j in
             subst (λ z. IsPreferred v z) (sym r.3)
             (preferred_longer v w (r.0 ∷ []) (known.now_after m v n w i here))
 
         by_ahead : (m : N) (v : List ℕ) (l : N) (x : List ℕ) → position l ≡ p
-            → In m v (offers n w (width n) 0) ⊎ In m v rest
+            → In m v own ⊎ In m v rest
             → ((l ≡ n) × (x ≡ w)) ⊎ (recorded l ≡ Some x) → NotAfter x v
-        by_ahead m v l x z (inl i) (inl e) = let r = order.offered N step n w (width n) 0 m v i in
+        by_ahead m v l x z (inl i) (inl e) = let r = one_of m v i in
             subst (λ y. NotAfter y v) (sym e.1)
             (subst (λ y. NotAfter w y) (sym r.3) (NotAfter-append w (r.0 ∷ [])))
-        by_ahead m v l x z (inl i) (inr q) = let r = order.offered N step n w (width n) 0 m v i in
+        by_ahead m v l x z (inl i) (inr q) = let r = one_of m v i in
             subst (λ y. NotAfter x y) (sym r.3) (NotAfter-trans x w (w ++ r.0 ∷ [])
             (known.ahead n w l x here q z) (NotAfter-append w (r.0 ∷ [])))
         by_ahead m v l x z (inr i) (inl e) =
@@ -185,45 +199,26 @@ module _ (N : Type 0) (step : N → ℕ → Option N) (same : (x y : N) → (x �
             (inr (preferred_before w v (known.now_ordered.0 m v i)))
         by_ahead m v l x z (inr i) (inr q) = known.ahead m v l x (inr i) q z
 
-        by_pos : (m : N) (v : List ℕ) → In m v (offers n w (width n) 0) ⊎ In m v rest
-            → position m ≡ p
-        by_pos m v (inr i) = known.now_stands m v (inr i)
-        by_pos m v (inl i) =
-            let r = order.offered N step n w (width n) 0 m v i in
-            stays r.0 m r.2 ∙ known.now_stands n w here
-
-        by_first : (m : N) (v : List ℕ) → In m v (offers n w (width n) 0) ⊎ In m v rest
-            → StartsBelow from v
-        by_first m v (inr i) = known.now_below m v (inr i)
-        by_first m v (inl i) =
-            let r = order.offered N step n w (width n) 0 m v i in subst (λ z. StartsBelow from z)
-            (sym r.3) (below_append from w (r.0 ∷ []) (known.now_below n w here))
-
-        by_better : (m : N) (v b : List ℕ) → best ≡ Some b
-            → In m v (offers n w (width n) 0) ⊎ In m v rest → IsPreferred v b
-        by_better m v b e (inr i) = known.now_better m v b (inr i) e
-        by_better m v b e (inl i) = let r = order.offered N step n w (width n) 0 m v i in
-            subst (λ z. IsPreferred z b) (sym r.3)
-            (preferred_append w b (r.0 ∷ []) (known.now_better n w b here e))
+        by_pos : (m : N) (v : List ℕ) → In m v own → position m ≡ p
+        by_pos m v i = let r = one_of m v i in stays r.0 m r.2 ∙ known.now_stands n w here
 
     -- where all arrows lead to the next position, they come last there
     pub in_step_read : (IsTrue (is_end n) → ⊥)
         → ((k : ℕ) (l : N) → step n k ≡ Some l → position l ≡ suc (position n)) →
-        IsInStep p from extended rest (next ++ offers n w (width n) 0) best
+        IsInStep p from extended rest (next ++ own) best
     in_step_read open_still moves = record {
       grown = grown_extended;
       now_grown = λ m v i. grown_still m v (known.now_grown m v (inr i));
       next_grown = λ m v i.
-          by_next_grown m v (order.in_either N step m v next (offers n w (width n) 0) i);
+          ⊎_elim (λ j. grown_still m v (known.next_grown m v j)) (own_grown m v) (either m v i);
       starts = λ front m is below.
-          or_dead (settle_on rest (next ++ offers n w (width n) 0) (λ m v j. j)
-          (λ m v j. order.in_left N step m v next (offers n w (width n) 0) j) m front)
+          or_dead (settle_on rest (next ++ own) (λ m v j. j)
+          (λ m v j. order.in_left N step m v next own j) m front)
           (known.starts front m is below);
       arrows =
-          arrows_settled rest (next ++ offers n w (width n) 0) (λ m v j. j)
-          (λ m v j. order.in_left N step m v next (offers n w (width n) 0) j)
-          (λ k l s. inr (order.in_right N step l (w ++ k ∷ []) next (offers n w (width n) 0)
-          (arrow_offered k l s)));
+          arrows_settled rest (next ++ own) (λ m v j. j)
+          (λ m v j. order.in_left N step m v next own j)
+          (λ k l s. inr (order.in_right N step l (w ++ k ∷ []) next own (arrow_offered k l s)));
       best_ends = best_ends_now;
       best_least = not_ended open_still;
       now_ordered = known.now_ordered.1;
@@ -231,32 +226,25 @@ module _ (N : Type 0) (step : N → ℕ → Option N) (same : (x y : N) → (x �
           order.offers_after N step n w (width n) next known.next_ordered
           (λ m v i. known.now_after m v n w i here);
       now_after = λ m v l x i j.
-          by_now_after m v l x j (order.in_either N step m v next (offers n w (width n) 0) i);
+          ⊎_elim (λ k. known.now_after m v l x k (inr j)) (by_now_after m v l x j) (either m v i);
       ahead = λ m v l x i r q. by_ahead m v l x q i (back l x r);
       now_stands = λ m v i. known.now_stands m v (inr i);
-      next_stands = λ m v i.
-          by_pos m v (order.in_either N step m v next (offers n w (width n) 0) i);
+      next_stands = λ m v i. ⊎_elim (known.next_stands m v) (by_pos m v) (either m v i);
       past = past_now;
       now_below = λ m v i. known.now_below m v (inr i);
-      next_below = λ m v i.
-          by_first m v (order.in_either N step m v next (offers n w (width n) 0) i);
+      next_below = λ m v i. ⊎_elim (known.next_below m v) (own_below m v) (either m v i);
       best_below = known.best_below;
       now_better = λ m v b i e. known.now_better m v b (inr i) e;
       next_better = λ m v b i e.
-          by_better m v b e (order.in_either N step m v next (offers n w (width n) 0) i);
+          ⊎_elim (λ j. known.next_better m v b j e) (own_better m v b e) (either m v i);
     }
       where
-        by_next_grown : (m : N) (v : List ℕ) → In m v next ⊎ In m v (offers n w (width n) 0)
-            → IsGrown N step is_end IsStart extended best m v
-        by_next_grown m v (inl i) = grown_still m v (known.next_grown m v i)
-        by_next_grown m v (inr i) =
-            let r = order.offered N step n w (width n) 0 m v i in
-            inr (n, w, r.0, extended_here, r.2, r.3)
+        either : (m : N) (v : List ℕ) → In m v (next ++ own) → In m v next ⊎ In m v own
+        either m v i = order.in_either N step m v next own i
 
-        by_now_after : (m : N) (v : List ℕ) (l : N) (x : List ℕ) → In l x rest
-            → In m v next ⊎ In m v (offers n w (width n) 0) → IsPreferred v x
-        by_now_after m v l x j (inl i) = known.now_after m v l x i (inr j)
-        by_now_after m v l x j (inr i) = let r = order.offered N step n w (width n) 0 m v i in
+        by_now_after : (m : N) (v : List ℕ) (l : N) (x : List ℕ) → In l x rest → In m v own
+            → IsPreferred v x
+        by_now_after m v l x j i = let r = one_of m v i in
             subst (λ z. IsPreferred z x) (sym r.3)
             (preferred_append w x (r.0 ∷ []) (known.now_ordered.0 l x j))
 
@@ -267,23 +255,5 @@ module _ (N : Type 0) (step : N → ℕ → Option N) (same : (x y : N) → (x �
             (inr (preferred_before w v (known.now_ordered.0 m v i)))
         by_ahead m v l x z i (inr q) = known.ahead m v l x (inr i) q z
 
-        by_pos : (m : N) (v : List ℕ) → In m v next ⊎ In m v (offers n w (width n) 0)
-            → position m ≡ suc p
-        by_pos m v (inl i) = known.next_stands m v i
-        by_pos m v (inr i) =
-            let r = order.offered N step n w (width n) 0 m v i in
-            moves r.0 m r.2 ∙ ap suc (known.now_stands n w here)
-
-        by_first : (m : N) (v : List ℕ) → In m v next ⊎ In m v (offers n w (width n) 0)
-            → StartsBelow from v
-        by_first m v (inl i) = known.next_below m v i
-        by_first m v (inr i) =
-            let r = order.offered N step n w (width n) 0 m v i in subst (λ z. StartsBelow from z)
-            (sym r.3) (below_append from w (r.0 ∷ []) (known.now_below n w here))
-
-        by_better : (m : N) (v b : List ℕ) → best ≡ Some b
-            → In m v next ⊎ In m v (offers n w (width n) 0) → IsPreferred v b
-        by_better m v b e (inl i) = known.next_better m v b i e
-        by_better m v b e (inr i) = let r = order.offered N step n w (width n) 0 m v i in
-            subst (λ z. IsPreferred z b) (sym r.3)
-            (preferred_append w b (r.0 ∷ []) (known.now_better n w b here e))
+        by_pos : (m : N) (v : List ℕ) → In m v own → position m ≡ suc p
+        by_pos m v i = let r = one_of m v i in moves r.0 m r.2 ∙ ap suc (known.now_stands n w here)

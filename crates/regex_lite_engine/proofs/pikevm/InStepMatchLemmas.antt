@@ -1,4 +1,4 @@
--- What a walk keeps true when it comes to a match.
+-- What a walk keeps true when it comes to a match, or passes over a node that it has entered before.
 use Rattle.regex_lite_engine.proofs.Common.{◌≡◌, ℕ, ◌≤◌, Bool, ◌⊎◌, List, [], ◌∷◌, ◌++◌, IsTrue}
 use Rattle.regex_lite_engine.proofs.Common.{Some, None, Option, sym, refl, ap, ◌∙◌, subst, inl, inr}
 use Rattle.regex_lite_engine.proofs.Common.{NotAfter, IsAnswered, IsGrown, StartsBelow, IsPreferred}
@@ -11,9 +11,8 @@ use Rattle.regex_lite_engine.proofs.search.OfferLemmas.{preferred_before}
 use Rattle.regex_lite_engine.proofs.search.RecordLemmas as records
 use Rattle.regex_lite_engine.proofs.laws.search.WayOrderLemmas.{Before-trans, NotAfter-trans}
 
-module _ (N : Type 0) (step : N → ℕ → Option N) (same : (x y : N) → (x ≡ y) ⊎ (x ≡ y → ⊥))
-    (width : N → ℕ) (no_more : (n : N) (k : ℕ) → width n ≤ k → step n k ≡ None)
-    (IsStart : List ℕ → N → Type 0) (is_end : N → Bool) (position : N → ℕ) where
+module _ (N : Type 0) (step : N → ℕ → Option N) (IsStart : List ℕ → N → Type 0)
+    (is_end : N → Bool) (position : N → ℕ) where
   abbrev Offer : Type 0
   Offer = offer.Offer N
 
@@ -27,7 +26,49 @@ module _ (N : Type 0) (step : N → ℕ → Option N) (same : (x y : N) → (x �
   IsInStep p from recorded now next best =
       walk.IsInStep N step IsStart is_end position p from recorded now next best
 
-  module _ {p from : ℕ} {recorded : Recorded} {n : N} {w : List ℕ} (fresh : recorded n ≡ None)
+  pub in_step_passed : {p from : ℕ} {recorded : Recorded} {n : N} {w v : List ℕ}
+      {rest next : List Offer} {best : Option (List ℕ)}
+      → recorded n ≡ Some v →
+      IsInStep p from recorded ((n, w) ∷ rest) next best → IsInStep p from recorded rest next best
+  in_step_passed {recorded} {n} {w} {v} {rest} {next} {best} r u = record {
+    grown = u.grown;
+    now_grown = λ m x i. u.now_grown m x (inr i);
+    next_grown = u.next_grown;
+    starts = λ front m is below. or_dead (settle m front) (u.starts front m is below);
+    arrows = λ m x k l s t. settle l (x ++ k ∷ []) (u.arrows m x k l s t);
+    best_ends = u.best_ends;
+    best_least = u.best_least;
+    now_ordered = u.now_ordered.1;
+    next_ordered = u.next_ordered;
+    now_after = λ m x l y i j. u.now_after m x l y i (inr j);
+    ahead = λ m x l y i s q. u.ahead m x l y (inr i) s q;
+    now_stands = λ m x i. u.now_stands m x (inr i);
+    next_stands = u.next_stands;
+    past = u.past;
+    now_below = λ m x i. u.now_below m x (inr i);
+    next_below = u.next_below;
+    best_below = u.best_below;
+    now_better = λ m x b i e. u.now_better m x b (inr i) e;
+    next_better = u.next_better;
+  }
+    where
+      settle : (m : N) (x : List ℕ)
+          → IsAnswered N step is_end IsStart recorded best m x
+          ⊎ (In m x ((n, w) ∷ rest) ⊎ In m x next) →
+          IsAnswered N step is_end IsStart recorded best m x ⊎ (In m x rest ⊎ In m x next)
+      settle m x (inl a) = inl a
+      settle m x (inr (inr i)) = inr (inr i)
+      settle m x (inr (inl (inr i))) = inr (inl i)
+      settle m x (inr (inl (inl e))) = inl (inl (
+        v,
+        ap recorded e.0 ∙ r,
+        subst (λ z. NotAfter v z) (sym e.1)
+            (u.ahead n w n v (inl (refl, refl)) r (u.now_stands n w (inl (refl, refl)))),
+      ))
+
+  module _ (same : (x y : N) → (x ≡ y) ⊎ (x ≡ y → ⊥)) (width : N → ℕ)
+      (no_more : (n : N) (k : ℕ) → width n ≤ k → step n k ≡ None) {p from : ℕ}
+      {recorded : Recorded} {n : N} {w : List ℕ} (fresh : recorded n ≡ None)
       {rest next : List Offer} {best : Option (List ℕ)}
       (u : IsInStep p from recorded ((n, w) ∷ rest) next best) where
     abbrev extended : Recorded

@@ -16,8 +16,6 @@ module _ (table : List (Place ℕ)) (haystack : Text) (entries : List ℕ) (s : 
       → IsUnderWay table haystack entries s s cache
   begun cache fresh =
       let none = fresh.no_threads in
-      let tried = fresh.no_tries in
-      let entered = fresh.no_entries in
       let rounds = fresh.few_rounds in
       record {
         low = omega arith;
@@ -27,11 +25,11 @@ module _ (table : List (Place ℕ)) (haystack : Text) (entries : List ℕ) (s : 
             (λ z. IsComing table haystack entries s (length haystack) s cache.walk.memory.threads z)
             (sym fresh.none)
             (none_coming table haystack entries s (length haystack) cache.walk.memory.threads none);
-        tries = omega (arith, tried, ap length none);
-        entries = omega (arith, entered);
+        tries = omega (arith, fresh.no_tries, ap length none);
+        entries = omega (arith, fresh.no_entries);
         own = λ low len part. record {
-          tries = omega (arith, tried, ap length none);
-          entries = omega (arith, entered);
+          tries = omega (arith, fresh.no_tries, ap length none);
+          entries = omega (arith, fresh.no_entries);
         };
         rounds = omega (arith, rounds);
       }
@@ -51,16 +49,14 @@ module _ {S : Type 0} {table : List (Place ℕ)} {haystack : Text} {entries : Li
       → cache.walk.steps.entered ≤ size * (q + 1 - s) → IsBoundedBy size ways haystack s
       cache.walk.steps.tried cache.walk.steps.entered cache.walk.steps.looked
   bounded_by size ways tries all_entered =
-      let entered = on.ready.entered_tried in
-      let looked = on.ready.looked_entered in
       let most : q + 1 - s ≤ length haystack - s + 1 = omega (arith, low, high) in
       let all_tries = mul-le-mul_left ways most in
       let all_entries = mul-le-mul_left size most in
       record {
         few_tried = omega (arith, tries, all_tries);
-        entered_tried = entered;
+        entered_tried = on.ready.entered_tried;
         few_entered = omega (arith, all_entered, all_entries);
-        few_looked = omega (arith, looked);
+        few_looked = omega (arith, on.ready.looked_entered);
         none_beyond = λ lt. absurd (omega (arith, lt, low, high));
       }
 

@@ -1,11 +1,9 @@
 -- The first position at which a match is complete.
-use Rattle.regex_lite_engine.proofs.Common.{◌≡◌, ℕ, suc, ◌+◌, ◌<◌, ◌≤◌, Bool, true, false, ◌⊎◌}
-use Rattle.regex_lite_engine.proofs.Common.{List, [], ◌∷◌, ◌++◌, length, if◌then◌else◌, IsTrue}
+use Rattle.regex_lite_engine.proofs.Common.{◌≡◌, ℕ, ◌+◌, ◌<◌, ◌≤◌, Bool, false, ◌⊎◌}
+use Rattle.regex_lite_engine.proofs.Common.{List, [], ◌∷◌, ◌++◌, length, IsTrue}
 use Rattle.regex_lite_engine.proofs.Common.{slice_get, Some, None, Option, sym, refl, ap, ◌∙◌}
 use Rattle.regex_lite_engine.proofs.Common.{subst, inl, inr, arith, cases_lt, Text, after}
-use Rattle.regex_lite_engine.proofs.Common.{holds_between, Condition, free, holding, reading, Arrow}
-use Rattle.regex_lite_engine.proofs.Common.{complete, with_arrows, read_past, taken, arrived}
-use Rattle.regex_lite_engine.proofs.Common.{arrow_taken, step_from, Leads, NoneTwice, Thread}
+use Rattle.regex_lite_engine.proofs.Common.{Leads, NoneTwice, Thread}
 use Rattle.regex_lite_engine.proofs.Common.{IsComing, InStep, Told, IsDead, IsAnswered, place_with}
 use Rattle.regex_lite_engine.proofs.Common.{numbered_step, is_end, IsNumberedMatch, IsEntry}
 use Rattle.regex_lite_engine.proofs.Common.{StartsOf, IsMatchOfAny, Best, IsNumberedEndOf, Node}

@@ -43,8 +43,7 @@ module _ (table : List (Place ℕ)) (at : SearchAt) where
   )
   begun_own_way from (start ∷ starts) are low high m v (inr i) =
       let r = begun_own_way (suc start.number) starts are.2 low high m v i in
-      let le = are.0 in
-      (r.0, r.1, r.2, (r.3.0, omega (arith, le, r.3.1), r.3.2))
+      (r.0, r.1, r.2, (r.3.0, omega (arith, are.0, r.3.1), r.3.2))
 
   begun_ordered : (from : ℕ) (starts : List Start) → AreFrom s from starts → first ≤ p → p ≤ last
       → offer.Ordered Node (begun_offers p starts)

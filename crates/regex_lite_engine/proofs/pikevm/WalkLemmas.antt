@@ -13,8 +13,7 @@ use Rattle.regex_lite_engine.specs.Pikevm.Walking.{FramesHold}
 use Rattle.regex_lite_engine.specs.Pikevm.Walking.{IsWalking}
 use Rattle.regex_lite_engine.proofs.laws.LeadsLemmas.{leads_append}
 use Rattle.regex_lite_engine.proofs.pikevm.InStepLemmas as deep
-use Rattle.regex_lite_engine.proofs.pikevm.InStepPassedLemmas.{in_step_passed}
-use Rattle.regex_lite_engine.proofs.pikevm.InStepMatchLemmas as at_match
+use Rattle.regex_lite_engine.proofs.pikevm.InStepMatchLemmas.{in_step_complete, in_step_passed}
 use Rattle.regex_lite_engine.proofs.search.MarkLemmas.{marks_append, same_slots}
 use Rattle.regex_lite_engine.proofs.search.PlaceLemmas.{wide, no_more, no_arrow_at}
 use Rattle.regex_lite_engine.proofs.search.PlaceLemmas.{offered_by, offers_listed}
@@ -267,8 +266,8 @@ module _ (table : List (Place ℕ)) (at : SearchAt) (state : State) (i : Told) (
             coming = walking.coming;
             way = Some w;
             in_step =
-                at_match.in_step_complete Node step same_node width (no_more table haystack)
-                (StartsOf s first last) (is_end table haystack) (λ x. x.1) fresh (taken w rest e)
+                in_step_complete Node step (StartsOf s first last) (is_end table haystack)
+                (λ x. x.1) same_node width (no_more table haystack) fresh (taken w rest e)
                 ends (λ a. no_arrow_at table haystack (place_with table q) p a ends);
             seen = seen_now w;
             met = met_now w;

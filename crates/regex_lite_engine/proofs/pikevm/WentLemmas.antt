@@ -132,7 +132,6 @@ module _ (table : List (Place ℕ)) (here : Here) (i : Told) {S : Type 0} where
         let adds = enters_adds here i (length table) (marked_in m q) fit.frames_below.1
         fit.threads_below e' done x inside enters' in
         let few = adds.few in let long = adds.long in let keeps = adds.keeps in
-        let reads = adds.reads in
         let work_left = left_enter weight m.now m.rounds table q (place_of x) at short new in
         let stack_left = left_enter kept_back m.now m.rounds table q (place_of x) at short new in
         let arrows_left = left_enter arrow_count m.now m.rounds table q (place_of x) at short new in
@@ -153,7 +152,7 @@ module _ (table : List (Place ℕ)) (here : Here) (i : Told) {S : Type 0} where
             frames_below = frames_kept done adds.frames_below;
             threads_below = adds.threads_below;
             stack_room = omega (arith, stack_left, stack_room, keeps, shorter);
-            next_room = omega (arith, reading_left, next_room, reads);
+            next_room = omega (arith, reading_left, next_room, adds.reads);
             next_cap = fit.next_cap;
             few_tries = omega (arith, arrows_left, few, few_tries, ends);
             few_entries = omega (arith, lone_left, few_entries);

@@ -26,6 +26,13 @@ get_drop zero bs = refl
 get_drop (suc k) [] = refl
 get_drop (suc k) (b ∷ bs) = get_drop k bs
 
+-- the bytes from a character on
+rest_of : (bs : List ℕ) (i c : ℕ) → IsUtf8 bs → slice_get (chars bs) i ≡ Some c
+    → drop (offset (chars bs) i) bs ≡ encode c ++ encodes (drop (suc i) (chars bs))
+rest_of bs i c u e =
+    ap (drop (offset (chars bs) i)) (sym (encodes-chars bs u)) ∙ rest_at (chars bs) i
+    ∙ ap encodes (first_of i (chars bs) c e)
+
 -- a match can begin with a character if the scan stops at its first byte
 pub first_byte : (s : Starts) (bs : List ℕ) (i c : ℕ) → IsUtf8 bs → slice_get (chars bs) i ≡ Some c
     → i < length (chars bs) → offset (chars bs) i < length bs
@@ -39,8 +46,7 @@ first_byte s bs i c u e within short = by_byte (cases_lt byte 128)
     byte = slice_index bs at
 
     rest : drop at bs ≡ encode c ++ encodes (drop (suc i) (chars bs))
-    rest = ap (drop at) (sym (encodes-chars bs u)) ∙ rest_at (chars bs) i
-        ∙ ap encodes (first_of i (chars bs) c e)
+    rest = rest_of bs i c u e
 
     head : slice_index (drop at bs) 0 ≡ byte
     head = get_drop at bs
@@ -90,13 +96,10 @@ pub ascii_there : (bs : List ℕ) (i : ℕ) → IsUtf8 bs → i < length (chars 
 ascii_there bs i u within short ascii =
     let at = offset (chars bs) i in
     let own = there_is (chars bs) i within in
-    let rest : drop at bs ≡ encode own.0 ++ encodes (drop (suc i) (chars bs)) =
-    ap (drop at) (sym (encodes-chars bs u)) ∙ rest_at (chars bs) i
-    ∙ ap encodes (first_of i (chars bs) own.0 own.1) in
     let head = get_drop at bs in
     let some : 0 < length (drop at bs) = omega (arith, short, length-drop at bs) in
-    let same = char_from_byte (drop at bs) (encodes (drop (suc i) (chars bs))) own.0 rest
-    (omega (arith, ascii, head)) some in
+    let same = char_from_byte (drop at bs) (encodes (drop (suc i) (chars bs))) own.0
+    (rest_of bs i own.0 u own.1) (omega (arith, ascii, head)) some in
     own.1 ∙ ap Some (same ∙ head)
 
 -- where the scan stops, or at the end, one can begin
@@ -159,17 +162,12 @@ module _ (bs : List ℕ) (i : ℕ) (u : IsUtf8 bs) (within : i < length (chars b
   abbrev here : (c : ℕ) × (slice_get (chars bs) i ≡ Some c)
   here = there_is (chars bs) i within
 
-  rest : drop at bs ≡ encode here.0 ++ encodes (drop (suc i) (chars bs))
-  rest = ap (drop at) (sym (encodes-chars bs u)) ∙ rest_at (chars bs) i
-      ∙ ap encodes (first_of i (chars bs) here.0 here.1)
-
   low : here.0 < 128
   low =
-      let head = get_drop at bs in
-      let some : 0 < length (drop at bs) = omega (arith, short, length-drop at bs) in
-      let same = char_from_byte (drop at bs) (encodes (drop (suc i) (chars bs))) here.0 rest
-      (omega (arith, ascii, head)) some in
-      omega (arith, same, head, ascii)
+      let less : at < length bs = omega (arith, short) in
+      let same : here.0 ≡ slice_index bs at =
+      same_some (sym here.1 ∙ ascii_there bs i u within less ascii) in
+      omega (arith, same, ascii)
 
   pub next_at : offset (chars bs) (suc i) ≡ at + 1
   next_at =

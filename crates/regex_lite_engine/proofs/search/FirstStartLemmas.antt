@@ -84,9 +84,8 @@ module _ (table : List (Place ℕ)) (bytes : List ℕ) (utf8 : IsUtf8 bytes) (st
   pub none_before_first : NoneStartsBefore table (chars bytes) start s (position_at bytes here.at)
   none_before_first =
       let same = position in
-      let later = w.later in
       record {
-        from = omega (arith, same, later);
+        from = omega (arith, same, w.later);
         least = λ i q j way is. (
             let by_order : (i < w.q) ⊎ (w.q ≤ i) → position_at bytes here.at ≤ i = λ order.
             elim order [

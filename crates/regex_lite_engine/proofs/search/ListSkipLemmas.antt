@@ -1,7 +1,7 @@
 -- Positions at which no match of several patterns can begin, and the bytes of their characters.
 use Rattle.regex_lite_engine.proofs.Common.{◌≡◌, ℕ, zero, suc, ◌+◌, ◌<◌, ◌≤◌, false, ◌&&◌, ◌||◌}
-use Rattle.regex_lite_engine.proofs.Common.{◌⊎◌, List, length, slice_get, slice_index, Some, IsUtf8}
-use Rattle.regex_lite_engine.proofs.Common.{chars, sym, ap, ◌∙◌, subst, inl, inr, arith, cases_lt}
+use Rattle.regex_lite_engine.proofs.Common.{List, length, slice_get, slice_index, Some, IsUtf8}
+use Rattle.regex_lite_engine.proofs.Common.{chars, sym, ap, ◌∙◌, subst, inl, inr, arith}
 use Rattle.regex_lite_engine.proofs.Common.{slice_get_within, may_start, IsPassedByAll, start_row}
 use Rattle.regex_lite_engine.proofs.Common.{has, MayBegin, offset, IsHere, AreDeadAt, PassesTo}
 use Rattle.regex_lite_engine.proofs.Common.{AreListHeadsOf, ListHeads, Here}

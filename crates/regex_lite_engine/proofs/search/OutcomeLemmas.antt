@@ -45,13 +45,11 @@ pub can_count : (table : List (Place ℕ)) (bytes : List ℕ) (s : ℕ) → IsUt
     → CanCount table patterns (characters_left (chars bytes) s)
 can_count table bytes s utf8 short countable patterns few_patterns =
     let few = few_chars bytes utf8 in
-    let places = countable.few_places in
-    let arrows = countable.few_arrows in
     record {
       tries = few_products (arrows_of table + patterns) (characters_left (chars bytes) s + 1)
-          (omega (arith, arrows, few_patterns)) (omega (arith, few, short));
+          (omega (arith, countable.few_arrows, few_patterns)) (omega (arith, few, short));
       entries = few_products (length table) (characters_left (chars bytes) s + 1)
-          (omega (arith, places)) (omega (arith, few, short));
+          (omega (arith, countable.few_places)) (omega (arith, few, short));
       rounds = omega (arith, few, short);
     }
 

@@ -42,8 +42,7 @@ cut_off_here heads bs p x u is cut =
     before_end : (p < length (chars bs)) ⊎ (length (chars bs) ≤ p) → p < length (chars bs)
     before_end (inl lt) = lt
     before_end (inr le) =
-        let inside = is.inside in
-        let last : p ≡ length (chars bs) = omega (arith, le, inside) in
+        let last : p ≡ length (chars bs) = omega (arith, le, is.inside) in
         let end = is.bytes ∙ ap (offset (chars bs)) last ∙ whole bs u in
         absurd (omega (arith, end, short heads.second cut))
 

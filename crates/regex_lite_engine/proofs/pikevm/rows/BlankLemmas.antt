@@ -194,8 +194,7 @@ module _ {slots : Row} {capacity w count : ℕ} {rows : List Row}
       × AreRows after capacity' w count
   row_copied {there} {after} {from} {to} end is lt_from lt_to le_from le_to last more e =
       let one = filled slots there end (count * w) is last ok.within in
-      let reached = one.2 in
-      let held = row_read there from one.0 lt_from (omega (arith, le_from, reached)) in
+      let held = row_read there from one.0 lt_from (omega (arith, le_from, one.2)) in
       let put = row_put_over (take w (drop (from * w) there)) end is lt_to le_to last
       (ap length held ∙ row_wide lt_from) more e in
       (put.0 ∙ ap (λ row. set rows to row) held, put.1)

@@ -64,8 +64,7 @@ pub moved : (bs : List ℕ) (p c : ℕ) (x : Here) → IsHere (chars bs) p x →
 moved bs p c x is e =
     let at : slice_get (chars bs) p ≡ Some c = sym is.ahead ∙ e in
     let within = slice_get_within (chars bs) p c at in let next = offset_next (chars bs) p c at in
-    let bytes = is.bytes in
-    (omega (arith, within), omega (arith, next, bytes))
+    (omega (arith, within), omega (arith, next, is.bytes))
 
 pub here_next : (bs : List ℕ) (p c : ℕ) (x y : Here) → IsUtf8 bs → x.after ≡ Some c
     → y.before ≡ Some c → y.at ≡ x.at + len_utf8 c → y.after ≡ slice_get (chars (drop y.at bs)) 0 →

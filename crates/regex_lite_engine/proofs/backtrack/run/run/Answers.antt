@@ -40,12 +40,11 @@ explore-requires-clause-room c =
     let a = c.args in
     let v = c.starts.invariant in
     let w = v.passes in
-    let lt = c.start-start.ensures.inside in
     let size = length-map a.graph.now.places place_of in
     start_fits (table_of a.graph.now) a.haystack.now c.utf8.haystack a.first.at
     (edge a.haystack.now a.first c.utf8.haystack c.requires.here) a.graph.now.start v.p
     c.starts.walk v.under_way w.q c.starts.here.at w.later (w.is.inside, w.is.bytes)
-    c.requires.counts (omega (arith, lt, size))
+    c.requires.counts (omega (arith, c.start-start.ensures.inside, size))
 
 pub returns-in-Some-clause-found : goal.returns-in-Some-clause-found
 returns-in-Some-clause-found c =
@@ -53,14 +52,12 @@ returns-in-Some-clause-found c =
     let v = c.starts.invariant in
     let w = v.passes in
     let table = table_of a.graph.now in
-    let old = c.starts.walk in
     let new = c.explore.new.self in
     let low = v.under_way.low in
-    let later = w.later in
     let explored = subst (λ (end : Option ℕ). Explores table a.haystack.now a.graph.now.start
-    c.starts.here.at old new end) c.in-Some.is c.explore.ensures.explored in
+    c.starts.here.at c.starts.walk new end) c.in-Some.is c.explore.ensures.explored in
     start_matches a.haystack.now c.utf8.haystack table a.graph.now.start a.first.at v.p w.q
-    c.starts.here.at old new v.under_way.first later (omega (arith, low, later))
+    c.starts.here.at c.starts.walk new v.under_way.first w.later (omega (arith, low, w.later))
     (w.is.inside, w.is.bytes) w.passed v.under_way.walking c.in-Some.end explored.on.walks
 
 pub returns-in_default-start_after-clause-found : goal.returns-in_default-start_after-clause-found
@@ -95,12 +92,11 @@ pub starts-smaller : goal.starts-smaller
 starts-smaller c =
     let w = c.starts.invariant.passes in
     let on = next_passes c in
-    let later = on.later in
-    let one_on : on.q ≡ (on.q - 1) + 1 = omega (arith, later) in
+    let one_on : on.q ≡ (on.q - 1) + 1 = omega (arith, on.later) in
     less_left c.args.haystack.now w.q (on.q - 1) c.starts.here c.in-Some-start_after.next
     c.utf8.haystack w.is
     (subst (λ z. IsHere (chars c.args.haystack.now) z c.in-Some-start_after.next) one_on on.is)
-    (omega (arith, later))
+    (omega (arith, on.later))
 
 pub starts-preserved : goal.starts-preserved
 starts-preserved c =

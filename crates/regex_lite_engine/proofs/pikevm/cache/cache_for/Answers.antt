@@ -17,16 +17,14 @@ returns-clause-fresh g c =
     let places : c.places-places.result ≡ length c.args.table.now.places =
     c.places-places.ensures.same in
     let kept = c.places-places.ensures.kept_back (subst (λ n. 0 < n) (sym places) c.requires) in
-    let reading = c.reading-room.ensures.each in
     let blank = c.in_ok-blank.ensures in
     let tried = c.none.ensures.tried in let entered = c.none.ensures.entered in
-    let looked = c.none.ensures.looked in
     let rounds = blank.rounds in let now = blank.now in let room = blank.room in
     record {
       between = record {
         all_seen = omega (arith, rounds, places, count);
         old_rounds = λ q. (let le = blank.old q in let e = blank.now in omega (arith, le, e));
-        cap = omega (arith, room, reading);
+        cap = omega (arith, room, c.reading-room.ensures.each);
         few = omega (arith, ap length blank.threads);
         below = λ k lt. absurd (omega (arith, lt, ap length blank.threads));
         none_next = blank.next;
@@ -34,7 +32,7 @@ returns-clause-fresh g c =
         stack_empty = blank.frames;
         best_width = c.in_ok-with_width.ensures.width ∙ sym blank.width;
         entered_tried = omega (arith, tried, entered);
-        looked_entered = omega (arith, entered, looked);
+        looked_entered = omega (arith, entered, c.none.ensures.looked);
         match_entered = λ some. absurd (some c.in_ok-with_width.ensures.none);
       };
       none = c.in_ok-with_width.ensures.none;

@@ -4,9 +4,8 @@ use Rattle.regex_lite_engine.proofs.pikevm.memory.clear_rounds.Goals as goal
 
 pub cells-preserved : goal.cells-preserved
 cells-preserved g c =
-    let v = c.cells.invariant in
     record {
-      cleared = cleared_more c.cells.cells.items c.cells.k _ refl v.cleared;
-      same = length-set c.cells.cells.items c.cells.k _ ∙ v.same;
-      capacity = v.capacity;
+      cleared = cleared_more c.cells.cells.items c.cells.k _ refl c.cells.invariant.cleared;
+      same = length-set c.cells.cells.items c.cells.k _ ∙ c.cells.invariant.same;
+      capacity = c.cells.invariant.capacity;
     }

@@ -80,9 +80,7 @@ returns-then-is_over g c =
     let now = c.pass-here.new.self in
     let w = passed_as (c.pass-here.ensures.table ∙ v.table) (c.pass-here.ensures.entries ∙ v.entries)
     (c.pass-here.ensures.passes s v.p v.is v.under_way) in
-    let low = v.under_way.low in
-    let later = w.later in
-    let first : s ≤ w.q = omega (arith, low, later) in
+    let first : s ≤ w.q = omega (arith, v.under_way.low, w.later) in
     record {
       found =
           ended_all table haystack entries s w.q now.walk.memory.threads (best_of now.best) first

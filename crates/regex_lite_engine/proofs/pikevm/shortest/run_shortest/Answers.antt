@@ -82,9 +82,7 @@ returns-then-is_known g c =
     let now = c.pass-here.new.self in
     let w = passed_as (c.pass-here.ensures.table ∙ v.table) (c.pass-here.ensures.entries ∙ v.entries)
     (c.pass-here.ensures.passes s v.p v.is v.under_way) in
-    let low = v.under_way.low in
-    let later = w.later in
-    let first : s ≤ w.q = omega (arith, low, later) in
+    let first : s ≤ w.q = omega (arith, v.under_way.low, w.later) in
     record {
       found =
           shortest_known table haystack entries s w.q c.pass-here.result.at

@@ -15,16 +15,15 @@ of_none test (k ∷ numbers) none = absurd (omega (arith, none))
 pub returns-then-is_empty-clause-kept : goal.returns-then-is_empty-clause-kept
 returns-then-is_empty-clause-kept c = λ p is.
     let h = chars c.args.haystack.now in
-    let thirds = c.args.heads.now.thirds in
     let numbers = c.args.numbers.now.items in
     elim c.then-is_empty.branch [
       | then-is_empty-via-then-is_empty w ↦
           let none : length numbers ≡ 0 = search rules in
-          of_none (may_go_on thirds (after h (suc p))) numbers none
+          of_none (may_go_on c.args.heads.now.thirds (after h (suc p))) numbers none
       | then-is_empty-via-else-is_empty+then-is_none w ↦
           let end : c.args.second.after ≡ None = search rules in
-          all_go_on thirds numbers
-          ∙ ap (λ o. filter (may_go_on thirds o) numbers)
+          all_go_on c.args.heads.now.thirds numbers
+          ∙ ap (λ o. filter (may_go_on c.args.heads.now.thirds o) numbers)
           (sym (none_later h p (sym is.ahead ∙ end)))
     ]
 
@@ -40,10 +39,8 @@ returns-in-Some-clause-kept c = λ p is.
 pub returns-in_default-clause-kept : goal.returns-in_default-clause-kept
 returns-in_default-clause-kept c = λ p is.
     let h = chars c.args.haystack.now in
-    let thirds = c.args.heads.now.thirds in
-    let numbers = c.args.numbers.now.items in
     let next : p + 1 ≡ suc p = omega arith in
     let third = c.next.ensures p is in
-    all_go_on thirds numbers
-    ∙ ap (λ o. filter (may_go_on thirds o) numbers)
+    all_go_on c.args.heads.now.thirds c.args.numbers.now.items
+    ∙ ap (λ o. filter (may_go_on c.args.heads.now.thirds o) c.args.numbers.now.items)
     (sym c.in_default.is ∙ third.ahead ∙ ap (after h) next)

@@ -8,13 +8,12 @@ use Rattle.regex_lite_engine.proofs.search.list_skip.next_offset.Goals.{
 
 pub loop-k-preserved : goal.loop-k-preserved
 loop-k-preserved c =
-    let v = c.loop-k.invariant in
     let at : ℕ = c.fours.at + c.loop-k.k in
     record {
-      low = v.low;
-      high = v.high;
+      low = c.loop-k.invariant.low;
+      high = c.loop-k.invariant.high;
       passed = λ k from below. elim (cases_lt k at) [
-        | inl lt ↦ v.passed k from lt
+        | inl lt ↦ c.loop-k.invariant.passed k from lt
         | inr ge ↦
             let same : k ≡ at = omega (arith, ge, below) in
             subst (IsPassedByAll c.args.heads.now c.args.bytes.now) (sym same)
@@ -24,16 +23,15 @@ loop-k-preserved c =
 
 pub fours-preserved : goal.fours-preserved
 fours-preserved c =
-    let v = c.fours.invariant in
     record {
-      low = omega (arith, v.low);
+      low = omega (arith, c.fours.invariant.low);
       high = omega (arith, c.fours-test.true);
       passed = elim c.if-not-passes_four.branch [
         | then-not-passes_four+else-loop-k-test w ↦ (
             λ k from below. w.loop-k.invariant.passed k from
             (omega (arith, below, w.loop-k-test.false)))
         | else-not-passes_four w ↦ (λ k from below. elim (cases_lt k c.fours.at) [
-          | inl lt ↦ v.passed k from lt
+          | inl lt ↦ c.fours.invariant.passed k from lt
           | inr ge ↦ inl (c.passes_four.ensures w.if-not-passes_four.false k ge below)
         ])
       ];
@@ -41,12 +39,11 @@ fours-preserved c =
 
 pub ones-preserved : goal.ones-preserved
 ones-preserved c =
-    let v = c.ones.invariant in
     record {
-      low = omega (arith, v.low);
+      low = omega (arith, c.ones.invariant.low);
       high = omega (arith, c.ones-test.true);
       passed = λ k from below. elim (cases_lt k c.ones.at) [
-        | inl lt ↦ v.passed k from lt
+        | inl lt ↦ c.ones.invariant.passed k from lt
         | inr ge ↦
             let same : k ≡ c.ones.at = omega (arith, ge, below) in
             subst (IsPassedByAll c.args.heads.now c.args.bytes.now) (sym same)

@@ -14,8 +14,7 @@ use Rattle.regex_lite_engine.proofs.search.list_skip.pass_over_all.Goals.{
 
 pub next_offset-at-requires-clause-from : goal.next_offset-at-requires-clause-from
 next_offset-at-requires-clause-from c =
-    let same = c.as_bytes.ensures.value in
-    subst (λ z. c.args.here.at ≤ length z) (sym same)
+    subst (λ z. c.args.here.at ≤ length z) (sym c.as_bytes.ensures.value)
     (at_most c.args.haystack.now c.requires.0 c.args.here c.utf8.haystack c.requires.1)
 
 pub returns-then-may_begin : goal.returns-then-may_begin
@@ -29,9 +28,7 @@ returns c = λ p is.
     let list = c.args.list.now in
     let bytes = c.args.haystack.now in
     let heads = c.heads-heads.result.now in
-    let same = c.as_bytes.ensures.value in
     let at = c.at.ensures.at in
-    let low = c.next_offset-at.ensures.low in
     let high = c.next_offset-at.ensures.boundary.0 in
     let start : p ≡ 0 → MayBegin heads.any (chars bytes) 0 → ⊥ = λ zero_is may.
     let here = subst (MayBegin heads.any (chars bytes)) (sym zero_is) may in
@@ -44,9 +41,9 @@ returns c = λ p is.
           never (sym w.if-is_none.ensures ∙ none)
     ] in
     passes_to (table_of_list list) list.entries heads c.heads-heads.ensures bytes
-    c.utf8.haystack is c.at.ensures.here (omega (arith, at, low))
-    (subst (λ z. c.at.result.at ≤ length z) same (omega (arith, at, high)))
-    (λ k from below. subst (λ z. IsPassedByAll heads z k) same
+    c.utf8.haystack is c.at.ensures.here (omega (arith, at, c.next_offset-at.ensures.low))
+    (subst (λ z. c.at.result.at ≤ length z) c.as_bytes.ensures.value (omega (arith, at, high)))
+    (λ k from below. subst (λ z. IsPassedByAll heads z k) c.as_bytes.ensures.value
     (c.next_offset-at.ensures.passed k from (omega (arith, below, at)))) start
   where
     never : true ≡ false → ⊥

@@ -3,22 +3,18 @@ use Rattle.regex_lite_engine.proofs.search.skip.next_offset.Goals as goal
 
 pub stops-preserved : goal.stops-preserved
 stops-preserved c =
-    let held = c.stops.invariant in
-    let told = c.next_first-at.ensures in
-    let next = c.next_first-at.result in
-    let start = held.low in
-    let low = told.low in
-    let high = told.high in
+    let low = c.next_first-at.ensures.low in
+    let high = c.next_first-at.ensures.high in
     record {
-      low = omega (arith, start, low);
+      low = omega (arith, c.stops.invariant.low, low);
       high = omega (arith, high);
       passed = λ k from below. elim (cases_lt k c.stops.at) [
-        | inl before ↦ held.passed k from before
+        | inl before ↦ c.stops.invariant.passed k from before
         | inr after ↦
-            elim (cases_lt k next) [
-              | inl before ↦ told.passed k after before
+            elim (cases_lt k c.next_first-at.result) [
+              | inl before ↦ c.next_first-at.ensures.passed k after before
               | inr there ↦
-                  let same : next ≡ k = omega (arith, there, below) in
+                  let same : c.next_first-at.result ≡ k = omega (arith, there, below) in
                   subst (IsPassed c.args.heads.now c.args.bytes.now) same
                   (inr (c.if-may_go_on.ensures refl))
             ]

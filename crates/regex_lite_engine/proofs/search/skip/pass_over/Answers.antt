@@ -10,14 +10,12 @@ use Rattle.regex_lite_engine.proofs.search.skip.pass_over.Goals as goal
 
 pub can_begin-requires : goal.can_begin-requires
 can_begin-requires c =
-    let same = c.as_bytes-bytes.ensures.value in
-    subst (λ z. c.args.here.at ≤ length z) (sym same)
+    subst (λ z. c.args.here.at ≤ length z) (sym c.as_bytes-bytes.ensures.value)
     (at_most c.args.haystack.now c.requires.0 c.args.here c.utf8.haystack c.requires.1)
 
 pub next_offset-at-requires-clause-inside : goal.next_offset-at-requires-clause-inside
 next_offset-at-requires-clause-inside c =
-    let same = c.as_bytes-bytes.ensures.value in
-    subst (λ z. c.args.here.at ≤ length z) (sym same)
+    subst (λ z. c.args.here.at ≤ length z) (sym c.as_bytes-bytes.ensures.value)
     (at_most c.args.haystack.now c.requires.0 c.args.here c.utf8.haystack c.requires.1)
 
 pub next_offset-at-requires-clause-prefilter : goal.next_offset-at-requires-clause-prefilter
@@ -30,8 +28,6 @@ returns-clause-passes c = λ p is.
     let heads = c.heads-heads.result.now in
     let bytes = c.args.haystack.now in
     let same = c.as_bytes-bytes.ensures.value in
-    let at = c.at.ensures.at in
-    let low = c.next_offset-at.ensures.low in
     let high = c.next_offset-at.ensures.high in
     let not_here : NeverBegins heads (chars bytes) p =
     elim (c.can_begin.ensures.never c.if-can_begin.false) [
@@ -42,10 +38,10 @@ returns-clause-passes c = λ p is.
     subst (λ h. PassesTo (NeverBegins h (chars bytes)) (chars bytes) p c.at.result)
     c.heads-heads.ensures
     (passes_between heads bytes c.utf8.haystack is c.at.ensures.here not_here
-    (omega (arith, at, low))
-    (subst (λ z. c.at.result.at ≤ length z) same (omega (arith, at, high)))
+    (omega (arith, c.at.ensures.at, c.next_offset-at.ensures.low))
+    (subst (λ z. c.at.result.at ≤ length z) same (omega (arith, c.at.ensures.at, high)))
     (λ k from below. subst (λ z. IsPassed heads z k) same
-    (c.next_offset-at.ensures.passed k from (omega (arith, below, at)))))
+    (c.next_offset-at.ensures.passed k from (omega (arith, below, c.at.ensures.at)))))
 
 pub returns-clause-stops : goal.returns-clause-stops
 returns-clause-stops c =

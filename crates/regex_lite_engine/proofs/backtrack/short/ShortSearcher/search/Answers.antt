@@ -62,15 +62,14 @@ run-requires-clause-fresh c =
 
 pub returns-clause-searches : goal.returns-clause-searches
 returns-clause-searches c =
-    let a = c.args in
-    let old = a.self.now in
+    let old = c.args.self.now in
     let width : length c.run.new.walk.stack.row ≡ length old.walk.stack.row
     = c.run.ensures.width ∙ ap (λ held. length held.row) c.clear.ensures
     ∙ length-replicate (length old.walk.stack.row) None in
     let room : c.run.new.walk.stack.room ≡ old.walk.stack.room
     = c.run.ensures.room ∙ ap (λ held. held.room) c.clear.ensures in
     record {
-      room = subst (λ (z : ℕ). sum_by (kept_back_with z) (table_of a.graph.now) * old.offsets
+      room = subst (λ (z : ℕ). sum_by (kept_back_with z) (table_of c.args.graph.now) * old.offsets
           ≤ c.run.new.walk.stack.room) (sym width)
           (omega (arith, room, c.requires.searches.room));
       few_pairs = c.requires.searches.few_pairs;

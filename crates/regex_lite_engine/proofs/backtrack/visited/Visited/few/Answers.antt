@@ -4,10 +4,8 @@ use Rattle.regex_lite_engine.proofs.backtrack.visited.Visited.few.Goals as goal
 
 pub overflow_add-result : goal.overflow_add-result
 overflow_add-result c =
-    let a = c.args in
-    let each = mul-le-mul_right (a.last - a.first + 1) c.requires.some in
-    let few = c.requires.few in
-    omega (arith, each, few)
+    let each = mul-le-mul_right (c.args.last - c.args.first + 1) c.requires.some in
+    omega (arith, each, c.requires.few)
 
 pub returns-clause-none : goal.returns-clause-none
 returns-clause-none c =

@@ -32,10 +32,9 @@ returns-then-not-insert-clause-taken c =
 pub enter-requires-clause-room : goal.enter-requires-clause-room
 enter-requires-clause-room c =
     let a = c.args in
-    let place = c.look-found.result.now in
     enter_room (table_of a.graph.now) a.haystack.now a.self.now a.place a.at c.requires
-    c.utf8.haystack (c.insert.ensures.fresh.0 c.if-not-insert.false) place
-    (got_place a.graph.now.places a.place place c.look-found.ensures.found)
+    c.utf8.haystack (c.insert.ensures.fresh.0 c.if-not-insert.false) c.look-found.result.now
+    (got_place a.graph.now.places a.place c.look-found.result.now c.look-found.ensures.found)
 
 pub returns-clause-taken : goal.returns-clause-taken
 returns-clause-taken c =
@@ -70,8 +69,7 @@ returns-clause-taken c =
 
 pub look-found-requires-clause-inside : goal.look-found-requires-clause-inside
 look-found-requires-clause-inside c =
-    let places = c.args.graph.now.places in
-    subst (λ n. c.args.place < n) (length-map places place_of) c.requires.below.0
+    subst (λ n. c.args.place < n) (length-map c.args.graph.now.places place_of) c.requires.below.0
 
 pub insert-requires-clause-inside : goal.insert-requires-clause-inside
 insert-requires-clause-inside c =

@@ -121,8 +121,7 @@ ways-smaller c =
     let back = went_back t h v u (Some (left.field-0-0, left.field-0-1))
     (subst (λ n. Unwinds v.stack.row v.stack.frames n u.stack.row u.stack.frames) left.was e.back)
     e.same e.row e.room (went.fit refl) in
-    let more = back.less in
-    omega (arith, less, more)
+    omega (arith, less, back.less)
 
 pub ways-preserved : goal.ways-preserved
 ways-preserved c =

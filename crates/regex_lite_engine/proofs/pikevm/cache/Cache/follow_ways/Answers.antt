@@ -199,7 +199,6 @@ returns-clause-followed g c =
     let told = g.S.Beginning.told_of a.here.at in
     let ws = ways_at (g.P.Patterns.starts a.patterns.now) told a.self.now in
     let e = c.ways-k-end.ensures told in
-    let t = c.ways-test.false in
     let far : c.ways.k ≤ c.ways-k-end.result = search in
     let spent = v.followed.spent in
     record {
@@ -208,7 +207,7 @@ returns-clause-followed g c =
           c.ways.self.walk.memory [] b) (sym (ap best_of v.best))
           (subst (λ ts. StepsTo table a.here a.self.now.walk.memory ws (best_of a.self.now.best)
           c.ways.self.walk.memory ts (best_of a.self.now.best))
-          (drop_of_length-le ws (omega (arith, t, e))) v.followed.steps);
+          (drop_of_length-le ws (omega (arith, c.ways-test.false, e))) v.followed.steps);
       spent = omega (arith, e, far, spent);
       spent_entries = v.followed.spent_entries;
       stack_empty = v.followed.empty;
@@ -222,10 +221,9 @@ returns-clause-again g c = λ tell there b alike.
     let told = g.S.Beginning.told_of a.here.at in
     let ws = ways_at (g.P.Patterns.starts a.patterns.now) told a.self.now in
     let e = c.ways-k-end.ensures told in
-    let t = c.ways-test.false in
     subst (λ (ts : List Thread). StepsTo (g.P.Patterns.table a.patterns.now) there
     (state_retold tell i) (all_retold tell ws) b (state_retold tell c.ways.self.walk.memory)
-    (all_retold tell ts) b) (drop_of_length-le ws (omega (arith, t, e)))
+    (all_retold tell ts) b) (drop_of_length-le ws (omega (arith, c.ways-test.false, e)))
     (c.ways.invariant.followed.again tell there b alike)
 
 pub returns-then-explore-clause-hit : goal.returns-then-explore-clause-hit

@@ -46,7 +46,6 @@ returns-clause-passes g c s p is before =
     let later = w.later in
     let first : s ≤ w.q = omega (arith, low, later) in
     let rounds = on.rounds in
-    let now = c.turn.ensures.round in
     let tries = c.turn.ensures.tries in
     let few = c.come_to.ensures.few in
     record {
@@ -70,28 +69,25 @@ returns-clause-passes g c s p is before =
         own = λ begin len part. (
             let spends = c.turn.ensures.own haystack entries w.q s (length haystack) begin len w.is
             first w.is.inside (c.come_to.ensures.starts w.q w.is) w.coming part in
-            let spent_tries = spends.tries in
             record {
               tries = bound_on table haystack entries s
                   (old.walk.steps.tried + length old.walk.memory.threads)
                   (new.walk.steps.tried + length new.walk.memory.threads) p w.q
                   (arrows_of (row_of table begin len) + length entries) low later
-                  (on.own begin len part).tries (omega (arith, spent_tries, few));
+                  (on.own begin len part).tries (omega (arith, spends.tries, few));
               entries = bound_on table haystack entries s old.walk.steps.entered
                   new.walk.steps.entered p w.q len low later (on.own begin len part).entries
                   spends.entries;
             });
-        rounds = omega (arith, rounds, now, first, later);
+        rounds = omega (arith, rounds, c.turn.ensures.round, first, later);
       };
     }
 
 pub turn-requires-clause-few_ways : goal.turn-requires-clause-few_ways
 turn-requires-clause-few_ways g c =
-    let threads = c.threads-threads.ensures.few in
-    let same = c.threads-threads.ensures.same in
     let starts = c.come_to.ensures.few in
     let few = c.come_to.ensures.countable in
-    omega (arith, threads, same, starts, few)
+    omega (arith, c.threads-threads.ensures.few, c.threads-threads.ensures.same, starts, few)
 
 -- what was counted up to a position of the haystack leaves room for that of one more
 one_more : (a m n left : ℕ) → n ≤ left → a ≤ m * n → m * (left + 1) < 2 ^ 127 → a + m < 2 ^ 127
@@ -102,34 +98,27 @@ one_more a m n left le before all =
 pub turn-requires-clause-few_tries : goal.turn-requires-clause-few_tries
 turn-requires-clause-few_tries g c =
     let a = c.args in
-    let w = a.self.now.walk in
     let table = g.P.Patterns.table a.patterns.now in
     let entries = g.P.Patterns.entries a.patterns.now in
     let inside = c.requires.2.inside in
     let left = characters_left (chars a.haystack.now) c.requires.0 in
-    let most = one_more (w.steps.tried + length w.memory.threads)
+    let most = one_more (a.self.now.walk.steps.tried + length a.self.now.walk.memory.threads)
     (arrows_of table + length entries) (c.requires.1 - c.requires.0) left (omega (arith, inside))
     c.requires.4.tries c.requires.3.tries in
     let arrows = ap arrows_of c.come_to.ensures.table in
-    let starts = c.come_to.ensures.few in
     let same = ap length c.come_to.ensures.entries in
-    omega (arith, most, arrows, starts, same)
+    omega (arith, most, arrows, c.come_to.ensures.few, same)
 
 pub turn-requires-clause-few_entries : goal.turn-requires-clause-few_entries
 turn-requires-clause-few_entries g c =
-    let a = c.args in
-    let table = g.P.Patterns.table a.patterns.now in
-    let inside = c.requires.2.inside in
-    let left = characters_left (chars a.haystack.now) c.requires.0 in
-    let most = one_more a.self.now.walk.steps.entered (length table)
-    (c.requires.1 - c.requires.0) left (omega (arith, inside)) c.requires.4.entries
+    let table = g.P.Patterns.table c.args.patterns.now in
+    let left = characters_left (chars c.args.haystack.now) c.requires.0 in
+    let most = one_more c.args.self.now.walk.steps.entered (length table)
+    (c.requires.1 - c.requires.0) left (omega (arith, c.requires.2.inside)) c.requires.4.entries
     c.requires.3.entries in
     let places = ap length c.come_to.ensures.table in
     omega (arith, most, places)
 
 pub turn-requires-clause-few_rounds : goal.turn-requires-clause-few_rounds
 turn-requires-clause-few_rounds g c =
-    let inside = c.requires.2.inside in
-    let rounds = c.requires.4.rounds in
-    let few = c.requires.3.rounds in
-    omega (arith, inside, rounds, few)
+    omega (arith, c.requires.2.inside, c.requires.4.rounds, c.requires.3.rounds)

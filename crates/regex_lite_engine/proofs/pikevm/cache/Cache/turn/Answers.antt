@@ -37,7 +37,6 @@ follow-hit-requires-clause-placed g c =
     let n = c.begin_round.new.self in let round = begins_round m n c.begin_round.ensures in
     let starts = g.P.Patterns.starts a.patterns.now in let told = g.S.Beginning.told_of a.here.at in
     let best = best_of a.self.now.best in
-    let few = r.few_tries in
     let none : length n.next ≡ 0 = ap length round.next ∙ ap length r.ready.none_next in
     let idle : explores n.frames ≡ 0 =
     ap (λ fs. explores fs) (round.frames ∙ r.ready.stack_empty) in
@@ -52,7 +51,7 @@ follow-hit-requires-clause-placed g c =
           subst (ThreadsBelow (length (g.P.Patterns.table a.patterns.now))) (sym round.threads)
           r.ready.below;
       best_width = r.ready.best_width ∙ sym (ap length round.row);
-      budget = omega (arith, few, none, idle, one, most);
+      budget = omega (arith, r.few_tries, none, idle, one, most);
     }
 
 pub returns-clause-tries : goal.returns-clause-tries
@@ -68,18 +67,16 @@ returns-clause-tries g c =
     (with_starts starts told best (length n.row) n.threads)
     (begins_with m n starts told best round) in
     let most = left_most arrow_count n.now n.rounds (g.P.Patterns.table a.patterns.now) in
-    let spent = c.follow-hit.ensures.followed.spent in
     let over = ap length
     (turns_over c.follow-hit.new.self.walk.memory c.turn_over.new.self c.turn_over.ensures) in
-    omega (arith, none, idle, one, most, spent, over)
+    omega (arith, none, idle, one, most, c.follow-hit.ensures.followed.spent, over)
 
 pub returns-clause-entries : goal.returns-clause-entries
 returns-clause-entries g c =
     let a = c.args in let n = c.begin_round.new.self in
     let most = left_most lone n.now n.rounds (g.P.Patterns.table a.patterns.now) in
     let all = sum_lone (g.P.Patterns.table a.patterns.now) in
-    let spent = c.follow-hit.ensures.followed.spent_entries in
-    omega (arith, most, all, spent)
+    omega (arith, most, all, c.follow-hit.ensures.followed.spent_entries)
 
 pub returns-clause-comes : goal.returns-clause-comes
 returns-clause-comes g c = λ haystack entries p first last is low high are coming.
@@ -145,16 +142,14 @@ returns-clause-own g c = λ haystack entries p first last begin len is low high 
     let one = begun_len best starts told m.threads ways begins in
     let most = left_most arrow_count n.now n.rounds table in
     let each = left_most lone n.now n.rounds table in
-    let spent = followed.followed.spent in
     let over = ap length (turns_over left c.turn_over.new.self c.turn_over.ensures) in
-    let spent_entries = followed.followed.spent_entries in
     record {
-      tries = omega (arith, none, idle, one, most, spent, over, outside);
+      tries = omega (arith, none, idle, one, most, followed.followed.spent, over, outside);
       entries = omega (
         arith,
         each,
         others,
-        spent_entries,
+        followed.followed.spent_entries,
         sum_lone (row_of table begin len),
         length_row table begin len,
       );

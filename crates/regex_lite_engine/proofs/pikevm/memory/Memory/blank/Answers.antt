@@ -18,14 +18,11 @@ returns-clause-rounds g c =
 
 pub invariant_of-result : goal.invariant_of-result
 invariant_of-result g c =
-    let few = c.in_ok-cells.ensures.few in
-    let room = c.in_ok-cells.ensures.room in
-    let len = c.len.ensures in
     let all : c.args.places - c.len.result + length c.in_ok-cells.cells.items ≡ c.args.places =
-    omega (arith, few, len) in
+    omega (arith, c.in_ok-cells.ensures.few, c.len.ensures) in
     record {
       all_ready = λ ready. eqb-true _ _ ready;
-      cells_fit = omega (arith, all, room);
+      cells_fit = omega (arith, all, c.in_ok-cells.ensures.room);
       frames_fit = omega arith;
       threads_fit = omega arith;
       next_fit = omega arith;

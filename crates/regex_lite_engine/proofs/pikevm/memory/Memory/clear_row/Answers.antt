@@ -19,8 +19,7 @@ clear-requires g c = omega (arith, c.self.invariant.rows_fit)
 
 pub invariant_of-self : goal.invariant_of-self
 invariant_of-self g c =
-    let rows = c.self.inside.rows in
-    let row : Row = replicate (length (nth_row rows 0)) None in
-    let cleared : c.clear.new.self ≡ set rows 0 row = c.clear.ensures in
-    together_with (ap length cleared ∙ length-set rows 0 row)
+    let row : Row = replicate (length (nth_row c.self.inside.rows 0)) None in
+    let cleared : c.clear.new.self ≡ set c.self.inside.rows 0 row = c.clear.ensures in
+    together_with (ap length cleared ∙ length-set c.self.inside.rows 0 row)
     c.self.invariant.frames_fit c.self.invariant

@@ -33,8 +33,7 @@ index_mut-cell-requires g c =
 
 pub invariant_of-self : goal.invariant_of-self
 invariant_of-self g c =
-    let x = c.index_mut-cell.result.now in
-    let y : Cell _ = record x { entered = c.self.inside.round } in
+    let y : Cell _ = record c.index_mut-cell.result.now { entered = c.self.inside.round } in
     together_set c.reach-k.result y
     (still_together c.reach-k.ensures.made c.reach-k.ensures.capacity c.self.invariant)
 

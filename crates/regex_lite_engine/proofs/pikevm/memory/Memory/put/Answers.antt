@@ -23,8 +23,7 @@ put-requires-clause-some g c = omega (arith, c.self.invariant.rows_fit)
 
 pub invariant_of-self : goal.invariant_of-self
 invariant_of-self g c =
-    let rows = c.self.inside.rows in
-    let row : Row = set (nth_row rows 0) c.args.slot c.args.held in
-    let put : c.put.new.self ≡ set rows 0 row = c.put.ensures in
-    together_with (ap length put ∙ length-set rows 0 row)
+    let row : Row = set (nth_row c.self.inside.rows 0) c.args.slot c.args.held in
+    let put : c.put.new.self ≡ set c.self.inside.rows 0 row = c.put.ensures in
+    together_with (ap length put ∙ length-set c.self.inside.rows 0 row)
     c.self.invariant.frames_fit c.self.invariant

@@ -142,9 +142,7 @@ returns-in_default-clause-kept g c =
 
 pub insert-requires-clause-place : goal.insert-requires-clause-place
 insert-requires-clause-place g c =
-    let all = c.requires.room.all_seen in
-    let lt = c.requires.room.frames_below.0 in
-    omega (arith, all, lt)
+    omega (arith, c.requires.room.all_seen, c.requires.room.frames_below.0)
 
 pub returns-then-not-insert-clause-kept : goal.returns-then-not-insert-clause-kept
 returns-then-not-insert-clause-kept g c =

@@ -83,11 +83,10 @@ places-preserved-in-To g c =
     let first = with_frames a.self.now (explore a.first ∷ a.self.now.memory.frames) in
     let here = with_frames w (explore c.places.place ∷ w.memory.frames) in
     let to = with_frames x (explore c.in-To.next ∷ x.memory.frames) in
-    let went = c.in-To.ensures.taken in
     record {
-      room = went.fit;
+      room = c.in-To.ensures.taken.fit;
       on = goes_further (places_of a.table.now) a.here (g.S.Beginning.told a.start) first here to
-          false v.on went.on;
+          false v.on c.in-To.ensures.taken.on;
       kept = record {
         round = c.in-To.ensures.kept.round ∙ v.kept.round;
         threads = c.in-To.ensures.kept.threads ∙ v.kept.threads;

@@ -17,16 +17,14 @@ overflow_cast-result c =
     let told = c.entries-entries in
     let entries = c.args.self.now.list.now.entries in
     let lt = inside entries told.result.now c.args.k told.ensures.same c.requires in
-    let few = told.ensures.few in
-    omega (arith, lt, few)
+    omega (arith, lt, told.ensures.few)
 
 pub offset_bounds-entries-k : goal.offset_bounds-entries-k
 offset_bounds-entries-k c =
     let told = c.entries-entries in
     let entries = c.args.self.now.list.now.entries in
     let lt = inside entries told.result.now c.args.k told.ensures.same c.requires in
-    let few = told.ensures.few in
-    omega (arith, lt, few)
+    omega (arith, lt, told.ensures.few)
 
 pub bounds-entries-k : goal.bounds-entries-k
 bounds-entries-k c =
@@ -39,8 +37,7 @@ returns c =
     let k = c.args.k in
     let starts = map (start_numbered entries) (range_with_len 0 (length entries)) in
     let all = length-map-range_with_len (start_numbered entries) 0 (length entries) in
-    let lt = c.requires in
-    slice_get-get_or starts k (start_numbered entries 0) lt
+    slice_get-get_or starts k (start_numbered entries 0) c.requires
     ∙ ap Some (get_or-map-range_with_len (start_numbered entries) 0 (length entries) k k
-    (start_numbered entries 0) (omega (arith, all, lt)) (omega arith)
+    (start_numbered entries 0) (omega (arith, all, c.requires)) (omega arith)
     ∙ ap (λ es. record { number = k; place = get_or es k 0 }) (sym c.entries-entries.ensures.same))

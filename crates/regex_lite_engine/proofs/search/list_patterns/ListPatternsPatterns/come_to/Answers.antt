@@ -31,22 +31,20 @@ invariant_of-self c =
 pub returns-clause-starts : goal.returns-clause-starts
 returns-clause-starts c p is =
     let list = c.args.self.now.list.now in
-    let heads = c.heads.result.now in
     let haystack = chars c.args.haystack.now in
-    listed_start (table_of_list list) haystack list.entries heads c.heads.ensures p
+    listed_start (table_of_list list) haystack list.entries c.heads.result.now c.heads.ensures p
     c.list_starts.new.numbers.items
     (c.list_starts.ensures.listed p is
-    ∙ ap (λ n. filter (is_candidate_at heads haystack p) (range_with_len 0 n))
+    ∙ ap (λ n. filter (is_candidate_at c.heads.result.now haystack p) (range_with_len 0 n))
     c.heads.ensures.count)
 
 pub returns-clause-inside : goal.returns-clause-inside
 returns-clause-inside c =
-    let list = c.args.self.now.list.now in
-    let n = length list.entries in
+    let n = length c.args.self.now.list.now.entries in
     let heads = c.heads.result.now in
     let same = c.entries-entries.ensures.same in
-    let size = length (table_of_list list) in
-    places_inside list.entries c.list_starts.new.numbers.items size
+    let size = length (table_of_list c.args.self.now.list.now) in
+    places_inside c.args.self.now.list.now.entries c.list_starts.new.numbers.items size
     (subst (All (λ entry. entry < size)) same c.entries-entries.ensures.inside)
     (subst (All (λ number. number < n))
     (sym (c.list_starts.ensures.listed c.requires.0 c.requires.1))
@@ -55,10 +53,9 @@ returns-clause-inside c =
 
 pub returns-clause-few : goal.returns-clause-few
 returns-clause-few c =
-    let list = c.args.self.now.list.now in
     let heads = c.heads.result.now in
     let numbers = c.list_starts.new.numbers.items in
-    let mapped = length-map numbers (start_numbered list.entries) in
+    let mapped = length-map numbers (start_numbered c.args.self.now.list.now.entries) in
     let listed = ap length (c.list_starts.ensures.listed c.requires.0 c.requires.1) in
     let most = filter_at_most
     (is_candidate_at heads (chars c.args.haystack.now) c.requires.0) 0 heads.count in

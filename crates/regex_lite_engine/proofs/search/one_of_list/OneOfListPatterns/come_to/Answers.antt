@@ -12,9 +12,8 @@ returns-clause-inside c =
 
 pub returns-clause-starts : goal.returns-clause-starts
 returns-clause-starts c = λ p is.
-    let one = c.args.self.now in
-    one_starts (table_of_list one.list.now) (chars c.args.haystack.now)
-    (slice_index one.list.now.entries one.number) p
+    one_starts (table_of_list c.args.self.now.list.now) (chars c.args.haystack.now)
+    (slice_index c.args.self.now.list.now.entries c.args.self.now.number) p
     c.may_start-self.result (λ off. c.may_start-self.ensures.dead p is off)
 
 pub returns-clause-few : goal.returns-clause-few

@@ -6,9 +6,8 @@ use Rattle.regex_lite_engine.proofs.search.one_of_list.OneOfListPatterns.pass_ov
 
 pub returns : goal.returns
 returns c = λ p is.
-    let one = c.args.self.now in
-    let table = table_of_list one.list.now in
-    let entry = slice_index one.list.now.entries one.number in
+    let table = table_of_list c.args.self.now.list.now in
+    let entry = slice_index c.args.self.now.list.now.entries c.args.self.now.number in
     let haystack = chars c.args.haystack.now in
     passes_as (IsDeadAt table haystack entry) (AreDeadAt table haystack (entry ∷ [])) haystack p
     c.pass_over_one.result (λ i dead. one_dead table haystack entry i dead)
