@@ -141,8 +141,6 @@ follows_on {table = table} {here} {ways} {best} {w = w} {x} {y} {start = start} 
     let on = goes_up table w x q em counts here start y done explored in
     let left = drop (k + 1) ways in let thread : Thread = (q, start, x.memory.row) in
     let idle : explores y.memory.frames ≡ 0 = ap (λ fs. explores fs) empty in
-    let spent = on.spent in let so_far = v.spent in
-    let entries = on.spent_entries in let entries_so_far = v.spent_entries in
     record {
       steps = λ at is u.
           stepped table here w.memory y.memory thread left best done on.walks at is
@@ -158,7 +156,7 @@ follows_on {table = table} {here} {ways} {best} {w = w} {x} {y} {start = start} 
         room = kept.room ∙ ap (λ (m : State). m.room) em ∙ v.kept.room;
         row = kept.row ∙ width ∙ v.kept.row;
       };
-      spent = omega (arith, spent, so_far, idle);
-      spent_entries = omega (arith, entries, entries_so_far);
+      spent = omega (arith, on.spent, v.spent, idle);
+      spent_entries = omega (arith, on.spent_entries, v.spent_entries);
       empty = empty;
     }

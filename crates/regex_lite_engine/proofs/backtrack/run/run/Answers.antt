@@ -1,8 +1,7 @@
-use Rattle.regex_lite_engine.proofs.Common.{◌≡◌, ℕ, ◌+◌, ◌-◌, Option, chars, refl, ◌∙◌, subst}
+use Rattle.regex_lite_engine.proofs.Common.{◌≡◌, ℕ, ◌+◌, ◌-◌, chars, refl, ◌∙◌, subst}
 use Rattle.regex_lite_engine.proofs.Common.{length-map, searching, place_of, table_of, position_at}
-use Rattle.regex_lite_engine.proofs.Common.{IsCharBoundary, List, IsUtf8, IsHere, Here, IfSome}
+use Rattle.regex_lite_engine.proofs.Common.{IsCharBoundary, List, IsUtf8, IsHere, Here}
 use Rattle.regex_lite_engine.proofs.Common.{arith, IsDeadAt, PassesTo}
-use Rattle.regex_lite_engine.specs.Backtrack.Searching.{Explores}
 use Rattle.regex_lite_engine.proofs.OffsetLemmas.{boundary_at}
 use Rattle.regex_lite_engine.proofs.backtrack.LeadsLemmas.{start_matches}
 use Rattle.regex_lite_engine.proofs.backtrack.RunLemmas.{begun, start_fits, went_on}
@@ -54,8 +53,7 @@ returns-in-Some-clause-found c =
     let table = table_of a.graph.now in
     let new = c.explore.new.self in
     let low = v.under_way.low in
-    let explored = subst (λ (end : Option ℕ). Explores table a.haystack.now a.graph.now.start
-    c.starts.here.at c.starts.walk new end) c.in-Some.is c.explore.ensures.explored in
+    let explored = rw c.in-Some.is at c.explore.ensures.explored in
     start_matches a.haystack.now c.utf8.haystack table a.graph.now.start a.first.at v.p w.q
     c.starts.here.at c.starts.walk new v.under_way.first w.later (omega (arith, low, w.later))
     (w.is.inside, w.is.bytes) w.passed v.under_way.walking c.in-Some.end explored.on.walks
@@ -67,8 +65,7 @@ returns-in_default-start_after-clause-found c =
     let w = v.passes in
     let table = table_of a.graph.now in
     let new = c.explore.new.self in
-    let explored = subst (λ (end : Option ℕ). Explores table a.haystack.now a.graph.now.start
-    c.starts.here.at c.starts.walk new end) c.in_default.is c.explore.ensures.explored in
+    let explored = rw c.in_default.is at c.explore.ensures.explored in
     let on = went_on table a.haystack.now c.utf8.haystack a.first.at
     (edge a.haystack.now a.first c.utf8.haystack c.requires.here) a.graph.now.start v.p
     c.starts.walk v.under_way w.q c.starts.here.at w.later (w.is.inside, w.is.bytes) new w.passed
@@ -83,10 +80,7 @@ next_passes : (c : goal.In-Some-start_after) → PassesTo
     (chars c.args.haystack.now) (c.starts.invariant.passes.q + 1) c.in-Some-start_after.next
 next_passes c =
     let w = c.starts.invariant.passes in
-    subst (λ (o : Option Here). IfSome o (PassesTo
-    (IsDeadAt (table_of c.args.graph.now) (chars c.args.haystack.now) c.args.graph.now.start)
-    (chars c.args.haystack.now) (w.q + 1)))
-    c.in-Some-start_after.is (c.start_after.ensures.first w.q w.is)
+    rw c.in-Some-start_after.is at (c.start_after.ensures.first w.q w.is)
 
 pub starts-smaller : goal.starts-smaller
 starts-smaller c =
@@ -104,9 +98,7 @@ starts-preserved c =
     let v = c.starts.invariant in
     let w = v.passes in
     let table = table_of a.graph.now in
-    let explored = subst (λ (end : Option ℕ). Explores table a.haystack.now a.graph.now.start
-    c.starts.here.at c.starts.walk c.explore.new.self end) c.in_default.is
-    c.explore.ensures.explored in
+    let explored = rw c.in_default.is at c.explore.ensures.explored in
     record {
       p = w.q + 1;
       passes = next_passes c;

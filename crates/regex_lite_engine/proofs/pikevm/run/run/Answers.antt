@@ -1,5 +1,5 @@
 use Rattle.regex_lite_engine.proofs.Common.{ℕ, ◌+◌, ◌≤◌, chars, refl, ◌∙◌}
-use Rattle.regex_lite_engine.proofs.Common.{arith, rules, best_of, characters_left}
+use Rattle.regex_lite_engine.proofs.Common.{arith, rules, best_of}
 use Rattle.regex_lite_engine.proofs.Common.{position_at}
 use Rattle.regex_lite_engine.proofs.search.here.HereLemmas.{less_left, over_at}
 use Rattle.regex_lite_engine.proofs.search.CountLemmas.{counted_at_first, still_counted}
@@ -25,10 +25,8 @@ positions-init g c =
 
 pub pass-here-requires : goal.pass-here-requires
 pass-here-requires g c =
-    let v = c.positions.invariant in
-    let s : ℕ = position_at c.args.haystack.now c.args.start in
-    let characters = characters_left (chars c.args.haystack.now) s in (
-      s,
+    let v = c.positions.invariant in (
+      position_at c.args.haystack.now c.args.start,
       v.p,
       v.is,
       rw (v.table, v.entries) c.requires.counts,

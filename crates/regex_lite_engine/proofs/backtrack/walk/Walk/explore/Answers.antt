@@ -2,8 +2,8 @@ use Rattle.regex_lite_engine.proofs.Common.{◌≡◌, ℕ, List, [], ◌∷◌,
 use Rattle.regex_lite_engine.proofs.Common.{ap, ◌∙◌, subst, arith, Unwinds, table_of, StaysCounted}
 use Rattle.regex_lite_engine.specs.Graph.Places.{Place}
 use Rattle.regex_lite_engine.specs.declared.backtrack.walk.Walk.{Walk}
-use Rattle.regex_lite_engine.specs.Backtrack.Machine.{completes, end_at, explore, onto}
-use Rattle.regex_lite_engine.specs.Backtrack.Room.{with_frames, GoesOn, HasRoom, TakesFrame}
+use Rattle.regex_lite_engine.specs.Backtrack.Machine.{completes, explore}
+use Rattle.regex_lite_engine.specs.Backtrack.Room.{with_frames, GoesOn, HasRoom}
 use Rattle.regex_lite_engine.specs.Backtrack.Searching.{Explores}
 use Rattle.regex_lite_engine.proofs.backtrack.ExploreLemmas.{ended, found, goes_further, went_back}
 use Rattle.regex_lite_engine.proofs.backtrack.UnwindLemmas.{slots_below}
@@ -54,17 +54,10 @@ returns-in-Complete-clause-explored c =
     let v = c.come_to.new.self in
     let next = explore c.ways.place c.ways.at ∷ w.stack.frames in
     found t a.haystack.now a.self.now (with_frames w next) v a.graph.now.start a.start c.ways.at
-    c.ways.invariant.on
-    (subst (λ n. TakesFrame t a.haystack.now w next v (onto n v.stack.frames)
-    (end_at c.ways.at n)) c.in-Complete.is c.come_to.ensures.taken)
+    c.ways.invariant.on (rw c.in-Complete.is at c.come_to.ensures.taken)
 
 pub ways-smaller-in-To : goal.ways-smaller-in-To
-ways-smaller-in-To c =
-    let a = c.args in let t = table_of a.graph.now in let w = c.ways.self in
-    let v = c.come_to.new.self in
-    let next = explore c.ways.place c.ways.at ∷ w.stack.frames in
-    (subst (λ n. TakesFrame t a.haystack.now w next v (onto n v.stack.frames)
-    (end_at c.ways.at n)) c.in-To.is c.come_to.ensures.taken).less refl
+ways-smaller-in-To c = (rw c.in-To.is at c.come_to.ensures.taken).less refl
 
 pub ways-preserved-in-To : goal.ways-preserved-in-To
 ways-preserved-in-To c =
@@ -72,8 +65,7 @@ ways-preserved-in-To c =
     let w = c.ways.self in let v = c.come_to.new.self in
     let next = explore c.ways.place c.ways.at ∷ w.stack.frames in
     let first = with_frames a.self.now (explore a.graph.now.start a.start ∷ []) in
-    let went = subst (λ n. TakesFrame t h w next v (onto n v.stack.frames) (end_at c.ways.at n))
-    c.in-To.is c.come_to.ensures.taken in
+    let went = rw c.in-To.is at c.come_to.ensures.taken in
     record {
       room = went.fit refl;
       on =
@@ -85,11 +77,8 @@ ways-preserved-in-To c =
 
 pub go_back-requires : goal.go_back-requires
 go_back-requires c =
-    let a = c.args in let t = table_of a.graph.now in let w = c.ways.self in
-    let v = c.come_to.new.self in
-    let next = explore c.ways.place c.ways.at ∷ w.stack.frames in
-    let went = subst (λ n. TakesFrame t a.haystack.now w next v (onto n v.stack.frames)
-    (end_at c.ways.at n)) c.in-Back.is c.come_to.ensures.taken in
+    let a = c.args in let t = table_of a.graph.now in let v = c.come_to.new.self in
+    let went = rw c.in-Back.is at c.come_to.ensures.taken in
     slots_below t a.haystack.now v.visited.first (length v.stack.row) v.stack.frames
     (went.fit refl).below
 
@@ -99,8 +88,7 @@ returns-in_err-place-in-Back-clause-explored c =
     let w = c.ways.self in let v = c.come_to.new.self in
     let next = explore c.ways.place c.ways.at ∷ w.stack.frames in
     let first = with_frames a.self.now (explore a.graph.now.start a.start ∷ []) in
-    let went = subst (λ n. TakesFrame t h w next v (onto n v.stack.frames) (end_at c.ways.at n))
-    c.in-Back.is c.come_to.ensures.taken in
+    let went = rw c.in-Back.is at c.come_to.ensures.taken in
     let u = c.go_back.new.self in let e = c.go_back.ensures in
     let back = subst (λ n. Unwinds v.stack.row v.stack.frames n u.stack.row u.stack.frames)
     c.in_err-place-in-Back.was e.back in
@@ -112,10 +100,8 @@ returns-in_err-place-in-Back-clause-explored c =
 pub ways-smaller : goal.ways-smaller
 ways-smaller c =
     let a = c.args in let t = table_of a.graph.now in let h = a.haystack.now in
-    let w = c.ways.self in let v = c.come_to.new.self in
-    let next = explore c.ways.place c.ways.at ∷ w.stack.frames in
-    let went = subst (λ n. TakesFrame t h w next v (onto n v.stack.frames) (end_at c.ways.at n))
-    c.in-Back.is c.come_to.ensures.taken in
+    let v = c.come_to.new.self in
+    let went = rw c.in-Back.is at c.come_to.ensures.taken in
     let u = c.go_back.new.self in let e = c.go_back.ensures in let left = c.in_ok-place-in-Back in
     let less = went.less refl in
     let back = went_back t h v u (Some (left.field-0-0, left.field-0-1))
@@ -129,8 +115,7 @@ ways-preserved c =
     let w = c.ways.self in let v = c.come_to.new.self in
     let next = explore c.ways.place c.ways.at ∷ w.stack.frames in
     let first = with_frames a.self.now (explore a.graph.now.start a.start ∷ []) in
-    let went = subst (λ n. TakesFrame t h w next v (onto n v.stack.frames) (end_at c.ways.at n))
-    c.in-Back.is c.come_to.ensures.taken in
+    let went = rw c.in-Back.is at c.come_to.ensures.taken in
     let u = c.go_back.new.self in let e = c.go_back.ensures in let left = c.in_ok-place-in-Back in
     let back = went_back t h v u (Some (left.field-0-0, left.field-0-1))
     (subst (λ n. Unwinds v.stack.row v.stack.frames n u.stack.row u.stack.frames) left.was e.back)

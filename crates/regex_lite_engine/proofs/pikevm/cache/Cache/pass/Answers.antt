@@ -1,5 +1,5 @@
-use Rattle.regex_lite_engine.proofs.Common.{ℕ, ◌+◌, ◌-◌, ◌*◌, ◌^◌, ◌<◌, ◌≤◌, length, chars, sym, ap}
-use Rattle.regex_lite_engine.proofs.Common.{subst, arith, row_of, mul-le-mul_left, arrows_of}
+use Rattle.regex_lite_engine.proofs.Common.{ℕ, ◌+◌, ◌-◌, ◌*◌, ◌^◌, ◌<◌, ◌≤◌, length, chars, ap}
+use Rattle.regex_lite_engine.proofs.Common.{arith, row_of, mul-le-mul_left, arrows_of}
 use Rattle.regex_lite_engine.proofs.Common.{best_of, characters_left}
 use Rattle.regex_lite_engine.specs.Pikevm.Passing.{IsUnderWay}
 use Rattle.regex_lite_engine.specs.Pikevm.Passing.{GoesOnAt}
@@ -29,17 +29,11 @@ returns-clause-passes g c s p is before =
     let haystack = chars a.haystack.now in
     let old = a.self.now in
     let on : IsUnderWay table haystack entries s p old =
-    subst (λ t. IsUnderWay t haystack entries s p old) (sym c.come_to.ensures.table)
-    (subst (λ es. IsUnderWay (g.P.Patterns.table a.patterns.now) haystack es s p old)
-    (sym c.come_to.ensures.entries) before) in
+    rw (c.come_to.ensures.table, c.come_to.ensures.entries) before in
     let new = c.turn.new.self in
     let goes : GoesOnAt table haystack entries old.walk.memory.threads (best_of old.best) p
     c.next_start-here.result =
-    subst (λ t. GoesOnAt t haystack entries old.walk.memory.threads (best_of old.best) p
-    c.next_start-here.result) (sym c.come_to.ensures.table)
-    (subst (λ es. GoesOnAt (g.P.Patterns.table a.patterns.now) haystack es
-    old.walk.memory.threads (best_of old.best) p c.next_start-here.result)
-    (sym c.come_to.ensures.entries) (c.next_start-here.ensures p is)) in
+    rw (c.come_to.ensures.table, c.come_to.ensures.entries) (c.next_start-here.ensures p is) in
     let w = onward table haystack entries s (length haystack) p old.walk.memory.threads
     (best_of old.best) c.next_start-here.result goes on.coming in
     let low = on.low in

@@ -109,7 +109,6 @@ returns-in-Complete-clause-room g c =
 
 pub returns-in-Complete-clause-counts : goal.returns-in-Complete-clause-counts
 returns-in-Complete-clause-counts g c =
-    let a = c.args in
     still_counted c.places.invariant.counts c.in-Complete.ensures.counts
 
 pub returns-in-Complete-clause-entry : goal.returns-in-Complete-clause-entry
@@ -117,7 +116,6 @@ returns-in-Complete-clause-entry g c = λ _. c.in-Complete.ensures.entry refl
 
 pub returns-in-None-clause-counts : goal.returns-in-None-clause-counts
 returns-in-None-clause-counts g c =
-    let a = c.args in
     still_counted c.places.invariant.counts c.in-Back.ensures.counts
 
 pub returns-in-None-clause-entry : goal.returns-in-None-clause-entry
