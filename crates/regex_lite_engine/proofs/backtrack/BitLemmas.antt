@@ -8,8 +8,7 @@ use Rattle.regex_lite_engine.proofs.Common.{get_or-set_other, get_or-set_same, g
 use Rattle.regex_lite_engine.proofs.Common.{length-replicate, set-get_or, get_or-map-range_with_len}
 use Rattle.regex_lite_engine.proofs.Common.{length-map-range_with_len, shr_and_one, bit_at}
 use Rattle.regex_lite_engine.proofs.Common.{bit_of_words, bits_of, Pairs, pair_number, was_entered}
-use Rattle.std.proofs.lemmas.List.{get_or_append_left}
-use Rattle.std.proofs.lemmas.List.{get_or-append_right}
+use Rattle.std.proofs.lemmas.List.{get_or_append_left, get_or-append_right}
 use Rattle.std.proofs.lemmas.List.FromFn.{fill_by_all}
 use Rattle.regex_lite_engine.specs.declared.backtrack.visited.Visited.TheInside.{Inside}
 use Rattle.regex_lite_engine.specs.Backtrack.Bits.{words_of}

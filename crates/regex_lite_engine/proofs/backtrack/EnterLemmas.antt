@@ -23,8 +23,8 @@ use Rattle.regex_lite_engine.specs.Graph.Places.{Place}
 use Rattle.regex_lite_engine.specs.Backtrack.Walking.{IsWalking}
 use Rattle.regex_lite_engine.proofs.OffsetLemmas.{offset_next}
 use Rattle.regex_lite_engine.proofs.backtrack.WalkLemmas.{walk_entered, walk_complete}
-use Rattle.regex_lite_engine.proofs.search.PlaceLemmas.{free_marks, hops, none_offered}
-use Rattle.regex_lite_engine.proofs.search.PlaceLemmas.{one_blocked, open_at, one, offered_by}
+use Rattle.regex_lite_engine.proofs.search.PlaceLemmas.{free_marks, hops, none_offered, one_blocked}
+use Rattle.regex_lite_engine.proofs.search.PlaceLemmas.{open_at, one, offered_by}
 use Rattle.regex_lite_engine.proofs.search.MarkLemmas.{slots_set, slots_past}
 use Rattle.regex_lite_engine.proofs.backtrack.NumberedLemmas.{holds_on}
 

@@ -90,7 +90,8 @@ module _ (N : Type 0) (step : N → ℕ → Option N) (same : (x y : N) → (x �
     own_below : (m : N) (v : List ℕ) → In m v own → StartsBelow from v
     own_below m v i =
         let r = one_of m v i in
-        subst (StartsBelow from) (sym r.3) (below_append from w (r.0 ∷ []) (known.now_below n w here))
+        subst (StartsBelow from) (sym r.3)
+        (below_append from w (r.0 ∷ []) (known.now_below n w here))
 
     own_better : (m : N) (v b : List ℕ) → best ≡ Some b → In m v own → IsPreferred v b
     own_better m v b e i =

@@ -1,4 +1,5 @@
--- What a walk keeps true when it comes to a match, or passes over a node that it has entered before.
+-- What a walk keeps true when it comes to a match, or passes over a node that it has entered
+-- before.
 use Rattle.regex_lite_engine.proofs.Common.{◌≡◌, ℕ, ◌≤◌, Bool, ◌⊎◌, List, [], ◌∷◌, ◌++◌, IsTrue}
 use Rattle.regex_lite_engine.proofs.Common.{Some, None, Option, sym, refl, ap, ◌∙◌, subst, inl, inr}
 use Rattle.regex_lite_engine.proofs.Common.{NotAfter, IsAnswered, IsGrown, StartsBelow, IsPreferred}

@@ -1,6 +1,6 @@
 -- What holds of a search between two positions, from its start to its end.
-use Rattle.regex_lite_engine.proofs.Common.{◌≡◌, ℕ, ◌+◌, ◌-◌, ◌*◌, ◌≤◌, List, length, sym, ap, subst}
-use Rattle.regex_lite_engine.proofs.Common.{inl, inr, arith, mul-le-mul_left, Text, row_of}
+use Rattle.regex_lite_engine.proofs.Common.{◌≡◌, ℕ, ◌+◌, ◌-◌, ◌*◌, ◌≤◌, List, length, sym, ap}
+use Rattle.regex_lite_engine.proofs.Common.{subst, inl, inr, arith, mul-le-mul_left, Text, row_of}
 use Rattle.regex_lite_engine.proofs.Common.{IsOwnPart, arrows_of, Thread, IsComing, IsBoundedBy}
 use Rattle.regex_lite_engine.proofs.Common.{Best, IsHere, Cache, Here}
 use Rattle.regex_lite_engine.specs.Graph.Places.{Place}

@@ -1,13 +1,12 @@
 -- The first position at which a match is complete.
-use Rattle.regex_lite_engine.proofs.Common.{◌≡◌, ℕ, ◌+◌, ◌<◌, ◌≤◌, Bool, false, ◌⊎◌}
-use Rattle.regex_lite_engine.proofs.Common.{List, [], ◌∷◌, ◌++◌, length, IsTrue}
-use Rattle.regex_lite_engine.proofs.Common.{slice_get, Some, None, Option, sym, refl, ap, ◌∙◌}
-use Rattle.regex_lite_engine.proofs.Common.{subst, inl, inr, arith, cases_lt, Text, after}
-use Rattle.regex_lite_engine.proofs.Common.{Leads, NoneTwice, Thread}
-use Rattle.regex_lite_engine.proofs.Common.{IsComing, InStep, Told, IsDead, IsAnswered, place_with}
-use Rattle.regex_lite_engine.proofs.Common.{numbered_step, is_end, IsNumberedMatch, IsEntry}
-use Rattle.regex_lite_engine.proofs.Common.{StartsOf, IsMatchOfAny, Best, IsNumberedEndOf, Node}
-use Rattle.regex_lite_engine.proofs.Common.{Offer, offset, Row}
+use Rattle.regex_lite_engine.proofs.Common.{◌≡◌, ℕ, ◌+◌, ◌<◌, ◌≤◌, Bool, false, ◌⊎◌, List, [], ◌∷◌}
+use Rattle.regex_lite_engine.proofs.Common.{◌++◌, length, IsTrue, slice_get, Some, None, Option}
+use Rattle.regex_lite_engine.proofs.Common.{sym, refl, ap, ◌∙◌, subst, inl, inr, arith, cases_lt}
+use Rattle.regex_lite_engine.proofs.Common.{Text, after, Leads, NoneTwice, Thread, IsComing, InStep}
+use Rattle.regex_lite_engine.proofs.Common.{Told, IsDead, IsAnswered, place_with, numbered_step}
+use Rattle.regex_lite_engine.proofs.Common.{is_end, IsNumberedMatch, IsEntry, StartsOf}
+use Rattle.regex_lite_engine.proofs.Common.{IsMatchOfAny, Best, IsNumberedEndOf, Node, Offer}
+use Rattle.regex_lite_engine.proofs.Common.{offset, Row}
 use Rattle.regex_lite_syntax.specs.Text.{before}
 use Rattle.regex_lite_syntax.proofs.ListLemmas.{same_head, same_tail}
 use Rattle.regex_lite_engine.specs.Graph.Places.{Place}

@@ -3,9 +3,8 @@ use Rattle.regex_lite_engine.proofs.Common.{◌≡◌, ℕ, ◌+◌, ◌^◌, �
 use Rattle.regex_lite_engine.proofs.Common.{◌++◌, length, drop, if◌then◌else◌, Some, sym, refl, ap}
 use Rattle.regex_lite_engine.proofs.Common.{◌∙◌, subst, arith, kept_back, kept_back_of, AreAlike}
 use Rattle.regex_lite_engine.proofs.Common.{retold, all_retold, state_retold, KeepsPosition, Thread}
-use Rattle.regex_lite_engine.proofs.Common.{Between}
-use Rattle.regex_lite_engine.proofs.Common.{StepsTo, WayTold, ThreadsHold, InStep, SearchAt, Told}
-use Rattle.regex_lite_engine.proofs.Common.{untold, Best, Node, Offer, Here}
+use Rattle.regex_lite_engine.proofs.Common.{Between, StepsTo, WayTold, ThreadsHold, InStep}
+use Rattle.regex_lite_engine.proofs.Common.{SearchAt, Told, untold, Best, Node, Offer, Here}
 use Rattle.regex_lite_engine.specs.declared.pikevm.walk.Walk.{Walk}
 use Rattle.regex_lite_engine.specs.Graph.Places.{Place}
 use Rattle.regex_lite_engine.specs.Pikevm.Machine.{explore, State}

@@ -3,10 +3,10 @@ use Rattle.regex_lite_engine.proofs.Common.{◌≡◌, ℕ, suc, ◌+◌, ◌<�
 use Rattle.regex_lite_engine.proofs.Common.{length, slice_index, Some, None, Option, sym, refl, ap}
 use Rattle.regex_lite_engine.proofs.Common.{◌∙◌, subst, inl, inr, arith, cases_lt, IsWithin}
 use Rattle.regex_lite_engine.proofs.Common.{IsOwnPart, Thread, Between, StepsTo, IsComing, begun}
-use Rattle.regex_lite_engine.proofs.Common.{ThreadsHold, SearchAt, Told, IsDead}
-use Rattle.regex_lite_engine.proofs.Common.{numbered_step, is_end, StartsOf, Best, Node, Offer}
-use Rattle.regex_lite_engine.proofs.Common.{StartsBelow, IsPreferred, Row, IsBlank, IsHere}
-use Rattle.regex_lite_engine.proofs.Common.{IsDeadAt, IsAmong, AreStartsAt, Here, Start}
+use Rattle.regex_lite_engine.proofs.Common.{ThreadsHold, SearchAt, Told, IsDead, numbered_step}
+use Rattle.regex_lite_engine.proofs.Common.{is_end, StartsOf, Best, Node, Offer, StartsBelow}
+use Rattle.regex_lite_engine.proofs.Common.{IsPreferred, Row, IsBlank, IsHere, IsDeadAt, IsAmong}
+use Rattle.regex_lite_engine.proofs.Common.{AreStartsAt, Here, Start}
 use Rattle.regex_lite_engine.specs.Graph.Places.{Place}
 use Rattle.regex_lite_engine.specs.Search.Offers as offer
 use Rattle.regex_lite_engine.specs.Pikevm.Machine.{State}

@@ -9,14 +9,13 @@ use Rattle.regex_lite_engine.proofs.Common.{place_with, numbered_step, is_end, S
 use Rattle.regex_lite_engine.proofs.Common.{Offer, offset, HasSlots, Row}
 use Rattle.regex_lite_engine.specs.Graph.Places.{Place}
 use Rattle.regex_lite_engine.specs.Pikevm.Machine.{Frame, explore, State}
-use Rattle.regex_lite_engine.specs.Pikevm.Walking.{FramesHold}
-use Rattle.regex_lite_engine.specs.Pikevm.Walking.{IsWalking}
+use Rattle.regex_lite_engine.specs.Pikevm.Walking.{FramesHold, IsWalking}
 use Rattle.regex_lite_engine.proofs.laws.LeadsLemmas.{leads_append}
 use Rattle.regex_lite_engine.proofs.pikevm.InStepLemmas as deep
 use Rattle.regex_lite_engine.proofs.pikevm.InStepMatchLemmas.{in_step_complete, in_step_passed}
 use Rattle.regex_lite_engine.proofs.search.MarkLemmas.{marks_append, same_slots}
-use Rattle.regex_lite_engine.proofs.search.PlaceLemmas.{wide, no_more, no_arrow_at}
-use Rattle.regex_lite_engine.proofs.search.PlaceLemmas.{offered_by, offers_listed}
+use Rattle.regex_lite_engine.proofs.search.PlaceLemmas.{wide, no_more, no_arrow_at, offered_by}
+use Rattle.regex_lite_engine.proofs.search.PlaceLemmas.{offers_listed}
 use Rattle.regex_lite_engine.proofs.search.RecordLemmas as records
 use Rattle.regex_lite_engine.proofs.search.RecordLemmas.{same_node, none_or}
 

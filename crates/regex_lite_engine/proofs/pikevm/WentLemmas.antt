@@ -13,11 +13,10 @@ use Rattle.regex_lite_engine.specs.declared.pikevm.enter.Onward.TheVariants as o
 use Rattle.regex_lite_engine.specs.declared.pikevm.walk.Walk.{Walk}
 use Rattle.regex_lite_engine.specs.Graph.Places.{Place}
 use Rattle.regex_lite_engine.specs.Pikevm.Entering.{completes, Enters}
-use Rattle.regex_lite_engine.specs.Pikevm.Machine.{Frame, explore, restore}
-use Rattle.regex_lite_engine.specs.Pikevm.Machine.{State, unwound}
-use Rattle.regex_lite_engine.specs.Pikevm.Room.{explores, work, FramesBelow}
+use Rattle.regex_lite_engine.specs.Pikevm.Machine.{Frame, explore, restore, State, unwound}
+use Rattle.regex_lite_engine.specs.Pikevm.Room.{explores, work, FramesBelow, IsFit, GoesOn, Went}
+use Rattle.regex_lite_engine.specs.Pikevm.Room.{HasRoom, with_frames}
 use Rattle.regex_lite_engine.specs.Search.Counting.{weight}
-use Rattle.regex_lite_engine.specs.Pikevm.Room.{IsFit, GoesOn, Went, HasRoom, with_frames}
 use Rattle.regex_lite_engine.proofs.pikevm.AgainLemmas.{entered_again}
 use Rattle.regex_lite_engine.proofs.pikevm.EnterLemmas.{walk_enters}
 use Rattle.regex_lite_engine.proofs.pikevm.WalkLemmas.{marked_in, walk_framed, walk_seen}

@@ -1,6 +1,7 @@
 -- What was counted stays counted, from one step to the next, and what counts if a test fails.
 use Rattle.regex_lite_engine.proofs.Common.{◌≡◌, ℕ, ◌+◌, ◌<◌, ◌≤◌, Bool, true, false, if◌then◌else◌}
-use Rattle.regex_lite_engine.proofs.Common.{sym, refl, ap, ◌∙◌, subst, arith, StepCounts, StaysCounted}
+use Rattle.regex_lite_engine.proofs.Common.{sym, refl, ap, ◌∙◌, subst, arith, StepCounts}
+use Rattle.regex_lite_engine.proofs.Common.{StaysCounted}
 
 pub counted_at_first : {steps : StepCounts} → StaysCounted steps steps
 counted_at_first = record { tried = omega arith; entered = omega arith; looked = omega arith }

@@ -1,10 +1,9 @@
 -- A search that begins at the first position at which a match may begin.
-use Rattle.regex_lite_engine.proofs.Common.{◌≡◌, ℕ, ◌+◌, ◌*◌, ◌<◌, ◌≤◌, ◌⊎◌, List, None}
-use Rattle.regex_lite_engine.proofs.Common.{IsUtf8, sym, subst, inl, inr, arith, cases_lt}
-use Rattle.regex_lite_engine.proofs.Common.{mul-le-mul_left, zero, suc, true, false, ◌&&◌, ap}
-use Rattle.regex_lite_engine.proofs.Common.{if◌then◌else◌, nat_lt, length, slice_index_or, MayBegin}
-use Rattle.regex_lite_engine.proofs.Common.{Starts}
-use Rattle.regex_lite_engine.proofs.Common.{chars, IsCharBoundary, Text, characters_left, IsDeadAt}
+use Rattle.regex_lite_engine.proofs.Common.{◌≡◌, ℕ, ◌+◌, ◌*◌, ◌<◌, ◌≤◌, ◌⊎◌, List, None, IsUtf8}
+use Rattle.regex_lite_engine.proofs.Common.{sym, subst, inl, inr, arith, cases_lt, mul-le-mul_left}
+use Rattle.regex_lite_engine.proofs.Common.{zero, suc, true, false, ◌&&◌, ap, if◌then◌else◌, nat_lt}
+use Rattle.regex_lite_engine.proofs.Common.{length, slice_index_or, MayBegin, Starts, chars}
+use Rattle.regex_lite_engine.proofs.Common.{IsCharBoundary, Text, characters_left, IsDeadAt}
 use Rattle.regex_lite_engine.proofs.Common.{position_at, IsHere, PassesTo, Here}
 use Rattle.regex_lite_engine.specs.Graph.Places.{Place}
 use Rattle.regex_lite_engine.specs.LazyDfa.Remembering.{NoneStartsBefore}

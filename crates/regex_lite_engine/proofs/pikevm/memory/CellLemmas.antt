@@ -1,6 +1,6 @@
 -- What a change of one cell changes.
-use Rattle.regex_lite_engine.proofs.Common.{◌≡◌, ℕ, zero, suc, ◌+◌, ◌-◌, ◌*◌, ◌<◌, ◌≤◌, ◌⊎◌}
-use Rattle.regex_lite_engine.proofs.Common.{List, [], ◌∷◌, ◌++◌, map, reverse, length, take, set}
+use Rattle.regex_lite_engine.proofs.Common.{◌≡◌, ℕ, zero, suc, ◌+◌, ◌-◌, ◌*◌, ◌<◌, ◌≤◌, ◌⊎◌, List}
+use Rattle.regex_lite_engine.proofs.Common.{[], ◌∷◌, ◌++◌, map, reverse, length, take, set}
 use Rattle.regex_lite_engine.proofs.Common.{slice_index, slice_index_or, sym, refl, ap, ◌∙◌, inl}
 use Rattle.regex_lite_engine.proofs.Common.{inr, arith, length-map, length-take-le, map-set}
 use Rattle.regex_lite_engine.proofs.Common.{frame_in, round_in, other, place_on, start_on, row_on}

@@ -66,8 +66,8 @@ thread_told : {S : Type 0} (told : S → Told) {a p : ℕ} {b : Told} {s : S} {r
 thread_told told ea eb et = cc
 
 -- what is read of a thread: its place, and what is kept of where its way began
-pub thread_read : {S : Type 0} (told : S → Told) (s : Side) (cells : List (Cell S)) (rows : List Row)
-    (room : ℕ) {n k : ℕ} {x : Cell S} {ts : List Thread} {read : ℕ × S}
+pub thread_read : {S : Type 0} (told : S → Told) (s : Side) (cells : List (Cell S))
+    (rows : List Row) (room : ℕ) {n k : ℕ} {x : Cell S} {ts : List Thread} {read : ℕ × S}
     → k < n → k < length cells → x ≡ slice_index_or cells k x
     → threads_on told s cells rows room n ≡ ts → read ≡ (place_on s x, start_on s x) →
     thread_at ts k ≡ (read.0, told read.1, nth_row rows (row_on s k))

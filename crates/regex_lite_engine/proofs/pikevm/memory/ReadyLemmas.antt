@@ -5,15 +5,14 @@ use Rattle.regex_lite_engine.proofs.Common.{slice_index, slice_index_or, sym, re
 use Rattle.regex_lite_engine.proofs.Common.{length-append, length-set, get_or-take, length-map}
 use Rattle.regex_lite_engine.proofs.Common.{length-replicate, length-take, map-set, take-take}
 use Rattle.regex_lite_engine.proofs.Common.{nth_row, frame_in, round_in, other, place_on, start_on}
-use Rattle.regex_lite_engine.proofs.Common.{row_on, start_told, threads_on, without_round, Thread, Told}
-use Rattle.regex_lite_engine.proofs.Common.{untold, vec_capacity, Row, Cell}
-use Rattle.std.proofs.lemmas.List.{get_or-append_right}
-use Rattle.std.proofs.lemmas.List.{set-append_right}
+use Rattle.regex_lite_engine.proofs.Common.{row_on, start_told, threads_on, without_round, Thread}
+use Rattle.regex_lite_engine.proofs.Common.{Told, untold, vec_capacity, Row, Cell}
+use Rattle.std.proofs.lemmas.List.{get_or-append_right, set-append_right}
 use Rattle.regex_lite_engine.specs.declared.pikevm.cell.Side.{Side}
 use Rattle.regex_lite_engine.specs.declared.pikevm.cell.Side.TheVariants.{First, Second}
 use Rattle.regex_lite_engine.specs.declared.pikevm.memory.Memory.TheInside.{Inside}
-use Rattle.regex_lite_engine.specs.Pikevm.Cells.{frames_in, thread_on, with_thread}
-use Rattle.regex_lite_engine.specs.Pikevm.Cells.{rounds_in, HoldTogether, MakesReady}
+use Rattle.regex_lite_engine.specs.Pikevm.Cells.{frames_in, thread_on, with_thread, rounds_in}
+use Rattle.regex_lite_engine.specs.Pikevm.Cells.{HoldTogether, MakesReady}
 use Rattle.regex_lite_engine.specs.Pikevm.Machine.{Frame, State}
 use Rattle.regex_lite_engine.proofs.pikevm.memory.CellLemmas.{back, told_at, frames_long}
 use Rattle.regex_lite_engine.proofs.pikevm.memory.CellLemmas.{state_with}
@@ -249,7 +248,8 @@ module _ {S : Type 0} (told : S → Told) (i : Inside S) {m : State} (is : stand
       stands_set k {x} y at same depth' {rounds'} {frames'} rounds frames =
           state_with (record (stands told i) { rounds = rounds'; frames = frames' }) rounds frames
           refl
-          (threads_kept told i.side cells' i.rows i.room i.len k x y at (same i.side) ∙ threads_made)
+          (threads_kept told i.side cells' i.rows i.room i.len k x y at (same i.side)
+          ∙ threads_made)
           (threads_kept told (other i.side) cells' i.rows i.room i.next_len k x y at
           (same (other i.side)) ∙ next_made)
           ∙ ap (λ (z : State). record z { rounds = rounds'; frames = frames' }) is

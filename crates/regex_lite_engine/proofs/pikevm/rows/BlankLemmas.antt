@@ -5,13 +5,12 @@ use Rattle.regex_lite_engine.proofs.Common.{Option, sym, ap, ◌∙◌, arith, l
 use Rattle.regex_lite_engine.proofs.Common.{length-set, append-nil, drop-append-le}
 use Rattle.regex_lite_engine.proofs.Common.{length-replicate, length-take-le, take-append-le}
 use Rattle.regex_lite_engine.proofs.Common.{padded, Row}
-use Rattle.std.proofs.lemmas.List.{append_assoc}
-use Rattle.std.proofs.lemmas.List.{replicate-append-replicate, set-append_left}
+use Rattle.std.proofs.lemmas.List.{append_assoc, replicate-append-replicate, set-append_left}
 use Rattle.regex_lite_engine.specs.Pikevm.Cells.{rows_in, AreRows}
 use Rattle.regex_lite_engine.proofs.pikevm.rows.RowLemmas.{inside_slots, row_of_view}
-use Rattle.regex_lite_engine.proofs.pikevm.rows.RowLemmas.{row_of_view_long, view_over}
-use Rattle.regex_lite_engine.proofs.pikevm.rows.RowLemmas.{view_put, row_first, row_is}
-use Rattle.regex_lite_engine.proofs.pikevm.rows.RowLemmas.{row_long, row_inside, number_inside}
+use Rattle.regex_lite_engine.proofs.pikevm.rows.RowLemmas.{row_of_view_long, view_over, view_put}
+use Rattle.regex_lite_engine.proofs.pikevm.rows.RowLemmas.{row_first, row_is, row_long, row_inside}
+use Rattle.regex_lite_engine.proofs.pikevm.rows.RowLemmas.{number_inside}
 
 abbrev blanks : ℕ → Row
 blanks n = replicate n None

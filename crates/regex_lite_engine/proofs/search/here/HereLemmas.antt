@@ -9,8 +9,8 @@ use Rattle.regex_lite_engine.proofs.Common.{position_at, IsHere, Here}
 use Rattle.std.specs.Char.{IsScalar}
 use lib.Utf8.{encode}
 use Rattle.std.proofs.Math.Seq.{take-append_seam}
-use Rattle.std.proofs.lemmas.Str.{chars-append, IsCharBoundary-at_seam}
-use Rattle.std.proofs.lemmas.Str.{IsUtf8-encode, chars-nil, chars_past_char}
+use Rattle.std.proofs.lemmas.Str.{chars-append, IsCharBoundary-at_seam, IsUtf8-encode, chars-nil}
+use Rattle.std.proofs.lemmas.Str.{chars_past_char}
 use Rattle.regex_lite_syntax.specs.Text.{before}
 use Rattle.regex_lite_engine.proofs.OffsetLemmas.{offset_less, offset_most, offset_next}
 use Rattle.regex_lite_engine.proofs.OptionLemmas.{not_there}

@@ -1,7 +1,7 @@
-use Rattle.regex_lite_engine.proofs.Common.{◌≡◌, ℕ, ◌+◌, ◌-◌, chars, refl, ◌∙◌, subst}
-use Rattle.regex_lite_engine.proofs.Common.{length-map, searching, place_of, table_of, position_at}
-use Rattle.regex_lite_engine.proofs.Common.{IsCharBoundary, List, IsUtf8, IsHere, Here}
-use Rattle.regex_lite_engine.proofs.Common.{arith, IsDeadAt, PassesTo}
+use Rattle.regex_lite_engine.proofs.Common.{◌≡◌, ℕ, ◌+◌, ◌-◌, chars, refl, ◌∙◌, subst, length-map}
+use Rattle.regex_lite_engine.proofs.Common.{searching, place_of, table_of, position_at}
+use Rattle.regex_lite_engine.proofs.Common.{IsCharBoundary, List, IsUtf8, IsHere, Here, arith}
+use Rattle.regex_lite_engine.proofs.Common.{IsDeadAt, PassesTo}
 use Rattle.regex_lite_engine.proofs.OffsetLemmas.{boundary_at}
 use Rattle.regex_lite_engine.proofs.backtrack.LeadsLemmas.{start_matches}
 use Rattle.regex_lite_engine.proofs.backtrack.RunLemmas.{begun, start_fits, went_on}

@@ -1,11 +1,9 @@
-use Rattle.regex_lite_engine.proofs.Common.{ℕ, ◌+◌, ◌≤◌, chars, refl, ◌∙◌}
-use Rattle.regex_lite_engine.proofs.Common.{arith, rules, best_of}
+use Rattle.regex_lite_engine.proofs.Common.{ℕ, ◌+◌, ◌≤◌, chars, refl, ◌∙◌, arith, rules, best_of}
 use Rattle.regex_lite_engine.proofs.Common.{position_at}
 use Rattle.regex_lite_engine.proofs.search.here.HereLemmas.{less_left, over_at}
 use Rattle.regex_lite_engine.proofs.search.CountLemmas.{counted_at_first, still_counted}
 use Rattle.regex_lite_engine.proofs.pikevm.EndLemmas.{some_after}
-use Rattle.regex_lite_engine.proofs.pikevm.PassLemmas.{begun, bounded, bounded_within}
-use Rattle.regex_lite_engine.proofs.pikevm.PassLemmas.{passed_as}
+use Rattle.regex_lite_engine.proofs.pikevm.PassLemmas.{begun, bounded, bounded_within, passed_as}
 use Rattle.regex_lite_engine.proofs.pikevm.ShortestLemmas.{shortest_known, not_true}
 use Rattle.regex_lite_engine.proofs.pikevm.shortest.run_shortest.Goals as goal
 
@@ -78,7 +76,8 @@ returns-then-is_known g c =
     let table = g.P.Patterns.table a.patterns.now in
     let entries = g.P.Patterns.entries a.patterns.now in
     let now = c.pass-here.new.self in
-    let w = passed_as (c.pass-here.ensures.table ∙ v.table) (c.pass-here.ensures.entries ∙ v.entries)
+    let w = passed_as (c.pass-here.ensures.table ∙ v.table)
+    (c.pass-here.ensures.entries ∙ v.entries)
     (c.pass-here.ensures.passes s v.p v.is v.under_way) in
     let first : s ≤ w.q = omega (arith, v.under_way.low, w.later) in
     record {

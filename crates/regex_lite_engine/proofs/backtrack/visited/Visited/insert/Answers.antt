@@ -1,8 +1,8 @@
 use Rattle.regex_lite_engine.proofs.Common.{ap, ◌∙◌, arith}
 use Rattle.regex_lite_engine.specs.Backtrack.Bits.{room_of, words_of}
 use Rattle.regex_lite_engine.specs.contracts.backtrack.visited.Visited.{the_view}
-use Rattle.regex_lite_engine.proofs.backtrack.BitLemmas.{number_inside}
-use Rattle.regex_lite_engine.proofs.backtrack.BitLemmas.{found_in_pairs, set_in_pairs}
+use Rattle.regex_lite_engine.proofs.backtrack.BitLemmas.{number_inside, found_in_pairs}
+use Rattle.regex_lite_engine.proofs.backtrack.BitLemmas.{set_in_pairs}
 use Rattle.regex_lite_engine.proofs.backtrack.visited.Visited.insert.Goals.{in-Few, in-Many}
 use Rattle.regex_lite_engine.proofs.backtrack.visited.Visited.insert.Goals as goal
 

@@ -6,9 +6,8 @@ use Rattle.regex_lite_engine.specs.Backtrack.Machine.{completes, end_at, explore
 use Rattle.regex_lite_engine.specs.Backtrack.Room.{with_frames, Went}
 use Rattle.regex_lite_engine.proofs.backtrack.LeadsLemmas.{entered_at, leads_entered, leads_passed}
 use Rattle.regex_lite_engine.proofs.backtrack.LeftLemmas.{pair_inside}
-use Rattle.regex_lite_engine.proofs.backtrack.WentLemmas.{enter_room, entered_again}
-use Rattle.regex_lite_engine.proofs.backtrack.WentLemmas.{same_walk, was_old}
-use Rattle.regex_lite_engine.proofs.backtrack.WentLemmas.{went_entered, went_passed}
+use Rattle.regex_lite_engine.proofs.backtrack.WentLemmas.{enter_room, entered_again, same_walk}
+use Rattle.regex_lite_engine.proofs.backtrack.WentLemmas.{was_old, went_entered, went_passed}
 use Rattle.regex_lite_engine.proofs.search.CountLemmas.{counted_all, entered_once, tried_once}
 use Rattle.regex_lite_engine.proofs.search.PlaceLemmas.{got_place}
 use Rattle.regex_lite_engine.proofs.backtrack.walk.Walk.come_to.Goals as goal

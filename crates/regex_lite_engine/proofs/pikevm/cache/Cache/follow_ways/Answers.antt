@@ -1,10 +1,9 @@
 use Rattle.regex_lite_engine.proofs.Common.{◌≡◌, ℕ, suc, ◌+◌, ◌<◌, ◌≤◌, true, List, [], ◌∷◌, ◌++◌}
-use Rattle.regex_lite_engine.proofs.Common.{length, drop, replicate, Some, None, sym}
-use Rattle.regex_lite_engine.proofs.Common.{refl, ap, ◌∙◌, subst, arith, drop-cons}
-use Rattle.regex_lite_engine.proofs.Common.{state_retold, best_again, Thread, thread_at, BestState}
-use Rattle.regex_lite_engine.proofs.Common.{KeepsPosition, best_of, StepsTo, begun}
-use Rattle.regex_lite_engine.proofs.Common.{with_starts, Told, untold, StaysCounted, Best, Row}
-use Rattle.regex_lite_engine.proofs.Common.{Start, all_retold, inl, inr}
+use Rattle.regex_lite_engine.proofs.Common.{length, drop, replicate, Some, None, sym, refl, ap, ◌∙◌}
+use Rattle.regex_lite_engine.proofs.Common.{subst, arith, drop-cons, state_retold, best_again}
+use Rattle.regex_lite_engine.proofs.Common.{Thread, thread_at, BestState, KeepsPosition, best_of}
+use Rattle.regex_lite_engine.proofs.Common.{StepsTo, begun, with_starts, Told, untold, StaysCounted}
+use Rattle.regex_lite_engine.proofs.Common.{Best, Row, Start, all_retold, inl, inr}
 use Rattle.std.proofs.Math.ListN.{drop_of_length-le}
 use Rattle.regex_lite_engine.specs.Pikevm.Machine.{State}
 use Rattle.regex_lite_engine.specs.Pikevm.Room.{explores}

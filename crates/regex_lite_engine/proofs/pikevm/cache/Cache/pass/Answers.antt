@@ -1,10 +1,8 @@
 use Rattle.regex_lite_engine.proofs.Common.{ℕ, ◌+◌, ◌-◌, ◌*◌, ◌^◌, ◌<◌, ◌≤◌, length, chars, ap}
-use Rattle.regex_lite_engine.proofs.Common.{arith, row_of, mul-le-mul_left, arrows_of}
-use Rattle.regex_lite_engine.proofs.Common.{best_of, characters_left}
-use Rattle.regex_lite_engine.specs.Pikevm.Passing.{IsUnderWay}
-use Rattle.regex_lite_engine.specs.Pikevm.Passing.{GoesOnAt}
-use Rattle.regex_lite_engine.proofs.pikevm.PassLemmas.{bound_on}
-use Rattle.regex_lite_engine.proofs.pikevm.PassLemmas.{onward}
+use Rattle.regex_lite_engine.proofs.Common.{arith, row_of, mul-le-mul_left, arrows_of, best_of}
+use Rattle.regex_lite_engine.proofs.Common.{characters_left}
+use Rattle.regex_lite_engine.specs.Pikevm.Passing.{IsUnderWay, GoesOnAt}
+use Rattle.regex_lite_engine.proofs.pikevm.PassLemmas.{bound_on, onward}
 use Rattle.regex_lite_engine.proofs.pikevm.cache.Cache.pass.Goals as goal
 
 pub next_start-here-requires : goal.next_start-here-requires

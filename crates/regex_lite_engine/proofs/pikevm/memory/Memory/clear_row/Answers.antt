@@ -1,5 +1,5 @@
-use Rattle.regex_lite_engine.proofs.Common.{◌≡◌, ◌<◌, length, set, replicate, None, ap, ◌∙◌}
-use Rattle.regex_lite_engine.proofs.Common.{arith, length-set, nth_row, Row}
+use Rattle.regex_lite_engine.proofs.Common.{◌≡◌, ◌<◌, length, set, replicate, None, ap, ◌∙◌, arith}
+use Rattle.regex_lite_engine.proofs.Common.{length-set, nth_row, Row}
 use Rattle.regex_lite_engine.specs.Pikevm.Machine.{State}
 use Rattle.regex_lite_engine.proofs.pikevm.memory.ListLemmas.{first_put}
 use Rattle.regex_lite_engine.proofs.pikevm.memory.ReadyLemmas.{stands_put, together_with}

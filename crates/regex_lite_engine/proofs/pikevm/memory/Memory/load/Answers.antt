@@ -1,5 +1,5 @@
-use Rattle.regex_lite_engine.proofs.Common.{◌≡◌, ◌<◌, length, set, sym, refl, ap, ◌∙◌, subst, arith, length-set}
-use Rattle.regex_lite_engine.proofs.Common.{nth_row, thread_at, Row}
+use Rattle.regex_lite_engine.proofs.Common.{◌≡◌, ◌<◌, length, set, sym, refl, ap, ◌∙◌, subst, arith}
+use Rattle.regex_lite_engine.proofs.Common.{length-set, nth_row, thread_at, Row}
 use Rattle.regex_lite_engine.specs.Pikevm.Machine.{State}
 use Rattle.regex_lite_engine.proofs.pikevm.memory.CellLemmas.{row_after_first, row_fits}
 use Rattle.regex_lite_engine.proofs.pikevm.memory.ListLemmas.{first_put, thread_read}

@@ -1,5 +1,5 @@
-use Rattle.regex_lite_engine.proofs.Common.{◌≡◌, ◌<◌, length, set, ap, ◌∙◌, arith, length-set, nth_row}
-use Rattle.regex_lite_engine.proofs.Common.{Row}
+use Rattle.regex_lite_engine.proofs.Common.{◌≡◌, ◌<◌, length, set, ap, ◌∙◌, arith, length-set}
+use Rattle.regex_lite_engine.proofs.Common.{nth_row, Row}
 use Rattle.regex_lite_engine.specs.Pikevm.Machine.{State}
 use Rattle.regex_lite_engine.proofs.pikevm.memory.ListLemmas.{first_put}
 use Rattle.regex_lite_engine.proofs.pikevm.memory.ReadyLemmas.{stands_put, together_with}

@@ -1,5 +1,5 @@
-use Rattle.regex_lite_engine.proofs.Common.{ℕ, ◌+◌, ◌*◌, ◌<◌, ◌≤◌, length, set, replicate, None, sym}
-use Rattle.regex_lite_engine.proofs.Common.{ap, ◌∙◌, arith, length-replicate}
+use Rattle.regex_lite_engine.proofs.Common.{ℕ, ◌+◌, ◌*◌, ◌<◌, ◌≤◌, length, set, replicate, None}
+use Rattle.regex_lite_engine.proofs.Common.{sym, ap, ◌∙◌, arith, length-replicate}
 use Rattle.regex_lite_engine.proofs.pikevm.rows.BlankLemmas.{row_within, row_wide, row_put_over}
 use Rattle.regex_lite_engine.proofs.pikevm.rows.Rows.clear.Goals as goal
 

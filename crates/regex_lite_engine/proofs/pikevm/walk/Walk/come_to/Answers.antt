@@ -1,25 +1,22 @@
 use Rattle.regex_lite_engine.proofs.Common.{◌≡◌, ◌+◌, ◌<◌, true, [], ◌∷◌, map, length, sym}
 use Rattle.regex_lite_engine.proofs.Common.{if◌then◌else◌, ap, subst, arith, rules, length-map}
-use Rattle.regex_lite_engine.proofs.Common.{kept_back, place_of, places_of, LeadsBelow}
-use Rattle.regex_lite_engine.proofs.Common.{ℕ, Bool, false, List, inl, inr, Some, refl, ◌∙◌}
-use Rattle.regex_lite_engine.proofs.Common.{length-set, StepCounts}
+use Rattle.regex_lite_engine.proofs.Common.{kept_back, place_of, places_of, LeadsBelow, ℕ, Bool}
+use Rattle.regex_lite_engine.proofs.Common.{false, List, inl, inr, Some, refl, ◌∙◌, length-set}
+use Rattle.regex_lite_engine.proofs.Common.{StepCounts}
 use Rattle.regex_lite_engine.specs.declared.pikevm.enter.Onward as code
-use Rattle.regex_lite_engine.specs.Pikevm.Entering.{completes, onto, Enters}
-use Rattle.regex_lite_engine.specs.Pikevm.Machine.{explore, State}
+use Rattle.regex_lite_engine.specs.Pikevm.Entering.{completes, onto, Enters, pushing, reading_on}
+use Rattle.regex_lite_engine.specs.Pikevm.Machine.{explore, State, Frame, Thread}
 use Rattle.regex_lite_engine.specs.Pikevm.Room.{TakesFrame}
 use Rattle.regex_lite_engine.proofs.search.CountLemmas.{counted_all, entered_once, tried_once}
 use Rattle.regex_lite_engine.proofs.pikevm.RoomLemmas.{left_room}
 use Rattle.regex_lite_engine.proofs.pikevm.StateLemmas.{later_same, still_fits}
 use Rattle.regex_lite_engine.proofs.pikevm.WalkLemmas.{marked_in}
-use Rattle.regex_lite_engine.proofs.pikevm.WentLemmas.{goes_on, was_met}
+use Rattle.regex_lite_engine.proofs.pikevm.WentLemmas.{goes_on, was_met, went_entered, went_seen}
 use Rattle.regex_lite_engine.proofs.search.PlaceLemmas.{got_place}
-use Rattle.regex_lite_engine.proofs.pikevm.WentLemmas.{went_entered, went_seen}
 use Rattle.regex_lite_engine.specs.declared.nfa.place.Place.{Place}
 use Rattle.regex_lite_engine.specs.declared.nfa.place.Place.TheVariants as stored
 use Rattle.regex_lite_engine.specs.declared.search.here.Here.{Here}
 use Rattle.regex_lite_engine.specs.Search.Beginnings.{Told}
-use Rattle.regex_lite_engine.specs.Pikevm.Entering.{pushing, reading_on}
-use Rattle.regex_lite_engine.specs.Pikevm.Machine.{Frame, Thread}
 use Rattle.regex_lite_engine.proofs.pikevm.walk.Walk.come_to.Goals as goal
 
 pub returns-then-not-insert-clause-taken : goal.returns-then-not-insert-clause-taken

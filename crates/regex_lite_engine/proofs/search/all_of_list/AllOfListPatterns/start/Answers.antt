@@ -1,7 +1,7 @@
 use Rattle.regex_lite_engine.proofs.Common.{◌<◌, map, length, get_or, Some, sym, ap, ◌∙◌, arith}
 use Rattle.regex_lite_engine.proofs.Common.{get_or-map-range_with_len, length-map-range_with_len}
-use Rattle.regex_lite_engine.proofs.Common.{slice_get-get_or, range_with_len, start_numbered}
-use Rattle.regex_lite_engine.proofs.Common.{List, ℕ, ◌≡◌}
+use Rattle.regex_lite_engine.proofs.Common.{slice_get-get_or, range_with_len, start_numbered, List}
+use Rattle.regex_lite_engine.proofs.Common.{ℕ, ◌≡◌}
 use Rattle.regex_lite_engine.proofs.search.all_of_list.AllOfListPatterns.start.Goals as goal
 
 -- the number is that of an entry

@@ -1,6 +1,5 @@
 use Rattle.regex_lite_engine.proofs.Common.{length, slice_index, chars, table_of_list}
-use Rattle.regex_lite_engine.proofs.search.OneStartLemmas.{one_inside, one_at_most}
-use Rattle.regex_lite_engine.proofs.search.OneStartLemmas.{one_starts}
+use Rattle.regex_lite_engine.proofs.search.OneStartLemmas.{one_inside, one_at_most, one_starts}
 use Rattle.regex_lite_engine.proofs.search.one_of_list.OneOfListPatterns.come_to.Goals as goal
 
 pub returns-clause-inside : goal.returns-clause-inside
