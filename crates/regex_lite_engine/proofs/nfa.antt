@@ -1,2 +1,3 @@
 -- lemmas that proofs of other modules need too
+pub mod BoundaryLemmas
 pub mod WayLemmas

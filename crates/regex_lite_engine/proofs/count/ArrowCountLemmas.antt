@@ -42,6 +42,3 @@ pub arrows_pattern : (tree : Tree) (base : ℕ)
     → arrows_of (pattern_table tree base) ≡ whole_arrows tree
 arrows_pattern tree base =
     omega (arith, sum_pattern arrow_count arrows_alike tree base, arrows_measured tree)
-
-pub arrows_whole : (tree : Tree) → arrows_of (pattern_table tree 0) ≡ whole_arrows tree
-arrows_whole tree = arrows_pattern tree 0

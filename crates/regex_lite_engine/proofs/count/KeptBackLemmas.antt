@@ -53,7 +53,3 @@ pub kept_back_pattern : (tree : Tree) → IsRegular tree → (base : ℕ)
     → kept_back_of (pattern_table tree base) < whole_places tree
 kept_back_pattern tree regular base =
     omega (arith, sum_pattern kept_back kept_alike tree base, few_kept tree regular)
-
-pub kept_back_whole : (tree : Tree) → IsRegular tree
-    → kept_back_of (pattern_table tree 0) < whole_places tree
-kept_back_whole tree regular = kept_back_pattern tree regular 0

@@ -1,10 +1,9 @@
 -- What a name takes, by the bytes of its text.
-use Rattle.regex_lite_engine.proofs.Common.{◌≡◌, ℕ, Bool, true, false, length, ◌==◌}
-use Rattle.regex_lite_engine.proofs.Common.{Some, None, Option, sym, refl, ap, ◌∙◌, arith}
-use Rattle.regex_lite_engine.proofs.Common.{encodes-chars, len_utf8}
-use Rattle.regex_lite_engine.proofs.Common.{option_or, Text, Tree, empty, character, class, look}
-use Rattle.regex_lite_engine.proofs.Common.{repetition, capture, concat, alternation, Trees, none}
-use Rattle.regex_lite_engine.proofs.Common.{more, text_of_name}
+use Rattle.regex_lite_engine.proofs.Common.{◌≡◌, ℕ, Bool, true, false, length, ◌==◌, Some, None}
+use Rattle.regex_lite_engine.proofs.Common.{Option, sym, refl, ap, ◌∙◌, arith, encodes-chars}
+use Rattle.regex_lite_engine.proofs.Common.{len_utf8, option_or, Text, Tree, empty, character}
+use Rattle.regex_lite_engine.proofs.Common.{class, look, repetition, capture, concat, alternation}
+use Rattle.regex_lite_engine.proofs.Common.{Trees, none, more, text_of_name}
 use Rattle.std.proofs.Common.{Global}
 use Rattle.std.specs.List.{sum_by}
 use Rattle.std.proofs.lemmas.Str.{IsUtf8-string_bytes}

@@ -54,9 +54,6 @@ pub reading_pattern : (tree : Tree) (base : ℕ)
 reading_pattern tree base =
     omega (arith, sum_pattern reading_count read_alike tree base, reading_measured tree)
 
-pub reading_whole : (tree : Tree) → reading_of (pattern_table tree 0) ≡ reading_places tree
-reading_whole tree = reading_pattern tree 0
-
 -- no more places read than there are
 reading_sets : (ranges : List ClassRange) → class_arrows ranges ≤ 1
 reading_sets [] = omega arith

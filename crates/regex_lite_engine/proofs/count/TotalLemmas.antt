@@ -1,10 +1,9 @@
 -- What several patterns take together, one after another.
-use Rattle.regex_lite_engine.proofs.Common.{◌≡◌, ℕ, ◌+◌, ◌<◌, ◌≤◌, List, [], ◌∷◌, map}
-use Rattle.regex_lite_engine.proofs.Common.{length, get_or, drop, slice_get, Some, option_map, sym}
-use Rattle.regex_lite_engine.proofs.Common.{ap, ◌∙◌, arith, sum_by-cons, slice_get-get_or}
-use Rattle.regex_lite_engine.proofs.Common.{slice_get-map, Tree, tree_of, Hir, reading_places}
-use Rattle.regex_lite_engine.proofs.Common.{whole_places, places_of_all}
-use Rattle.regex_lite_engine.proofs.Common.{reading_of_all}
+use Rattle.regex_lite_engine.proofs.Common.{◌≡◌, ℕ, ◌+◌, ◌<◌, ◌≤◌, List, [], ◌∷◌, map, length}
+use Rattle.regex_lite_engine.proofs.Common.{get_or, drop, slice_get, Some, option_map, sym, ap, ◌∙◌}
+use Rattle.regex_lite_engine.proofs.Common.{arith, sum_by-cons, slice_get-get_or, slice_get-map}
+use Rattle.regex_lite_engine.proofs.Common.{Tree, tree_of, Hir, reading_places, whole_places}
+use Rattle.regex_lite_engine.proofs.Common.{places_of_all, reading_of_all}
 use Rattle.std.proofs.lemmas.List.{drop_more}
 use Rattle.regex_lite_engine.proofs.count.ReadingCountLemmas.{reading_few}
 

@@ -6,12 +6,11 @@ use Rattle.regex_lite_engine.proofs.Common.{nullable, Address, part, own, entry,
 use Rattle.regex_lite_engine.proofs.Common.{Content, place_at, place_in_chain, place_in_branch}
 use Rattle.regex_lite_engine.proofs.Common.{whole, end_address, written_out}
 use Rattle.regex_lite_engine.specs.Graph.Places.{Place}
-use Rattle.regex_lite_engine.specs.Graph.WrittenOut.{leaf_row, capture_row}
-use Rattle.regex_lite_engine.specs.Graph.WrittenOut.{alternation_row, concat_row}
+use Rattle.regex_lite_engine.specs.Graph.WrittenOut.{leaf_row, capture_row, alternation_row}
+use Rattle.regex_lite_engine.specs.Graph.WrittenOut.{concat_row}
 use Rattle.regex_lite_engine.proofs.graph.AddressLemmas.{own_place, in_part, framed, addresses}
 use Rattle.regex_lite_engine.proofs.graph.AddressLemmas.{chain_addresses, branches_addresses}
-use Rattle.regex_lite_engine.proofs.graph.AmongLemmas.{from_0, from_first, from_later}
-use Rattle.regex_lite_engine.proofs.graph.AmongLemmas.{in_framed}
+use Rattle.regex_lite_engine.proofs.graph.AmongLemmas.{from_0, from_first, from_later, in_framed}
 use Rattle.regex_lite_engine.proofs.graph.ListedRowLemmas.{ListsAll, listed_repetition}
 use Rattle.regex_lite_engine.proofs.InLemmas.{In, in_left, in_right, in_last, in_map}
 

@@ -4,8 +4,7 @@ use Rattle.regex_lite_engine.proofs.Common.{List, [], ◌∷◌, map, Some, None
 use Rattle.regex_lite_engine.proofs.Common.{character, class, look, repetition, capture, concat}
 use Rattle.regex_lite_engine.proofs.Common.{alternation, Trees, none, more, nullable, with_arrows}
 use Rattle.regex_lite_engine.proofs.Common.{go, go_marking, go_holding, choice, one_of}
-use Rattle.regex_lite_engine.specs.Graph.Places.{Place}
-use Rattle.regex_lite_engine.specs.Graph.Places.{one_char}
+use Rattle.regex_lite_engine.specs.Graph.Places.{Place, one_char}
 
 module _ {A : Type 0} (Body : A → A → Type 0) where
   -- this many bodies, one after another

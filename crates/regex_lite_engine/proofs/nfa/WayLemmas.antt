@@ -39,20 +39,23 @@ dead_without_match tree haystack table start name Part r first regular i none ar
     (record { is_way = way.1; ends = ends }) in
     none end.1 (walk_match tree haystack i end.1 way.0 regular through.0)
 
+dead_in_pattern : (tree : Tree) → IsRegular tree → (haystack : Text) (i : ℕ)
+    → ((j : ℕ) → Matches haystack tree i j → ⊥)
+    → IsDeadAt (pattern_table tree 0) haystack (pattern_layout tree 0).1 i
+dead_in_pattern tree regular haystack i =
+    let name = whole_names tree regular in
+    let table = pattern_table tree 0 in
+    let start = (pattern_layout tree 0).1 in
+    dead_without_match tree haystack table start name (λ q. q < length table)
+    (whole_part (written_out tree) name table (renumbered tree regular))
+    (whole_number name table start_address start (starts_there tree regular)) regular i
+
 -- the heads of a tree are those of its written-out places
 pub written_heads : (tree : Tree) → IsRegular tree → (table : List (Place ℕ)) (start : ℕ)
     → table ≡ pattern_table tree 0 → start ≡ (pattern_layout tree 0).1 → (heads : Heads)
     → AreHeadsOfTree tree heads → AreHeadsOf table start heads
 written_heads tree regular table start table_is start_is heads of_tree haystack i never =
-    let name = whole_names tree regular in
-    let written = subst (λ t. IsRenumbered (written_out tree) name t) (sym table_is)
-    (renumbered tree regular) in
-    let first = subst (λ s. IsNumberOf name table start_address s) (sym start_is)
-    (subst (λ t. IsNumberOf name t start_address (pattern_layout tree 0).1) (sym table_is)
-    (starts_there tree regular)) in
-    dead_without_match tree haystack table start name (λ q. q < length table)
-    (whole_part (written_out tree) name table written)
-    (whole_number name table start_address start first) regular i (none never)
+    rw (table_is, start_is) (dead_in_pattern tree regular haystack i (none never))
   where
     by_second : (o : Option Starts) → IfSome o (AreSecondOfTree tree)
         → MatchOption o ⊥ (λ second. ¬ (MayBegin second haystack (suc i)))
@@ -69,17 +72,9 @@ pub none_at_end : (tree : Tree) → IsRegular tree → (table : List (Place ℕ)
     → table ≡ pattern_table tree 0 → start ≡ (pattern_layout tree 0).1 → nullable tree ≡ false
     → NoneBeginsAtEnd table start
 none_at_end tree regular table start table_is start_is reading haystack =
-    let name = whole_names tree regular in
-    let written = subst (λ t. IsRenumbered (written_out tree) name t) (sym table_is)
-    (renumbered tree regular) in
-    let first = subst (λ s. IsNumberOf name table start_address s) (sym start_is)
-    (subst (λ t. IsNumberOf name t start_address (pattern_layout tree 0).1) (sym table_is)
-    (starts_there tree regular)) in
-    dead_without_match tree haystack table start name (λ q. q < length table)
-    (whole_part (written_out tree) name table written)
-    (whole_number name table start_address start first) regular (length haystack)
+    rw (table_is, start_is) (dead_in_pattern tree regular haystack (length haystack)
     (λ j m. let read = reads haystack tree (length haystack) j reading m in
-    absurd (omega (arith, read.0, read.1)))
+    absurd (omega (arith, read.0, read.1))))
 
 -- what the index of several trees says holds for their places in a table
 pub listed_heads : (trees : List Tree) → AreRegularPatterns trees → (name : ℕ → Address)

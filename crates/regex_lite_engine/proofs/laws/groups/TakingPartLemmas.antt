@@ -7,13 +7,12 @@ use Rattle.regex_lite_engine.proofs.Common.{alternation, Trees, none, more, grea
 use Rattle.regex_lite_engine.proofs.Common.{greatest_index_in, sum, IsRegular, whole, Found}
 use Rattle.regex_lite_engine.proofs.Common.{IsFound, Marks, marked, over}
 use Rattle.std.proofs.Common.{max}
-use Rattle.regex_lite_syntax.specs.Tree.Properties.{captures_len}
-use Rattle.regex_lite_syntax.specs.Tree.Properties.{common, in_passes, static_groups}
+use Rattle.regex_lite_syntax.specs.Tree.Properties.{captures_len, common, in_passes, static_groups}
 use Rattle.regex_lite_syntax.specs.Tree.Properties.{static_sum, static_common, static_captures_len}
 use Rattle.regex_lite_engine.specs.Search.Marks.{span, taking_part}
 use Rattle.regex_lite_syntax.proofs.grammar.NumberedTreeLemmas.{IsNumbered, AreNumbered}
-use Rattle.regex_lite_engine.proofs.laws.groups.MarkingLemmas.{Marking, MarkingChain}
-use Rattle.regex_lite_engine.proofs.laws.groups.MarkingLemmas.{MarkingBranch, MarkedPasses, around}
+use Rattle.regex_lite_engine.proofs.laws.groups.MarkingLemmas.{Marking, MarkingChain, MarkingBranch}
+use Rattle.regex_lite_engine.proofs.laws.groups.MarkingLemmas.{MarkedPasses, around}
 use Rattle.regex_lite_engine.proofs.laws.groups.TakingCountLemmas.{one_if, earlier_stay, later_stay}
 use Rattle.regex_lite_engine.proofs.laws.groups.TakingCountLemmas.{two_rows, of_more, own_part}
 use Rattle.regex_lite_engine.proofs.laws.groups.MarkedTreeLemmas.{marked_found}

@@ -36,58 +36,40 @@ module _ {A : Type 0} (haystack : Text) (place : A → Place A) (end : A)
         let none : None ≡ Some next = subst (λ p. step_from haystack p i k ≡ Some next) e s in
         cc
 
-    mutual
-      no_loop : {a : A} {i : ℕ} {list : List Entry} → Listed haystack place end a i list
-          → NoLoop (a, i)
-      no_loop {a} {i} (completed here e same) = stays
-        where
-          stays : NoLoop (a, i)
-          stays [] along = refl
-          stays (k ∷ ks) (next, s, along) = absurd (complete_stays a i k next e s)
-      no_loop {a} {i} (branching arrows e listed) = stays (no_loop_by listed)
-        where
-          stays : ((k : ℕ) (next : A × ℕ) → arrow_taken haystack i (slice_get arrows k) ≡ Some next
-              → NoLoop next) → NoLoop (a, i)
-          stays none [] along = refl
-          stays none (k ∷ ks) (next, s, along) =
-              absurd (turned (a, i) next k ks s (none k next (next_of a i k arrows next e s)) along)
-
-      no_loop_by : {arrows : List (Arrow A)} {i : ℕ} {list : List Entry}
-          → ListedBy haystack place end arrows i list → (k : ℕ) (next : A × ℕ)
-          → arrow_taken haystack i (slice_get arrows k) ≡ Some next → NoLoop next
-      no_loop_by (over_all none) k next e = absurd cc
-      no_loop_by (blocked {arrow} gone listed) zero next e =
-          let two : None ≡ Some next = sym (ap (arrived arrow.to) gone) ∙ e in
-          absurd cc
-      no_loop_by (blocked gone listed) (suc k) next e = no_loop_by listed k next e
-      no_loop_by (fitting {arrow} j here there fits listed others all) zero next e =
-          let same : (arrow.to, j) ≡ next = same_some (sym (ap (arrived arrow.to) fits) ∙ e) in
-          subst NoLoop same (no_loop listed)
-      no_loop_by (fitting j here there fits listed others all) (suc k) next e =
-          no_loop_by others k next e
-
     -- no walk comes back to where it has been
     abbrev NoLoopFrom : A × ℕ → Type 0
     NoLoopFrom pair =
         (us : List ℕ) (m : A × ℕ) → Leads (A × ℕ) (step haystack place) pair us m → NoLoop m
+
+    -- none does from a place, where none does from those that its arrows lead to
+    module _ (a : A) (i : ℕ) (arrows : List (Arrow A)) (e : place a ≡ with_arrows arrows)
+        (none : (k : ℕ) (next : A × ℕ) → arrow_taken haystack i (slice_get arrows k) ≡ Some next
+        → NoLoopFrom next) where
+      no_loop_here : NoLoop (a, i)
+      no_loop_here [] along = refl
+      no_loop_here (k ∷ ks) (next, s, along) =
+          let later = none k next (next_of a i k arrows next e s) in
+          absurd (turned (a, i) next k ks s (later [] next refl) along)
+
+      no_loop_later : NoLoopFrom (a, i)
+      no_loop_later [] m along = subst NoLoop along no_loop_here
+      no_loop_later (k ∷ us) m (next, s, along) =
+          none k next (next_of a i k arrows next e s) us m along
 
     mutual
       no_loop_from : {a : A} {i : ℕ} {list : List Entry} → Listed haystack place end a i list
           → NoLoopFrom (a, i)
       no_loop_from {a} {i} (completed here e same) = on
         where
+          stays : NoLoop (a, i)
+          stays [] along = refl
+          stays (k ∷ ks) (next, s, along) = absurd (complete_stays a i k next e s)
+
           on : NoLoopFrom (a, i)
-          on [] m along = subst NoLoop along (no_loop (completed here e same))
+          on [] m along = subst NoLoop along stays
           on (k ∷ us) m (next, s, along) = absurd (complete_stays a i k next e s)
       no_loop_from {a} {i} (branching arrows e listed) =
-          on (no_loop (branching arrows e listed)) (no_loop_from_by listed)
-        where
-          on : NoLoop (a, i)
-              → ((k : ℕ) (next : A × ℕ) → arrow_taken haystack i (slice_get arrows k) ≡ Some next
-              → NoLoopFrom next) → NoLoopFrom (a, i)
-          on here none [] m along = subst NoLoop along here
-          on here none (k ∷ us) m (next, s, along) =
-              none k next (next_of a i k arrows next e s) us m along
+          no_loop_later a i arrows e (no_loop_from_by listed)
 
       no_loop_from_by : {arrows : List (Arrow A)} {i : ℕ} {list : List Entry}
           → ListedBy haystack place end arrows i list → (k : ℕ) (next : A × ℕ)

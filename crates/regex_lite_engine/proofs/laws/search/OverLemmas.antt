@@ -44,6 +44,24 @@ module _ {A : Type 0} (haystack : Text) (place : A → Place A) where
       let moved = subst (λ z. Leads (A × ℕ) (step haystack place) z b y) one q in
       inr (e, before_preferred a b next x y before p over moved)
 
+-- along the arrows of a whole way one comes to where it ends
+module _ (table : List (Place ℕ)) (haystack : Text) {IsStart : List ℕ → ℕ × ℕ → Type 0}
+    {w : List ℕ}
+    (whole : IsWhole (ℕ × ℕ) (numbered_step table haystack) (is_end table haystack) IsStart w)
+    (entry i : ℕ) (way : List ℕ) (q j : ℕ) where
+  pub along_whole : ◌≡◌ {A = ℕ × ℕ} (entry, i) whole.start → way ≡ whole.arrows
+      → Leads (ℕ × ℕ) (numbered_step table haystack) (entry, i) way (q, j)
+      → IsNumberedWay table haystack entry i way q j
+  along_whole start arrows along =
+      let walks = numbered_step table haystack in
+      let own : IsWay (ℕ × ℕ) walks (entry, i) way whole.end =
+      subst (λ n. IsWay (ℕ × ℕ) walks n way whole.end) (sym start)
+      (subst (λ z. IsWay (ℕ × ℕ) walks whole.start z whole.end) (sym arrows) whole.is_way) in
+      let there = leads_to_one walks way (entry, i) whole.end (q, j) own.0 along in record {
+        is_way = subst (λ m. IsWay (ℕ × ℕ) walks (entry, i) way m) there own;
+        ends = subst (λ m. IsTrue (is_end table haystack m)) there whole.ends;
+      }
+
 -- after one start
 pub after_start : (i : ℕ) (a b : List ℕ) → NotAfter (i ∷ a) (i ∷ b) → (a ≡ b) ⊎ Before a b
 after_start i a b (inl e) = inl (same_tail e)
@@ -92,35 +110,6 @@ module _ (table : List (Place ℕ)) (haystack : Text) (start s : ℕ) where
     is_way = m.leads.is_way;
   }
 
-  -- and the other way round
-  record Numbered (w : List ℕ) : Type 0 where
-    at : ℕ
-    way : List ℕ
-    last : ℕ
-    to : ℕ
-    parts : w ≡ at ∷ way
-    matches : IsNumberedMatch table haystack start s at way last to
-
-  numbered_of : (w : List ℕ) → Whole w → Numbered w
-  numbered_of w whole = by_start whole.is_start
-    where
-      by_start : Starts whole.front whole.start → Numbered w
-      by_start (i, low, high, e, f) = record {
-        at = i;
-        way = whole.arrows;
-        last = whole.end.0;
-        to = whole.end.1;
-        parts = whole.parts ∙ ap (λ z. z ++ whole.arrows) e;
-        matches = record {
-          from = low;
-          inside = high;
-          leads = record {
-            is_way = subst (λ n. IsWay (ℕ × ℕ) walks n whole.arrows whole.end) f whole.is_way;
-            ends = whole.ends;
-          };
-        };
-      }
-
   -- the first of all ways has the answer's start and end, and marks what it does
   first_found : (found : Found) (way : List ℕ) (q : ℕ)
       → IsFirst (ℕ × ℕ) walks (is_end table haystack) Starts (Some (found.start ∷ way))
@@ -134,37 +123,27 @@ module _ (table : List (Place ℕ)) (haystack : Text) (start s : ℕ) where
         no_later_start found.start i way other (least (i ∷ other) (whole_of i p j other m));
     way = way;
     last = q;
-    is_way = is_way;
+    is_way = here.leads;
     preferred = λ other p j m. by_order other p j m
         (after_start found.start way other
         (least (found.start ∷ other) (whole_of found.start p j other (from_here other p j m))));
     marks = marks;
   }
     where
-      n : Numbered (found.start ∷ way)
-      n = numbered_of (found.start ∷ way) whole
-
-      at_end : (i : ℕ) (arrows : List ℕ) → found.start ≡ i → way ≡ arrows
-          → IsNumberedMatch table haystack start s i arrows n.last n.to
-          → IsNumberedMatch table haystack start s found.start way n.last n.to
-      at_end i arrows e f m =
-          subst (λ z. IsNumberedMatch table haystack start s z way n.last n.to) (sym e)
-          (subst (λ z. IsNumberedMatch table haystack start s i z n.last n.to) (sym f) m)
-
-      here : IsNumberedMatch table haystack start s found.start way n.last n.to
-      here = at_end n.at n.way (same_head n.parts) (same_tail n.parts) n.matches
-
-      there : ◌≡◌ {A = ℕ × ℕ} (n.last, n.to) (q, found.end)
-      there =
-          leads_to_one walks way (start, found.start) (n.last, n.to) (q, found.end)
-          here.leads.is_way.0 along
-
-      is_way : IsNumberedWay table haystack start found.start way q found.end
-      is_way = record {
-        is_way = subst (λ m. IsWay (ℕ × ℕ) walks (start, found.start) way m) there
-            here.leads.is_way;
-        ends = subst (λ m. IsTrue (is_end table haystack m)) there here.leads.ends;
-      }
+      here : IsNumberedMatch table haystack start s found.start way q found.end
+      here = by_start whole.is_start
+        where
+          by_start : Starts whole.front whole.start
+              → IsNumberedMatch table haystack start s found.start way q found.end
+          by_start (i, low, high, e, f) =
+              let all : found.start ∷ way ≡ i ∷ whole.arrows
+              = whole.parts ∙ ap (λ z. z ++ whole.arrows) e in
+              let at : found.start ≡ i = same_head all in record {
+                from = omega (arith, low, at);
+                inside = omega (arith, high, at);
+                leads = along_whole table haystack whole start found.start way q found.end
+                    (ap (λ k. (start, k)) at ∙ sym f) (same_tail all) along;
+              }
 
       from_here : (other : List ℕ) (p j : ℕ)
           → IsNumberedWay table haystack start found.start other p j
@@ -177,7 +156,7 @@ module _ (table : List (Place ℕ)) (haystack : Text) (start s : ℕ) where
       by_order other p j m (inl e) = inl e
       by_order other p j m (inr before) =
           inr (before_preferred haystack (place_with table) way other (start, found.start)
-          (q, found.end) (p, j) before along is_way.ends m.is_way.0)
+          (q, found.end) (p, j) before along here.leads.ends m.is_way.0)
 
   pub answer_when_over : (recorded : ℕ × ℕ → Option (List ℕ)) (best : Option (List ℕ))
       (answer : Option Found) → SearchIsOver recorded best

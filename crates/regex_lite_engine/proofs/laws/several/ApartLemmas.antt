@@ -6,10 +6,9 @@ use Rattle.regex_lite_engine.proofs.Common.{HasTree, IsWay, end_address, start_a
 use Rattle.regex_lite_engine.proofs.Common.{place_of_pattern, IsWayThrough}
 use Rattle.regex_lite_syntax.proofs.ListLemmas.{same_tail}
 use Rattle.regex_lite_engine.specs.Graph.Places.{Place}
-use Rattle.regex_lite_engine.specs.Graph.SideBySide.{place_of_patterns}
-use Rattle.regex_lite_engine.specs.Graph.SideBySide.{end_of, IsWayOfPattern}
-use Rattle.regex_lite_engine.proofs.laws.search.NamedWayLemmas.{unnamed_walk}
-use Rattle.regex_lite_engine.proofs.laws.search.NamedWayLemmas.{named_way, unnamed_way}
+use Rattle.regex_lite_engine.specs.Graph.SideBySide.{place_of_patterns, end_of, IsWayOfPattern}
+use Rattle.regex_lite_engine.proofs.laws.search.NamedWayLemmas.{unnamed_walk, named_way}
+use Rattle.regex_lite_engine.proofs.laws.search.NamedWayLemmas.{unnamed_way}
 use Rattle.regex_lite_engine.proofs.laws.search.NumberedWayLemmas.{name_pair, step_renamed}
 
 module _ (trees : List Tree) (number : ℕ) (tree : Tree) (there : HasTree trees number tree)

@@ -6,11 +6,9 @@ use Rattle.regex_lite_engine.proofs.Common.{IsMatchFrom, Found, IsAnswerOfList, 
 use Rattle.regex_lite_engine.proofs.Common.{IsNumberedAnswerOf}
 use Rattle.regex_lite_engine.specs.Graph.Places.{Place}
 use Rattle.regex_lite_engine.specs.Graph.SideBySide.{AreRegularPatterns}
-use Rattle.regex_lite_engine.proofs.laws.search.NumberedAnswerLemmas.{
-  numbered_match,
-  match_of_numbers,
-  answer_of_part,
-}
+use Rattle.regex_lite_engine.proofs.laws.search.NumberedAnswerLemmas.{numbered_match}
+use Rattle.regex_lite_engine.proofs.laws.search.NumberedAnswerLemmas.{match_of_numbers}
+use Rattle.regex_lite_engine.proofs.laws.search.NumberedAnswerLemmas.{answer_of_part}
 use Rattle.regex_lite_engine.proofs.laws.several.ListAnswerLemmas.{from_its_start}
 use Rattle.regex_lite_engine.proofs.laws.several.PartLemmas.{InPattern, name_in_pattern}
 use Rattle.regex_lite_engine.proofs.laws.several.PartLemmas.{part_of_list, entry_of_part}

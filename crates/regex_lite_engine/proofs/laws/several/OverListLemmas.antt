@@ -1,17 +1,16 @@
 -- What a search for several patterns has found when it is over is its answer.
 use Rattle.regex_lite_engine.proofs.Common.{◌≡◌, ℕ, ◌<◌, ◌≤◌, ◌⊎◌, List, [], ◌∷◌, ◌++◌, length}
-use Rattle.regex_lite_engine.proofs.Common.{IsTrue, slice_get, Some, None, Option, sym, refl, ap}
-use Rattle.regex_lite_engine.proofs.Common.{◌∙◌, subst, inl, inr, arith, Text, Leads, IsWay, Found}
-use Rattle.regex_lite_engine.proofs.Common.{NotAfter, marks_along}
-use Rattle.regex_lite_engine.proofs.Common.{place_with, numbered_step, is_end, IsNumberedWay}
-use Rattle.regex_lite_engine.proofs.Common.{IsNumberedMatch, IsNumberedFound, IsEntry, StartsOf}
-use Rattle.regex_lite_engine.proofs.Common.{IsMatchOfAny, IsNumberedAnswerOf, IsPreferred}
+use Rattle.regex_lite_engine.proofs.Common.{slice_get, Some, None, Option, sym, refl, ap, ◌∙◌}
+use Rattle.regex_lite_engine.proofs.Common.{subst, inl, inr, arith, Text, Leads, Found, NotAfter}
+use Rattle.regex_lite_engine.proofs.Common.{marks_along, place_with, numbered_step, is_end}
+use Rattle.regex_lite_engine.proofs.Common.{IsNumberedWay, IsNumberedMatch, IsNumberedFound}
+use Rattle.regex_lite_engine.proofs.Common.{IsEntry, StartsOf, IsMatchOfAny, IsNumberedAnswerOf}
+use Rattle.regex_lite_engine.proofs.Common.{IsPreferred}
 use Rattle.regex_lite_syntax.proofs.ListLemmas.{same_head, same_tail}
 use Rattle.regex_lite_engine.specs.Graph.Places.{Place}
-use Rattle.regex_lite_engine.proofs.laws.LeadsLemmas.{leads_to_one}
 use Rattle.regex_lite_engine.proofs.laws.search.Explored.{StartsDiffer, IsWhole, IsFirst}
 use Rattle.regex_lite_engine.proofs.laws.search.Explored.{IsExplored}
-use Rattle.regex_lite_engine.proofs.laws.search.OverLemmas.{before_preferred}
+use Rattle.regex_lite_engine.proofs.laws.search.OverLemmas.{along_whole, before_preferred}
 use Rattle.regex_lite_engine.proofs.laws.search.SearchLawLemmas.{search_law}
 use Rattle.regex_lite_engine.proofs.OptionLemmas.{same_some}
 
@@ -83,41 +82,6 @@ module _ (table : List (Place ℕ)) (haystack : Text) (entries : List ℕ) (s : 
     is_way = m.is_match.leads.is_way;
   }
 
-  -- and the other way round
-  record Numbered (w : List ℕ) : Type 0 where
-    at : ℕ
-    number : ℕ
-    entry : ℕ
-    way : List ℕ
-    last : ℕ
-    to : ℕ
-    parts : w ≡ at ∷ (number ∷ way)
-    is_entry : IsEntry entries number entry
-    matches : IsNumberedMatch table haystack entry s at way last to
-
-  numbered_of : (w : List ℕ) → Whole w → Numbered w
-  numbered_of w whole = by_start whole.is_start
-    where
-      by_start : Starts whole.front whole.start → Numbered w
-      by_start (i, k, entry, low, high, p, e, f) = record {
-        at = i;
-        number = k;
-        entry = entry;
-        way = whole.arrows;
-        last = whole.end.0;
-        to = whole.end.1;
-        parts = whole.parts ∙ ap (λ z. z ++ whole.arrows) e;
-        is_entry = p;
-        matches = record {
-          from = low;
-          inside = high;
-          leads = record {
-            is_way = subst (λ n. IsWay (ℕ × ℕ) walks n whole.arrows whole.end) f whole.is_way;
-            ends = whole.ends;
-          };
-        };
-      }
-
   -- the first of all ways has the answer's number, start and end, and marks what it does
   module _ (number entry : ℕ) (found : Found) (way : List ℕ) (q : ℕ)
       (is_entry : IsEntry entries number entry)
@@ -126,34 +90,22 @@ module _ (table : List (Place ℕ)) (haystack : Text) (entries : List ℕ) (s : 
       (along : Leads (ℕ × ℕ) walks (entry, found.start) way (q, found.end))
       (marks : found.marks
       ≡ marks_along haystack (place_with table) (Some (entry, found.start)) way) where
-    n : Numbered (found.start ∷ (number ∷ way))
-    n = numbered_of (found.start ∷ (number ∷ way)) first.0
-
-    here : IsNumberedMatch table haystack entry s found.start way n.last n.to
-    here = moved n.at n.way n.entry (same_head n.parts) (same_tail (same_tail n.parts))
-        (same_entry number n.number entry n.entry
-        (same_head (same_tail n.parts)) is_entry n.is_entry)
-        n.matches
+    here : IsNumberedMatch table haystack entry s found.start way q found.end
+    here = by_start first.0.is_start
       where
-        moved : (i : ℕ) (arrows : List ℕ) (x : ℕ) → found.start ≡ i → way ≡ arrows → entry ≡ x
-            → IsNumberedMatch table haystack x s i arrows n.last n.to
-            → IsNumberedMatch table haystack entry s found.start way n.last n.to
-        moved i arrows x e f g m =
-            subst (λ z. IsNumberedMatch table haystack z s found.start way n.last n.to) (sym g)
-            (subst (λ z. IsNumberedMatch table haystack x s z way n.last n.to) (sym e)
-            (subst (λ z. IsNumberedMatch table haystack x s i z n.last n.to) (sym f) m))
-
-    there : ◌≡◌ {A = ℕ × ℕ} (n.last, n.to) (q, found.end)
-    there =
-        leads_to_one walks way (entry, found.start) (n.last, n.to) (q, found.end)
-        here.leads.is_way.0 along
-
-    is_way : IsNumberedWay table haystack entry found.start way q found.end
-    is_way = record {
-      is_way = subst (λ m. IsWay (ℕ × ℕ) walks (entry, found.start) way m) there
-          here.leads.is_way;
-      ends = subst (λ m. IsTrue (is_end table haystack m)) there here.leads.ends;
-    }
+        by_start : Starts first.0.front first.0.start
+            → IsNumberedMatch table haystack entry s found.start way q found.end
+        by_start (i, k, x, low, high, p, e, f) =
+            let all : found.start ∷ (number ∷ way) ≡ i ∷ (k ∷ first.0.arrows)
+            = first.0.parts ∙ ap (λ z. z ++ first.0.arrows) e in
+            let at : found.start ≡ i = same_head all in
+            let own = same_entry number k entry x (same_head (same_tail all)) is_entry p in record {
+              from = omega (arith, low, at);
+              inside = omega (arith, high, at);
+              leads = along_whole table haystack first.0 entry found.start way q found.end
+                  (same_start entry x found.start i own at ∙ sym f) (same_tail (same_tail all))
+                  along;
+            }
 
     compared : (i k : ℕ) (other : List ℕ) (p j : ℕ)
         → IsMatchOfAny table haystack entries s i k other p j
@@ -192,7 +144,7 @@ module _ (table : List (Place ℕ)) (haystack : Text) (entries : List ℕ) (s : 
     by_order other p j m (inr (e, inr (same, inl equal))) = inl equal
     by_order other p j m (inr (e, inr (same, inr before))) =
         inr (before_preferred haystack (place_with table) way other (entry, found.start)
-        (q, found.end) (p, j) before along is_way.ends m.is_way.0)
+        (q, found.end) (p, j) before along here.leads.ends m.is_way.0)
 
     found_is : IsNumberedFound table haystack entry s found
     found_is = record {
@@ -202,7 +154,7 @@ module _ (table : List (Place ℕ)) (haystack : Text) (entries : List ℕ) (s : 
           least_start i number other (compared i number other p j (of_own i other p j m));
       way = way;
       last = q;
-      is_way = is_way;
+      is_way = here.leads;
       preferred = λ other p j m. by_order other p j m
           (compared found.start number other p j
           (of_own found.start other p j (from_here other p j m)));

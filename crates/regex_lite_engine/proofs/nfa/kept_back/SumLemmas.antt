@@ -5,8 +5,7 @@ use Rattle.regex_lite_engine.proofs.Common.{ap, ◌∙◌, arith, drop-cons, len
 use Rattle.regex_lite_engine.proofs.Common.{complete, with_arrows, go, kept_back, kept_back_with}
 use Rattle.regex_lite_engine.proofs.Common.{kept_back_of, place_of}
 use Rattle.regex_lite_engine.specs.declared.nfa.place.Place as code
-use Rattle.regex_lite_engine.specs.Graph.Places.{Place}
-use Rattle.regex_lite_engine.specs.Graph.Places.{kept_marks}
+use Rattle.regex_lite_engine.specs.Graph.Places.{Place, kept_marks}
 
 few_marks : (slot : Option ℕ) → kept_marks slot 0 ≡ 0
 few_marks None = refl

@@ -1,39 +1,41 @@
--- What is stored of the groups of several patterns.
-use Rattle.regex_lite_engine.proofs.Common.{◌≡◌, ◌<◌, List, [], ◌∷◌, ◌++◌, length, get_or}
+-- What is told of several patterns, one after another.
+use Rattle.regex_lite_engine.proofs.Common.{◌≡◌, ℕ, ◌<◌, List, [], ◌∷◌, ◌++◌, length, get_or}
 use Rattle.regex_lite_engine.proofs.Common.{slice_get, Some, sym, ap, ◌∙◌, subst, inl, inr, arith}
 use Rattle.regex_lite_engine.proofs.Common.{length-append, get_or-append_seam, cases_lt}
 use Rattle.regex_lite_engine.proofs.Common.{get_or_from_slice_get, slice_get-get_or}
-use Rattle.regex_lite_engine.proofs.Common.{slice_get_within, Tree, TellGroupsOf}
+use Rattle.regex_lite_engine.proofs.Common.{slice_get_within, Tree}
 use Rattle.std.proofs.Math.ListN.{get_or-append}
-use Rattle.regex_lite_engine.specs.Graph.StoredList.{StoredGroups, TellsGroupsOf}
 use Rattle.regex_lite_engine.proofs.OptionLemmas.{same_some}
 
--- those of the next pattern too
-pub told_more : (trees : List Tree) (list : List StoredGroups) (tree : Tree) (groups : StoredGroups)
-    → slice_get trees (length list) ≡ Some tree → TellsGroupsOf tree groups
-    → TellGroupsOf trees list → TellGroupsOf trees (list ++ groups ∷ [])
-told_more trees list tree groups next told so_far number own found there at =
+-- that of the next pattern too
+pub told_more : {A : Type 0} (Told : Tree → A → Type 0) (trees : List Tree) (list : List A)
+    (tree : Tree) (next : A) → slice_get trees (length list) ≡ Some tree → Told tree next
+    → ((number : ℕ) (own : Tree) (found : A) → slice_get trees number ≡ Some own
+    → slice_get list number ≡ Some found → Told own found)
+    → (number : ℕ) (own : Tree) (found : A) → slice_get trees number ≡ Some own
+    → slice_get (list ++ next ∷ []) number ≡ Some found → Told own found
+told_more Told trees list tree next there_next told so_far number own found there at =
     elim (cases_lt number (length list)) [
       | inl less ↦ so_far number own found there (before less)
-      | inr le ↦ last (omega (arith, le, within, length-append list (groups ∷ [])))
+      | inr le ↦ last (omega (arith, le, within, length-append list (next ∷ [])))
     ]
   where
-    within : number < length (list ++ groups ∷ [])
-    within = slice_get_within (list ++ groups ∷ []) number found at
+    within : number < length (list ++ next ∷ [])
+    within = slice_get_within (list ++ next ∷ []) number found at
 
-    here : get_or (list ++ groups ∷ []) number found ≡ found
-    here = get_or_from_slice_get (list ++ groups ∷ []) number found found at
+    here : get_or (list ++ next ∷ []) number found ≡ found
+    here = get_or_from_slice_get (list ++ next ∷ []) number found found at
 
     before : number < length list → slice_get list number ≡ Some found
     before less =
         slice_get-get_or list number found less
-        ∙ ap Some (sym (get_or-append list (groups ∷ []) found number less) ∙ here)
+        ∙ ap Some (sym (get_or-append list (next ∷ []) found number less) ∙ here)
 
-    last : number ≡ length list → TellsGroupsOf own found
+    last : number ≡ length list → Told own found
     last is =
-        let groups_is : groups ≡ found
-        = sym (get_or-append_seam list groups [] found)
-        ∙ ap (λ n. get_or (list ++ groups ∷ []) n found) (sym is) ∙ here in
-        let tree_is : tree ≡ own = same_some (sym next ∙ ap (slice_get trees) (sym is) ∙ there) in
-        subst (λ g. TellsGroupsOf own g) groups_is
-        (subst (λ t. TellsGroupsOf t groups) tree_is told)
+        let next_is : next ≡ found
+        = sym (get_or-append_seam list next [] found)
+        ∙ ap (λ n. get_or (list ++ next ∷ []) n found) (sym is) ∙ here in
+        let tree_is : tree ≡ own
+        = same_some (sym there_next ∙ ap (slice_get trees) (sym is) ∙ there) in
+        subst (Told own) next_is (subst (λ t. Told t next) tree_is told)

@@ -8,23 +8,32 @@ use Rattle.std.proofs.lemmas.List.{map_push, length_push}
 use Rattle.regex_lite_engine.specs.declared.nfa.place.Place as code
 use Rattle.regex_lite_engine.specs.Graph.Places.{Place}
 
--- the table has the place that was stored
-pub place_added : {E : Type 0} (result : Result ℕ E) (old new : List code.Place)
-    (stored : code.Place) (place : Place ℕ) → place_of stored ≡ place
-    → IfOk result (λ _. new ≡ old ++ stored ∷ [])
-    → IfOk result (λ _. map place_of new ≡ map place_of old ++ place ∷ [])
-place_added (Ok number) old new stored place is added =
-    ap (λ places. map place_of places) added ∙ map_push place_of old stored
-    ∙ ap (λ (q : Place ℕ). map place_of old ++ q ∷ []) is
-place_added (Err e) old new stored place is added = tt
+-- the place is stored at the table's end, with this number
+abbrev pub EndsInStored : {E : Type 0} → Result ℕ E → (old new : List code.Place) → code.Place
+    → Type 0
+EndsInStored result old new stored = record {
+  number : IfOk result (λ number. number ≡ length old);
+  added : IfOk result (λ _. new ≡ old ++ stored ∷ []);
+}
 
--- it has one place more
-pub one_longer : {E : Type 0} (result : Result ℕ E) (old new : List code.Place)
-    (stored : code.Place) → IfOk result (λ _. new ≡ old ++ stored ∷ [])
-    → IfOk result (λ _. length new ≡ length old + 1)
-one_longer (Ok number) old new stored added =
-    ap (λ places. length places) added ∙ length_push old stored
-one_longer (Err e) old new stored added = tt
+-- the table has this place more
+abbrev pub EndsInPlace : {E : Type 0} → Result ℕ E → (old new : List code.Place) → Place ℕ → Type 0
+EndsInPlace result old new place = record {
+  number : IfOk result (λ number. number ≡ length old);
+  added : IfOk result (λ _. map place_of new ≡ map place_of old ++ place ∷ []);
+  grown : IfOk result (λ _. length new ≡ length old + 1);
+}
+
+pub place_added : {E : Type 0} (result : Result ℕ E) (old new : List code.Place)
+    (stored : code.Place) {place : Place ℕ} → place_of stored ≡ place
+    → EndsInStored result old new stored → EndsInPlace result old new place
+place_added (Ok number) old new stored is told = record {
+  number = told.number;
+  added = ap (λ places. map place_of places) told.added ∙ map_push place_of old stored
+      ∙ ap (λ (q : Place ℕ). map place_of old ++ q ∷ []) is;
+  grown = ap (λ places. length places) told.added ∙ length_push old stored;
+}
+place_added (Err e) old new stored is told = record { number = tt; added = tt; grown = tt }
 
 -- a part is written after the rest, and leads on to it
 pub before_rest : (body : ℕ → ℕ → Fragment) (old whole new : List (Place ℕ)) (rest : Fragment)

@@ -1,26 +1,38 @@
--- What is written for a tree that is one place.
-use Rattle.regex_lite_engine.proofs.Common.{◌≡◌, ℕ, ◌+◌, List, [], ◌∷◌, ◌++◌, map, length, sym, ap}
-use Rattle.regex_lite_engine.proofs.Common.{◌∙◌, place_of, Fragment, IsAdded}
+-- What is written for a tree, by an equation that says which tree it is.
+use Rattle.regex_lite_engine.proofs.Common.{◌≡◌, ℕ, ◌+◌, List, ◌++◌, map, length, sym, ◌∙◌, ap}
+use Rattle.regex_lite_engine.proofs.Common.{subst, Tree, layout, places, place_of, IsAdded}
 use Rattle.std.proofs.Common.{Result, Ok, Err, IfOk}
 use Rattle.regex_lite_engine.specs.declared.nfa.place.Place as code
 use Rattle.regex_lite_engine.specs.Graph.Places.{Place}
 use Rattle.regex_lite_engine.specs.Nfa.Fragments.{alone}
+use Rattle.regex_lite_engine.proofs.nfa.write.AddedLemmas.{EndsInPlace}
 
--- the place is added, and entered
-pub one_added : {E : Type 0} (result : Result ℕ E) (old new : List code.Place) (place : Place ℕ)
-    (written : Fragment) → written ≡ alone place (length old)
-    → IfOk result (λ number. number ≡ length old)
-    → IfOk result (λ _. map place_of new ≡ map place_of old ++ place ∷ [])
-    → IfOk result (λ entry. IsAdded (map place_of old) (map place_of new) entry written)
-one_added (Ok number) old new place written is at added = (
-  at ∙ ap (λ (part : Fragment). part.1) (sym is),
-  added ∙ ap (λ (part : Fragment). map place_of old ++ part.0) (sym is),
-)
-one_added (Err e) old new place written is at added = tt
+-- the tree's places are added, and entered
+abbrev pub IsWritten : {E : Type 0} → Result ℕ E → (old new : List code.Place) → (exit : ℕ) → Tree
+    → Type 0
+IsWritten result old new exit tree = record {
+  written : IfOk result (λ entry. IsAdded (map place_of old) (map place_of new) entry
+      (layout tree (length old) exit));
+  grown : IfOk result (λ _. length new ≡ length old + places tree);
+}
 
--- and there is one place more
-pub one_more_place : {E : Type 0} (result : Result ℕ E) (old new : List code.Place) (n : ℕ)
-    → n ≡ 1 → IfOk result (λ _. length new ≡ length old + 1)
-    → IfOk result (λ _. length new ≡ length old + n)
-one_more_place (Ok number) old new n one grown = grown ∙ ap (λ k. length old + k) (sym one)
-one_more_place (Err e) old new n one grown = tt
+module _ {E : Type 0} (result : Result ℕ E) (old new : List code.Place) (exit : ℕ) where
+  pub written_same : {tree other : Tree} → tree ≡ other → IsWritten result old new exit other
+      → IsWritten result old new exit tree
+  written_same same = subst (IsWritten result old new exit) (sym same)
+
+  -- the tree is one place
+  pub one_written : {tree leaf : Tree} (place : Place ℕ) → tree ≡ leaf
+      → layout leaf (length old) exit ≡ alone place (length old) → places leaf ≡ 1
+      → EndsInPlace result old new place → IsWritten result old new exit tree
+  one_written {leaf = leaf} place same is one told = written_same same (by_result result told)
+    where
+      by_result : (r : Result ℕ E) → EndsInPlace r old new place → IsWritten r old new exit leaf
+      by_result (Ok number) told = record {
+        written = (
+          told.number ∙ ap (λ part. part.1) (sym is),
+          told.added ∙ ap (λ part. map place_of old ++ part.0) (sym is),
+        );
+        grown = told.grown ∙ ap (λ k. length old + k) (sym one);
+      }
+      by_result (Err e) told = record { written = tt; grown = tt }

@@ -1,7 +1,7 @@
 -- What a part of a list of trees takes, beside what is after it.
 use Rattle.regex_lite_engine.proofs.Common.{◌≡◌, ℕ, zero, suc, ◌+◌, ◌-◌, ◌*◌, ◌<◌, ◌≤◌, Bool, List}
-use Rattle.regex_lite_engine.proofs.Common.{[], ◌∷◌, map, length, get_or, drop, None, ap, arith}
-use Rattle.regex_lite_engine.proofs.Common.{rules, trees, greatest_index, greatest_index_in}
+use Rattle.regex_lite_engine.proofs.Common.{[], ◌∷◌, map, length, get_or, drop, Option, None, ap}
+use Rattle.regex_lite_engine.proofs.Common.{arith, rules, trees, greatest_index, greatest_index_in}
 use Rattle.regex_lite_engine.proofs.Common.{tree_of, Hir, copies, own_places, places, places_in}
 
 pub part_places : (parts : List Hir) (i : ℕ) (part : Hir) → i < length parts
@@ -24,8 +24,15 @@ part_index (a ∷ rest) (suc i) part inside is =
     omega (arith, part_index rest i part (omega arith) is)
 
 -- the copy in the loop, with the choice, and those before it
-pub loop_room : (least body : ℕ) (nullable_body : Bool) → 0 < least
-    → copies least None * body + own_places least None nullable_body
+pub endless_room : {most : Option ℕ} (least body : ℕ) (nullable_body : Bool) → most ≡ None
+    → 0 < least
+    → copies least most * body + own_places least most nullable_body
     ≡ (least - 1) * body + (body + 1)
-loop_room zero body nullable_body some = absurd (omega arith)
-loop_room (suc n) body nullable_body some = search rules
+endless_room zero body nullable_body endless some = absurd (omega arith)
+endless_room (suc n) body nullable_body endless some = rw endless (search rules)
+
+-- without a copy before the loop
+pub star_room : {most : Option ℕ} {least : ℕ} (body : ℕ) (nullable_body : Bool) → least ≡ 0
+    → most ≡ None → copies least most * body + own_places least most nullable_body
+    ≡ body + own_places 0 None nullable_body
+star_room body nullable_body none endless = rw (none, endless) (omega arith)

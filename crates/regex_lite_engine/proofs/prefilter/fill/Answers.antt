@@ -1,12 +1,10 @@
-use Rattle.regex_lite_engine.proofs.Common.{◌*◌, ◌≤◌, ◌≢◌, length, get_or, sym, ap, ◌∙◌, subst}
-use Rattle.regex_lite_engine.proofs.Common.{inl, inr, arith, cases_lt, length-set, get_or-set_other}
+use Rattle.regex_lite_engine.proofs.Common.{◌*◌, ◌≤◌, ◌≢◌, length, get_or, sym, ap, ◌∙◌, subst, inl}
+use Rattle.regex_lite_engine.proofs.Common.{inr, arith, cases_lt, length-set, get_or-set_other}
 use Rattle.regex_lite_engine.proofs.Common.{StandsBelow}
 use Rattle.std.proofs.lemmas.Grind.{common_steps}
 use Rattle.regex_lite_engine.proofs.prefilter.fill.Goals as goal
-use Rattle.regex_lite_engine.proofs.prefilter.fill.Goals.{
-  then-begins_in_row+in-Some,
-  else-begins_in_row,
-}
+use Rattle.regex_lite_engine.proofs.prefilter.fill.Goals.{then-begins_in_row+in-Some}
+use Rattle.regex_lite_engine.proofs.prefilter.fill.Goals.{else-begins_in_row}
 
 pub loop-row-preserved : goal.loop-row-preserved
 loop-row-preserved c =

@@ -50,30 +50,34 @@ no_pair zero set a b off = refl
 no_pair (suc n) set zero b off = off
 no_pair (suc n) set (suc a) b off = no_pair n set a b off
 
+-- none of as many first characters from this one on is that of a pair
+pub row_passed : (first many a : ℕ) (before pair : Bool)
+    → (first ≤ a → a < first + many → pair ≡ false)
+    → (before || (nat_lt a first && pair)) ≡ (before || (nat_lt a (first + many) && pair))
+row_passed first many a before pair none = elim (cases_lt a first) [
+  | inl less ↦
+      let one : nat_lt a first ≡ true = grind (arith, nat_tests) in
+      let other : nat_lt a (first + many) ≡ true = grind (arith, nat_tests) in
+      ap (λ b. before || (b && pair)) (one ∙ sym other)
+  | inr le ↦ elim (cases_lt a (first + many)) [
+    | inl inside ↦
+        let one : nat_lt a first ≡ false = grind (arith, nat_tests) in
+        let other : nat_lt a (first + many) ≡ true = grind (arith, nat_tests) in
+        ap (λ b. before || (b && pair)) one
+        ∙ sym (ap (λ b. before || (b && pair)) other ∙ ap (λ p. before || p) (none le inside))
+    | inr beyond ↦
+        let one : nat_lt a first ≡ false = grind (arith, nat_tests) in
+        let other : nat_lt a (first + many) ≡ false = grind (arith, nat_tests) in
+        ap (λ b. before || (b && pair)) (one ∙ sym other)
+  ]
+]
+
 -- The pairs with one first character more. Those of the first characters below it were added before
 module _ (before : ℕ → ℕ → Bool) (part : Heads) (first : ℕ) where
   abbrev pub AddedBelow : (end : ℕ) → List AsciiSet → Type 0
   AddedBelow end pairs = (a b : ℕ) → a < 128 → b < 128
       → in_some_set (slice_get pairs a) b
       ≡ (before a b || (nat_lt a end && begins_with_pair a b part))
-
-  -- the others are as they were
-  beside : (a b : ℕ) → (a ≡ first → ⊥)
-      → (before a b || (nat_lt a first && begins_with_pair a b part))
-      ≡ (before a b || (nat_lt a (first + 1) && begins_with_pair a b part))
-  beside a b apart =
-      let same : nat_lt a first ≡ nat_lt a (first + 1) = elim (cases_lt a first) [
-        | inl lt ↦
-            let one : nat_lt a first ≡ true = grind (arith, nat_tests) in
-            let two : nat_lt a (first + 1) ≡ true = grind (arith, nat_tests) in
-            one ∙ sym two
-        | inr le ↦
-            let above : first < a = omega (arith, le, apart) in
-            let one : nat_lt a first ≡ false = grind (arith, nat_tests) in
-            let two : nat_lt a (first + 1) ≡ false = grind (arith, nat_tests) in
-            one ∙ sym two
-      ] in
-      ap (λ t. before a b || (t && begins_with_pair a b part)) same
 
   here_before : (b : ℕ) → (before first b || (nat_lt first first && begins_with_pair first b part))
       ≡ before first b
@@ -91,17 +95,10 @@ module _ (before : ℕ → ℕ → Bool) (part : Heads) (first : ℕ) where
   -- where no match begins with it
   pub none_more : (pairs : List AsciiSet) → AddedBelow first pairs
       → ((b : ℕ) → begins_with_pair first b part ≡ false) → AddedBelow (first + 1) pairs
-  none_more pairs so_far off a b a_in b_in = elim (cases_eq a first) [
-    | inr apart ↦ so_far a b a_in b_in ∙ beside a b apart
-    | inl same ↦
-        ap (λ k. in_some_set (slice_get pairs k) b) same
-        ∙ so_far first b (omega (arith, same, a_in)) b_in
-        ∙ here_before b
-        ∙ sym (or-false (before first b))
-        ∙ sym (ap (λ t. before first b || t) (off b))
-        ∙ here_after b
-        ∙ sym (ap (λ k. before k b || (nat_lt k (first + 1) && begins_with_pair k b part)) same)
-  ]
+  none_more pairs so_far off a b a_in b_in =
+      so_far a b a_in b_in ∙ row_passed first 1 a (before a b) (begins_with_pair a b part)
+      (λ low high. let same : a ≡ first = omega (arith, low, high) in
+      ap (λ k. begins_with_pair k b part) same ∙ off b)
 
   -- where one may, its set has what may come second
   pub one_more : (pairs : List AsciiSet) (old new : AsciiSet) → first < length pairs
@@ -111,7 +108,8 @@ module _ (before : ℕ → ℕ → Bool) (part : Heads) (first : ℕ) where
   one_more pairs old new inside is so_far added a b a_in b_in = elim (cases_eq a first) [
     | inr apart ↦
         ap (λ o. in_some_set o b) (set_elsewhere pairs first a new apart)
-        ∙ so_far a b a_in b_in ∙ beside a b apart
+        ∙ so_far a b a_in b_in ∙ row_passed first 1 a (before a b) (begins_with_pair a b part)
+        (λ low high. absurd (apart (omega (arith, low, high))))
     | inl same ↦
         let first_in : first < 128 = omega (arith, same, a_in) in
         ap (λ k. in_some_set (slice_get (slice_set pairs first new) k) b) same
@@ -122,25 +120,3 @@ module _ (before : ℕ → ℕ → Bool) (part : Heads) (first : ℕ) where
         ∙ here_after b
         ∙ sym (ap (λ k. before k b || (nat_lt k (first + 1) && begins_with_pair k b part)) same)
   ]
-
--- none of the sixteen first characters from this one on is that of a pair
-pub row_passed : (first a : ℕ) (before pair : Bool)
-    → (first ≤ a → a < first + 16 → pair ≡ false)
-    → (before || (nat_lt a first && pair)) ≡ (before || (nat_lt a (first + 16) && pair))
-row_passed first a before pair none = elim (cases_lt a first) [
-  | inl less ↦
-      let one : nat_lt a first ≡ true = grind (arith, nat_tests) in
-      let other : nat_lt a (first + 16) ≡ true = grind (arith, nat_tests) in
-      ap (λ b. before || (b && pair)) (one ∙ sym other)
-  | inr le ↦ elim (cases_lt a (first + 16)) [
-    | inl inside ↦
-        let one : nat_lt a first ≡ false = grind (arith, nat_tests) in
-        let other : nat_lt a (first + 16) ≡ true = grind (arith, nat_tests) in
-        ap (λ b. before || (b && pair)) one
-        ∙ sym (ap (λ b. before || (b && pair)) other ∙ ap (λ p. before || p) (none le inside))
-    | inr beyond ↦
-        let one : nat_lt a first ≡ false = grind (arith, nat_tests) in
-        let other : nat_lt a (first + 16) ≡ false = grind (arith, nat_tests) in
-        ap (λ b. before || (b && pair)) (one ∙ sym other)
-  ]
-]

@@ -1,22 +1,15 @@
 -- The masks of third characters.
-use Rattle.regex_lite_engine.proofs.Common.{◌≡◌, ℕ, suc, ◌-◌, ◌*◌, ◌%◌, ◌^◌, ◌<◌, Bool, true, false}
-use Rattle.regex_lite_engine.proofs.Common.{cond, ◌&&◌, ◌||◌, List, [], ◌∷◌, ◌++◌, length, get_or}
-use Rattle.regex_lite_engine.proofs.Common.{is_none, IsTrue, ◌==◌, slice_get, bit_or, Some, None}
-use Rattle.regex_lite_engine.proofs.Common.{filter, Option, sym, refl, ap, ◌∙◌, subst, inl, inr}
-use Rattle.regex_lite_engine.proofs.Common.{arith, length-append, get_or-append_seam, cases_eq}
-use Rattle.regex_lite_engine.proofs.Common.{cases_lt, get_or_from_slice_get, slice_get-get_or}
-use Rattle.regex_lite_engine.proofs.Common.{slice_get_past, slice_get_within, bit_at, Text, after}
-use Rattle.regex_lite_engine.proofs.Common.{Tree, Matches, begins_with, may_begin, in_mask}
-use Rattle.regex_lite_engine.proofs.Common.{may_go_on, AreMasksOf, Starts}
+use Rattle.regex_lite_engine.proofs.Common.{◌≡◌, ℕ, suc, ◌-◌, ◌*◌, ◌%◌, ◌^◌, Bool, true, false}
+use Rattle.regex_lite_engine.proofs.Common.{cond, ◌&&◌, ◌||◌, List, [], ◌∷◌, is_none, IsTrue, ◌==◌}
+use Rattle.regex_lite_engine.proofs.Common.{slice_get, bit_or, Some, None, filter, Option, sym}
+use Rattle.regex_lite_engine.proofs.Common.{refl, ap, ◌∙◌, inl, inr, arith, cases_eq}
+use Rattle.regex_lite_engine.proofs.Common.{slice_get_past, bit_at, Text, after, Tree, Matches}
+use Rattle.regex_lite_engine.proofs.Common.{begins_with, may_begin, in_mask, may_go_on, Starts}
 use Rattle.std.proofs.Common.{w32}
-use Rattle.std.proofs.Math.ListN.{get_or-append}
 use Rattle.std.proofs.lemmas.Nat.Bits.{bit_at_ones, bit_at_set_same, bit_at_set_other}
-use Rattle.std.proofs.lemmas.Option.{slice_get_cases}
-use Rattle.std.proofs.lemmas.Option.{none-some}
+use Rattle.std.proofs.lemmas.Option.{slice_get_cases, none-some}
 use Rattle.regex_lite_engine.specs.declared.prefilter.list_heads.thirds.Thirds.{Thirds}
-use Rattle.regex_lite_engine.specs.Prefilter.Thirds.{in_some_mask}
-use Rattle.regex_lite_engine.specs.Prefilter.Thirds.{IsThirdOfTree}
-use Rattle.regex_lite_engine.proofs.OptionLemmas.{same_some}
+use Rattle.regex_lite_engine.specs.Prefilter.Thirds.{in_some_mask, IsThirdOfTree}
 
 pub all_in_mask : (c : ℕ) → in_mask (2 ^ 32 - 1) c ≡ true
 all_in_mask c = ap (λ bit. bit == 1) (bit_at_ones 32 (c % 32) (omega arith))
@@ -97,31 +90,3 @@ begins_by_character starts b c off may = by_parts (begins_with starts c) starts.
     by_parts true y e may = refl
     by_parts false true e may = cc
     by_parts false false e may = absurd cc
-
--- that of the next tree too
-pub masks_more : (trees : List Tree) (masks : List ℕ) (tree : Tree) (mask : ℕ)
-    → slice_get trees (length masks) ≡ Some tree → IsThirdOfTree tree mask
-    → AreMasksOf trees masks → AreMasksOf trees (masks ++ mask ∷ [])
-masks_more trees masks tree mask next told so_far number own found there at =
-    elim (cases_lt number (length masks)) [
-      | inl less ↦ so_far number own found there (before less)
-      | inr le ↦ last (omega (arith, le, within, length-append masks (mask ∷ [])))
-    ]
-  where
-    within : number < length (masks ++ mask ∷ [])
-    within = slice_get_within (masks ++ mask ∷ []) number found at
-
-    here : get_or (masks ++ mask ∷ []) number found ≡ found
-    here = get_or_from_slice_get (masks ++ mask ∷ []) number found found at
-
-    before : number < length masks → slice_get masks number ≡ Some found
-    before less =
-        slice_get-get_or masks number found less
-        ∙ ap Some (sym (get_or-append masks (mask ∷ []) found number less) ∙ here)
-
-    last : number ≡ length masks → IsThirdOfTree own found
-    last is =
-        let mask_is : mask ≡ found = sym (get_or-append_seam masks mask [] found)
-        ∙ ap (λ n. get_or (masks ++ mask ∷ []) n found) (sym is) ∙ here in
-        let tree_is : tree ≡ own = same_some (sym next ∙ ap (slice_get trees) (sym is) ∙ there) in
-        subst (IsThirdOfTree own) mask_is (subst (λ t. IsThirdOfTree t mask) tree_is told)

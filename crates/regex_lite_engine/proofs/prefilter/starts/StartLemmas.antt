@@ -88,14 +88,11 @@ in_span s start end c any others filled inside =
         let not_ascii : is_ascii end ≡ false = grind (arith, nat_tests) in
         ap (λ z. if z then slice_index_or s.ascii c true else s.others) test ∙ others not_ascii
 
--- one that is not ASCII stands for all of them
-others_begin : (s : Starts) (c d : ℕ) → 128 ≤ c → 128 ≤ d → begins_with s c ≡ true
-    → begins_with s d ≡ true
-others_begin s c d past_c past_d e =
-    let test_c : nat_lt c 128 ≡ false = grind (arith, nat_tests) in
-    let test_d : nat_lt d 128 ≡ false = grind (arith, nat_tests) in
-    ap (λ z. s.any && (if z then slice_index_or s.ascii d true else s.others)) test_d
-    ∙ sym (ap (λ z. s.any && (if z then slice_index_or s.ascii c true else s.others)) test_c) ∙ e
+-- those that are not ASCII are alike
+pub begins_as_one : (s : Starts) (c : ℕ) → 128 ≤ c → begins_with s c ≡ begins_with s 128
+begins_as_one s c le =
+    let wide : nat_lt c 128 ≡ false = grind (arith, nat_tests) in
+    ap (λ b. s.any && (if b then slice_index_or s.ascii c true else s.others)) wide
 
 -- what stands before a range is in the ranges before it
 held_before : (n : ℕ) (ranges : List ClassRange) (k c : ℕ) (none : ClassRange) → AreRuns n ranges
@@ -136,7 +133,7 @@ past_ascii_begin s ranges k c none runs within past begins before inside = by_as
         before (held_before 0 ranges k c none runs within below inside)
     by_ascii (inr le) =
         let far : 128 ≤ (get_or ranges k none).start = grind (arith, nat_tests) in
-        others_begin s (get_or ranges k none).start c far le begins
+        begins_as_one s c le ∙ sym (begins_as_one s (get_or ranges k none).start far) ∙ begins
 
 -- the haystack's start
 pub may_at_start : (s : Starts) (h : Text) (i : ℕ) → s.at_start ≡ true
@@ -224,12 +221,6 @@ begins_alike s t c any others ascii =
     ∙ ap (λ b. t.any && (if nat_lt c 128 then b else s.others)) ascii
     ∙ ap (λ o. t.any && (if nat_lt c 128 then slice_index_or t.ascii c true else o)) others
 
--- those that are not ASCII are alike
-pub begins_as_one : (s : Starts) (c : ℕ) → 128 ≤ c → begins_with s c ≡ begins_with s 128
-begins_as_one s c le =
-    let wide : nat_lt c 128 ≡ false = grind (arith, nat_tests) in
-    ap (λ b. s.any && (if b then slice_index_or s.ascii c true else s.others)) wide
-
 -- two sets together, by what is stored of each character
 pub union_at : (s t u : Starts) → u.any ≡ (s.any || t.any)
     → ((c : ℕ) → c < 128
@@ -263,15 +254,16 @@ union_at s t u any ascii others c = by_width (cases_lt c 128)
         ∙ ap (λ b. begins_with s 128 || b) (begins_as_one t c le)))
 
 -- a match of what reads one character begins with it
+read_begins : (s : Starts) (h : Text) (i c : ℕ) → after h i ≡ Some c → begins_with s c ≡ true
+    → MayBegin s h i
+read_begins s h i c there begins = rw (there, begins) refl
+
 pub character_begins : (c : ℕ) (s : Starts) → HasAll s (just c)
     → BeginsOrPasses (character c) s false
 character_begins c s all h i j (there, past) =
-    inl (subst (λ next. IsTrue (may_begin s (before h i) next)) (sym there)
-    (subst (λ b. IsTrue (b || (s.at_start && is_none (before h i))))
-    (sym (all c (grind (arith, nat_tests)))) refl))
+    inl (read_begins s h i c there (all c (grind (arith, nat_tests))))
 
 pub class_begins : (ranges : List ClassRange) (s : Starts) → HasAll s (in_ranges ranges)
     → BeginsOrPasses (class ranges) s false
 class_begins ranges s all h i j (c, there, inside, past) =
-    inl (subst (λ next. IsTrue (may_begin s (before h i) next)) (sym there)
-    (subst (λ b. IsTrue (b || (s.at_start && is_none (before h i)))) (sym (all c inside)) refl))
+    inl (read_begins s h i c there (all c inside))

@@ -1,23 +1,18 @@
 use Rattle.regex_lite_engine.proofs.Common.{◌≡◌, ◌+◌, ◌-◌, drop, sym, ap, ◌∙◌, subst, arith, Tree}
-use Rattle.regex_lite_engine.proofs.Common.{repetition, concat, alternation, class, Trees, none}
-use Rattle.regex_lite_engine.proofs.Common.{more, tree_of}
-use Rattle.regex_lite_engine.proofs.LeafLemmas.{tree_of-Class}
-use Rattle.regex_lite_syntax.proofs.TreeLemmas.{tree_of-Concat, tree_of-Alternation}
+use Rattle.regex_lite_engine.proofs.Common.{concat, alternation, Trees, none, more, tree_of}
+use Rattle.regex_lite_engine.proofs.LeafLemmas.{tree_is-Class, tree_is-Repetition, tree_is-Concat}
+use Rattle.regex_lite_engine.proofs.LeafLemmas.{tree_is-Alternation}
 use Rattle.std.proofs.lemmas.List.{drop_all}
 use Rattle.regex_lite_engine.specs.Nfa.Saturation.{AreCountsOf}
-use Rattle.regex_lite_syntax.proofs.TreeLemmas.{tree_of-Repetition, trees_of, trees_more}
+use Rattle.regex_lite_syntax.proofs.TreeLemmas.{trees_of, trees_more}
 use Rattle.std.proofs.lemmas.Grind.{common_steps}
 use Rattle.regex_lite_engine.proofs.count.Counts.+count.Goals as goal
 
 pub of-returns-in-Repetition : goal.of-returns-in-Repetition
 of-returns-in-Repetition t c =
     let r = c.in-Repetition in
-    let same : tree_of c.args.hir.now
-    ≡ repetition r.least r.most r.greedy (tree_of c.deref-in-Repetition.result.now) =
-    ap tree_of r.is ∙ tree_of-Repetition r.least r.most r.greedy r.body
-    ∙ ap (λ body. repetition r.least r.most r.greedy (tree_of body))
-    (sym c.deref-in-Repetition.ensures) in
-    subst (λ (tree : Tree). AreCountsOf tree c.repeated.result) (sym same)
+    subst (λ (tree : Tree). AreCountsOf tree c.repeated.result)
+    (sym (tree_is-Repetition r.is c.deref-in-Repetition.ensures))
     (c.repeated.ensures (tree_of c.deref-in-Repetition.result.now) r.greedy c.of.ensures)
 
 pub of_branches-loop-i-init : goal.of_branches-loop-i-init
@@ -60,21 +55,19 @@ of_branches-returns t c =
 
 pub of-returns-in-Class : goal.of-returns-in-Class
 of-returns-in-Class t c =
-    let same = ap tree_of c.in-Class.is ∙ tree_of-Class c.in-Class.set
-    ∙ ap class (sym c.deref.ensures) in
-    subst (λ (tree : Tree). AreCountsOf tree c.of_class.result) (sym same) c.of_class.ensures
+    subst (λ (tree : Tree). AreCountsOf tree c.of_class.result)
+    (sym (tree_is-Class c.in-Class.is c.deref.ensures)) c.of_class.ensures
 
 pub of-returns-in-Concat : goal.of-returns-in-Concat
 of-returns-in-Concat t c =
-    let same = ap tree_of c.in-Concat.is ∙ tree_of-Concat c.in-Concat.parts
-    ∙ ap (λ hirs. concat (trees_of hirs)) (sym c.deref-in-Concat.ensures.value) in
-    subst (λ (tree : Tree). AreCountsOf tree c.of_parts.result) (sym same) c.of_parts.ensures
+    subst (λ (tree : Tree). AreCountsOf tree c.of_parts.result)
+    (sym (tree_is-Concat _ c.in-Concat.is c.deref-in-Concat.ensures.value)) c.of_parts.ensures
 
 pub of-returns-in-Alternation : goal.of-returns-in-Alternation
 of-returns-in-Alternation t c =
-    let same = ap tree_of c.in-Alternation.is ∙ tree_of-Alternation c.in-Alternation.branches
-    ∙ ap (λ hirs. alternation (trees_of hirs)) (sym c.deref-in-Alternation.ensures.value) in
-    subst (λ (tree : Tree). AreCountsOf tree c.of_branches.result) (sym same) c.of_branches.ensures
+    subst (λ (tree : Tree). AreCountsOf tree c.of_branches.result)
+    (sym (tree_is-Alternation _ c.in-Alternation.is c.deref-in-Alternation.ensures.value))
+    c.of_branches.ensures
 
 pub of_parts-loop-i-preserved : goal.of_parts-loop-i-preserved
 of_parts-loop-i-preserved t c =

@@ -1,6 +1,5 @@
 use Rattle.regex_lite_engine.proofs.Common.{◌*◌, ap, arith, places, arrows, reading_places}
-use Rattle.regex_lite_engine.specs.Graph.PlaceCounts.{choice_arrows}
-use Rattle.regex_lite_engine.specs.Graph.PlaceCounts.{ranges}
+use Rattle.regex_lite_engine.specs.Graph.PlaceCounts.{choice_arrows, ranges}
 use Rattle.regex_lite_engine.proofs.count.Counts.repeated.Goals as goal
 
 pub returns : goal.returns

@@ -8,30 +8,22 @@ find_in_list-requires-clause-width c =
     ∙ (subst (λ dfa. IsRememberingList c.args.graph.now (length c.args.cache.now.best.row)
     (option_map (λ boxed. boxed.value) dfa)) c.in-Some.is c.requires.remembers).1
 
-pub returns-in-Some-find_in_list-clause-found : goal.returns-in-Some-find_in_list-clause-found
-returns-in-Some-find_in_list-clause-found c = c.in-Some-find_in_list.ensures.found
-
-pub returns-in-Some-find_in_list-clause-remembers :
-    goal.returns-in-Some-find_in_list-clause-remembers
-returns-in-Some-find_in_list-clause-remembers c =
-    let told = c.find_in_list.ensures in
-    (told.remembers, told.between.best_width ∙ told.width)
-
-pub returns-in-Some-find_in_list-clause-between : goal.returns-in-Some-find_in_list-clause-between
-returns-in-Some-find_in_list-clause-between c = c.find_in_list.ensures.between
-
-pub returns-in-Some-find_in_list-clause-without_slots :
-    goal.returns-in-Some-find_in_list-clause-without_slots
-returns-in-Some-find_in_list-clause-without_slots c =
-    c.find_in_list.ensures.between.best_width ∙ c.find_in_list.ensures.width
-
-pub returns-in-Some-find_in_list-clause-width : goal.returns-in-Some-find_in_list-clause-width
-returns-in-Some-find_in_list-clause-width c =
-    let told = c.find_in_list.ensures in
-    let before =
-    subst (λ dfa. IsRememberingList c.args.graph.now (length c.args.cache.now.best.row)
-    (option_map (λ boxed. boxed.value) dfa)) c.in-Some.is c.requires.remembers in
-    told.between.best_width ∙ told.width ∙ sym before.1
+pub returns-in-Some-find_in_list : goal.returns-in-Some-find_in_list
+returns-in-Some-find_in_list c = record {
+  found = c.in-Some-find_in_list.ensures.found;
+  remembers =
+      let told = c.find_in_list.ensures in
+      (told.remembers, told.between.best_width ∙ told.width);
+  fresh = λ none. cc;
+  between = c.find_in_list.ensures.between;
+  without_slots = c.find_in_list.ensures.between.best_width ∙ c.find_in_list.ensures.width;
+  width =
+      let told = c.find_in_list.ensures in
+      let before =
+      subst (λ dfa. IsRememberingList c.args.graph.now (length c.args.cache.now.best.row)
+      (option_map (λ boxed. boxed.value) dfa)) c.in-Some.is c.requires.remembers in
+      told.between.best_width ∙ told.width ∙ sym before.1;
+}
 
 pub returns-clause-fresh : goal.returns-clause-fresh
 returns-clause-fresh c = λ _.

@@ -1,7 +1,6 @@
 use Rattle.regex_lite_engine.proofs.Common.{◌^◌, ◌<◌, [], ◌∷◌, length, chars, sym, subst, arith}
 use Rattle.regex_lite_engine.proofs.Common.{rules, table_of, best_at, with_start_kept, span_of}
-use Rattle.regex_lite_engine.proofs.Common.{IsBestOutcomeOf, position_at}
-use Rattle.regex_lite_engine.specs.Search.NumberedOutcomes.{IsNumberedOutcome}
+use Rattle.regex_lite_engine.proofs.Common.{IsBestOutcomeOf, position_at, IsNumberedOutcome}
 use Rattle.regex_lite_engine.proofs.lazy_dfa.OnceLemmas.{spanned}
 use Rattle.regex_lite_engine.proofs.pikevm.EndLemmas.{one_best}
 use Rattle.regex_lite_engine.proofs.search.OutcomeLemmas.{can_count}

@@ -1,6 +1,5 @@
-use Rattle.regex_lite_engine.proofs.Common.{◌≡◌, ◌<◌, ◌≤◌, ◌⊎◌, false, length, sym, subst, ◌∙◌}
-use Rattle.regex_lite_engine.proofs.Common.{ap, inl, inr, arith, cases_lt, table_of, Heads}
-use Rattle.regex_lite_engine.proofs.Common.{IsDeadAt}
+use Rattle.regex_lite_engine.proofs.Common.{◌≡◌, ◌<◌, ◌≤◌, ◌⊎◌, false, length, sym, subst, ◌∙◌, ap}
+use Rattle.regex_lite_engine.proofs.Common.{inl, inr, arith, cases_lt, table_of, Heads, IsDeadAt}
 use Rattle.std.proofs.lemmas.Bool.{not-true}
 use Rattle.regex_lite_engine.proofs.search.FirstStartLemmas.{only_at_start}
 use Rattle.regex_lite_engine.proofs.nfa.Graph.begins_at_start_alone.Goals as goal

@@ -6,9 +6,9 @@ use Rattle.std.proofs.lemmas.Bool.{not-true}
 use Rattle.regex_lite_engine.specs.Graph.Places.{Place}
 use Rattle.regex_lite_engine.proofs.nfa.write.RenumberingLemmas.{whole_names, renumbered}
 use Rattle.regex_lite_engine.proofs.nfa.write.RenumberingLemmas.{starts, closed, start_inside}
-use Rattle.regex_lite_engine.proofs.count.ArrowCountLemmas.{arrows_whole}
-use Rattle.regex_lite_engine.proofs.count.ReadingCountLemmas.{reading_whole, reading_few}
-use Rattle.regex_lite_engine.proofs.count.KeptBackLemmas.{kept_back_whole}
+use Rattle.regex_lite_engine.proofs.count.ArrowCountLemmas.{arrows_pattern}
+use Rattle.regex_lite_engine.proofs.count.ReadingCountLemmas.{reading_few, reading_pattern}
+use Rattle.regex_lite_engine.proofs.count.KeptBackLemmas.{kept_back_pattern}
 use Rattle.regex_lite_engine.proofs.nfa.WayLemmas.{written_heads, none_at_end}
 use Rattle.regex_lite_engine.proofs.ArrowBoundLemmas.{arrows_few}
 use Rattle.regex_lite_engine.proofs.nfa.Graph.new.Goals as goal
@@ -34,7 +34,7 @@ returns-clause-ok c =
           ∙ c.in_ok-places.ensures.length;
       arrows = ap (λ (t : StoredTable). t.arrows) c.new-table.ensures
           ∙ c.arrows.ensures tree c.of-counts.ensures c.requires fits.places_fit;
-      each_arrow = ap arrows_of table_is ∙ arrows_whole tree;
+      each_arrow = ap arrows_of table_is ∙ arrows_pattern tree 0;
     }
 
 pub new-table-requires-clause-closed : goal.new-table-requires-clause-closed
@@ -48,15 +48,15 @@ new-table-requires-clause-closed c =
     c.reading.result (omega (arith, places.length, fits.places_fit))
     (omega (arith, counted, arrows_few tree c.requires, fits.places_fit))
     (omega (arith, reads, reading_few tree, places.length))
-    (reading_whole tree ∙ sym reads)
-    (omega (arith, kept_back_whole tree c.requires, places.length))
+    (reading_pattern tree 0 ∙ sym reads)
+    (omega (arith, kept_back_pattern tree c.requires 0, places.length))
 
 pub new-table-requires-clause-each_arrow : goal.new-table-requires-clause-each_arrow
 new-table-requires-clause-each_arrow c =
     let tree = tree_of c.args.hir.now in
     let fits = (c.in_ok-count.ensures.ok tree c.of-counts.ensures).1 in
     let counted = c.arrows.ensures tree c.of-counts.ensures c.requires fits.places_fit in
-    ap arrows_of c.in_ok-places.ensures.written.1 ∙ arrows_whole tree ∙ sym counted
+    ap arrows_of c.in_ok-places.ensures.written.1 ∙ arrows_pattern tree 0 ∙ sym counted
 
 pub invariant_of-result : goal.invariant_of-result
 invariant_of-result c =

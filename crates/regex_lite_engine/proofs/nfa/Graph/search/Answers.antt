@@ -1,6 +1,6 @@
 use Rattle.regex_lite_engine.proofs.Common.{arith}
 use Rattle.std.proofs.lemmas.Grind.{common_steps}
-use Rattle.regex_lite_engine.proofs.Common.{⊎_elim}
+use Rattle.regex_lite_engine.proofs.nfa.BoundaryLemmas.{on_boundary}
 use Rattle.regex_lite_engine.proofs.nfa.Graph.search.Goals as goal
 
 -- It has an answer because the prover would try other calls first, which takes long
@@ -8,14 +8,10 @@ pub returns-then-start-haystack-clause-found : goal.returns-then-start-haystack-
 returns-then-start-haystack-clause-found c = grind (arith, common_steps)
 
 pub search_depth_first-requires : goal.search_depth_first-requires
-search_depth_first-requires c =
-    ⊎_elim (λ above. absurd (omega (arith, above, c.if-start-haystack.false))) (λ edge. edge)
-    c.requires
+search_depth_first-requires c = on_boundary _ _ c.requires c.if-start-haystack.false
 
 pub search_in_step-requires : goal.search_in_step-requires
-search_in_step-requires c =
-    ⊎_elim (λ above. absurd (omega (arith, above, c.if-start-haystack.false))) (λ edge. edge)
-    c.requires
+search_in_step-requires c = on_boundary _ _ c.requires c.if-start-haystack.false
 
 pub returns-then-pays_from-clause-found : goal.returns-then-pays_from-clause-found
 returns-then-pays_from-clause-found c = c.search_remembering.ensures.found

@@ -1,8 +1,7 @@
 use Rattle.regex_lite_engine.proofs.Common.{◌≡◌, ℕ, ◌^◌, ◌<◌, List, None, Some, Option, IfSome}
-use Rattle.regex_lite_engine.proofs.Common.{length, chars, sym, subst, StoredGraph}
-use Rattle.regex_lite_engine.proofs.Common.{arith, rules, arrows_of, best_at, table_of, Here}
-use Rattle.regex_lite_engine.proofs.Common.{IsNumberedOutcome, IsDeadAt, PassesTo, position_at}
-use Rattle.regex_lite_engine.proofs.Common.{with_start_kept}
+use Rattle.regex_lite_engine.proofs.Common.{length, chars, sym, subst, StoredGraph, arith, rules}
+use Rattle.regex_lite_engine.proofs.Common.{arrows_of, best_at, table_of, Here, IsNumberedOutcome}
+use Rattle.regex_lite_engine.proofs.Common.{IsDeadAt, PassesTo, position_at, with_start_kept}
 use Rattle.regex_lite_engine.proofs.lazy_dfa.PassedLemmas.{answer_from}
 use Rattle.regex_lite_engine.proofs.search.FirstStartLemmas.{bounded_from, first_boundary}
 use Rattle.regex_lite_engine.proofs.search.FirstStartLemmas.{first_here, none_before_first}

@@ -7,9 +7,7 @@ use Rattle.regex_lite_engine.proofs.search.OutcomeLemmas.{can_count, answer_told
 use Rattle.regex_lite_engine.proofs.nfa.Graph.search_in_step.Goals as goal
 
 pub run-requires-clause-fresh : goal.run-requires-clause-fresh
-run-requires-clause-fresh c =
-    subst (λ table. IsFresh table c.in_ok-cache.cache) (ap places_of c.table.ensures.same)
-    c.in_ok-cache.ensures.fresh
+run-requires-clause-fresh c = rw (ap places_of c.table.ensures.same) at c.in_ok-cache.ensures.fresh
 
 pub run-requires-clause-counts : goal.run-requires-clause-counts
 run-requires-clause-counts c =
@@ -17,8 +15,7 @@ run-requires-clause-counts c =
     let short : length haystack < 2 ^ 63 = search rules in
     can_count (table_of c.args.self.now) haystack (position_at haystack c.args.start)
     c.utf8.haystack short
-    (subst IsCountable (ap places_of c.table.ensures.same) c.in_ok-cache.ensures.countable) 1
-    (omega arith)
+    (rw (ap places_of c.table.ensures.same) at c.in_ok-cache.ensures.countable) 1 (omega arith)
 
 pub returns-clause-found : goal.returns-clause-found
 returns-clause-found c = λ tree regular is. (
@@ -27,8 +24,7 @@ returns-clause-found c = λ tree regular is. (
     let found = one_best (table_of graph) (chars haystack) graph.start
     (position_at haystack c.args.start) (best_of c.run.new.cache.best) c.run.ensures.found in
     answer_told tree regular graph is haystack c.args.start c.requires.0 c.into_outcome.result
-    (subst (λ z. IsBestOutcome (table_of graph) (chars haystack) graph.start
-    (position_at haystack c.args.start) z) c.into_outcome.ensures.told found))
+    (rw c.into_outcome.ensures.told at found))
 
 pub returns-clause-cost : goal.returns-clause-cost
 returns-clause-cost c = λ tree is.

@@ -9,8 +9,7 @@ use Rattle.regex_lite_engine.proofs.nfa.Graph.search_remembering.Goals as goal
 
 pub find_once-found-requires-clause-fresh : goal.find_once-found-requires-clause-fresh
 find_once-found-requires-clause-fresh c =
-    subst (λ table. IsFresh table c.in_ok-cache.cache) (ap places_of c.table.ensures.same)
-    c.in_ok-cache.ensures.fresh
+    rw (ap places_of c.table.ensures.same) at c.in_ok-cache.ensures.fresh
 
 pub find_once-found-requires-clause-counts : goal.find_once-found-requires-clause-counts
 find_once-found-requires-clause-counts c =
@@ -18,8 +17,7 @@ find_once-found-requires-clause-counts c =
     let short : length haystack < 2 ^ 63 = search rules in
     can_count (table_of c.args.self.now) haystack (position_at haystack c.args.start)
     c.utf8.haystack short
-    (subst IsCountable (ap places_of c.table.ensures.same) c.in_ok-cache.ensures.countable) 1
-    (omega arith)
+    (rw (ap places_of c.table.ensures.same) at c.in_ok-cache.ensures.countable) 1 (omega arith)
 
 pub returns-clause-found : goal.returns-clause-found
 returns-clause-found c = λ tree regular is. (
@@ -32,9 +30,7 @@ returns-clause-found c = λ tree regular is. (
     (position_at haystack c.args.start) c.find_once-found.result []
     c.find_once-found.ensures.found) in
     answer_told tree regular graph is haystack c.args.start c.requires.boundary.0
-    c.without_slots.result
-    (subst (λ z. IsNumberedOutcome (table_of graph) (chars haystack) graph.start
-    (position_at haystack c.args.start) z) (sym c.without_slots.ensures.told) found))
+    c.without_slots.result (rw c.without_slots.ensures.told found))
 
 pub returns-clause-cost : goal.returns-clause-cost
 returns-clause-cost c = λ tree is.

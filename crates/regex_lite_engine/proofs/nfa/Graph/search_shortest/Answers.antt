@@ -1,21 +1,24 @@
 use Rattle.regex_lite_engine.proofs.Common.{◌^◌, ◌<◌, length, chars, sym, ap, subst, arith, rules}
 use Rattle.regex_lite_engine.proofs.Common.{places_of, table_of, best_of, IsCountable, position_at}
 use Rattle.regex_lite_engine.proofs.Common.{IsEndOutcome, None, arrows_of}
-use Rattle.regex_lite_engine.proofs.Common.{⊎_elim}
 use Rattle.regex_lite_engine.specs.Pikevm.Searching.{IsFresh}
 use Rattle.regex_lite_engine.proofs.pikevm.ShortestLemmas.{one_end}
 use Rattle.regex_lite_engine.proofs.search.FirstStartLemmas.{none_from, none_tried}
 use Rattle.regex_lite_engine.proofs.search.OutcomeLemmas.{can_count, cost_told, end_told}
 use Rattle.std.proofs.lemmas.Grind.{common_steps}
+use Rattle.regex_lite_engine.proofs.nfa.BoundaryLemmas.{on_boundary}
 use Rattle.regex_lite_engine.proofs.nfa.Graph.search_shortest.Goals as goal
 
-pub run_shortest-requires-clause-counts : goal.run_shortest-requires-clause-counts
-run_shortest-requires-clause-counts c =
-    let short : length c.args.haystack.now < 2 ^ 63 = search rules in
-    can_count (table_of c.args.self.now) c.args.haystack.now
-    (position_at c.args.haystack.now c.args.start) c.utf8.haystack short
-    (subst IsCountable (ap places_of c.table.ensures.same) c.in_ok-cache.ensures.countable) 1
-    (omega arith)
+pub run_shortest-requires : goal.run_shortest-requires
+run_shortest-requires c = record {
+  counts =
+      let short : length c.args.haystack.now < 2 ^ 63 = search rules in
+      can_count (table_of c.args.self.now) c.args.haystack.now
+      (position_at c.args.haystack.now c.args.start) c.utf8.haystack short
+      (rw (ap places_of c.table.ensures.same) at c.in_ok-cache.ensures.countable) 1 (omega arith);
+  fresh = rw (ap places_of c.table.ensures.same) at c.in_ok-cache.ensures.fresh;
+  boundary = on_boundary _ _ c.requires c.if-start-haystack.false;
+}
 
 pub returns-clause-found : goal.returns-clause-found
 returns-clause-found c = λ tree regular is. (
@@ -35,9 +38,7 @@ returns-clause-cost c = λ tree is.
     (omega (arith, over)) steps.tried steps.entered steps.looked c.run_shortest.ensures.bounded
 
 pub has_no_start-requires : goal.has_no_start-requires
-has_no_start-requires c =
-    ⊎_elim (λ above. absurd (omega (arith, above, c.if-start-haystack.false))) (λ edge. edge)
-    c.requires
+has_no_start-requires c = on_boundary _ _ c.requires c.if-start-haystack.false
 
 pub returns-then-has_no_start-clause-found : goal.returns-then-has_no_start-clause-found
 returns-then-has_no_start-clause-found c = λ tree regular is. (
@@ -60,25 +61,13 @@ returns-then-has_no_start-clause-cost c = λ tree is.
     c.none-then-has_no_start.ensures.tried c.none-then-has_no_start.ensures.entered
     c.none-then-has_no_start.ensures.looked)
 
-pub run_shortest-requires-clause-fresh : goal.run_shortest-requires-clause-fresh
-run_shortest-requires-clause-fresh c =
-    subst (λ table. IsFresh table c.in_ok-cache.cache) (ap places_of c.table.ensures.same)
-    c.in_ok-cache.ensures.fresh
-
 -- It has an answer because the prover would try other calls first, which takes long
 pub returns-then-start-haystack-clause-found : goal.returns-then-start-haystack-clause-found
 returns-then-start-haystack-clause-found c = grind (arith, common_steps)
 
-pub run_shortest-requires-clause-boundary : goal.run_shortest-requires-clause-boundary
-run_shortest-requires-clause-boundary c =
-    ⊎_elim (λ above. absurd (omega (arith, above, c.if-start-haystack.false))) (λ edge. edge)
-    c.requires
-
 pub search_shortest_remembering-requires : goal.search_shortest_remembering-requires
 search_shortest_remembering-requires c = record {
-  boundary =
-      ⊎_elim (λ above. absurd (omega (arith, above, c.if-start-haystack.false))) (λ edge. edge)
-      c.requires;
+  boundary = on_boundary _ _ c.requires c.if-start-haystack.false;
 }
 
 pub returns-then-pays_once : goal.returns-then-pays_once

@@ -10,8 +10,7 @@ use Rattle.regex_lite_engine.proofs.nfa.Graph.search_shortest_remembering.Goals 
 
 pub find_shortest_once-end-requires-clause-fresh : goal.find_shortest_once-end-requires-clause-fresh
 find_shortest_once-end-requires-clause-fresh c =
-    subst (λ table. IsFresh table c.in_ok-cache.cache) (ap places_of c.table.ensures.same)
-    c.in_ok-cache.ensures.fresh
+    rw (ap places_of c.table.ensures.same) at c.in_ok-cache.ensures.fresh
 
 pub find_shortest_once-end-requires-clause-counts :
     goal.find_shortest_once-end-requires-clause-counts
@@ -20,8 +19,7 @@ find_shortest_once-end-requires-clause-counts c =
     let short : length haystack < 2 ^ 63 = search rules in
     can_count (table_of c.args.self.now) haystack (position_at haystack c.args.start)
     c.utf8.haystack short
-    (subst IsCountable (ap places_of c.table.ensures.same) c.in_ok-cache.ensures.countable) 1
-    (omega arith)
+    (rw (ap places_of c.table.ensures.same) at c.in_ok-cache.ensures.countable) 1 (omega arith)
 
 pub returns-clause-found : goal.returns-clause-found
 returns-clause-found c = λ tree regular is.

@@ -3,7 +3,7 @@ use Rattle.regex_lite_engine.proofs.Common.{Some, sym, ap, ◌∙◌, subst, ari
 use Rattle.regex_lite_engine.proofs.Common.{sum_by-cons, tree_of, reading_places, whole_places}
 use Rattle.regex_lite_engine.proofs.Common.{whole_arrows, places_of_all, arrows_of_all}
 use Rattle.regex_lite_engine.proofs.Common.{TellGroupsOf, reading_of_all}
-use Rattle.regex_lite_engine.specs.Graph.StoredList.{StoredGroups}
+use Rattle.regex_lite_engine.specs.Graph.StoredList.{StoredGroups, TellsGroupsOf}
 use Rattle.regex_lite_engine.proofs.count.TotalLemmas.{tree_there, trees_left}
 use Rattle.regex_lite_engine.proofs.nfa.list.GroupLemmas.{told_more}
 use Rattle.std.proofs.lemmas.Grind.{common_steps}
@@ -74,7 +74,7 @@ loop-hir-preserved c =
         v.all,
       );
       each = subst (λ groups. TellGroupsOf trees groups) (sym {A = List StoredGroups} pushed)
-          (told_more trees before tree c.in_ok-of.field-0 next (rw (← c.hir.ensures)
+          (told_more TellsGroupsOf trees before tree c.in_ok-of.field-0 next (rw (← c.hir.ensures)
           c.in_ok-of.ensures) v.each);
     }
 

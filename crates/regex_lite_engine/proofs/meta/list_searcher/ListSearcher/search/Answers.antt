@@ -1,8 +1,8 @@
 use Rattle.regex_lite_engine.proofs.Common.{ℕ, ◌^◌, ◌<◌, List, [], length, IfSome, Some, None}
-use Rattle.regex_lite_engine.proofs.Common.{chars, sym, ap, ◌∙◌, subst, arith, rules}
-use Rattle.regex_lite_engine.proofs.Common.{table_of_list, IsGraphOfList, best_of, characters_left}
-use Rattle.regex_lite_engine.proofs.Common.{CanCount, IsBestOutcomeOf, position_at}
-use Rattle.regex_lite_engine.proofs.Common.{IsBetween, nil_from_length, option_map, ⊎_elim}
+use Rattle.regex_lite_engine.proofs.Common.{chars, sym, ap, ◌∙◌, subst, arith, rules, table_of_list}
+use Rattle.regex_lite_engine.proofs.Common.{IsGraphOfList, best_of, characters_left, CanCount}
+use Rattle.regex_lite_engine.proofs.Common.{IsBestOutcomeOf, position_at, IsBetween}
+use Rattle.regex_lite_engine.proofs.Common.{nil_from_length, option_map}
 use Rattle.regex_lite_engine.specs.LazyDfa.Remembering.{IsOriginInList, IsRememberingList}
 use Rattle.regex_lite_engine.specs.Pikevm.Searching.{IsFresh}
 use Rattle.regex_lite_engine.specs.Search.Outcomes.{IsSpanOutcomeOfList}
@@ -10,112 +10,148 @@ use Rattle.regex_lite_engine.specs.Search.Searching.{ListSearching}
 use Rattle.regex_lite_engine.proofs.search.ListOutcomeLemmas.{list_span_told}
 use Rattle.regex_lite_engine.proofs.search.OutcomeLemmas.{can_count}
 use Rattle.std.proofs.lemmas.Grind.{common_steps}
+use Rattle.regex_lite_engine.proofs.nfa.BoundaryLemmas.{on_boundary}
+use Rattle.regex_lite_engine.proofs.meta.list_searcher.ListSearcher.search.Goals.{After-restart}
 use Rattle.regex_lite_engine.proofs.meta.list_searcher.ListSearcher.search.Goals as goal
 
-pub run-requires-clause-counts : goal.run-requires-clause-counts
-run-requires-clause-counts c =
-    let list = c.self.inside.graph.now in
-    let haystack = c.args.haystack.now in
-    let s = position_at haystack c.args.start in
-    let characters = characters_left (chars haystack) s in
-    let own = c.self.inside.patterns.list.now in
-    let short : length haystack < 2 ^ 63 = search rules in
-    let some : 0 < length list.entries = omega (arith, c.if-len-eq0.false, c.len.ensures.same) in
-    let few : length list.entries < 2 ^ 32 = omega (arith, c.len.ensures.few, c.len.ensures.same) in
-    let counts = can_count (table_of_list list) haystack s c.utf8.haystack short
-    (c.self.invariant.0 some).1 (length list.entries) few in
-    subst (λ table. CanCount table (length own.entries) characters) (sym c.self.invariant.1)
-    (subst (λ (entries : List ℕ). CanCount (table_of_list list) (length entries) characters)
-    (sym c.self.invariant.2) counts)
+-- there is a pattern
+some_pattern : (c : After-restart) → 0 < length c.self.inside.graph.now.entries
+some_pattern c = omega (arith, c.if-len-eq0.false, c.len.ensures.same)
 
-pub find_remembering-requires-clause-counts : goal.find_remembering-requires-clause-counts
-find_remembering-requires-clause-counts c =
+-- each search below counts no further than numbers reach
+counts : (c : After-restart) → CanCount (table_of_list c.self.inside.graph.now)
+    (length c.self.inside.graph.now.entries)
+    (characters_left (chars c.args.haystack.now) (position_at c.args.haystack.now c.args.start))
+counts c =
     let list = c.self.inside.graph.now in
     let haystack = c.args.haystack.now in
     let short : length haystack < 2 ^ 63 = search rules in
-    let some : 0 < length list.entries = omega (arith, c.if-len-eq0.false, c.len.ensures.same) in
     let few : length list.entries < 2 ^ 32 = omega (arith, c.len.ensures.few, c.len.ensures.same) in
     can_count (table_of_list list) haystack (position_at haystack c.args.start) c.utf8.haystack
-    short (c.self.invariant.0 some).1 (length list.entries) few
+    short (c.self.invariant.0 (some_pattern c)).1 (length list.entries) few
 
-pub returns-in-Some-clause-found : goal.returns-in-Some-clause-found
-returns-in-Some-clause-found c = λ trees regular is.
-    let list = c.self.inside.graph.now in
-    let haystack = c.args.haystack.now in
-    let h = chars haystack in
-    let s = position_at haystack c.args.start in
-    let of_list =
-    subst (λ (z : ListSearching). IsGraphOfList trees z.graph) (sym c.self.view_is) is in
-    let row = nil_from_length c.find_remembering.new.cache.best.row c.in-Some.ensures.without_slots
-    in
-    subst (λ row. IsSpanOutcomeOfList trees haystack c.args.start row c.numbered.result) (sym row)
-    (list_span_told trees list of_list haystack c.args.start
-    (omega (arith, c.if-start-haystack.false)) regular c.numbered.result []
-    (subst (IsBestOutcomeOf (table_of_list list) h list.entries s) (c.numbered.ensures [])
-    c.in-Some.ensures.found))
+pub run-requires : goal.run-requires
+run-requires c = record {
+  counts =
+      let haystack = c.args.haystack.now in
+      let characters = characters_left (chars haystack) (position_at haystack c.args.start) in
+      let own = c.self.inside.patterns.list.now in
+      subst (λ table. CanCount table (length own.entries) characters) (sym c.self.invariant.1)
+      (subst (λ (entries : List ℕ). CanCount (table_of_list c.self.inside.graph.now)
+      (length entries) characters) (sym c.self.invariant.2)
+      (counts (goal.at.run-requires c).After-restart));
+  fresh =
+      subst (λ table. IsFresh table c.find_remembering.new.cache) (sym c.self.invariant.1)
+      (c.find_remembering.ensures.fresh c.in_default.is);
+  boundary = on_boundary _ _ c.requires c.if-start-haystack.false;
+}
 
-pub find_origin-requires-clause-counts : goal.find_origin-requires-clause-counts
-find_origin-requires-clause-counts c =
-    let list = c.self.inside.graph.now in
-    let haystack = c.args.haystack.now in
-    let short : length haystack < 2 ^ 63 = search rules in
-    let some : 0 < length list.entries = omega (arith, c.if-len-eq0.false, c.len.ensures.same) in
-    let few : length list.entries < 2 ^ 32 = omega (arith, c.len.ensures.few, c.len.ensures.same) in
-    can_count (table_of_list list) haystack (position_at haystack c.args.start) c.utf8.haystack
-    short (c.self.invariant.0 some).1 (length list.entries) few
+pub find_remembering-requires : goal.find_remembering-requires
+find_remembering-requires c = record {
+  counts = counts (goal.at.find_remembering-requires c).After-restart;
+  fresh =
+      let some = some_pattern (goal.at.find_remembering-requires c).After-restart in
+      c.restart.ensures.fresh (table_of_list c.self.inside.graph.now) (c.self.invariant.0 some).0;
+  boundary = on_boundary _ _ c.requires c.if-start-haystack.false;
+  remembers =
+      subst (λ slots. IsRememberingList c.self.inside.graph.now slots
+      (option_map (λ dfa. dfa.value) c.self.inside.dfa)) (sym c.restart.ensures.width)
+      c.self.invariant.3;
+}
 
-pub returns-in_err-found-clause-found : goal.returns-in_err-found-clause-found
-returns-in_err-found-clause-found c = λ trees regular is.
-    let list = c.self.inside.graph.now in
-    let haystack = c.args.haystack.now in
-    let of_list =
-    subst (λ (z : ListSearching). IsGraphOfList trees z.graph) (sym c.self.view_is) is in
-    subst (IsSpanOutcomeOfList trees haystack c.args.start _) (sym c.from_residual.ensures)
-    (list_span_told trees list of_list haystack c.args.start
-    (omega (arith, c.if-start-haystack.false)) regular None []
-    (c.in-Some-find_origin.ensures.none (ap Some c.in_err-found.was)))
+pub returns-in-Some : goal.returns-in-Some
+returns-in-Some c = record {
+  found = λ trees regular is.
+      let list = c.self.inside.graph.now in
+      let haystack = c.args.haystack.now in
+      let h = chars haystack in
+      let s = position_at haystack c.args.start in
+      let of_list =
+      subst (λ (z : ListSearching). IsGraphOfList trees z.graph) (sym c.self.view_is) is in
+      let row =
+      nil_from_length c.find_remembering.new.cache.best.row c.in-Some.ensures.without_slots in
+      subst (λ row. IsSpanOutcomeOfList trees haystack c.args.start row c.numbered.result) (sym row)
+      (list_span_told trees list of_list haystack c.args.start
+      (omega (arith, c.if-start-haystack.false)) regular c.numbered.result []
+      (subst (IsBestOutcomeOf (table_of_list list) h list.entries s) (c.numbered.ensures [])
+      c.in-Some.ensures.found));
+  graph = ap (λ (z : ListSearching). z.graph) c.self.view_is;
+  slots =
+      c.find_remembering.ensures.width ∙ (c.restart.ensures.width
+      ∙ ap (λ (z : ListSearching). length z.slots) c.self.view_is);
+}
 
-pub returns-in-Some-find_origin-clause-found : goal.returns-in-Some-find_origin-clause-found
-returns-in-Some-find_origin-clause-found c = λ trees regular is.
-    let list = c.self.inside.graph.now in
-    let haystack = c.args.haystack.now in
-    let s = position_at haystack c.args.start in
-    let of_list =
-    subst (λ (z : ListSearching). IsGraphOfList trees z.graph) (sym c.self.view_is) is in
-    list_span_told trees list of_list haystack c.args.start
-    (omega (arith, c.if-start-haystack.false)) regular c.find_slots.result
-    c.find_slots.new.cache.best.row
-    (c.find_slots.ensures.found s
-    (subst (λ found. IfSome found (IsOriginInList list (chars haystack) s)) c.in_ok-found.was
-    c.in-Some-find_origin.ensures.found))
+pub find_origin-requires : goal.find_origin-requires
+find_origin-requires c = record {
+  counts = counts (goal.at.find_origin-requires c).After-restart;
+  boundary = on_boundary _ _ c.requires c.if-start-haystack.false;
+  finds = c.self.invariant.4;
+}
 
-pub returns-clause-found : goal.returns-clause-found
-returns-clause-found c = λ trees regular is.
-    let list = c.self.inside.graph.now in
-    let haystack = c.args.haystack.now in
-    let s = position_at haystack c.args.start in
-    let best = best_of c.run.new.cache.best in
-    let of_list =
-    subst (λ (z : ListSearching). IsGraphOfList trees z.graph) (sym c.self.view_is) is in
-    let found : IsBestOutcomeOf (table_of_list list) (chars haystack) list.entries s best =
-    subst (λ table. IsBestOutcomeOf table (chars haystack) list.entries s best) c.self.invariant.1
-    (subst (λ (entries : List ℕ). IsBestOutcomeOf (table_of_list c.self.inside.patterns.list.now)
-    (chars haystack) entries s best) c.self.invariant.2 c.run.ensures.found) in
-    list_span_told trees list of_list haystack c.args.start
-    (omega (arith, c.if-start-haystack.false)) regular c.numbered_span.result
-    c.run.new.cache.best.row
-    (subst (λ own. IsBestOutcomeOf (table_of_list list) (chars haystack) list.entries s own)
-    c.numbered_span.ensures found)
+pub returns-in_err-found : goal.returns-in_err-found
+returns-in_err-found c = record {
+  found = λ trees regular is.
+      let list = c.self.inside.graph.now in
+      let haystack = c.args.haystack.now in
+      let of_list =
+      subst (λ (z : ListSearching). IsGraphOfList trees z.graph) (sym c.self.view_is) is in
+      subst (IsSpanOutcomeOfList trees haystack c.args.start _) (sym c.from_residual.ensures)
+      (list_span_told trees list of_list haystack c.args.start
+      (omega (arith, c.if-start-haystack.false)) regular None []
+      (c.in-Some-find_origin.ensures.none (ap Some c.in_err-found.was)));
+  graph = ap (λ (z : ListSearching). z.graph) c.self.view_is;
+  slots =
+      c.find_remembering.ensures.width ∙ (c.restart.ensures.width
+      ∙ ap (λ (z : ListSearching). length z.slots) c.self.view_is);
+}
+
+pub returns-in-Some-find_origin : goal.returns-in-Some-find_origin
+returns-in-Some-find_origin c = record {
+  found = λ trees regular is.
+      let list = c.self.inside.graph.now in
+      let haystack = c.args.haystack.now in
+      let s = position_at haystack c.args.start in
+      let of_list =
+      subst (λ (z : ListSearching). IsGraphOfList trees z.graph) (sym c.self.view_is) is in
+      list_span_told trees list of_list haystack c.args.start
+      (omega (arith, c.if-start-haystack.false)) regular c.find_slots.result
+      c.find_slots.new.cache.best.row
+      (c.find_slots.ensures.found s
+      (subst (λ found. IfSome found (IsOriginInList list (chars haystack) s)) c.in_ok-found.was
+      c.in-Some-find_origin.ensures.found));
+  graph = ap (λ (z : ListSearching). z.graph) c.self.view_is;
+  slots =
+      c.find_slots.ensures.width ∙ (c.find_remembering.ensures.width ∙ (c.restart.ensures.width
+      ∙ ap (λ (z : ListSearching). length z.slots) c.self.view_is));
+}
+
+pub returns : goal.returns
+returns c = record {
+  found = λ trees regular is.
+      let list = c.self.inside.graph.now in
+      let haystack = c.args.haystack.now in
+      let s = position_at haystack c.args.start in
+      let best = best_of c.run.new.cache.best in
+      let of_list =
+      subst (λ (z : ListSearching). IsGraphOfList trees z.graph) (sym c.self.view_is) is in
+      let found : IsBestOutcomeOf (table_of_list list) (chars haystack) list.entries s best =
+      subst (λ table. IsBestOutcomeOf table (chars haystack) list.entries s best) c.self.invariant.1
+      (subst (λ (entries : List ℕ). IsBestOutcomeOf (table_of_list c.self.inside.patterns.list.now)
+      (chars haystack) entries s best) c.self.invariant.2 c.run.ensures.found) in
+      list_span_told trees list of_list haystack c.args.start
+      (omega (arith, c.if-start-haystack.false)) regular c.numbered_span.result
+      c.run.new.cache.best.row
+      (subst (λ own. IsBestOutcomeOf (table_of_list list) (chars haystack) list.entries s own)
+      c.numbered_span.ensures found);
+  graph = ap (λ (z : ListSearching). z.graph) c.self.view_is;
+  slots =
+      c.run.ensures.width ∙ (c.find_remembering.ensures.width ∙ (c.restart.ensures.width
+      ∙ ap (λ (z : ListSearching). length z.slots) c.self.view_is));
+}
 
 -- It has an answer because the prover would try other calls first, which takes long
 pub returns-then-start-haystack-clause-found : goal.returns-then-start-haystack-clause-found
 returns-then-start-haystack-clause-found c = grind (arith, common_steps)
-
-pub find_remembering-requires-clause-fresh : goal.find_remembering-requires-clause-fresh
-find_remembering-requires-clause-fresh c =
-    let some : 0 < length c.self.inside.graph.now.entries =
-    omega (arith, c.if-len-eq0.false, c.len.ensures.same) in
-    c.restart.ensures.fresh (table_of_list c.self.inside.graph.now) (c.self.invariant.0 some).0
 
 pub invariant_of-self : goal.invariant_of-self
 invariant_of-self c = (
@@ -126,14 +162,6 @@ invariant_of-self c = (
   c.self.invariant.4,
 )
 
-pub returns-in-Some-clause-graph : goal.returns-in-Some-clause-graph
-returns-in-Some-clause-graph c = ap (λ (z : ListSearching). z.graph) c.self.view_is
-
-pub returns-in-Some-clause-slots : goal.returns-in-Some-clause-slots
-returns-in-Some-clause-slots c =
-    c.find_remembering.ensures.width ∙ (c.restart.ensures.width
-    ∙ ap (λ (z : ListSearching). length z.slots) c.self.view_is)
-
 pub invariant_of-self-in_err-found : goal.invariant_of-self-in_err-found
 invariant_of-self-in_err-found c = (
   λ some. (c.find_remembering.ensures.between, (c.self.invariant.0 some).1),
@@ -143,31 +171,19 @@ invariant_of-self-in_err-found c = (
   c.find_origin.ensures.finds,
 )
 
-pub returns-in_err-found-clause-graph : goal.returns-in_err-found-clause-graph
-returns-in_err-found-clause-graph c = ap (λ (z : ListSearching). z.graph) c.self.view_is
-
-pub returns-in_err-found-clause-slots : goal.returns-in_err-found-clause-slots
-returns-in_err-found-clause-slots c =
-    c.find_remembering.ensures.width ∙ (c.restart.ensures.width
-    ∙ ap (λ (z : ListSearching). length z.slots) c.self.view_is)
-
-pub find_slots-requires-clause-origin : goal.find_slots-requires-clause-origin
-find_slots-requires-clause-origin c =
-    let haystack = c.args.haystack.now in
-    let s = position_at haystack c.args.start in (
-      s,
-      subst (λ found. IfSome found (IsOriginInList c.self.inside.graph.now (chars haystack) s))
-          c.in_ok-found.was c.in-Some-find_origin.ensures.found,
-    )
-
-pub find_slots-requires-clause-fresh : goal.find_slots-requires-clause-fresh
-find_slots-requires-clause-fresh c = c.find_remembering.ensures.fresh c.in_default.is
-
-pub find_slots-requires-clause-countable : goal.find_slots-requires-clause-countable
-find_slots-requires-clause-countable c =
-    let some : 0 < length c.self.inside.graph.now.entries =
-    omega (arith, c.if-len-eq0.false, c.len.ensures.same) in
-    (c.self.invariant.0 some).1
+pub find_slots-requires : goal.find_slots-requires
+find_slots-requires c = record {
+  origin =
+      let haystack = c.args.haystack.now in
+      let s = position_at haystack c.args.start in (
+        s,
+        subst (λ found. IfSome found (IsOriginInList c.self.inside.graph.now (chars haystack) s))
+            c.in_ok-found.was c.in-Some-find_origin.ensures.found,
+      );
+  fresh = c.find_remembering.ensures.fresh c.in_default.is;
+  countable =
+      (c.self.invariant.0 (some_pattern (goal.at.find_slots-requires c).After-restart)).1;
+}
 
 pub invariant_of-self-in-Some-find_origin : goal.invariant_of-self-in-Some-find_origin
 invariant_of-self-in-Some-find_origin c = (
@@ -179,19 +195,6 @@ invariant_of-self-in-Some-find_origin c = (
       (sym c.find_slots.ensures.width) c.find_remembering.ensures.remembers,
   c.find_origin.ensures.finds,
 )
-
-pub returns-in-Some-find_origin-clause-graph : goal.returns-in-Some-find_origin-clause-graph
-returns-in-Some-find_origin-clause-graph c = ap (λ (z : ListSearching). z.graph) c.self.view_is
-
-pub returns-in-Some-find_origin-clause-slots : goal.returns-in-Some-find_origin-clause-slots
-returns-in-Some-find_origin-clause-slots c =
-    c.find_slots.ensures.width ∙ (c.find_remembering.ensures.width ∙ (c.restart.ensures.width
-    ∙ ap (λ (z : ListSearching). length z.slots) c.self.view_is))
-
-pub run-requires-clause-fresh : goal.run-requires-clause-fresh
-run-requires-clause-fresh c =
-    subst (λ table. IsFresh table c.find_remembering.new.cache) (sym c.self.invariant.1)
-    (c.find_remembering.ensures.fresh c.in_default.is)
 
 pub invariant_of-self-2 : goal.invariant_of-self-2
 invariant_of-self-2 c = (
@@ -206,35 +209,3 @@ invariant_of-self-2 c = (
       (sym c.run.ensures.width) c.find_remembering.ensures.remembers,
   c.find_origin.ensures.finds,
 )
-
-pub returns-clause-graph : goal.returns-clause-graph
-returns-clause-graph c = ap (λ (z : ListSearching). z.graph) c.self.view_is
-
-pub returns-clause-slots : goal.returns-clause-slots
-returns-clause-slots c =
-    c.run.ensures.width ∙ (c.find_remembering.ensures.width ∙ (c.restart.ensures.width
-    ∙ ap (λ (z : ListSearching). length z.slots) c.self.view_is))
-
-pub find_remembering-requires-clause-boundary : goal.find_remembering-requires-clause-boundary
-find_remembering-requires-clause-boundary c =
-    ⊎_elim (λ above. absurd (omega (arith, above, c.if-start-haystack.false))) (λ edge. edge)
-    c.requires
-
-pub find_origin-requires-clause-boundary : goal.find_origin-requires-clause-boundary
-find_origin-requires-clause-boundary c =
-    ⊎_elim (λ above. absurd (omega (arith, above, c.if-start-haystack.false))) (λ edge. edge)
-    c.requires
-
-pub run-requires-clause-boundary : goal.run-requires-clause-boundary
-run-requires-clause-boundary c =
-    ⊎_elim (λ above. absurd (omega (arith, above, c.if-start-haystack.false))) (λ edge. edge)
-    c.requires
-
-pub find_remembering-requires-clause-remembers : goal.find_remembering-requires-clause-remembers
-find_remembering-requires-clause-remembers c =
-    subst (λ slots. IsRememberingList c.self.inside.graph.now slots
-    (option_map (λ dfa. dfa.value) c.self.inside.dfa)) (sym c.restart.ensures.width)
-    c.self.invariant.3
-
-pub find_origin-requires-clause-finds : goal.find_origin-requires-clause-finds
-find_origin-requires-clause-finds c = c.self.invariant.4

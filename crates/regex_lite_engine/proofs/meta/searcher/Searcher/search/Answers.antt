@@ -1,31 +1,40 @@
-use Rattle.regex_lite_engine.proofs.Common.{[], None, IfSome, length, chars, sym, refl, ap}
-use Rattle.regex_lite_engine.proofs.Common.{◌∙◌, subst, option_map}
-use Rattle.regex_lite_engine.proofs.Common.{nil_from_length, table_of, span_told, position_at}
+use Rattle.regex_lite_engine.proofs.Common.{[], None, IfSome, length, chars, sym, refl, ap, ◌∙◌}
+use Rattle.regex_lite_engine.proofs.Common.{subst, option_map, nil_from_length, table_of, span_told}
+use Rattle.regex_lite_engine.proofs.Common.{position_at, arith}
 use Rattle.regex_lite_engine.specs.Graph.Renumbered.{IsGraphOf}
 use Rattle.regex_lite_engine.specs.LazyDfa.Remembering.{FindsSpansIn, IsRemembering}
 use Rattle.regex_lite_engine.specs.Search.Outcomes.{IsSpanOutcome}
 use Rattle.regex_lite_engine.specs.Search.Searching.{Searching}
 use Rattle.regex_lite_engine.proofs.pikevm.EndLemmas.{one_best}
 use Rattle.regex_lite_engine.proofs.search.OutcomeLemmas as outcome
-use Rattle.regex_lite_engine.proofs.Common.{arith}
 use Rattle.std.proofs.lemmas.Grind.{common_steps}
-use Rattle.regex_lite_engine.proofs.Common.{⊎_elim}
+use Rattle.regex_lite_engine.proofs.nfa.BoundaryLemmas.{on_boundary}
 use Rattle.regex_lite_engine.proofs.meta.searcher.Searcher.search.Goals as goal
 
-pub returns-in-Some-clause-found : goal.returns-in-Some-clause-found
-returns-in-Some-clause-found c = λ tree regular is.
-    let graph = c.self.inside.graph.now in
-    let haystack = c.args.haystack.now in
-    let of_graph = subst (λ (z : Searching). IsGraphOf tree z.graph) (sym c.self.view_is) is in
-    let told = c.find_in_graph.ensures in
-    let row = nil_from_length c.find_in_graph.new.cache.best.row
-    (told.between.best_width ∙ told.width) in
-    let span = c.find_in_graph.result in
-    subst (λ row. IsSpanOutcome tree haystack c.args.start row span) (sym row)
-    (outcome.span_told tree regular graph of_graph haystack c.args.start c.if-start-haystack.false
-    span []
-    (one_best (table_of graph) (chars haystack) graph.start (position_at haystack c.args.start)
-    (span_told span) told.found))
+pub returns-in-Some : goal.returns-in-Some
+returns-in-Some c = record {
+  found = λ tree regular is.
+      let graph = c.self.inside.graph.now in
+      let haystack = c.args.haystack.now in
+      let of_graph = subst (λ (z : Searching). IsGraphOf tree z.graph) (sym c.self.view_is) is in
+      let told = c.find_in_graph.ensures in
+      let row = nil_from_length c.find_in_graph.new.cache.best.row
+      (told.between.best_width ∙ told.width) in
+      let span = c.find_in_graph.result in
+      subst (λ row. IsSpanOutcome tree haystack c.args.start row span) (sym row)
+      (outcome.span_told tree regular graph of_graph haystack c.args.start c.if-start-haystack.false
+      span []
+      (one_best (table_of graph) (chars haystack) graph.start (position_at haystack c.args.start)
+      (span_told span) told.found));
+  graph = ap (λ (z : Searching). z.graph) c.self.view_is;
+  slots =
+      let told = c.find_in_graph.ensures in
+      let before =
+      subst (λ dfa. IsRemembering c.self.inside.graph.now (length c.self.inside.cache.best.row)
+      (option_map (λ boxed. boxed.value) dfa)) c.in-Some.is c.self.invariant.2 in
+      told.between.best_width ∙ told.width ∙ sym before.1
+      ∙ ap (λ (z : Searching). length z.slots) c.self.view_is;
+}
 
 pub pass_to_match-requires-clause-finds : goal.pass_to_match-requires-clause-finds
 pass_to_match-requires-clause-finds c =
@@ -47,14 +56,20 @@ find_passed-requires-clause-first c = (
   c.in_ok-passed.ensures.known,
 )
 
-pub returns-clause-found : goal.returns-clause-found
-returns-clause-found c = λ tree regular is.
-    let haystack = c.args.haystack.now in
-    let of_graph = subst (λ (z : Searching). IsGraphOf tree z.graph) (sym c.self.view_is) is in
-    outcome.span_told tree regular c.self.inside.graph.now of_graph haystack c.args.start
-    c.if-start-haystack.false c.find_passed.result c.find_passed.new.cache.best.row
-    (c.find_passed.ensures.found (position_at haystack c.args.start) c.in_ok-passed.ensures.first
-    c.in_ok-passed.ensures.known)
+pub returns : goal.returns
+returns c = record {
+  found = λ tree regular is.
+      let haystack = c.args.haystack.now in
+      let of_graph = subst (λ (z : Searching). IsGraphOf tree z.graph) (sym c.self.view_is) is in
+      outcome.span_told tree regular c.self.inside.graph.now of_graph haystack c.args.start
+      c.if-start-haystack.false c.find_passed.result c.find_passed.new.cache.best.row
+      (c.find_passed.ensures.found (position_at haystack c.args.start) c.in_ok-passed.ensures.first
+      c.in_ok-passed.ensures.known);
+  slots =
+      c.find_passed.ensures.width ∙ (c.restart.ensures.width
+      ∙ ap (λ (z : Searching). length z.slots) c.self.view_is);
+  graph = ap (λ (z : Searching). z.graph) c.self.view_is;
+}
 
 -- It has an answer because the prover would try other calls first, which takes long
 pub returns-then-start-haystack-clause-found : goal.returns-then-start-haystack-clause-found
@@ -110,32 +125,8 @@ pub returns-in_err-passed-clause-slots : goal.returns-in_err-passed-clause-slots
 returns-in_err-passed-clause-slots c =
     c.restart.ensures.width ∙ ap (λ (z : Searching). length z.slots) c.self.view_is
 
-pub returns-clause-slots : goal.returns-clause-slots
-returns-clause-slots c =
-    c.find_passed.ensures.width ∙ (c.restart.ensures.width
-    ∙ ap (λ (z : Searching). length z.slots) c.self.view_is)
-
 pub find_in_graph-requires-clause-boundary : goal.find_in_graph-requires-clause-boundary
-find_in_graph-requires-clause-boundary c =
-    ⊎_elim (λ above. absurd (omega (arith, above, c.if-start-haystack.false))) (λ edge. edge)
-    c.requires
+find_in_graph-requires-clause-boundary c = on_boundary _ _ c.requires c.if-start-haystack.false
 
 pub pass_to_match-requires-clause-boundary : goal.pass_to_match-requires-clause-boundary
-pass_to_match-requires-clause-boundary c =
-    ⊎_elim (λ above. absurd (omega (arith, above, c.if-start-haystack.false))) (λ edge. edge)
-    c.requires
-
-pub returns-clause-graph : goal.returns-clause-graph
-returns-clause-graph c = ap (λ (z : Searching). z.graph) c.self.view_is
-
-pub returns-in-Some-clause-graph : goal.returns-in-Some-clause-graph
-returns-in-Some-clause-graph c = ap (λ (z : Searching). z.graph) c.self.view_is
-
-pub returns-in-Some-clause-slots : goal.returns-in-Some-clause-slots
-returns-in-Some-clause-slots c =
-    let told = c.find_in_graph.ensures in
-    let before =
-    subst (λ dfa. IsRemembering c.self.inside.graph.now (length c.self.inside.cache.best.row)
-    (option_map (λ boxed. boxed.value) dfa)) c.in-Some.is c.self.invariant.2 in
-    told.between.best_width ∙ told.width ∙ sym before.1
-    ∙ ap (λ (z : Searching). length z.slots) c.self.view_is
+pass_to_match-requires-clause-boundary c = on_boundary _ _ c.requires c.if-start-haystack.false

@@ -72,24 +72,7 @@ loop-number-preserved c =
           let places = sum_by_more whole_places trees number empty within in
           let tries = sum_by_more (λ t. whole_arrows t + 1) trees number empty within in
           let told = c.plus-steps.ensures in
-          subst
-          (λ p. IsBoundedBy p (tries_of_all (take (number + 1) trees)) h s c.plus-steps.result.tried
-          c.plus-steps.result.entered c.plus-steps.result.looked) (sym places)
-          (subst (λ n. IsBoundedBy (places_of_all (take number trees) + whole_places tree) n h s
-          c.plus-steps.result.tried c.plus-steps.result.entered c.plus-steps.result.looked)
-          (sym tries)
-          (subst (λ n. IsBoundedBy (places_of_all (take number trees) + whole_places tree)
-          (tries_of_all (take number trees) + (whole_arrows tree + 1)) h s n
-          c.plus-steps.result.entered c.plus-steps.result.looked) (sym told.tried)
-          (subst (λ n. IsBoundedBy (places_of_all (take number trees) + whole_places tree)
-          (tries_of_all (take number trees) + (whole_arrows tree + 1)) h s
-          (min (before.tried + own.tried) (2 ^ 128 - 1)) n c.plus-steps.result.looked)
-          (sym told.entered)
-          (subst (λ n. IsBoundedBy (places_of_all (take number trees) + whole_places tree)
-          (tries_of_all (take number trees) + (whole_arrows tree + 1)) h s
-          (min (before.tried + own.tried) (2 ^ 128 - 1))
-          (min (before.entered + own.entered) (2 ^ 128 - 1)) n)
-          (sym told.looked) both)))));
+          rw (places, tries, told.tried, told.entered, told.looked) both);
     }
   where
     counted : 0 < c.loop-number.steps.entered + c.search_one.new.cache.walk.steps.entered

@@ -2,12 +2,13 @@ use Rattle.regex_lite_engine.proofs.Common.{◌+◌, ◌^◌, ◌<◌, ◌↔◌
 use Rattle.regex_lite_engine.proofs.Common.{ap, ◌∙◌, subst, arith, rules, arrows_of, places_of}
 use Rattle.regex_lite_engine.proofs.Common.{StoredList, table_of_list, best_of, AnyMatchesFrom}
 use Rattle.regex_lite_engine.proofs.Common.{characters_left, IsBoundedBy, IsCountable, CanCount}
-use Rattle.regex_lite_engine.proofs.Common.{IsNumberedEndOf, position_at, search_start}
-use Rattle.regex_lite_engine.proofs.Common.{false, option_map, ⊎_elim}
+use Rattle.regex_lite_engine.proofs.Common.{IsNumberedEndOf, position_at, search_start, false}
+use Rattle.regex_lite_engine.proofs.Common.{option_map}
 use Rattle.regex_lite_engine.specs.Pikevm.Searching.{IsFresh}
 use Rattle.regex_lite_engine.proofs.search.ListOutcomeLemmas.{cost_of_list, any_told}
 use Rattle.regex_lite_engine.proofs.search.OutcomeLemmas.{can_count}
 use Rattle.std.proofs.lemmas.Grind.{common_steps}
+use Rattle.regex_lite_engine.proofs.nfa.BoundaryLemmas.{on_boundary}
 use Rattle.regex_lite_engine.proofs.nfa.list.GraphList.search_any.Goals as goal
 
 pub cache_for-requires : goal.cache_for-requires
@@ -15,62 +16,46 @@ cache_for-requires c =
     let some = c.len.ensures.places (omega (arith, c.if-len-eq0.false)) in
     subst (λ places. 0 < length places) (ap (λ t. t.places) (sym c.table.ensures.same)) some
 
-pub run_shortest-requires-clause-fresh : goal.run_shortest-requires-clause-fresh
-run_shortest-requires-clause-fresh c =
-    subst (λ (list : StoredList). IsFresh (table_of_list list) c.in_ok-cache.cache)
-    (sym c.in_ok-patterns.ensures.list)
-    (subst (λ table. IsFresh table c.in_ok-cache.cache) (ap places_of c.table.ensures.same)
-    c.in_ok-cache.ensures.fresh)
+pub run_shortest-requires : goal.run_shortest-requires
+run_shortest-requires c = record {
+  fresh =
+      rw (c.in_ok-patterns.ensures.list, ← ap places_of c.table.ensures.same)
+      c.in_ok-cache.ensures.fresh;
+  counts =
+      let haystack = c.args.haystack.now in
+      let list = c.args.self.now in
+      let short : length haystack < 2 ^ 63 = search rules in
+      let few : length list.entries < 2 ^ 32 =
+      omega (arith, c.len.ensures.few, c.len.ensures.same) in
+      rw c.in_ok-patterns.ensures.list
+      (can_count (table_of_list list) haystack (position_at haystack c.args.start) c.utf8.haystack
+      short (rw (ap places_of c.table.ensures.same) at c.in_ok-cache.ensures.countable)
+      (length list.entries) few);
+  boundary = on_boundary _ _ c.requires c.if-start-haystack.false;
+}
 
-pub run_shortest-requires-clause-counts : goal.run_shortest-requires-clause-counts
-run_shortest-requires-clause-counts c =
-    let haystack = c.args.haystack.now in
-    let list = c.args.self.now in
-    let short : length haystack < 2 ^ 63 = search rules in
-    let few : length list.entries < 2 ^ 32 = omega (arith, c.len.ensures.few, c.len.ensures.same) in
-    subst (λ (l : StoredList). CanCount (table_of_list l) (length l.entries)
-    (characters_left (chars haystack) (position_at haystack c.args.start)))
-    (sym c.in_ok-patterns.ensures.list)
-    (can_count (table_of_list list) haystack (position_at haystack c.args.start)
-    c.utf8.haystack short (subst IsCountable (ap places_of c.table.ensures.same)
-    c.in_ok-cache.ensures.countable) (length list.entries) few)
-
-pub returns-clause-found : goal.returns-clause-found
-returns-clause-found c = λ trees regular is.
-    let list = c.args.self.now in
-    let haystack = c.args.haystack.now in
-    let best = best_of c.run_shortest.new.cache.best in
-    let found = subst (λ (l : StoredList). IsNumberedEndOf (table_of_list l) (chars haystack)
-    l.entries (position_at haystack c.args.start) best)
-    c.in_ok-patterns.ensures.list c.run_shortest.ensures.found in
-    let told = any_told trees list is haystack c.args.start
-    (omega (arith, c.if-start-haystack.false)) regular best found in
-    subst (λ found. IsTrue found
-    ↔ AnyMatchesFrom trees (chars haystack) (search_start haystack c.args.start))
-    (sym (c.is_some.ensures ∙ ap is_some c.end.ensures)) told
-
-pub returns-clause-cost : goal.returns-clause-cost
-returns-clause-cost c = λ trees is.
-    let haystack = c.args.haystack.now in
-    let steps = c.run_shortest.new.cache.walk.steps in
-    cost_of_list trees c.args.self.now is haystack c.args.start
-    (omega (arith, c.if-start-haystack.false)) steps
-    (subst (λ (l : StoredList). IsBoundedBy (length (table_of_list l))
-    (arrows_of (table_of_list l) + length l.entries) (chars haystack)
-    (position_at haystack c.args.start) steps.tried steps.entered steps.looked)
-    c.in_ok-patterns.ensures.list c.run_shortest.ensures.bounded)
+pub returns : goal.returns
+returns c = record {
+  found = λ trees regular is.
+      let list = c.args.self.now in
+      let haystack = c.args.haystack.now in
+      let best = best_of c.run_shortest.new.cache.best in
+      let told = any_told trees list is haystack c.args.start
+      (omega (arith, c.if-start-haystack.false)) regular best
+      (rw c.in_ok-patterns.ensures.list at c.run_shortest.ensures.found) in
+      subst (λ found. IsTrue found
+      ↔ AnyMatchesFrom trees (chars haystack) (search_start haystack c.args.start))
+      (sym (c.is_some.ensures ∙ ap is_some c.end.ensures)) told;
+  cost = λ trees is.
+      cost_of_list trees c.args.self.now is c.args.haystack.now c.args.start
+      (omega (arith, c.if-start-haystack.false)) c.run_shortest.new.cache.walk.steps
+      (rw c.in_ok-patterns.ensures.list at c.run_shortest.ensures.bounded);
+  entered = λ told. c.run_shortest.ensures.entry (λ none. (
+      let is : IsTrue false = subst IsTrue (c.is_some.ensures ∙ ap is_some c.end.ensures
+      ∙ ap (λ best. is_some (option_map (λ z. z.1) best)) none) told in
+      cc));
+}
 
 -- It has an answer because the prover would try other calls first, which takes long
 pub returns-then-start-haystack-clause-found : goal.returns-then-start-haystack-clause-found
 returns-then-start-haystack-clause-found c = grind (arith, common_steps)
-
-pub run_shortest-requires-clause-boundary : goal.run_shortest-requires-clause-boundary
-run_shortest-requires-clause-boundary c =
-    ⊎_elim (λ above. absurd (omega (arith, above, c.if-start-haystack.false))) (λ edge. edge)
-    c.requires
-
-pub returns-clause-entered : goal.returns-clause-entered
-returns-clause-entered c = λ told. c.run_shortest.ensures.entry (λ none. (
-    let is : IsTrue false = subst IsTrue (c.is_some.ensures ∙ ap is_some c.end.ensures
-    ∙ ap (λ best. is_some (option_map (λ z. z.1) best)) none) told in
-    cc))

@@ -5,53 +5,51 @@ use Rattle.regex_lite_engine.proofs.Common.{IsBoundedBy, search_start}
 use Rattle.regex_lite_engine.specs.Search.AnswerOfList.{TellsWhich}
 use Rattle.regex_lite_engine.proofs.search.ListOutcomeLemmas.{at_position}
 use Rattle.std.proofs.lemmas.Grind.{common_steps}
-use Rattle.regex_lite_engine.proofs.Common.{⊎_elim}
+use Rattle.regex_lite_engine.proofs.nfa.BoundaryLemmas.{on_boundary}
 use Rattle.regex_lite_engine.proofs.nfa.list.GraphList.search_each.Goals as goal
 
-pub returns-clause-found : goal.returns-clause-found
-returns-clause-found c = λ trees regular is.
-    let haystack = c.args.haystack.now in
-    let found = c.search_all-steps.ensures.found trees regular is in
-    let told = c.search_all-steps.new.matched in
-    let all = found.all in
-    let each = is.each_entry in
-    let len : c.in_ok-matched.matched.len ≡ length told
-    =
-    omega (
-      arith,
-      all,
-      each,
-      c.in_ok-matched.ensures.len,
-      c.len.ensures.same,
-      c.in_ok-matched.matched.ok,
-    ) in
-    let same = ap (λ n. take n (told ++ drop (length told) c.in_ok-matched.matched.items)) len
-    ∙ take-append_seam told (drop (length told) c.in_ok-matched.matched.items) in
-    subst (λ list. TellsWhich trees (chars haystack) (search_start haystack c.args.start) list)
-    (sym same)
-    (at_position trees c.args.self.now is haystack c.args.start
-    (omega (arith, c.if-start-haystack.false))
-    (λ s. TellsWhich trees (chars haystack) s told) found)
-
-pub returns-clause-entered : goal.returns-clause-entered
-returns-clause-entered c = λ k told.
-    let new = c.search_all-steps.new.matched in
-    let len : c.in_ok-matched.matched.len ≡ length new
-    = omega (arith, c.search_all-steps.ensures.length, c.in_ok-matched.matched.ok) in
-    let same = ap (λ n. take n (new ++ drop (length new) c.in_ok-matched.matched.items)) len
-    ∙ take-append_seam new (drop (length new) c.in_ok-matched.matched.items) in
-    c.search_all-steps.ensures.entered k
-    (subst (λ list. IsTrue (slice_index_or list k false)) same told)
-
-pub returns-clause-cost : goal.returns-clause-cost
-returns-clause-cost c = λ trees is.
-    let haystack = c.args.haystack.now in
-    let steps = c.search_all-steps.result in
-    at_position trees c.args.self.now is haystack c.args.start
-    (omega (arith, c.if-start-haystack.false))
-    (λ s. IsBoundedBy (places_of_all trees) (tries_of_all trees) (chars haystack) s
-    steps.tried steps.entered steps.looked)
-    (c.search_all-steps.ensures.cost trees is)
+pub returns : goal.returns
+returns c = record {
+  found = λ trees regular is.
+      let haystack = c.args.haystack.now in
+      let found = c.search_all-steps.ensures.found trees regular is in
+      let told = c.search_all-steps.new.matched in
+      let all = found.all in
+      let each = is.each_entry in
+      let len : c.in_ok-matched.matched.len ≡ length told
+      =
+      omega (
+        arith,
+        all,
+        each,
+        c.in_ok-matched.ensures.len,
+        c.len.ensures.same,
+        c.in_ok-matched.matched.ok,
+      ) in
+      let same = ap (λ n. take n (told ++ drop (length told) c.in_ok-matched.matched.items)) len
+      ∙ take-append_seam told (drop (length told) c.in_ok-matched.matched.items) in
+      subst (λ list. TellsWhich trees (chars haystack) (search_start haystack c.args.start) list)
+      (sym same)
+      (at_position trees c.args.self.now is haystack c.args.start
+      (omega (arith, c.if-start-haystack.false))
+      (λ s. TellsWhich trees (chars haystack) s told) found);
+  entered = λ k told.
+      let new = c.search_all-steps.new.matched in
+      let len : c.in_ok-matched.matched.len ≡ length new
+      = omega (arith, c.search_all-steps.ensures.length, c.in_ok-matched.matched.ok) in
+      let same = ap (λ n. take n (new ++ drop (length new) c.in_ok-matched.matched.items)) len
+      ∙ take-append_seam new (drop (length new) c.in_ok-matched.matched.items) in
+      c.search_all-steps.ensures.entered k
+      (subst (λ list. IsTrue (slice_index_or list k false)) same told);
+  cost = λ trees is.
+      let haystack = c.args.haystack.now in
+      let steps = c.search_all-steps.result in
+      at_position trees c.args.self.now is haystack c.args.start
+      (omega (arith, c.if-start-haystack.false))
+      (λ s. IsBoundedBy (places_of_all trees) (tries_of_all trees) (chars haystack) s
+      steps.tried steps.entered steps.looked)
+      (c.search_all-steps.ensures.cost trees is);
+}
 
 -- The goals from here on need no lemma of their own. They have answers because the prover would
 -- try other calls first, which takes long
@@ -62,6 +60,4 @@ pub returns-then-start-haystack-clause-entered : goal.returns-then-start-haystac
 returns-then-start-haystack-clause-entered c = grind (arith, common_steps)
 
 pub search_all-steps-requires-clause-boundary : goal.search_all-steps-requires-clause-boundary
-search_all-steps-requires-clause-boundary c =
-    ⊎_elim (λ above. absurd (omega (arith, above, c.if-start-haystack.false))) (λ edge. edge)
-    c.requires
+search_all-steps-requires-clause-boundary c = on_boundary _ _ c.requires c.if-start-haystack.false

@@ -1,214 +1,89 @@
-use Rattle.regex_lite_engine.proofs.Common.{◌≡◌, ◌+◌, ◌*◌, map, length, sym, ap, ◌∙◌, subst}
-use Rattle.regex_lite_engine.proofs.Common.{arith, rules, length-map, []}
-use Rattle.regex_lite_engine.proofs.Common.{Tree, repetition, concat, alternation, trees, ◌∷◌}
-use Rattle.regex_lite_engine.proofs.Common.{nullable, tree_of, copies, own_places}
-use Rattle.regex_lite_engine.proofs.Common.{places, place_of, IsAdded, layout, Hir, ◌<◌, ◌^◌, ◌-◌}
-use Rattle.regex_lite_engine.proofs.Common.{drop, places_in, greatest_index, greatest_index_in}
+use Rattle.regex_lite_engine.proofs.Common.{◌≡◌, ◌+◌, ◌*◌, map, length, sym, ap, ◌∙◌, subst, arith}
+use Rattle.regex_lite_engine.proofs.Common.{rules, length-map, [], trees, ◌∷◌, nullable, tree_of}
+use Rattle.regex_lite_engine.proofs.Common.{own_places, places, place_of, IsAdded, layout, ◌<◌, ◌^◌}
+use Rattle.regex_lite_engine.proofs.Common.{◌-◌, drop, places_in, greatest_index, greatest_index_in}
 use Rattle.regex_lite_engine.proofs.Common.{Trees, ℕ, ◌≤◌, None, mul-le-mul_right, copies_layout}
-use Rattle.regex_lite_engine.proofs.Common.{choices_layout, chain_layout, branches_layout, true}
-use Rattle.regex_lite_engine.proofs.Common.{false, suc, ◌++◌, append-nil, more, refl}
-use Rattle.regex_lite_engine.specs.Nfa.Repetitions.{repetition_layout}
-use Rattle.regex_lite_engine.proofs.nfa.write.AddedLemmas.{before_rest, between_written, one_longer}
+use Rattle.regex_lite_engine.proofs.Common.{chain_layout, branches_layout, true, false, suc, ◌++◌}
+use Rattle.regex_lite_engine.proofs.Common.{append-nil, more, refl, go_marking, with_arrows}
+use Rattle.regex_lite_engine.proofs.nfa.write.AddedLemmas.{before_rest, between_written}
+use Rattle.regex_lite_engine.proofs.nfa.write.AddedLemmas.{place_added}
 use Rattle.regex_lite_syntax.proofs.TreeLemmas.{trees_of, trees_more}
 use Rattle.std.proofs.lemmas.List.{drop_all}
 use Rattle.regex_lite_syntax.proofs.hir.Hir.TheLaws.{the_size}
 use denote.Param.Weighed.{at_most}
 use Rattle.std.proofs.Common.{Result, Ok, Err, IfOk}
-use Rattle.regex_lite_engine.specs.Nfa.Layout.{capture_layout}
 use Rattle.std.proofs.lemmas.Grind.{common_steps}
-use Rattle.regex_lite_syntax.proofs.TreeLemmas.{tree_of-Repetition}
-use Rattle.regex_lite_engine.proofs.nfa.write.RoomLemmas.{loop_room}
+use Rattle.regex_lite_engine.proofs.nfa.write.RoomLemmas.{endless_room, star_room}
 use Rattle.regex_lite_engine.proofs.nfa.write.WrittenOverLemmas.{loop_written}
-use Rattle.regex_lite_syntax.proofs.TreeLemmas.{tree_of-Concat, tree_of-Alternation}
-use Rattle.regex_lite_engine.proofs.LeafLemmas.{tree_of-Empty, tree_of-Char, tree_of-Class}
-use Rattle.regex_lite_engine.proofs.LeafLemmas.{tree_of-Look, tree_of-Capture}
-use Rattle.regex_lite_engine.specs.Graph.Places.{go, go_holding, go_marking, one_char, one_of}
-use Rattle.regex_lite_engine.specs.Graph.Places.{with_arrows}
-use Rattle.regex_lite_engine.proofs.nfa.write.OnePlaceLemmas.{one_added, one_more_place}
+use Rattle.regex_lite_engine.proofs.LeafLemmas.{tree_is-Empty, tree_is-Char, tree_is-Class}
+use Rattle.regex_lite_engine.proofs.LeafLemmas.{tree_is-Look, tree_is-Capture, tree_is-Repetition}
+use Rattle.regex_lite_engine.proofs.LeafLemmas.{tree_is-Concat, tree_is-Alternation}
+use Rattle.regex_lite_engine.proofs.nfa.write.OnePlaceLemmas.{one_written, written_same}
 use Rattle.regex_lite_engine.proofs.nfa.write.Writer.+write.Goals as goal
 
-pub write-returns-in-Repetition-clause-written : goal.write-returns-in-Repetition-clause-written
-write-returns-in-Repetition-clause-written t c =
-    let r = c.in-Repetition in
-    let old = c.args.self.now in
-    let new = c.write_repetition.new.self in
-    let same : tree_of c.args.hir.now
-    ≡ repetition r.least r.most r.greedy (tree_of c.deref.result.now) =
-    ap tree_of r.is ∙ tree_of-Repetition r.least r.most r.greedy r.body
-    ∙ ap (λ hir. repetition r.least r.most r.greedy (tree_of hir)) (sym c.deref.ensures) in
-    subst (λ (tree : Tree). IfOk c.write_repetition.result (λ entry. IsAdded
-    (map place_of old) (map place_of new) entry (layout tree (length old) c.args.exit)))
-    (sym same) c.write_repetition.ensures.written
+pub write-returns-in-Repetition : goal.write-returns-in-Repetition
+write-returns-in-Repetition t c =
+    written_same c.write_repetition.result c.args.self.now c.write_repetition.new.self c.args.exit
+    (tree_is-Repetition c.in-Repetition.is c.deref.ensures) c.write_repetition.ensures
 
-pub write-returns-in-Concat-clause-written : goal.write-returns-in-Concat-clause-written
-write-returns-in-Concat-clause-written t c =
-    let r = c.in-Concat in
-    let same : tree_of c.args.hir.now ≡ concat (trees (map tree_of c.deref-in-Concat.result.now)) =
-    ap tree_of r.is ∙ tree_of-Concat r.parts
-    ∙ ap (λ hirs. concat (trees (map tree_of hirs))) (sym c.deref-in-Concat.ensures.value) in
-    subst (λ (tree : Tree). IfOk c.write_concat.result (λ entry. IsAdded
-    (map place_of c.args.self.now) (map place_of c.write_concat.new.self) entry
-    (layout tree (length c.args.self.now) c.args.exit)))
-    (sym same) c.write_concat.ensures.written
+pub write-returns-in-Concat : goal.write-returns-in-Concat
+write-returns-in-Concat t c =
+    written_same c.write_concat.result c.args.self.now c.write_concat.new.self c.args.exit
+    (tree_is-Concat _ c.in-Concat.is c.deref-in-Concat.ensures.value) c.write_concat.ensures
 
-pub write-returns-in-Concat-clause-grown : goal.write-returns-in-Concat-clause-grown
-write-returns-in-Concat-clause-grown t c =
-    let r = c.in-Concat in
-    let same : tree_of c.args.hir.now ≡ concat (trees (map tree_of c.deref-in-Concat.result.now)) =
-    ap tree_of r.is ∙ tree_of-Concat r.parts
-    ∙ ap (λ hirs. concat (trees (map tree_of hirs))) (sym c.deref-in-Concat.ensures.value) in
-    subst (λ (tree : Tree). IfOk c.write_concat.result (λ _. length c.write_concat.new.self
-    ≡ length c.args.self.now + places tree)) (sym same) c.write_concat.ensures.grown
-
-pub write-returns-in-Alternation-clause-written : goal.write-returns-in-Alternation-clause-written
-write-returns-in-Alternation-clause-written t c =
-    let r = c.in-Alternation in
-    let parts = c.deref-in-Alternation in
-    let same : tree_of c.args.hir.now ≡ alternation (trees (map tree_of parts.result.now)) =
-    ap tree_of r.is ∙ tree_of-Alternation r.branches
-    ∙ ap (λ hirs. alternation (trees (map tree_of hirs))) (sym parts.ensures.value) in
-    subst (λ (tree : Tree). IfOk c.write_alternation.result (λ entry. IsAdded
-    (map place_of c.args.self.now) (map place_of c.write_alternation.new.self) entry
-    (layout tree (length c.args.self.now) c.args.exit)))
-    (sym same) c.write_alternation.ensures.written
-
-pub write-returns-in-Alternation-clause-grown : goal.write-returns-in-Alternation-clause-grown
-write-returns-in-Alternation-clause-grown t c =
-    let r = c.in-Alternation in
-    let parts = c.deref-in-Alternation in
-    let same : tree_of c.args.hir.now ≡ alternation (trees (map tree_of parts.result.now)) =
-    ap tree_of r.is ∙ tree_of-Alternation r.branches
-    ∙ ap (λ hirs. alternation (trees (map tree_of hirs))) (sym parts.ensures.value) in
-    subst (λ (tree : Tree). IfOk c.write_alternation.result
-    (λ _. length c.write_alternation.new.self ≡ length c.args.self.now + places tree))
-    (sym same) c.write_alternation.ensures.grown
-
-pub write-returns-in-Repetition-clause-grown : goal.write-returns-in-Repetition-clause-grown
-write-returns-in-Repetition-clause-grown t c =
-    let r = c.in-Repetition in
-    let same : tree_of c.args.hir.now
-    ≡ repetition r.least r.most r.greedy (tree_of c.deref.result.now) =
-    ap tree_of r.is ∙ tree_of-Repetition r.least r.most r.greedy r.body
-    ∙ ap (λ hir. repetition r.least r.most r.greedy (tree_of hir)) (sym c.deref.ensures) in
-    subst (λ (tree : Tree). IfOk c.write_repetition.result (λ _. length c.write_repetition.new.self
-    ≡ length c.args.self.now + places tree)) (sym same) c.write_repetition.ensures.grown
+pub write-returns-in-Alternation : goal.write-returns-in-Alternation
+write-returns-in-Alternation t c =
+    written_same c.write_alternation.result c.args.self.now c.write_alternation.new.self c.args.exit
+    (tree_is-Alternation _ c.in-Alternation.is c.deref-in-Alternation.ensures.value)
+    c.write_alternation.ensures
 
 pub write-add_empty-requires : goal.write-add_empty-requires
 write-add_empty-requires t c =
-    let is = ap tree_of c.in-Empty.is ∙ tree_of-Empty in
-    omega (arith, c.requires.room, ap places is)
+    omega (arith, c.requires.room, ap places (tree_is-Empty c.in-Empty.is))
 
-pub write-returns-in-Empty-clause-written : goal.write-returns-in-Empty-clause-written
-write-returns-in-Empty-clause-written t c =
-    let is = ap tree_of c.in-Empty.is ∙ tree_of-Empty in
-    let old = c.args.self.now in
-    let base = length old in
-    one_added c.add_empty.result old c.add_empty.new.self
-    (with_arrows (go c.args.exit ∷ [])) _
-    (ap (λ tree. layout tree base c.args.exit) is)
-    c.add_empty.ensures.number c.add_empty.ensures.added
-
-pub write-returns-in-Empty-clause-grown : goal.write-returns-in-Empty-clause-grown
-write-returns-in-Empty-clause-grown t c =
-    let is = ap tree_of c.in-Empty.is ∙ tree_of-Empty in
-    one_more_place c.add_empty.result c.args.self.now c.add_empty.new.self _ (ap places is)
-    c.add_empty.ensures.grown
+pub write-returns-in-Empty : goal.write-returns-in-Empty
+write-returns-in-Empty t c =
+    one_written c.add_empty.result c.args.self.now c.add_empty.new.self c.args.exit _
+    (tree_is-Empty c.in-Empty.is) refl refl c.add_empty.ensures
 
 pub write-add_char-requires : goal.write-add_char-requires
 write-add_char-requires t c =
-    let is = ap tree_of c.in-Char.is ∙ tree_of-Char c.in-Char.c in
-    omega (arith, c.requires.room, ap places is)
+    omega (arith, c.requires.room, ap places (tree_is-Char c.in-Char.is))
 
-pub write-returns-in-Char-clause-written : goal.write-returns-in-Char-clause-written
-write-returns-in-Char-clause-written t c =
-    let is = ap tree_of c.in-Char.is ∙ tree_of-Char c.in-Char.c in
-    let old = c.args.self.now in
-    let base = length old in
-    one_added c.add_char.result old c.add_char.new.self
-    (one_char c.in-Char.c c.args.exit) _
-    (ap (λ tree. layout tree base c.args.exit) is)
-    c.add_char.ensures.number c.add_char.ensures.added
-
-pub write-returns-in-Char-clause-grown : goal.write-returns-in-Char-clause-grown
-write-returns-in-Char-clause-grown t c =
-    let is = ap tree_of c.in-Char.is ∙ tree_of-Char c.in-Char.c in
-    one_more_place c.add_char.result c.args.self.now c.add_char.new.self _ (ap places is)
-    c.add_char.ensures.grown
+pub write-returns-in-Char : goal.write-returns-in-Char
+write-returns-in-Char t c =
+    one_written c.add_char.result c.args.self.now c.add_char.new.self c.args.exit _
+    (tree_is-Char c.in-Char.is) refl refl c.add_char.ensures
 
 pub write-add_class-requires : goal.write-add_class-requires
 write-add_class-requires t c =
-    let is = ap tree_of c.in-Class.is ∙ tree_of-Class c.in-Class.class in
-    omega (arith, c.requires.room, ap places is)
+    omega (arith, c.requires.room, ap places (tree_is-Class c.in-Class.is refl))
 
-pub write-returns-in-Class-clause-written : goal.write-returns-in-Class-clause-written
-write-returns-in-Class-clause-written t c =
-    let is = ap tree_of c.in-Class.is ∙ tree_of-Class c.in-Class.class in
-    let old = c.args.self.now in
-    let base = length old in
-    one_added c.add_class.result old c.add_class.new.self
-    (one_of c.in-Class.class.value c.args.exit) _
-    (ap (λ tree. layout tree base c.args.exit) is)
-    c.add_class.ensures.number c.add_class.ensures.added
-
-pub write-returns-in-Class-clause-grown : goal.write-returns-in-Class-clause-grown
-write-returns-in-Class-clause-grown t c =
-    let is = ap tree_of c.in-Class.is ∙ tree_of-Class c.in-Class.class in
-    one_more_place c.add_class.result c.args.self.now c.add_class.new.self _ (ap places is)
-    c.add_class.ensures.grown
+pub write-returns-in-Class : goal.write-returns-in-Class
+write-returns-in-Class t c =
+    one_written c.add_class.result c.args.self.now c.add_class.new.self c.args.exit _
+    (tree_is-Class c.in-Class.is refl) refl refl c.add_class.ensures
 
 pub write-add_look-requires : goal.write-add_look-requires
 write-add_look-requires t c =
-    let is = ap tree_of c.in-Look.is ∙ tree_of-Look c.in-Look.look in
-    omega (arith, c.requires.room, ap places is)
+    omega (arith, c.requires.room, ap places (tree_is-Look c.in-Look.is))
 
-pub write-returns-in-Look-clause-written : goal.write-returns-in-Look-clause-written
-write-returns-in-Look-clause-written t c =
-    let is = ap tree_of c.in-Look.is ∙ tree_of-Look c.in-Look.look in
-    let old = c.args.self.now in
-    let base = length old in
-    one_added c.add_look.result old c.add_look.new.self
-    (with_arrows (go_holding c.in-Look.look c.args.exit ∷ [])) _
-    (ap (λ tree. layout tree base c.args.exit) is)
-    c.add_look.ensures.number c.add_look.ensures.added
+pub write-returns-in-Look : goal.write-returns-in-Look
+write-returns-in-Look t c =
+    one_written c.add_look.result c.args.self.now c.add_look.new.self c.args.exit _
+    (tree_is-Look c.in-Look.is) refl refl c.add_look.ensures
 
-pub write-returns-in-Look-clause-grown : goal.write-returns-in-Look-clause-grown
-write-returns-in-Look-clause-grown t c =
-    let is = ap tree_of c.in-Look.is ∙ tree_of-Look c.in-Look.look in
-    one_more_place c.add_look.result c.args.self.now c.add_look.new.self _ (ap places is)
-    c.add_look.ensures.grown
-
-pub write-returns-in-Capture-clause-written : goal.write-returns-in-Capture-clause-written
-write-returns-in-Capture-clause-written t c =
-    let r = c.in-Capture in
-    let old = c.args.self.now in
-    let new = c.write_group.new.self in
-    let same = ap tree_of r.is ∙ tree_of-Capture r.index _ r.body in
-    subst (λ (tree : Tree). IfOk c.write_group.result (λ entry. IsAdded
-    (map place_of old) (map place_of new) entry (layout tree (length old) c.args.exit)))
-    (sym same) (subst (λ (hir : Hir). IfOk c.write_group.result (λ entry. IsAdded
-    (map place_of old) (map place_of new) entry
-    (capture_layout r.index (layout (tree_of hir)) (length old) c.args.exit)))
-    c.deref-in-Capture.ensures c.write_group.ensures.written)
-
-pub write-returns-in-Capture-clause-grown : goal.write-returns-in-Capture-clause-grown
-write-returns-in-Capture-clause-grown t c =
-    let r = c.in-Capture in
-    let old = c.args.self.now in
-    let new = c.write_group.new.self in
-    let same = ap tree_of r.is ∙ tree_of-Capture r.index _ r.body in
-    subst (λ (tree : Tree). IfOk c.write_group.result (λ _. length new ≡ length old + places tree))
-    (sym same) (subst (λ (hir : Hir). IfOk c.write_group.result (λ _. length new
-    ≡ length old + (places (tree_of hir) + 2))) c.deref-in-Capture.ensures
-    c.write_group.ensures.grown)
+pub write-returns-in-Capture : goal.write-returns-in-Capture
+write-returns-in-Capture t c =
+    written_same c.write_group.result c.args.self.now c.write_group.new.self c.args.exit
+    (tree_is-Capture c.in-Capture.is c.deref-in-Capture.ensures) c.write_group.ensures
 
 pub write_repetition-write_loop-requires : goal.write_repetition-write_loop-requires
 write_repetition-write_loop-requires t c =
-    let least = c.args.least in
     let body = tree_of c.args.body.now in
-    let endless = ap (λ most. copies least most * places body
-    + own_places least most (nullable body)) c.in-None.is in
-    let parts = loop_room least (places body) (nullable body) (search rules) in
-    (search rules, (omega (arith, endless, parts, c.requires.room), c.requires.slots))
+    let room =
+    endless_room c.args.least (places body) (nullable body) c.in-None.is (search rules) in
+    (search rules, (omega (arith, room, c.requires.room), c.requires.slots))
 
 pub write_loop-returns-clause-written : goal.write_loop-returns-clause-written
 write_loop-returns-clause-written t c =
@@ -274,7 +149,7 @@ pub write_alternation-returns-clause-grown : goal.write_alternation-returns-clau
 write_alternation-returns-clause-grown t c =
     if_same c.add.result (length c.add.new.self) (length c.write_branches.new.self + 1) _
     (omega (arith, c.in_ok-entries.ensures.grown, c.in_ok-join.ensures.grown))
-    (one_longer c.add.result c.write_branches.new.self c.add.new.self _ c.add.ensures.added)
+    (place_added c.add.result c.write_branches.new.self c.add.new.self _ refl c.add.ensures).grown
 
 pub write_choices-write-requires : goal.write_choices-write-requires
 write_choices-write-requires t c =
@@ -296,21 +171,11 @@ write_choices-add_choice-requires t c =
       c.requires.room,
     )
 
-pub write_choices-returns-clause-written : goal.write_choices-returns-clause-written
-write_choices-returns-clause-written t c =
+pub write_choices-returns : goal.write_choices-returns
+write_choices-returns t c =
     let all : c.loop-i._i ≡ c.args.count =
     omega (arith, c.loop-i.auto._i-end, c.loop-i-test.false) in
-    subst (λ n. IsAdded (map place_of c.args.self.now) (map place_of c.loop-i.self) c.loop-i.next
-    (choices_layout c.args.greedy (layout (tree_of c.args.body.now)) n (length c.args.self.now)
-    c.args.join)) all c.loop-i.invariant.written
-
-pub write_choices-returns-clause-grown : goal.write_choices-returns-clause-grown
-write_choices-returns-clause-grown t c =
-    let all : c.loop-i._i ≡ c.args.count =
-    omega (arith, c.loop-i.auto._i-end, c.loop-i-test.false) in
-    subst (λ n. length c.loop-i.self
-    ≡ length c.args.self.now + n * (places (tree_of c.args.body.now) + 1)) all
-    c.loop-i.invariant.grown
+    rw all at c.loop-i.invariant
 
 pub write_copies-write-requires : goal.write_copies-write-requires
 write_copies-write-requires t c =
@@ -320,35 +185,16 @@ write_copies-write-requires t c =
       (omega (arith, more, c.loop-i.invariant.grown, c.requires.room), c.requires.slots),
     )
 
-pub write_copies-returns-clause-written : goal.write_copies-returns-clause-written
-write_copies-returns-clause-written t c =
+pub write_copies-returns : goal.write_copies-returns
+write_copies-returns t c =
     let all : c.loop-i._i ≡ c.args.count =
     omega (arith, c.loop-i.auto._i-end, c.loop-i-test.false) in
-    subst (λ n. IsAdded (map place_of c.args.self.now) (map place_of c.loop-i.self) c.loop-i.next
-    (copies_layout (layout (tree_of c.args.body.now)) n (length c.args.self.now) c.args.exit))
-    all c.loop-i.invariant.written
+    rw all at c.loop-i.invariant
 
-pub write_copies-returns-clause-grown : goal.write_copies-returns-clause-grown
-write_copies-returns-clause-grown t c =
-    let all : c.loop-i._i ≡ c.args.count =
-    omega (arith, c.loop-i.auto._i-end, c.loop-i-test.false) in
-    subst (λ n. length c.loop-i.self
-    ≡ length c.args.self.now + n * places (tree_of c.args.body.now)) all
-    c.loop-i.invariant.grown
-
-pub write_concat-returns-clause-written : goal.write_concat-returns-clause-written
-write_concat-returns-clause-written t c =
+pub write_concat-returns : goal.write_concat-returns
+write_concat-returns t c =
     let first : c.loop-i.i ≡ 0 = omega (arith, c.loop-i-test.false) in
-    subst (λ i. IsAdded (map place_of c.args.self.now) (map place_of c.loop-i.self) c.loop-i.next
-    (chain_layout (trees (map tree_of (drop i c.args.parts.now))) (length c.args.self.now)
-    c.args.exit)) first c.loop-i.invariant.written
-
-pub write_concat-returns-clause-grown : goal.write_concat-returns-clause-grown
-write_concat-returns-clause-grown t c =
-    let first : c.loop-i.i ≡ 0 = omega (arith, c.loop-i-test.false) in
-    subst (λ i. length c.loop-i.self
-    ≡ length c.args.self.now + places_in (trees (map tree_of (drop i c.args.parts.now)))) first
-    c.loop-i.invariant.grown
+    rw first at c.loop-i.invariant
 
 pub write_group-write-requires : goal.write_group-write-requires
 write_group-write-requires t c =
@@ -357,12 +203,6 @@ write_group-write-requires t c =
 pub write_group-open_group-requires-clause-room : goal.write_group-open_group-requires-clause-room
 write_group-open_group-requires-clause-room t c =
     omega (arith, c.in_ok-close.ensures.grown, c.in_ok-inner.ensures.grown, c.requires.room)
-
-pub write_group-returns-clause-grown : goal.write_group-returns-clause-grown
-write_group-returns-clause-grown t c =
-    if_same c.open_group.result (length c.open_group.new.self) (length c.write.new.self + 1) _
-    (omega (arith, c.in_ok-close.ensures.grown, c.in_ok-inner.ensures.grown))
-    c.open_group.ensures.grown
 
 pub write_loop-put_choice-requires : goal.write_loop-put_choice-requires
 write_loop-put_choice-requires t c =
@@ -398,72 +238,43 @@ pub write_repetition-write_star-requires : goal.write_repetition-write_star-requ
 write_repetition-write_star-requires t c =
     let body = tree_of c.args.body.now in
     let none : c.args.least ≡ 0 = omega (arith, c.if-least-gt0.false) in
-    let endless =
-    ap (λ most. copies c.args.least most * places body
-    + own_places c.args.least most (nullable body))
-    c.in-None.is
-    ∙ ap (λ n. copies n None * places body + own_places n None (nullable body)) none in
-    (search rules, (omega (arith, endless, c.requires.room), c.requires.slots))
+    let room = star_room (places body) (nullable body) none c.in-None.is in
+    (search rules, (omega (arith, room, c.requires.room), c.requires.slots))
 
-pub write_repetition-returns-in-None-2-clause-grown :
-    goal.write_repetition-returns-in-None-2-clause-grown
-write_repetition-returns-in-None-2-clause-grown t c =
+pub write_repetition-returns-in-None-2 : goal.write_repetition-returns-in-None-2
+write_repetition-returns-in-None-2 t c =
     let body = tree_of c.args.body.now in
     let none : c.args.least ≡ 0 = omega (arith, c.if-least-gt0.false) in
-    let endless =
-    ap (λ most. copies c.args.least most * places body
-    + own_places c.args.least most (nullable body))
-    c.in-None.is
-    ∙ ap (λ n. copies n None * places body + own_places n None (nullable body)) none in
-    if_same c.write_star.result (length c.write_star.new.self)
-    (length c.args.self.now + (places body + own_places 0 None (nullable body))) _
-    (omega (arith, endless)) c.write_star.ensures.grown
-
-pub write_repetition-returns-in-None-2-clause-written :
-    goal.write_repetition-returns-in-None-2-clause-written
-write_repetition-returns-in-None-2-clause-written t c =
-    let body = tree_of c.args.body.now in
-    let none : c.args.least ≡ 0 = omega (arith, c.if-least-gt0.false) in
-    subst (λ most. IfOk c.write_star.result (λ entry. IsAdded (map place_of c.args.self.now)
-    (map place_of c.write_star.new.self) entry (repetition_layout c.args.greedy (layout body)
-    c.args.least most (nullable body) (length c.args.self.now) c.args.exit))) (sym c.in-None.is)
-    (subst (λ least. IfOk c.write_star.result (λ entry. IsAdded (map place_of c.args.self.now)
-    (map place_of c.write_star.new.self) entry (repetition_layout c.args.greedy (layout body)
-    least None (nullable body) (length c.args.self.now) c.args.exit))) (sym none)
-    c.write_star.ensures.written)
+    let own = places body + own_places 0 None (nullable body) in
+    record {
+      written = rw (c.in-None.is, none) c.write_star.ensures.written;
+      grown =
+          if_same c.write_star.result (length c.write_star.new.self)
+          (length c.args.self.now + own) _
+          (ap (λ k. length c.args.self.now + k)
+          (sym (star_room (places body) (nullable body) none c.in-None.is)))
+          c.write_star.ensures.grown;
+    }
 
 pub write_repetition-write_copies-requires : goal.write_repetition-write_copies-requires
 write_repetition-write_copies-requires t c =
-    let least = c.args.least in
     let body = tree_of c.args.body.now in
-    let endless = ap (λ most. copies least most * places body
-    + own_places least most (nullable body)) c.in-None.is in
-    let parts = loop_room least (places body) (nullable body) (search rules) in (
-      search rules,
-      (
-        omega (
-          arith,
-          endless,
-          parts,
-          c.in_ok-inner-in-None.ensures.grown,
-          c.requires.room,
-        ),
-        c.requires.slots,
-      ),
-    )
+    let room =
+    endless_room c.args.least (places body) (nullable body) c.in-None.is (search rules) in
+    let grown = c.in_ok-inner-in-None.ensures.grown in
+    (search rules, (omega (arith, room, grown, c.requires.room), c.requires.slots))
 
-pub write_repetition-returns-in_ok-inner-in-None-clause-grown :
-    goal.write_repetition-returns-in_ok-inner-in-None-clause-grown
-write_repetition-returns-in_ok-inner-in-None-clause-grown t c =
-    let least = c.args.least in
-    let body = tree_of c.args.body.now in
-    let endless = ap (λ most. copies least most * places body
-    + own_places least most (nullable body)) c.in-None.is in
-    let parts = loop_room least (places body) (nullable body) (search rules) in
-    if_same c.write_copies.result (length c.write_copies.new.self)
-    (length c.write_loop.new.self + (least - 1) * places body) _
-    (omega (arith, endless, parts, c.in_ok-inner-in-None.ensures.grown))
-    c.write_copies.ensures.grown
+pub write_repetition-returns-in_ok-inner-in-None : goal.write_repetition-returns-in_ok-inner-in-None
+write_repetition-returns-in_ok-inner-in-None t c = record {
+  grown =
+      let body = tree_of c.args.body.now in
+      let room =
+      endless_room c.args.least (places body) (nullable body) c.in-None.is (search rules) in
+      if_same c.write_copies.result (length c.write_copies.new.self)
+      (length c.write_loop.new.self + (c.args.least - 1) * places body) _
+      (omega (arith, room, c.in_ok-inner-in-None.ensures.grown)) c.write_copies.ensures.grown;
+  written = grind (arith, common_steps);
+}
 
 pub write_star-write_loop-requires : goal.write_star-write_loop-requires
 write_star-write_loop-requires t c =
@@ -566,54 +377,53 @@ write_concat-loop-i-preserved t c =
       grown = omega (arith, v.grown, c.in_ok-next.ensures.grown, ap places_in one);
     }
 
-pub write_branches-returns-clause-written : goal.write_branches-returns-clause-written
-write_branches-returns-clause-written t c =
-    let now = c.loop-branch.self in
-    let none_left = ap trees_of (drop_all c.loop-branch.branch-index c.args.branches.now
-    (omega (arith, c.loop-branch-test.false))) in
-    sym (append-nil (map place_of now))
-    ∙ ap (λ left. map place_of now ++ (branches_layout left (length now) c.args.join).0)
-    (sym none_left) ∙ c.loop-branch.invariant.written
-
-pub write_branches-returns-clause-entries : goal.write_branches-returns-clause-entries
-write_branches-returns-clause-entries t c =
+pub write_branches-returns : goal.write_branches-returns
+write_branches-returns t c =
     let now = c.loop-branch.self in
     let entries = c.loop-branch.entries.items in
+    let v = c.loop-branch.invariant in
     let none_left = ap trees_of (drop_all c.loop-branch.branch-index c.args.branches.now
     (omega (arith, c.loop-branch-test.false))) in
-    sym (append-nil entries)
-    ∙ ap (λ left. entries ++ (branches_layout left (length now) c.args.join).1) (sym none_left)
-    ∙ c.loop-branch.invariant.entered
+    record {
+      written =
+          sym (append-nil (map place_of now))
+          ∙ ap (λ left. map place_of now ++ (branches_layout left (length now) c.args.join).0)
+          (sym none_left) ∙ v.written;
+      entries =
+          sym (append-nil entries)
+          ∙ ap (λ left. entries ++ (branches_layout left (length now) c.args.join).1)
+          (sym none_left) ∙ v.entered;
+      grown = omega (arith, v.grown, ap places_in none_left);
+    }
 
-pub write_branches-returns-clause-grown : goal.write_branches-returns-clause-grown
-write_branches-returns-clause-grown t c =
-    let none_left = ap trees_of (drop_all c.loop-branch.branch-index c.args.branches.now
-    (omega (arith, c.loop-branch-test.false))) in
-    omega (arith, c.loop-branch.invariant.grown, ap places_in none_left)
-
-pub write_group-returns-clause-written : goal.write_group-returns-clause-written
-write_group-returns-clause-written t c =
+pub write_group-returns : goal.write_group-returns
+write_group-returns t c =
     let a = c.args in
     let old = a.self.now in
     let whole = c.write.new.self in
-    between_written c.open_group.result (layout (tree_of a.body.now))
-    (with_arrows (go_marking (2 * a.index + 1) a.exit ∷ []))
-    (λ k. with_arrows (go_marking (2 * a.index) k ∷ [])) (map place_of old)
-    (map place_of c.close_group.new.self) (map place_of whole) (map place_of c.open_group.new.self)
-    (length old) c.in_ok-close.close (length c.close_group.new.self) c.in_ok-inner.inner
-    (length whole) (sym (length-map old place_of)) c.in_ok-close.ensures.number
-    c.in_ok-close.ensures.grown c.in_ok-close.ensures.added c.in_ok-inner.ensures.written
-    (sym (length-map whole place_of)) c.open_group.ensures.number c.open_group.ensures.added
+    let close = c.in_ok-close in
+    let inner = c.in_ok-inner in
+    record {
+      written =
+          between_written c.open_group.result (layout (tree_of a.body.now))
+          (with_arrows (go_marking (2 * a.index + 1) a.exit ∷ []))
+          (λ k. with_arrows (go_marking (2 * a.index) k ∷ [])) (map place_of old)
+          (map place_of c.close_group.new.self) (map place_of whole)
+          (map place_of c.open_group.new.self) (length old) close.close
+          (length c.close_group.new.self) inner.inner (length whole)
+          (sym (length-map old place_of)) close.ensures.number close.ensures.grown
+          close.ensures.added inner.ensures.written (sym (length-map whole place_of))
+          c.open_group.ensures.number c.open_group.ensures.added;
+      grown =
+          if_same c.open_group.result (length c.open_group.new.self) (length whole + 1) _
+          (omega (arith, close.ensures.grown, inner.ensures.grown)) c.open_group.ensures.grown;
+    }
 
 -- The goals from here on need no lemma of their own. They have answers because the prover would
 -- try other calls first, which takes long
-pub write_bounded-returns-then-least-eq0-clause-written :
-    goal.write_bounded-returns-then-least-eq0-clause-written
-write_bounded-returns-then-least-eq0-clause-written t c = grind (arith, common_steps)
-
-pub write_bounded-returns-then-least-eq0-clause-grown :
-    goal.write_bounded-returns-then-least-eq0-clause-grown
-write_bounded-returns-then-least-eq0-clause-grown t c = grind (arith, common_steps)
+pub write_bounded-returns-then-least-eq0 : goal.write_bounded-returns-then-least-eq0
+write_bounded-returns-then-least-eq0 t c =
+    record { written = grind (arith, common_steps); grown = grind (arith, common_steps) }
 
 pub write_bounded-write_choices-requires : goal.write_bounded-write_choices-requires
 write_bounded-write_choices-requires t c = grind (arith, common_steps)
@@ -622,36 +432,20 @@ pub write_bounded-write_copies-requires-then-least-gt0 :
     goal.write_bounded-write_copies-requires-then-least-gt0
 write_bounded-write_copies-requires-then-least-gt0 t c = grind (arith, common_steps)
 
-pub write_bounded-returns-then-least-gt0-clause-written :
-    goal.write_bounded-returns-then-least-gt0-clause-written
-write_bounded-returns-then-least-gt0-clause-written t c = grind (arith, common_steps)
+pub write_bounded-returns-then-least-gt0 : goal.write_bounded-returns-then-least-gt0
+write_bounded-returns-then-least-gt0 t c =
+    record { written = grind (arith, common_steps); grown = grind (arith, common_steps) }
 
-pub write_bounded-returns-then-least-gt0-clause-grown :
-    goal.write_bounded-returns-then-least-gt0-clause-grown
-write_bounded-returns-then-least-gt0-clause-grown t c = grind (arith, common_steps)
+pub write_bounded-returns-then-most-eq1 : goal.write_bounded-returns-then-most-eq1
+write_bounded-returns-then-most-eq1 t c =
+    record { written = grind (arith, common_steps); grown = grind (arith, common_steps) }
 
-pub write_bounded-returns-then-most-eq1-clause-written :
-    goal.write_bounded-returns-then-most-eq1-clause-written
-write_bounded-returns-then-most-eq1-clause-written t c = grind (arith, common_steps)
-
-pub write_bounded-returns-then-most-eq1-clause-grown :
-    goal.write_bounded-returns-then-most-eq1-clause-grown
-write_bounded-returns-then-most-eq1-clause-grown t c = grind (arith, common_steps)
-
-pub write_bounded-returns-else-most-eq1-clause-written :
-    goal.write_bounded-returns-else-most-eq1-clause-written
-write_bounded-returns-else-most-eq1-clause-written t c = grind (arith, common_steps)
-
-pub write_bounded-returns-else-most-eq1-clause-grown :
-    goal.write_bounded-returns-else-most-eq1-clause-grown
-write_bounded-returns-else-most-eq1-clause-grown t c = grind (arith, common_steps)
+pub write_bounded-returns-else-most-eq1 : goal.write_bounded-returns-else-most-eq1
+write_bounded-returns-else-most-eq1 t c =
+    record { written = grind (arith, common_steps); grown = grind (arith, common_steps) }
 
 pub write_choices-loop-i-preserved : goal.write_choices-loop-i-preserved
 write_choices-loop-i-preserved t c = grind (arith, common_steps)
-
-pub write_repetition-returns-in_ok-inner-in-None-clause-written :
-    goal.write_repetition-returns-in_ok-inner-in-None-clause-written
-write_repetition-returns-in_ok-inner-in-None-clause-written t c = grind (arith, common_steps)
 
 pub write_star-returns-clause-written : goal.write_star-returns-clause-written
 write_star-returns-clause-written t c = grind (arith, common_steps)

@@ -7,8 +7,8 @@ use Rattle.regex_lite_engine.proofs.nfa.write.Writer.write_pattern.Goals as goal
 pub write_group-requires-clause-room : goal.write_group-requires-clause-room
 write_group-requires-clause-room c = grind (arith, common_steps)
 
-pub returns-clause-written : goal.returns-clause-written
-returns-clause-written c = grind (arith, common_steps)
-
-pub returns-clause-grown : goal.returns-clause-grown
-returns-clause-grown c = grind (arith, common_steps)
+pub returns : goal.returns
+returns c = record {
+  written = grind (arith, common_steps);
+  grown = grind (arith, common_steps);
+}

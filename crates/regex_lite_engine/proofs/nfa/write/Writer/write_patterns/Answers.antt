@@ -63,11 +63,9 @@ loop-hir-preserved c =
 pub write_pattern-requires-clause-room : goal.write_pattern-requires-clause-room
 write_pattern-requires-clause-room c = grind (arith, common_steps)
 
-pub returns-clause-written : goal.returns-clause-written
-returns-clause-written c = grind (arith, common_steps)
-
-pub returns-clause-entries : goal.returns-clause-entries
-returns-clause-entries c = grind (arith, common_steps)
-
-pub returns-clause-grown : goal.returns-clause-grown
-returns-clause-grown c = grind (arith, common_steps)
+pub returns : goal.returns
+returns c = record {
+  written = grind (arith, common_steps);
+  entries = grind (arith, common_steps);
+  grown = grind (arith, common_steps);
+}

@@ -5,10 +5,8 @@ use Rattle.std.proofs.lemmas.List.{length-set}
 use Rattle.regex_lite_engine.proofs.prefilter.list_heads.PairLemmas.{none_more, one_more}
 use Rattle.regex_lite_engine.proofs.prefilter.list_heads.PairLemmas.{row_passed}
 use Rattle.regex_lite_engine.proofs.prefilter.list_heads.ListHeads.add_pairs.Goals as goal
-use Rattle.regex_lite_engine.proofs.prefilter.list_heads.ListHeads.add_pairs.Goals.{
-  then-begins_in,
-  else-begins_in,
-}
+use Rattle.regex_lite_engine.proofs.prefilter.list_heads.ListHeads.add_pairs.Goals.{then-begins_in}
+use Rattle.regex_lite_engine.proofs.prefilter.list_heads.ListHeads.add_pairs.Goals.{else-begins_in}
 
 pub firsts-preserved : goal.firsts-preserved
 firsts-preserved c =
@@ -68,7 +66,8 @@ firsts-preserved-then-begins_in_none_of_row c =
     record {
       each = λ a b a_in b_in. (
           v.each a b a_in b_in
-          ∙ row_passed c.firsts.first a (has_pair c.args.self.now a b) (begins_with_pair a b part)
+          ∙ row_passed c.firsts.first 16 a (has_pair c.args.self.now a b)
+          (begins_with_pair a b part)
           (λ low high. ap (λ z. z && goes_on_with part.second b) (none a low high)));
       all = v.all;
       same = v.same;

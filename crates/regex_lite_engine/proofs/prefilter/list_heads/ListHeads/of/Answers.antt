@@ -6,14 +6,12 @@ use Rattle.regex_lite_engine.specs.Prefilter.ListHeads.{AreHeadsOfTrees}
 use Rattle.regex_lite_engine.proofs.prefilter.list_heads.IndexLemmas.{heads_of_more}
 use Rattle.regex_lite_engine.proofs.prefilter.list_heads.ListHeads.of.Goals as goal
 
-pub add-requires-clause-room : goal.add-requires-clause-room
-add-requires-clause-room c = omega (arith, c.loop-number.invariant.count, c.loop-number-test.true)
-
-pub add-requires-clause-sized : goal.add-requires-clause-sized
-add-requires-clause-sized c = c.loop-number.invariant.so_far.2.sized
-
-pub add-requires-clause-pairs : goal.add-requires-clause-pairs
-add-requires-clause-pairs c = c.loop-number.invariant.so_far.2.all_pairs
+pub add-requires : goal.add-requires
+add-requires c = record {
+  room = omega (arith, c.loop-number.invariant.count, c.loop-number-test.true);
+  sized = c.loop-number.invariant.so_far.2.sized;
+  pairs = c.loop-number.invariant.so_far.2.all_pairs;
+}
 
 pub loop-number-preserved : goal.loop-number-preserved
 loop-number-preserved c =

@@ -20,15 +20,8 @@ returns-then-is_none c n low high =
     c.word-then-is_none.result c.word-then-is_none.ensures low high in
     let none : is_none c.args.before ≡ true =
     ap not (c.is_none.ensures ∙ ap not c.if-is_none.true) in
-    bit_of_either (bit_and c.word.result c.word-2.result) c.word-then-is_none.result i
-    ∙ ap (λ z. z || (bit_at c.word-then-is_none.result i == 1))
-    (bit_of_both c.word.result c.word-2.result i)
-    ∙ ap (λ z. (z && (bit_at c.word-2.result i == 1)) || (bit_at c.word-then-is_none.result i == 1))
-    first
-    ∙ ap (λ z. (has rows c.args.first n && z) || (bit_at c.word-then-is_none.result i == 1)) second
-    ∙ ap (λ z. (has rows c.args.first n && has rows c.args.second n) || z) start
-    ∙ sym (ap (λ z. (has rows c.args.first n && has rows c.args.second n)
-    || (z && has rows start_row n)) none)
+    rw (bit_of_either (bit_and c.word.result c.word-2.result) c.word-then-is_none.result i,
+    bit_of_both c.word.result c.word-2.result i, first, second, start, none) refl
 
 pub returns : goal.returns
 returns c n low high =
@@ -39,9 +32,5 @@ returns c n low high =
     let second = bit_in_row rows c.args.second k n c.word-2.result c.word-2.ensures low high in
     let some : is_none c.args.before ≡ false =
     ap not (c.is_none.ensures ∙ ap not c.if-is_none.false) in
-    bit_of_both c.word.result c.word-2.result i
-    ∙ ap (λ z. z && (bit_at c.word-2.result i == 1)) first
-    ∙ ap (λ z. has rows c.args.first n && z) second
-    ∙ sym (ap (λ z. (has rows c.args.first n && has rows c.args.second n)
-    || (z && has rows start_row n)) some
-    ∙ or_off (has rows c.args.first n && has rows c.args.second n) (has rows start_row n))
+    rw (bit_of_both c.word.result c.word-2.result i, first, second, some)
+    (sym (or_off (has rows c.args.first n && has rows c.args.second n) (has rows start_row n)))

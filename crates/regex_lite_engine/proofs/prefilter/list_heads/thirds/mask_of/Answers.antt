@@ -5,10 +5,8 @@ use Rattle.regex_lite_engine.proofs.prefilter.list_heads.ThirdLemmas.{added, all
 use Rattle.regex_lite_engine.proofs.prefilter.list_heads.ThirdLemmas.{begins_by_character, kept}
 use Rattle.regex_lite_engine.proofs.prefilter.starts.StartLemmas.{begins_as_one}
 use Rattle.regex_lite_engine.proofs.prefilter.list_heads.thirds.mask_of.Goals as goal
-use Rattle.regex_lite_engine.proofs.prefilter.list_heads.thirds.mask_of.Goals.{
-  then-begins_in-2,
-  else-begins_in-2,
-}
+use Rattle.regex_lite_engine.proofs.prefilter.list_heads.thirds.mask_of.Goals.{then-begins_in-2}
+use Rattle.regex_lite_engine.proofs.prefilter.list_heads.thirds.mask_of.Goals.{else-begins_in-2}
 
 pub returns-then-at_start : goal.returns-then-at_start
 returns-then-at_start c = λ before code may. all_in_mask code

@@ -1,7 +1,8 @@
 use Rattle.regex_lite_engine.proofs.Common.{◌≡◌, ℕ, suc, Some, sym, ap, ◌∙◌, subst, arith, after}
 use Rattle.regex_lite_engine.proofs.Common.{drop, Tree, concat, Trees, more, tree_of}
 use Rattle.regex_lite_engine.specs.Prefilter.Thirds.{BeginsInMask, ReadsOne, IsThirdOfTree}
-use Rattle.regex_lite_syntax.proofs.TreeLemmas.{tree_of-Concat, trees_of, trees_more}
+use Rattle.regex_lite_syntax.proofs.TreeLemmas.{trees_of, trees_more}
+use Rattle.regex_lite_engine.proofs.LeafLemmas.{tree_is-Concat}
 use Rattle.regex_lite_engine.proofs.prefilter.list_heads.ThirdLemmas.{all_in_mask}
 use Rattle.regex_lite_engine.proofs.prefilter.list_heads.thirds.third_of.Goals as goal
 
@@ -28,8 +29,7 @@ returns-then-reads_one-2 c =
     let first = c.first-item.result in
     let second = c.second-item.result in
     let third = c.third-item.result in
-    let same = ap tree_of c.in-Concat.is ∙ tree_of-Concat c.in-Concat.parts
-    ∙ ap (λ hirs. concat (trees_of hirs)) (sym c.as_slice.ensures.value) in
+    let same = tree_is-Concat _ c.in-Concat.is c.as_slice.ensures.value in
     let three = trees_more parts 0 first (omega (arith, long)) c.first-item.is
     ∙ ap (λ left. more (tree_of first) left) (trees_more parts 1 second (omega (arith, long))
     c.second-item.is ∙ ap (λ left. more (tree_of second) left) (trees_more parts 2 third

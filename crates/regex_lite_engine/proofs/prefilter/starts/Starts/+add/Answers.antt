@@ -1,47 +1,37 @@
 use Rattle.regex_lite_engine.proofs.Common.{◌≡◌, ◌+◌, ◌⊎◌, drop, IsTrue, sym, refl, ap, ◌∙◌, subst}
-use Rattle.regex_lite_engine.proofs.Common.{inl, inr, Tree, repetition, concat, alternation, Trees}
-use Rattle.regex_lite_engine.proofs.Common.{Chain, SomeBranch, tree_of, MayBegin, BeginsOrPasses}
+use Rattle.regex_lite_engine.proofs.Common.{inl, inr, Tree, Trees, Chain, SomeBranch, tree_of}
+use Rattle.regex_lite_engine.proofs.Common.{MayBegin, BeginsOrPasses, arith, true, false, IsWider}
+use Rattle.regex_lite_engine.proofs.Common.{Starts}
 use Rattle.std.proofs.Common.{nat_eq}
-use Rattle.regex_lite_syntax.proofs.TreeLemmas.{tree_of-Repetition, tree_of-Concat}
-use Rattle.regex_lite_syntax.proofs.TreeLemmas.{tree_of-Alternation, trees_of, trees_more}
+use Rattle.regex_lite_syntax.proofs.TreeLemmas.{trees_of, trees_more}
 use Rattle.regex_lite_engine.proofs.prefilter.starts.StartLemmas.{grown_on, repetition_begins}
 use Rattle.regex_lite_engine.proofs.prefilter.starts.StartLemmas.{part_more, branch_more}
 use Rattle.regex_lite_engine.proofs.prefilter.starts.StartLemmas.{character_begins, class_begins}
-use Rattle.regex_lite_engine.proofs.LeafLemmas.{tree_of-Empty, tree_of-Char, tree_of-Class}
-use Rattle.regex_lite_engine.proofs.LeafLemmas.{tree_of-Look, tree_of-Capture}
-use Rattle.regex_lite_engine.proofs.Common.{arith, true, false, class, capture, text_of_name}
-use Rattle.regex_lite_engine.proofs.Common.{option_map, IsWider, Starts}
+use Rattle.regex_lite_engine.proofs.LeafLemmas.{tree_is-Empty, tree_is-Char, tree_is-Class}
+use Rattle.regex_lite_engine.proofs.LeafLemmas.{tree_is-Look, tree_is-Capture, tree_is-Repetition}
+use Rattle.regex_lite_engine.proofs.LeafLemmas.{tree_is-Concat, tree_is-Alternation}
 use Rattle.std.proofs.lemmas.List.{drop_all}
 use Rattle.regex_lite_engine.proofs.prefilter.starts.Starts.+add.Goals as goal
-use Rattle.regex_lite_engine.proofs.prefilter.starts.Starts.+add.Goals.{
-  add_branches-then-add,
-  add_branches-else-add,
-}
+use Rattle.regex_lite_engine.proofs.prefilter.starts.Starts.+add.Goals.{add_branches-then-add}
+use Rattle.regex_lite_engine.proofs.prefilter.starts.Starts.+add.Goals.{add_branches-else-add}
 
 pub add-returns-in-Concat-clause-begins : goal.add-returns-in-Concat-clause-begins
 add-returns-in-Concat-clause-begins t c =
-    let r = c.in-Concat in
-    let same = ap tree_of r.is ∙ tree_of-Concat r.parts
-    ∙ ap (λ hirs. concat (trees_of hirs)) (sym c.deref-in-Concat.ensures.value) in
     subst (λ (tree : Tree). BeginsOrPasses tree c.add_parts.new.self c.add_parts.result)
-    (sym same) c.add_parts.ensures.begins
+    (sym (tree_is-Concat _ c.in-Concat.is c.deref-in-Concat.ensures.value))
+    c.add_parts.ensures.begins
 
 pub add-returns-in-Alternation-clause-begins : goal.add-returns-in-Alternation-clause-begins
 add-returns-in-Alternation-clause-begins t c =
-    let r = c.in-Alternation in
-    let same = ap tree_of r.is ∙ tree_of-Alternation r.branches
-    ∙ ap (λ hirs. alternation (trees_of hirs)) (sym c.deref-in-Alternation.ensures.value) in
     subst (λ (tree : Tree). BeginsOrPasses tree c.add_branches.new.self c.add_branches.result)
-    (sym same) c.add_branches.ensures.begins
+    (sym (tree_is-Alternation _ c.in-Alternation.is c.deref-in-Alternation.ensures.value))
+    c.add_branches.ensures.begins
 
 pub add-returns-then-add-clause-begins : goal.add-returns-then-add-clause-begins
 add-returns-then-add-clause-begins t c =
     let r = c.in-Repetition in
     let body = tree_of c.deref-in-Repetition.result.now in
-    let same : tree_of c.args.hir.now ≡ repetition r.least r.most r.greedy body =
-    ap tree_of r.is ∙ tree_of-Repetition r.least r.most r.greedy r.body
-    ∙ ap (λ hir. repetition r.least r.most r.greedy (tree_of hir))
-    (sym c.deref-in-Repetition.ensures) in
+    let same = tree_is-Repetition r.is c.deref-in-Repetition.ensures in
     subst (λ (tree : Tree). BeginsOrPasses tree c.add.new.self c.add.result) (sym same)
     (repetition_begins r.least r.most r.greedy body c.add.new.self c.add.result c.add.result
     (λ e. subst IsTrue (sym e) refl) (λ e. subst IsTrue (sym c.if-add.true) refl)
@@ -51,10 +41,7 @@ pub add-returns-else-add-clause-begins : goal.add-returns-else-add-clause-begins
 add-returns-else-add-clause-begins t c =
     let r = c.in-Repetition in
     let body = tree_of c.deref-in-Repetition.result.now in
-    let same : tree_of c.args.hir.now ≡ repetition r.least r.most r.greedy body =
-    ap tree_of r.is ∙ tree_of-Repetition r.least r.most r.greedy r.body
-    ∙ ap (λ hir. repetition r.least r.most r.greedy (tree_of hir))
-    (sym c.deref-in-Repetition.ensures) in
+    let same = tree_is-Repetition r.is c.deref-in-Repetition.ensures in
     let not_body = c.if-add.false in
     subst (λ (tree : Tree). BeginsOrPasses tree c.add.new.self (nat_eq r.least 0)) (sym same)
     (repetition_begins r.least r.most r.greedy body c.add.new.self c.add.result (nat_eq r.least 0)
@@ -129,37 +116,31 @@ add_branches-loop-branch-preserved t c =
 
 pub add-returns-in-Empty-clause-begins : goal.add-returns-in-Empty-clause-begins
 add-returns-in-Empty-clause-begins t c =
-    let same = ap tree_of c.in-Empty.is ∙ tree_of-Empty in
-    subst (λ (tree : Tree). BeginsOrPasses tree c.args.self.now true) (sym same)
-    (λ h i j at. inr (refl, at))
+    subst (λ (tree : Tree). BeginsOrPasses tree c.args.self.now true)
+    (sym (tree_is-Empty c.in-Empty.is)) (λ h i j at. inr (refl, at))
 
 pub add-returns-in-Char-clause-begins : goal.add-returns-in-Char-clause-begins
 add-returns-in-Char-clause-begins t c =
-    let same = ap tree_of c.in-Char.is ∙ tree_of-Char c.in-Char.c in
-    subst (λ (tree : Tree). BeginsOrPasses tree c.add_char.new.self false) (sym same)
+    subst (λ (tree : Tree). BeginsOrPasses tree c.add_char.new.self false)
+    (sym (tree_is-Char c.in-Char.is))
     (character_begins c.in-Char.c c.add_char.new.self c.add_char.ensures.added)
 
 pub add-returns-in-Class-clause-begins : goal.add-returns-in-Class-clause-begins
 add-returns-in-Class-clause-begins t c =
-    let same = ap tree_of c.in-Class.is ∙ tree_of-Class c.in-Class.set
-    ∙ ap class (sym c.deref.ensures) in
-    subst (λ (tree : Tree). BeginsOrPasses tree c.add_class.new.self false) (sym same)
+    subst (λ (tree : Tree). BeginsOrPasses tree c.add_class.new.self false)
+    (sym (tree_is-Class c.in-Class.is c.deref.ensures))
     (class_begins c.deref.result.now c.add_class.new.self c.add_class.ensures.added)
 
 pub add-returns-in-Look-clause-begins : goal.add-returns-in-Look-clause-begins
 add-returns-in-Look-clause-begins t c =
-    let same = ap tree_of c.in-Look.is ∙ tree_of-Look c.in-Look.test in
-    subst (λ (tree : Tree). BeginsOrPasses tree c.add_look.new.self c.add_look.result) (sym same)
-    c.add_look.ensures.begins
+    subst (λ (tree : Tree). BeginsOrPasses tree c.add_look.new.self c.add_look.result)
+    (sym (tree_is-Look c.in-Look.is)) c.add_look.ensures.begins
 
 pub add-returns-in-Capture-clause-begins : goal.add-returns-in-Capture-clause-begins
 add-returns-in-Capture-clause-begins t c =
-    let r = c.in-Capture in
-    let same = ap tree_of r.is ∙ tree_of-Capture r.index r.name r.body
-    ∙ ap (λ hir. capture r.index (option_map text_of_name r.name) (tree_of hir))
-    (sym c.deref-in-Capture.ensures) in
     subst (λ (tree : Tree). BeginsOrPasses tree c.add-in-Capture.new.self c.add-in-Capture.result)
-    (sym same) c.add-in-Capture.ensures.begins
+    (sym (tree_is-Capture c.in-Capture.is c.deref-in-Capture.ensures))
+    c.add-in-Capture.ensures.begins
 
 same_width : (s : Starts) → IsWider s s
 same_width s = record { with = λ c begins. begins; at_start = λ at_start. at_start }

@@ -1,16 +1,14 @@
 use Rattle.regex_lite_engine.proofs.Common.{◌≡◌, ℕ, ◌+◌, ◌⊎◌, drop, sym, ◌∙◌, subst, inl, Text}
 use Rattle.regex_lite_engine.proofs.Common.{Trees, Chain, SomeBranch, tree_of, Reads, ReadsEach}
-use Rattle.regex_lite_engine.proofs.Common.{IsWider, Starts}
+use Rattle.regex_lite_engine.proofs.Common.{IsWider, Starts, arith, IfSome, Tree}
 use Rattle.regex_lite_syntax.proofs.TreeLemmas.{trees_of, trees_more}
 use Rattle.regex_lite_engine.specs.declared.prefilter.heads.Head.TheVariants.{One, More}
 use Rattle.regex_lite_engine.specs.declared.prefilter.heads.Head.{Head}
 use Rattle.regex_lite_engine.proofs.prefilter.starts.StartLemmas.{grown_on}
 use Rattle.regex_lite_engine.proofs.prefilter.heads.HeadLemmas.{as_one, branch_read, of_more}
 use Rattle.regex_lite_engine.proofs.prefilter.heads.HeadLemmas.{part_read, reads_grown}
-use Rattle.regex_lite_engine.proofs.Common.{ap, arith, IfSome, Tree, concat, alternation, capture}
-use Rattle.regex_lite_engine.proofs.Common.{option_map, text_of_name}
-use Rattle.regex_lite_engine.proofs.LeafLemmas.{tree_of-Capture}
-use Rattle.regex_lite_syntax.proofs.TreeLemmas.{tree_of-Concat, tree_of-Alternation}
+use Rattle.regex_lite_engine.proofs.LeafLemmas.{tree_is-Capture, tree_is-Concat}
+use Rattle.regex_lite_engine.proofs.LeafLemmas.{tree_is-Alternation}
 use Rattle.std.proofs.lemmas.Grind.{common_steps}
 use Rattle.regex_lite_engine.proofs.prefilter.starts.Starts.+add_second.Goals as goal
 use Rattle.regex_lite_engine.proofs.prefilter.starts.Starts.+add_second.Goals.{
@@ -109,32 +107,23 @@ add_second_of_branches-loop-branch-preserved t c =
 
 pub add_second-returns-in-Concat-clause-reads : goal.add_second-returns-in-Concat-clause-reads
 add_second-returns-in-Concat-clause-reads t c =
-    let r = c.in-Concat in
     let parts = c.add_second_of_parts in
-    let same = ap tree_of r.is ∙ tree_of-Concat r.parts
-    ∙ ap (λ hirs. concat (trees_of hirs)) (sym c.deref-in-Concat.ensures.value) in
-    subst (λ (tree : Tree). IfSome parts.result (ReadsEach tree parts.new.self)) (sym same)
-    parts.ensures.reads
+    subst (λ (tree : Tree). IfSome parts.result (ReadsEach tree parts.new.self))
+    (sym (tree_is-Concat _ c.in-Concat.is c.deref-in-Concat.ensures.value)) parts.ensures.reads
 
 pub add_second-returns-in-Alternation-clause-reads :
     goal.add_second-returns-in-Alternation-clause-reads
 add_second-returns-in-Alternation-clause-reads t c =
-    let r = c.in-Alternation in
     let branches = c.add_second_of_branches in
-    let same = ap tree_of r.is ∙ tree_of-Alternation r.branches
-    ∙ ap (λ hirs. alternation (trees_of hirs)) (sym c.deref-in-Alternation.ensures.value) in
-    subst (λ (tree : Tree). IfSome branches.result (ReadsEach tree branches.new.self)) (sym same)
+    subst (λ (tree : Tree). IfSome branches.result (ReadsEach tree branches.new.self))
+    (sym (tree_is-Alternation _ c.in-Alternation.is c.deref-in-Alternation.ensures.value))
     branches.ensures.reads
 
 pub add_second-returns-in-Capture-clause-reads : goal.add_second-returns-in-Capture-clause-reads
 add_second-returns-in-Capture-clause-reads t c =
-    let r = c.in-Capture in
     let body = c.add_second-in-Capture in
-    let same = ap tree_of r.is ∙ tree_of-Capture r.index r.name r.body
-    ∙ ap (λ hir. capture r.index (option_map text_of_name r.name) (tree_of hir))
-    (sym c.deref-in-Capture.ensures) in
-    subst (λ (tree : Tree). IfSome body.result (ReadsEach tree body.new.self)) (sym same)
-    body.ensures.reads
+    subst (λ (tree : Tree). IfSome body.result (ReadsEach tree body.new.self))
+    (sym (tree_is-Capture c.in-Capture.is c.deref-in-Capture.ensures)) body.ensures.reads
 
 -- The goals from here on need no lemma of their own. They have answers because the prover would
 -- try other calls first, which takes long

@@ -2,7 +2,8 @@ use Rattle.regex_lite_engine.proofs.Common.{◌≡◌, ℕ, List, [], ◌∷◌,
 use Rattle.regex_lite_engine.proofs.Common.{sym, ap, ◌∙◌, subst, arith, length-append, tree_of}
 use Rattle.regex_lite_engine.proofs.Common.{AreMasksOf}
 use Rattle.regex_lite_engine.proofs.count.TotalLemmas.{tree_there}
-use Rattle.regex_lite_engine.proofs.prefilter.list_heads.ThirdLemmas.{masks_more}
+use Rattle.regex_lite_engine.specs.Prefilter.Thirds.{IsThirdOfTree}
+use Rattle.regex_lite_engine.proofs.nfa.list.GroupLemmas.{told_more}
 use Rattle.regex_lite_engine.proofs.prefilter.list_heads.thirds.Thirds.of.Goals as goal
 
 pub loop-hir-preserved : goal.loop-hir-preserved
@@ -24,6 +25,7 @@ loop-hir-preserved c =
         c.loop-hir.invariant.all,
       );
       each = subst (λ masks. AreMasksOf trees masks) (sym {A = List ℕ} pushed)
-          (masks_more trees before (tree_of hir) mask next (rw (← c.hir.ensures) c.third_of.ensures)
+          (told_more IsThirdOfTree trees before (tree_of hir) mask next
+          (rw (← c.hir.ensures) c.third_of.ensures)
           c.loop-hir.invariant.each);
     }
