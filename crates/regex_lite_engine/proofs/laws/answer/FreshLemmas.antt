@@ -1,7 +1,7 @@
 -- Walks that come to no node twice, among finitely many nodes.
 use Rattle.regex_lite_engine.proofs.Common.{◌≡◌, ℕ, suc, ◌<◌, ◌≤◌, ◌≢◌, ◌⊎◌, List, [], ◌∷◌, ◌++◌}
 use Rattle.regex_lite_engine.proofs.Common.{length, Some, None, Option, sym, refl, ap, ◌∙◌, subst}
-use Rattle.regex_lite_engine.proofs.Common.{inl, inr, arith, Leads, NoneTwice}
+use Rattle.regex_lite_engine.proofs.Common.{inl, inr, arith, ⊎_elim, Leads, NoneTwice}
 use Rattle.regex_lite_syntax.proofs.ListLemmas.{same_head, same_tail}
 use Rattle.regex_lite_engine.proofs.InLemmas.{In}
 use Rattle.regex_lite_engine.proofs.laws.LeadsLemmas.{leads_after}
@@ -29,26 +29,16 @@ module _ {N : Type 0} (one_or_two : (a b : N) → (a ≡ b) ⊎ (a ≢ b)) where
       by_test (inr differ) (inl f) on = inl f
       by_test (inr differ) (inr later) on = inr (on later)
 
-  of_without : (n m : N) (list : List N) → In m (without n list) → In m list
-  of_without n m [] is = is
+  of_without : (n m : N) (list : List N) → In m (without n list) → In m list × (m ≢ n)
+  of_without n m [] is = absurd is
   of_without n m (l ∷ list) is =
       by_test (one_or_two l n) is (λ later. of_without n m list later)
     where
       by_test : (test : (l ≡ n) ⊎ (l ≢ n)) → In m (unless test l (without n list))
-          → (In m (without n list) → In m list) → (l ≡ m) ⊎ In m list
-      by_test (inl e) later on = inr (on later)
-      by_test (inr differ) (inl f) on = inl f
-      by_test (inr differ) (inr later) on = inr (on later)
-
-  not_without : (n : N) (list : List N) → In n (without n list) → ⊥
-  not_without n [] is = is
-  not_without n (l ∷ list) is = by_test (one_or_two l n) is (λ later. not_without n list later)
-    where
-      by_test : (test : (l ≡ n) ⊎ (l ≢ n)) → In n (unless test l (without n list))
-          → (In n (without n list) → ⊥) → ⊥
-      by_test (inl e) later on = on later
-      by_test (inr differ) (inl f) on = differ f
-      by_test (inr differ) (inr later) on = on later
+          → (In m (without n list) → In m list × (m ≢ n)) → ((l ≡ m) ⊎ In m list) × (m ≢ n)
+      by_test (inl e) later on = (inr (on later).0, (on later).1)
+      by_test (inr differ) (inl f) on = (inl f, λ e. differ (f ∙ e))
+      by_test (inr differ) (inr later) on = (inr (on later).0, (on later).1)
 
   not_longer : (n : N) (list : List N) → length (without n list) ≤ length list
   not_longer n [] = omega arith
@@ -72,17 +62,13 @@ module _ {N : Type 0} (one_or_two : (a b : N) → (a ≡ b) ⊎ (a ≢ b)) where
 
   in_or_not : (n : N) (list : List N) → In n list ⊎ (In n list → ⊥)
   in_or_not n [] = inr (λ is. is)
-  in_or_not n (m ∷ list) = both (one_or_two m n) (in_or_not n list)
-    where
-      both : (m ≡ n) ⊎ (m ≢ n) → In n list ⊎ (In n list → ⊥)
-          → ((m ≡ n) ⊎ In n list) ⊎ ((m ≡ n) ⊎ In n list → ⊥)
-      both (inl e) later = inl (inl e)
-      both (inr apart) (inl is) = inl (inr is)
-      both (inr apart) (inr gone) = inr neither
-        where
-          neither : (m ≡ n) ⊎ In n list → ⊥
-          neither (inl e) = apart e
-          neither (inr is) = gone is
+  in_or_not n (m ∷ list) = elim (one_or_two m n) [
+    | inl e ↦ inl (inl e)
+    | inr apart ↦ elim (in_or_not n list) [
+      | inl is ↦ inl (inr is)
+      | inr gone ↦ inr (λ either. ⊎_elim apart gone either)
+    ]
+  ]
 
   module _ (step : N → ℕ → Option N) where
     -- the walk goes by nodes that are left, and each is left no more once it has been there
@@ -111,7 +97,7 @@ module _ {N : Type 0} (one_or_two : (a b : N) → (a ≡ b) ⊎ (a ≢ b)) where
     fresh_in left n m (k ∷ ks) (u ∷ us) vs (is, next, s, fresh) e there =
         let later = fresh_in (without n left) next m ks us vs fresh (same_tail e)
         (leads_after step us n next m k u s (same_head e) there) in
-        of_without n m left later
+        (of_without n m left later).0
 
     pub fresh_once : (left : List N) (n : N) (ks : List ℕ) → Fresh left n ks → NoneTwice N step n ks
     fresh_once left n [] fresh [] [] ws m e f g = refl
@@ -122,7 +108,7 @@ module _ {N : Type 0} (one_or_two : (a b : N) → (a ≡ b) ⊎ (a ≢ b)) where
         let from_n = subst (λ z. Leads N step z (v ∷ vs) m) (sym f) g in
         let back = leads_after step vs n next m k v s (same_head e) from_n in
         let again = fresh_in (without n left) next m ks vs ws fresh (same_tail e) back in
-        absurd (not_without n left (subst (λ z. In z (without n left)) (sym f) again))
+        absurd ((of_without n m left again).1 (sym f))
     fresh_once left n (k ∷ ks) (is, next, s, fresh) (u ∷ us) vs ws m e f g =
         fresh_once (without n left) next ks fresh us vs ws m (same_tail e)
         (leads_after step us n next m k u s (same_head e) f) g

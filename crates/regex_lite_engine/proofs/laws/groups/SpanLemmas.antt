@@ -1,6 +1,6 @@
 -- The spans of groups: each lies between where the match starts and where it ends.
-use Rattle.regex_lite_engine.proofs.Common.{◌≡◌, ℕ, zero, suc, ◌+◌, ◌*◌, ◌≤◌, true, false, ◌≢◌, ◌⊎◌}
-use Rattle.regex_lite_engine.proofs.Common.{is_some, ◌==◌, Some, None, Option, sym, refl, ap, ◌∙◌}
+use Rattle.regex_lite_engine.proofs.Common.{◌≡◌, ℕ, zero, suc, ◌+◌, ◌*◌, ◌<◌, ◌≤◌, true, false, ◌≢◌}
+use Rattle.regex_lite_engine.proofs.Common.{◌⊎◌, is_some, ◌==◌, Some, None, Option, sym, refl, ap, ◌∙◌}
 use Rattle.regex_lite_engine.proofs.Common.{subst, inl, inr, arith, cases_eq, nat_tests, option_or}
 use Rattle.regex_lite_engine.proofs.Common.{Text, Tree, empty, character, class, look, repetition}
 use Rattle.regex_lite_engine.proofs.Common.{capture, concat, alternation, Trees, none, more}
@@ -91,90 +91,63 @@ around_ordered g i j inner marks e is = record {
       (around_slots g k i j inner (cases_eq g k) is.forward (is.each k));
 }
 
-module _ (haystack : Text) where
-  passes_ordered : (Pass : ℕ → ℕ → Marks → Type 0)
-      → ((i j : ℕ) (marks : Marks) → Pass i j marks → AreOrdered i j marks)
-      → (n i j : ℕ) (marks : Marks) → MarkedPasses Pass n i j marks → AreOrdered i j marks
-  passes_ordered Pass ordered zero i j marks (e, free) =
-      none_ordered i j marks (omega (arith, e)) free
-  passes_ordered Pass ordered (suc n) i j marks (k, first, later, pass, made, e) =
-      over_ordered i k j first later marks e (ordered i k first pass)
-      (passes_ordered Pass ordered n k j later made)
+-- what holds where nothing is marked, and on over parts and groups, holds of each match of a tree
+module _ (haystack : Text) (P : (i j : ℕ) → Marks → Type 0)
+    (unmarked : (i j : ℕ) (marks : Marks) → i ≤ j → marks ≡ no_marks → P i j marks)
+    (both : (i k j : ℕ) (first later marks : Marks) → marks ≡ over later first → P i k first
+    → P k j later → P i j marks)
+    (group : (g i j : ℕ) (inner marks : Marks) → 0 < g → marks ≡ around g i j inner → P i j inner
+    → P i j marks) where
+  of_passes : (Pass : ℕ → ℕ → Marks → Type 0)
+      → ((i j : ℕ) (marks : Marks) → Pass i j marks → P i j marks)
+      → (n i j : ℕ) (marks : Marks) → MarkedPasses Pass n i j marks → P i j marks
+  of_passes Pass each zero i j marks (e, free) = unmarked i j marks (omega (arith, e)) free
+  of_passes Pass each (suc n) i j marks (k, first, later, pass, made, e) =
+      both i k j first later marks e (each i k first pass) (of_passes Pass each n k j later made)
 
   mutual
-    ordered : (tree : Tree) (i j : ℕ) (marks : Marks) → Marking haystack tree i j marks
-        → AreOrdered i j marks
-    ordered empty i j marks (e, free) = none_ordered i j marks (omega (arith, e)) free
-    ordered (character c) i j marks (there, e, free) =
-        none_ordered i j marks (omega (arith, e)) free
-    ordered (class ranges) i j marks (c, there, is, e, free) =
-        none_ordered i j marks (omega (arith, e)) free
-    ordered (look test) i j marks (holds, e, free) =
-        none_ordered i j marks (omega (arith, e)) free
-    ordered (repetition least most greedy body) i j marks (n, low, high, made) =
-        passes_ordered (Marking haystack body) (λ a b m p. ordered body a b m p) n i j marks made
-    ordered (capture index name body) i j marks (inner, m, e) =
-        around_ordered index i j inner marks e (ordered body i j inner m)
-    ordered (concat parts) i j marks m = chain_ordered parts i j marks m
-    ordered (alternation branches) i j marks m = branch_ordered branches i j marks m
+    of_marking : (tree : Tree) (i j : ℕ) (marks : Marks) → IsRegular tree
+        → Marking haystack tree i j marks → P i j marks
+    of_marking empty i j marks regular (e, free) = unmarked i j marks (omega (arith, e)) free
+    of_marking (character c) i j marks regular (there, e, free) =
+        unmarked i j marks (omega (arith, e)) free
+    of_marking (class ranges) i j marks regular (c, there, is, e, free) =
+        unmarked i j marks (omega (arith, e)) free
+    of_marking (look test) i j marks regular (holds, e, free) =
+        unmarked i j marks (omega (arith, e)) free
+    of_marking (repetition least most greedy body) i j marks regular (n, low, high, made) =
+        of_passes (Marking haystack body) (λ a b m p. of_marking body a b m regular.1 p) n i j
+        marks made
+    of_marking (capture index name body) i j marks regular (inner, m, e) =
+        group index i j inner marks (omega (arith, regular.0)) e
+        (of_marking body i j inner regular.1 m)
+    of_marking (concat parts) i j marks regular m = of_chain parts i j marks regular.1 m
+    of_marking (alternation branches) i j marks regular m =
+        of_branches branches i j marks regular.1 m
 
-    chain_ordered : (parts : Trees) (i j : ℕ) (marks : Marks)
-        → MarkingChain haystack parts i j marks → AreOrdered i j marks
-    chain_ordered none i j marks (e, free) = none_ordered i j marks (omega (arith, e)) free
-    chain_ordered (more a rest) i j marks (k, first, later, m, chain, e) =
-        over_ordered i k j first later marks e (ordered a i k first m)
-        (chain_ordered rest k j later chain)
+    of_chain : (parts : Trees) (i j : ℕ) (marks : Marks) → AreRegular parts
+        → MarkingChain haystack parts i j marks → P i j marks
+    of_chain none i j marks regular (e, free) = unmarked i j marks (omega (arith, e)) free
+    of_chain (more a rest) i j marks regular (k, first, later, m, chain, e) =
+        both i k j first later marks e (of_marking a i k first regular.0 m)
+        (of_chain rest k j later regular.1 chain)
 
-    branch_ordered : (branches : Trees) (i j : ℕ) (marks : Marks)
-        → MarkingBranch haystack branches i j marks → AreOrdered i j marks
-    branch_ordered none i j marks m = absurd m
-    branch_ordered (more a rest) i j marks (inl m) = ordered a i j marks m
-    branch_ordered (more a rest) i j marks (inr m) = branch_ordered rest i j marks m
+    of_branches : (branches : Trees) (i j : ℕ) (marks : Marks) → AreRegular branches
+        → MarkingBranch haystack branches i j marks → P i j marks
+    of_branches none i j marks regular m = absurd m
+    of_branches (more a rest) i j marks regular (inl m) = of_marking a i j marks regular.0 m
+    of_branches (more a rest) i j marks regular (inr m) = of_branches rest i j marks regular.1 m
 
-  -- group 0 is no group of the tree
-  no_slot_0_in : (Pass : ℕ → ℕ → Marks → Type 0)
-      → ((i j : ℕ) (marks : Marks) → Pass i j marks → marks 0 ≡ None)
-      → (n i j : ℕ) (marks : Marks) → MarkedPasses Pass n i j marks → marks 0 ≡ None
-  no_slot_0_in Pass none_in zero i j marks (e, free) = ap (λ (m : Marks). m 0) free
-  no_slot_0_in Pass none_in (suc n) i j marks (k, first, later, pass, made, e) =
-      let p = none_in i k first pass in
-      let q = no_slot_0_in Pass none_in n k j later made in
-      ap (λ (m : Marks). m 0) e ∙ rw (q, p) refl
-
-  mutual
-    no_slot_0 : (tree : Tree) (i j : ℕ) (marks : Marks) → IsRegular tree
-        → Marking haystack tree i j marks → marks 0 ≡ None
-    no_slot_0 empty i j marks regular (e, free) = ap (λ (m : Marks). m 0) free
-    no_slot_0 (character c) i j marks regular (there, e, free) = ap (λ (m : Marks). m 0) free
-    no_slot_0 (class ranges) i j marks regular (c, there, is, e, free) =
-        ap (λ (m : Marks). m 0) free
-    no_slot_0 (look test) i j marks regular (holds, e, free) = ap (λ (m : Marks). m 0) free
-    no_slot_0 (repetition least most greedy body) i j marks regular (n, low, high, made) =
-        no_slot_0_in (Marking haystack body)
-        (λ a b m p. no_slot_0 body a b m regular.1 p) n i j marks made
-    no_slot_0 (capture index name body) i j marks regular (inner, m, e) =
-        let a : (2 * index + 1 == 0) ≡ false = grind (arith, nat_tests) in
-        let b : (2 * index == 0) ≡ false = grind (arith, nat_tests, regular.0) in
-        let inside = no_slot_0 body i j inner regular.1 m in
-        ap (λ (m : Marks). m 0) e ∙ rw (a, b, inside) refl
-    no_slot_0 (concat parts) i j marks regular m = no_slot_0_chain parts i j marks regular.1 m
-    no_slot_0 (alternation branches) i j marks regular m =
-        no_slot_0_branch branches i j marks regular.1 m
-
-    no_slot_0_chain : (parts : Trees) (i j : ℕ) (marks : Marks) → AreRegular parts
-        → MarkingChain haystack parts i j marks → marks 0 ≡ None
-    no_slot_0_chain none i j marks regular (e, free) = ap (λ (m : Marks). m 0) free
-    no_slot_0_chain (more a rest) i j marks regular (k, first, later, m, chain, e) =
-        let p = no_slot_0 a i k first regular.0 m in
-        let q = no_slot_0_chain rest k j later regular.1 chain in
-        ap (λ (m : Marks). m 0) e ∙ rw (q, p) refl
-
-    no_slot_0_branch : (branches : Trees) (i j : ℕ) (marks : Marks) → AreRegular branches
-        → MarkingBranch haystack branches i j marks → marks 0 ≡ None
-    no_slot_0_branch none i j marks regular m = absurd m
-    no_slot_0_branch (more a rest) i j marks regular (inl m) = no_slot_0 a i j marks regular.0 m
-    no_slot_0_branch (more a rest) i j marks regular (inr m) =
-        no_slot_0_branch rest i j marks regular.1 m
+-- group 0 is no group of the tree
+no_slot_0 : (haystack : Text) (tree : Tree) (i j : ℕ) (marks : Marks) → IsRegular tree
+    → Marking haystack tree i j marks → marks 0 ≡ None
+no_slot_0 haystack =
+    of_marking haystack (λ i j m. m 0 ≡ None) (λ i j m le free. ap (λ (z : Marks). z 0) free)
+    (λ i k j first later m e p q. ap (λ (z : Marks). z 0) e ∙ rw (q, p) refl)
+    (λ g i j inner m some e inside. (
+    let a : (2 * g + 1 == 0) ≡ false = grind (arith, nat_tests) in
+    let b : (2 * g == 0) ≡ false = grind (arith, nat_tests, some) in
+    ap (λ (z : Marks). z 0) e ∙ rw (a, b, inside) refl))
 
 both_some : (i j : ℕ) (a b : Option ℕ) (from to : ℕ) → Ordered i j a b
     → option_zip a b ≡ Some (from, to)
@@ -204,7 +177,11 @@ groups_inside tree haystack s found regular is = record {
     marking = marked_found tree haystack s found regular is
 
     all : AreOrdered found.start found.end found.marks
-    all = ordered haystack (whole tree) found.start found.end found.marks marking
+    all =
+        around_ordered 0 found.start found.end marking.0 found.marks marking.2
+        (of_marking haystack AreOrdered none_ordered over_ordered
+        (λ g i j inner m some. around_ordered g i j inner m) tree found.start found.end marking.0
+        regular marking.1)
 
     span_0 : span found.marks 0 ≡ Some (found.start, found.end)
     span_0 =

@@ -207,19 +207,17 @@ module _ (trees : List Tree) (haystack : Text)
             (λ i j m. is.least k i j is.tree is.numbered m) is.answer),
       )
 
+pub none_match : (haystack : Text) (s : ℕ) → IsAnswerOfList [] haystack s None
+none_match haystack s = λ (k, tree, there, m). not_there there
+
 -- a list of one pattern
 module _ (tree : Tree) (haystack : Text) (s : ℕ) where
   pub alone_in_list : (answer : Option Found) → IsAnswer tree haystack s answer
       → IsAnswerOfList (tree ∷ []) haystack s (by_itself answer)
-  alone_in_list None none = λ (k, other, there, m). by_number k other there m
-    where
-      by_number : (k : ℕ) (other : Tree) → HasTree (tree ∷ []) k other
-          → HasMatchFrom other haystack s → ⊥
-      by_number zero other there m =
-          none (subst (λ t. HasMatchFrom t haystack s) (sym (same_some there)) m)
-      by_number (suc k) other there m = not_there there
+  unfolding choose
+  alone_in_list None is = (choose tree [] haystack s None is None (none_match haystack s)).1
   alone_in_list (Some f) is =
-      own_first tree [] haystack s f is (λ k i j other there m. absurd (not_there there))
+      (choose tree [] haystack s (Some f) is None (none_match haystack s)).1
 
   pub alone_by_itself : (answer : Option Found)
       → IsAnswerOfList (tree ∷ []) haystack s (by_itself answer) → IsAnswer tree haystack s answer
@@ -227,6 +225,3 @@ module _ (tree : Tree) (haystack : Text) (s : ℕ) where
   alone_by_itself (Some f) is =
       from_before tree haystack s f is.from (λ i j m. is.least 0 i j tree refl m)
       (subst (λ (t : Tree). IsFound t haystack f.start f) (sym (same_some is.numbered)) is.answer)
-
-pub none_match : (haystack : Text) (s : ℕ) → IsAnswerOfList [] haystack s None
-none_match haystack s = λ (k, tree, there, m). not_there there

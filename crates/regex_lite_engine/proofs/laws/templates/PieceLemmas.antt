@@ -45,17 +45,11 @@ begins_at_dollar template after rest piece starts (lone single none same is) =
 -- no name begins with a brace or a `$`
 no_brace_in_name : (after inner : List ℕ) → after ≡ 123 ∷ inner
     → 0 < prefix_len is_name_character after → ⊥
-no_brace_in_name after inner is some =
-    let none : 0 < prefix_len is_name_character (123 ∷ inner) =
-    subst (λ t. 0 < prefix_len is_name_character t) is some in
-    absurd (omega (arith, none))
+no_brace_in_name after inner is some = let none = rw is at some in omega (arith, none)
 
 no_dollar_in_name : (after inner : List ℕ) → after ≡ 36 ∷ inner
     → 0 < prefix_len is_name_character after → ⊥
-no_dollar_in_name after inner is some =
-    let none : 0 < prefix_len is_name_character (36 ∷ inner) =
-    subst (λ t. 0 < prefix_len is_name_character t) is some in
-    absurd (omega (arith, none))
+no_dollar_in_name after inner is some = let none = rw is at some in omega (arith, none)
 
 no_reference_in_dollar : (after t name rest : List ℕ) → after ≡ 36 ∷ t
     → IsReference after name rest → ⊥

@@ -1,5 +1,4 @@
-use Rattle.regex_lite_engine.proofs.Common.{[], ◌∷◌, chars, refl, arith, table_of, best_of}
-use Rattle.regex_lite_engine.proofs.Common.{position_at}
+use Rattle.regex_lite_engine.proofs.Common.{[], ◌∷◌, refl, arith, best_of, position_at}
 use Rattle.regex_lite_engine.proofs.lazy_dfa.OnceLemmas.{empty, found_told, known_stands}
 use Rattle.regex_lite_engine.proofs.lazy_dfa.RunLemmas.{all_of_one, bounded_on, match_counted}
 use Rattle.regex_lite_engine.proofs.nfa.Graph.find_once.Goals as goal
@@ -7,8 +6,8 @@ use Rattle.regex_lite_engine.proofs.nfa.Graph.find_once.Goals as goal
 pub take_turns-requires : goal.take_turns-requires
 take_turns-requires c =
     let s = position_at c.args.haystack.now c.args.start in
-    let begun = c.begun-begun.ensures (table_of c.args.self.now)
-    (c.args.self.now.start ∷ []) empty c.args.cache.now c.requires.fresh c.requires.width in
+    let begun = c.begun-begun.ensures _ (c.args.self.now.start ∷ []) empty _ c.requires.fresh
+    c.requires.width in
     record {
       all = all_of_one c.args.self.now c.start-start.result c.start-start.ensures.same
           c.start-start.ensures.inside;
@@ -17,21 +16,16 @@ take_turns-requires c =
 
 pub returns-in_default : goal.returns-in_default
 returns-in_default c =
-    let table = table_of c.args.self.now in
-    let h = chars c.args.haystack.now in
-    let entries = c.args.self.now.start ∷ [] in
     let s = position_at c.args.haystack.now c.args.start in
     let now = c.take_turns.new.self in
-    let begun =
-    c.begun-begun.ensures table entries empty c.args.cache.now c.requires.fresh c.requires.width in
+    let begun = c.begun-begun.ensures _ (c.args.self.now.start ∷ []) empty _ c.requires.fresh
+    c.requires.width in
     let on = c.in_default.ensures.on s empty begun in
-    let first = begun.on.low in
-    let last = begun.is.inside in
     record {
       found =
-          found_told table h entries s on.0 now c.found.result on.2 c.found.ensures
+          found_told _ _ _ _ _ _ c.found.result on.2 c.found.ensures
           (c.in_default.ensures.over s empty begun refl);
-      bounded = bounded_on table h entries s on.0 now (omega (arith, first, last)) on.1 on.2;
+      bounded = bounded_on _ _ _ _ _ _ (omega (arith, begun.on.low, begun.is.inside)) on.1 on.2;
       entered =
           match_counted (best_of now.best) c.found.result now.best.row now.walk.steps.entered 1
           c.found.ensures on.2.ready.match_entered (omega arith);
@@ -40,9 +34,8 @@ returns-in_default c =
 pub take_turns-requires-in_default-for_graph : goal.take_turns-requires-in_default-for_graph
 take_turns-requires-in_default-for_graph c =
     let s = position_at c.args.haystack.now c.args.start in
-    let begun = c.begun-begun.ensures (table_of c.args.self.now)
-    (c.args.self.now.start ∷ []) empty c.args.cache.now c.requires.fresh c.requires.width in
-    let stands = c.in-Some.ensures.stands s empty begun in
+    let stands = c.in-Some.ensures.stands s empty
+    (c.begun-begun.ensures _ _ empty _ c.requires.fresh c.requires.width) in
     record {
       all = all_of_one c.args.self.now c.start-start.result c.start-start.ensures.same
           c.start-start.ensures.inside;
@@ -51,24 +44,18 @@ take_turns-requires-in_default-for_graph c =
 
 pub returns-in_default-for_graph : goal.returns-in_default-for_graph
 returns-in_default-for_graph c =
-    let table = table_of c.args.self.now in
-    let h = chars c.args.haystack.now in
-    let entries = c.args.self.now.start ∷ [] in
     let s = position_at c.args.haystack.now c.args.start in
-    let begun =
-    c.begun-begun.ensures table entries empty c.args.cache.now c.requires.fresh c.requires.width in
-    let stands = c.in-Some.ensures.stands s empty begun in
+    let stands = c.in-Some.ensures.stands s empty
+    (c.begun-begun.ensures _ _ empty _ c.requires.fresh c.requires.width) in
     let turns = c.take_turns-in_default-for_graph.ensures in
     let now = c.take_turns-in_default-for_graph.new.self in
     let span = c.found-in_default-for_graph in
     let on = turns.on s empty stands in
-    let first = begun.on.low in
-    let last = begun.is.inside in
     record {
       found =
-          found_told table h entries s on.0 now span.result on.2 span.ensures
+          found_told _ _ _ _ _ _ span.result on.2 span.ensures
           (turns.over s empty stands (turns.all refl));
-      bounded = bounded_on table h entries s on.0 now (omega (arith, first, last)) on.1 on.2;
+      bounded = bounded_on _ _ _ _ _ _ (omega (arith, stands.on.low, stands.is.inside)) on.1 on.2;
       entered =
           match_counted (best_of now.best) span.result now.best.row now.walk.steps.entered 1
           span.ensures on.2.ready.match_entered (omega arith);
@@ -77,37 +64,26 @@ returns-in_default-for_graph c =
 pub state_at-state-requires-clause-between : goal.state_at-state-requires-clause-between
 state_at-state-requires-clause-between c =
     let s = position_at c.args.haystack.now c.args.start in
-    let begun = c.begun-begun.ensures (table_of c.args.self.now)
-    (c.args.self.now.start ∷ []) empty c.args.cache.now c.requires.fresh c.requires.width in
-    let stands = c.in-Some.ensures.stands s empty begun in
+    let stands = c.in-Some.ensures.stands s empty
+    (c.begun-begun.ensures _ _ empty _ c.requires.fresh c.requires.width) in
     stands.on.ready
 
 pub find_from-requires-clause-stands : goal.find_from-requires-clause-stands
 find_from-requires-clause-stands c =
-    let table = table_of c.args.self.now in
-    let h = chars c.args.haystack.now in
-    let entries = c.args.self.now.start ∷ [] in
     let s = position_at c.args.haystack.now c.args.start in
-    let begun =
-    c.begun-begun.ensures table entries empty c.args.cache.now c.requires.fresh c.requires.width in
-    let stands = c.in-Some.ensures.stands s empty begun in
-    let known = known_stands table h entries s empty c.state_at-state.new.self c.in-Some.at
-    c.with_state-known.result c.state_at-state.result c.take_turns.new.self stands
-    c.with_state-known.ensures c.state_at-state.ensures.state in
+    let stands = c.in-Some.ensures.stands s empty
+    (c.begun-begun.ensures _ _ empty _ c.requires.fresh c.requires.width) in
+    let known = known_stands _ _ _ _ _ _ _ _ _ _ stands c.with_state-known.ensures
+    c.state_at-state.ensures.state in
     (s, c.requires.counts, known)
 
 pub returns : goal.returns
 returns c =
-    let table = table_of c.args.self.now in
-    let h = chars c.args.haystack.now in
-    let entries = c.args.self.now.start ∷ [] in
     let s = position_at c.args.haystack.now c.args.start in
-    let begun =
-    c.begun-begun.ensures table entries empty c.args.cache.now c.requires.fresh c.requires.width in
-    let stands = c.in-Some.ensures.stands s empty begun in
-    let known = known_stands table h entries s empty c.state_at-state.new.self c.in-Some.at
-    c.with_state-known.result c.state_at-state.result c.take_turns.new.self stands
-    c.with_state-known.ensures c.state_at-state.ensures.state in
+    let stands = c.in-Some.ensures.stands s empty
+    (c.begun-begun.ensures _ _ empty _ c.requires.fresh c.requires.width) in
+    let known = known_stands _ _ _ _ _ _ _ _ _ _ stands c.with_state-known.ensures
+    c.state_at-state.ensures.state in
     let end = c.find_from.ensures in
     record { found = end.found s known; bounded = end.bounded s known; entered = end.entered }
 

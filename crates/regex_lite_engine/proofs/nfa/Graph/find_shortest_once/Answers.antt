@@ -1,5 +1,4 @@
-use Rattle.regex_lite_engine.proofs.Common.{[], ◌∷◌, chars, sym, refl, subst, arith, table_of}
-use Rattle.regex_lite_engine.proofs.Common.{end_told, best_of, IsNumberedEndOf, position_at}
+use Rattle.regex_lite_engine.proofs.Common.{[], ◌∷◌, refl, arith, best_of, position_at}
 use Rattle.regex_lite_engine.proofs.lazy_dfa.OnceLemmas.{empty, known_stands}
 use Rattle.regex_lite_engine.proofs.lazy_dfa.RunLemmas.{all_of_one, bounded_on, end_counted}
 use Rattle.regex_lite_engine.proofs.lazy_dfa.ScanLemmas.{end_alone}
@@ -8,8 +7,8 @@ use Rattle.regex_lite_engine.proofs.nfa.Graph.find_shortest_once.Goals as goal
 pub take_turns_to_end-requires : goal.take_turns_to_end-requires
 take_turns_to_end-requires c =
     let s = position_at c.args.haystack.now c.args.start in
-    let begun = c.begun-begun.ensures (table_of c.args.self.now)
-    (c.args.self.now.start ∷ []) empty c.args.cache.now c.requires.fresh c.requires.width in
+    let begun = c.begun-begun.ensures _ (c.args.self.now.start ∷ []) empty _ c.requires.fresh
+    c.requires.width in
     record {
       all = all_of_one c.args.self.now c.start-start.result c.start-start.ensures.same
           c.start-start.ensures.inside;
@@ -19,22 +18,15 @@ take_turns_to_end-requires c =
 
 pub returns-in_default : goal.returns-in_default
 returns-in_default c =
-    let table = table_of c.args.self.now in
-    let h = chars c.args.haystack.now in
-    let entries = c.args.self.now.start ∷ [] in
     let s = position_at c.args.haystack.now c.args.start in
     let now = c.take_turns_to_end.new.self in
-    let begun =
-    c.begun-begun.ensures table entries empty c.args.cache.now c.requires.fresh c.requires.width in
+    let begun = c.begun-begun.ensures _ (c.args.self.now.start ∷ []) empty _ c.requires.fresh
+    c.requires.width in
     let on = c.in_default.ensures.on s empty begun in
-    let first = begun.on.low in
-    let last = begun.is.inside in
     record {
-      found =
-          subst (λ end. IsNumberedEndOf table h entries s (end_told end)) (sym c.end.ensures)
-          (end_alone table h entries s (best_of now.best)
-          (c.in_default.ensures.over s empty begun refl));
-      bounded = bounded_on table h entries s on.0 now (omega (arith, first, last)) on.1 on.2;
+      found = rw c.end.ensures
+          (end_alone _ _ _ _ _ (c.in_default.ensures.over s empty begun refl));
+      bounded = bounded_on _ _ _ _ _ _ (omega (arith, begun.on.low, begun.is.inside)) on.1 on.2;
       entered =
           end_counted (best_of now.best) c.end.result now.walk.steps.entered c.end.ensures
           on.2.ready.match_entered;
@@ -44,32 +36,22 @@ pub take_turns_to_end-requires-in_default-for_graph-clause-stands :
     goal.take_turns_to_end-requires-in_default-for_graph-clause-stands
 take_turns_to_end-requires-in_default-for_graph-clause-stands c =
     let s = position_at c.args.haystack.now c.args.start in
-    let begun = c.begun-begun.ensures (table_of c.args.self.now)
-    (c.args.self.now.start ∷ []) empty c.args.cache.now c.requires.fresh c.requires.width in
-    let stands = c.in-Some.ensures.stands s empty begun in
+    let stands = c.in-Some.ensures.stands s empty
+    (c.begun-begun.ensures _ _ empty _ c.requires.fresh c.requires.width) in
     (s, empty, c.requires.counts, stands)
 
 pub returns-in_default-for_graph : goal.returns-in_default-for_graph
 returns-in_default-for_graph c =
-    let table = table_of c.args.self.now in
-    let h = chars c.args.haystack.now in
-    let entries = c.args.self.now.start ∷ [] in
     let s = position_at c.args.haystack.now c.args.start in
-    let begun =
-    c.begun-begun.ensures table entries empty c.args.cache.now c.requires.fresh c.requires.width in
-    let stands = c.in-Some.ensures.stands s empty begun in
+    let stands = c.in-Some.ensures.stands s empty
+    (c.begun-begun.ensures _ _ empty _ c.requires.fresh c.requires.width) in
     let turns = c.take_turns_to_end-in_default-for_graph.ensures in
     let now = c.take_turns_to_end-in_default-for_graph.new.self in
     let end = c.end-in_default-for_graph in
     let on = turns.on s empty stands in
-    let first = begun.on.low in
-    let last = begun.is.inside in
     record {
-      found =
-          subst (λ end. IsNumberedEndOf table h entries s (end_told end)) (sym end.ensures)
-          (end_alone table h entries s (best_of now.best)
-          (turns.over s empty stands (turns.all refl)));
-      bounded = bounded_on table h entries s on.0 now (omega (arith, first, last)) on.1 on.2;
+      found = rw end.ensures (end_alone _ _ _ _ _ (turns.over s empty stands (turns.all refl)));
+      bounded = bounded_on _ _ _ _ _ _ (omega (arith, stands.on.low, stands.is.inside)) on.1 on.2;
       entered =
           end_counted (best_of now.best) end.result now.walk.steps.entered end.ensures
           on.2.ready.match_entered;
@@ -78,37 +60,26 @@ returns-in_default-for_graph c =
 pub state_at-state-requires-clause-between : goal.state_at-state-requires-clause-between
 state_at-state-requires-clause-between c =
     let s = position_at c.args.haystack.now c.args.start in
-    let begun = c.begun-begun.ensures (table_of c.args.self.now)
-    (c.args.self.now.start ∷ []) empty c.args.cache.now c.requires.fresh c.requires.width in
-    let stands = c.in-Some.ensures.stands s empty begun in
+    let stands = c.in-Some.ensures.stands s empty
+    (c.begun-begun.ensures _ _ empty _ c.requires.fresh c.requires.width) in
     stands.on.ready
 
 pub find_shortest_from-requires-clause-stands : goal.find_shortest_from-requires-clause-stands
 find_shortest_from-requires-clause-stands c =
-    let table = table_of c.args.self.now in
-    let h = chars c.args.haystack.now in
-    let entries = c.args.self.now.start ∷ [] in
     let s = position_at c.args.haystack.now c.args.start in
-    let begun =
-    c.begun-begun.ensures table entries empty c.args.cache.now c.requires.fresh c.requires.width in
-    let stands = c.in-Some.ensures.stands s empty begun in
-    let known = known_stands table h entries s empty c.state_at-state.new.self c.in-Some.at
-    c.with_state-known.result c.state_at-state.result c.take_turns_to_end.new.self stands
-    c.with_state-known.ensures c.state_at-state.ensures.state in
+    let stands = c.in-Some.ensures.stands s empty
+    (c.begun-begun.ensures _ _ empty _ c.requires.fresh c.requires.width) in
+    let known = known_stands _ _ _ _ _ _ _ _ _ _ stands c.with_state-known.ensures
+    c.state_at-state.ensures.state in
     (s, c.requires.counts, known)
 
 pub returns : goal.returns
 returns c =
-    let table = table_of c.args.self.now in
-    let h = chars c.args.haystack.now in
-    let entries = c.args.self.now.start ∷ [] in
     let s = position_at c.args.haystack.now c.args.start in
-    let begun =
-    c.begun-begun.ensures table entries empty c.args.cache.now c.requires.fresh c.requires.width in
-    let stands = c.in-Some.ensures.stands s empty begun in
-    let known = known_stands table h entries s empty c.state_at-state.new.self c.in-Some.at
-    c.with_state-known.result c.state_at-state.result c.take_turns_to_end.new.self stands
-    c.with_state-known.ensures c.state_at-state.ensures.state in
+    let stands = c.in-Some.ensures.stands s empty
+    (c.begun-begun.ensures _ _ empty _ c.requires.fresh c.requires.width) in
+    let known = known_stands _ _ _ _ _ _ _ _ _ _ stands c.with_state-known.ensures
+    c.state_at-state.ensures.state in
     let end = c.find_shortest_from.ensures in
     record { found = end.found s known; bounded = end.bounded s known; entered = end.entered }
 

@@ -1,7 +1,5 @@
-use Rattle.regex_lite_engine.proofs.Common.{◌≡◌, ℕ, ◌^◌, ◌<◌, List, None, Some, Option, IfSome}
-use Rattle.regex_lite_engine.proofs.Common.{length, chars, sym, subst, StoredGraph, arith, rules}
-use Rattle.regex_lite_engine.proofs.Common.{arrows_of, best_at, table_of, Here, IsNumberedOutcome}
-use Rattle.regex_lite_engine.proofs.Common.{IsDeadAt, PassesTo, position_at, with_start_kept}
+use Rattle.regex_lite_engine.proofs.Common.{◌^◌, ◌<◌, None, length, chars, arith, rules, arrows_of}
+use Rattle.regex_lite_engine.proofs.Common.{best_at, table_of, position_at, with_start_kept}
 use Rattle.regex_lite_engine.proofs.lazy_dfa.PassedLemmas.{answer_from}
 use Rattle.regex_lite_engine.proofs.search.FirstStartLemmas.{bounded_from, first_boundary}
 use Rattle.regex_lite_engine.proofs.search.FirstStartLemmas.{first_here, none_before_first}
@@ -9,29 +7,17 @@ use Rattle.regex_lite_engine.proofs.search.FirstStartLemmas.{none_from, none_tri
 use Rattle.regex_lite_engine.proofs.search.OutcomeLemmas.{answer_told, can_count, cost_told}
 use Rattle.regex_lite_engine.proofs.nfa.Graph.search_depth_first.Goals as goal
 
-abbrev FirstIn : StoredGraph → List ℕ → (start : ℕ) → Here → Type 0
-FirstIn graph bytes start here =
-    PassesTo (IsDeadAt (table_of graph) (chars bytes) graph.start) (chars bytes)
-    (position_at bytes start) here
-
-first_passes : (graph : StoredGraph) (bytes : List ℕ) (start : ℕ) (o : Option Here) (here : Here)
-    → o ≡ Some here → IfSome o (FirstIn graph bytes start) → FirstIn graph bytes start here
-first_passes graph bytes start o here is told =
-    subst (λ (z : Option Here). IfSome z (FirstIn graph bytes start)) is told
-
 pub walk_for-requires : goal.walk_for-requires
 walk_for-requires c =
     first_boundary (table_of c.args.self.now) c.args.haystack.now c.utf8.haystack
     c.args.self.now.start (position_at c.args.haystack.now c.args.start) c.in-Some.first
-    (first_passes c.args.self.now c.args.haystack.now c.args.start c.first_start.result
-    c.in-Some.first c.in-Some.is c.first_start.ensures.first)
+    (rw c.in-Some.is at c.first_start.ensures.first)
 
 pub run-found-requires-clause-here : goal.run-found-requires-clause-here
 run-found-requires-clause-here c =
     first_here (table_of c.args.self.now) c.args.haystack.now c.utf8.haystack
     c.args.self.now.start (position_at c.args.haystack.now c.args.start) c.in-Some.first
-    (first_passes c.args.self.now c.args.haystack.now c.args.start c.first_start.result
-    c.in-Some.first c.in-Some.is c.first_start.ensures.first)
+    (rw c.in-Some.is at c.first_start.ensures.first)
 
 pub run-found-requires-clause-counts : goal.run-found-requires-clause-counts
 run-found-requires-clause-counts c =
@@ -65,11 +51,10 @@ returns-clause-found c = λ tree regular is.
     let m = position_at c.args.haystack.now c.in-Some.first.at in
     answer_told tree regular c.args.self.now is c.args.haystack.now c.args.start c.requires.0
     c.outcome_of.result
-    (subst (λ z. IsNumberedOutcome table text start s z) (sym c.outcome_of.ensures.told)
+    (rw c.outcome_of.ensures.told
     (answer_from table text start s m
     (none_before_first table c.args.haystack.now c.utf8.haystack start s c.in-Some.first
-    (first_passes c.args.self.now c.args.haystack.now c.args.start c.first_start.result
-    c.in-Some.first c.in-Some.is c.first_start.ensures.first))
+    (rw c.in-Some.is at c.first_start.ensures.first))
     (with_start_kept (best_at c.run-found.result c.run-found.new.walk.stack.row))
     c.run-found.ensures.found))
 
@@ -81,8 +66,7 @@ returns-clause-cost c = λ tree is.
     let m = position_at c.args.haystack.now c.in-Some.first.at in
     let before = none_before_first (table_of graph) c.args.haystack.now c.utf8.haystack
     graph.start s c.in-Some.first
-    (first_passes c.args.self.now c.args.haystack.now c.args.start c.first_start.result
-    c.in-Some.first c.in-Some.is c.first_start.ensures.first) in
+    (rw c.in-Some.is at c.first_start.ensures.first) in
     cost_told tree graph is c.args.haystack.now c.args.start c.requires.0 steps.tried
     steps.entered steps.looked
     (bounded_from (length (table_of graph)) (arrows_of (table_of graph))

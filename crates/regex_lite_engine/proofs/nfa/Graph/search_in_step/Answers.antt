@@ -1,7 +1,5 @@
-use Rattle.regex_lite_engine.proofs.Common.{◌^◌, ◌<◌, length, chars, ap, subst, arith, rules}
-use Rattle.regex_lite_engine.proofs.Common.{places_of, table_of, best_of, IsCountable}
-use Rattle.regex_lite_engine.proofs.Common.{IsBestOutcome, position_at}
-use Rattle.regex_lite_engine.specs.Pikevm.Searching.{IsFresh}
+use Rattle.regex_lite_engine.proofs.Common.{◌^◌, ◌<◌, length, chars, ap, arith, rules, places_of}
+use Rattle.regex_lite_engine.proofs.Common.{table_of, best_of, position_at}
 use Rattle.regex_lite_engine.proofs.pikevm.EndLemmas.{one_best}
 use Rattle.regex_lite_engine.proofs.search.OutcomeLemmas.{can_count, answer_told, cost_told}
 use Rattle.regex_lite_engine.proofs.nfa.Graph.search_in_step.Goals as goal

@@ -1,7 +1,5 @@
-use Rattle.regex_lite_engine.proofs.Common.{◌^◌, ◌<◌, [], ◌∷◌, length, chars, sym, ap, subst, arith}
-use Rattle.regex_lite_engine.proofs.Common.{rules, places_of, table_of, span_told, IsCountable}
-use Rattle.regex_lite_engine.proofs.Common.{span_of, IsNumberedOutcome, position_at}
-use Rattle.regex_lite_engine.specs.Pikevm.Searching.{IsFresh}
+use Rattle.regex_lite_engine.proofs.Common.{◌^◌, ◌<◌, [], ◌∷◌, length, chars, ap, arith, rules}
+use Rattle.regex_lite_engine.proofs.Common.{places_of, table_of, span_told, span_of, position_at}
 use Rattle.regex_lite_engine.proofs.lazy_dfa.OnceLemmas.{spanned}
 use Rattle.regex_lite_engine.proofs.pikevm.EndLemmas.{one_best}
 use Rattle.regex_lite_engine.proofs.search.OutcomeLemmas.{answer_told, can_count, cost_told}

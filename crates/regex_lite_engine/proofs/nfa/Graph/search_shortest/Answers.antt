@@ -1,7 +1,6 @@
 use Rattle.regex_lite_engine.proofs.Common.{◌^◌, ◌<◌, length, chars, sym, ap, subst, arith, rules}
-use Rattle.regex_lite_engine.proofs.Common.{places_of, table_of, best_of, IsCountable, position_at}
-use Rattle.regex_lite_engine.proofs.Common.{IsEndOutcome, None, arrows_of}
-use Rattle.regex_lite_engine.specs.Pikevm.Searching.{IsFresh}
+use Rattle.regex_lite_engine.proofs.Common.{places_of, table_of, best_of, position_at, IsEndOutcome}
+use Rattle.regex_lite_engine.proofs.Common.{None, arrows_of}
 use Rattle.regex_lite_engine.proofs.pikevm.ShortestLemmas.{one_end}
 use Rattle.regex_lite_engine.proofs.search.FirstStartLemmas.{none_from, none_tried}
 use Rattle.regex_lite_engine.proofs.search.OutcomeLemmas.{can_count, cost_told, end_told}

@@ -1,7 +1,6 @@
 use Rattle.regex_lite_engine.proofs.Common.{◌^◌, ◌<◌, length, chars, ap, subst, arith, rules}
-use Rattle.regex_lite_engine.proofs.Common.{places_of, table_of, end_told, IsCountable, position_at}
+use Rattle.regex_lite_engine.proofs.Common.{places_of, table_of, end_told, position_at}
 use Rattle.regex_lite_engine.proofs.Common.{IsEndOutcome}
-use Rattle.regex_lite_engine.specs.Pikevm.Searching.{IsFresh}
 use Rattle.regex_lite_engine.proofs.lazy_dfa.ScanLemmas.{end_back}
 use Rattle.regex_lite_engine.proofs.search.OutcomeLemmas as outcome
 use Rattle.regex_lite_engine.proofs.search.OutcomeLemmas.{can_count, cost_told}

@@ -1,8 +1,5 @@
-use Rattle.regex_lite_engine.proofs.Common.{◌+◌, ◌^◌, ◌<◌, length, chars, sym, ap, subst, arith}
-use Rattle.regex_lite_engine.proofs.Common.{rules, arrows_of, places_of, StoredList, table_of_list}
-use Rattle.regex_lite_engine.proofs.Common.{best_of, characters_left, IsBoundedBy, IsCountable}
-use Rattle.regex_lite_engine.proofs.Common.{CanCount, IsBestOutcomeOf, position_at}
-use Rattle.regex_lite_engine.specs.Pikevm.Searching.{IsFresh}
+use Rattle.regex_lite_engine.proofs.Common.{◌^◌, ◌<◌, length, sym, ap, subst, arith, rules}
+use Rattle.regex_lite_engine.proofs.Common.{places_of, table_of_list, position_at}
 use Rattle.regex_lite_engine.proofs.search.ListOutcomeLemmas.{cost_of_list, outcome_told}
 use Rattle.regex_lite_engine.proofs.search.OutcomeLemmas.{can_count}
 use Rattle.std.proofs.lemmas.Grind.{common_steps}

@@ -1,10 +1,7 @@
-use Rattle.regex_lite_engine.proofs.Common.{◌+◌, ◌^◌, ◌<◌, ◌↔◌, length, is_some, IsTrue, chars, sym}
-use Rattle.regex_lite_engine.proofs.Common.{ap, ◌∙◌, subst, arith, rules, arrows_of, places_of}
-use Rattle.regex_lite_engine.proofs.Common.{StoredList, table_of_list, best_of, AnyMatchesFrom}
-use Rattle.regex_lite_engine.proofs.Common.{characters_left, IsBoundedBy, IsCountable, CanCount}
-use Rattle.regex_lite_engine.proofs.Common.{IsNumberedEndOf, position_at, search_start, false}
-use Rattle.regex_lite_engine.proofs.Common.{option_map}
-use Rattle.regex_lite_engine.specs.Pikevm.Searching.{IsFresh}
+use Rattle.regex_lite_engine.proofs.Common.{◌^◌, ◌<◌, ◌↔◌, length, is_some, IsTrue, chars, sym, ap}
+use Rattle.regex_lite_engine.proofs.Common.{◌∙◌, subst, arith, rules, places_of, table_of_list}
+use Rattle.regex_lite_engine.proofs.Common.{best_of, AnyMatchesFrom, position_at, search_start}
+use Rattle.regex_lite_engine.proofs.Common.{false, option_map}
 use Rattle.regex_lite_engine.proofs.search.ListOutcomeLemmas.{cost_of_list, any_told}
 use Rattle.regex_lite_engine.proofs.search.OutcomeLemmas.{can_count}
 use Rattle.std.proofs.lemmas.Grind.{common_steps}

@@ -1,6 +1,5 @@
 use Rattle.regex_lite_engine.proofs.Common.{◌≡◌, ◌-◌, ◌*◌, Bool, true, false, not, ◌&&◌, ◌||◌}
-use Rattle.regex_lite_engine.proofs.Common.{is_none, ◌==◌, bit_and, sym, refl, ap, ◌∙◌, bit_at}
-use Rattle.regex_lite_engine.proofs.Common.{start_row, has}
+use Rattle.regex_lite_engine.proofs.Common.{is_none, bit_and, sym, refl, ap, ◌∙◌, start_row, has}
 use Rattle.regex_lite_engine.proofs.prefilter.list_heads.WalkLemmas.{bit_in_row, bit_of_both}
 use Rattle.regex_lite_engine.proofs.prefilter.list_heads.WalkLemmas.{bit_of_either}
 use Rattle.regex_lite_engine.proofs.prefilter.list_heads.ListHeads.word.Goals as goal
