@@ -1,16 +1,17 @@
 -- The spans of groups: each lies between where the match starts and where it ends.
 use Rattle.regex_lite_engine.proofs.Common.{◌≡◌, ℕ, zero, suc, ◌+◌, ◌*◌, ◌<◌, ◌≤◌, true, false, ◌≢◌}
-use Rattle.regex_lite_engine.proofs.Common.{◌⊎◌, is_some, ◌==◌, Some, None, Option, sym, refl, ap, ◌∙◌}
-use Rattle.regex_lite_engine.proofs.Common.{subst, inl, inr, arith, cases_eq, nat_tests, option_or}
-use Rattle.regex_lite_engine.proofs.Common.{Text, Tree, empty, character, class, look, repetition}
-use Rattle.regex_lite_engine.proofs.Common.{capture, concat, alternation, Trees, none, more}
-use Rattle.regex_lite_engine.proofs.Common.{IsRegular, whole, Found, IsFound, Marks, no_marks, over}
+use Rattle.regex_lite_engine.proofs.Common.{◌⊎◌, is_some, ◌==◌, Some, None, Option, sym, refl, ap}
+use Rattle.regex_lite_engine.proofs.Common.{◌∙◌, subst, inl, inr, arith, cases_eq, nat_tests}
+use Rattle.regex_lite_engine.proofs.Common.{option_or, Text, Tree, empty, character, class, look}
+use Rattle.regex_lite_engine.proofs.Common.{repetition, capture, concat, alternation, Trees, none}
+use Rattle.regex_lite_engine.proofs.Common.{more, IsRegular, whole, Found, IsFound, Marks, no_marks}
+use Rattle.regex_lite_engine.proofs.Common.{over}
 use Rattle.std.specs.Option.{option_zip}
 use Rattle.regex_lite_syntax.specs.Tree.Regular.{AreRegular}
 use Rattle.regex_lite_engine.specs.Search.Marks.{span}
 use Rattle.regex_lite_engine.specs.SearchLaws.{HasGroupsInside}
-use Rattle.regex_lite_engine.proofs.laws.groups.MarkingLemmas.{Marking, MarkingChain}
-use Rattle.regex_lite_engine.proofs.laws.groups.MarkingLemmas.{MarkingBranch, MarkedPasses, around}
+use Rattle.regex_lite_engine.proofs.laws.groups.MarkingLemmas.{Marking, MarkingChain, MarkingBranch}
+use Rattle.regex_lite_engine.proofs.laws.groups.MarkingLemmas.{MarkedPasses, around}
 use Rattle.regex_lite_engine.proofs.laws.groups.MarkedTreeLemmas.{marked_found}
 use Rattle.regex_lite_engine.proofs.laws.list.EntryLemmas.{either_none}
 use Rattle.regex_lite_engine.proofs.OptionLemmas.{same_some}

@@ -85,18 +85,28 @@ write_repetition-write_loop-requires t c =
     endless_room c.args.least (places body) (nullable body) c.in-None.is (search rules) in
     (search rules, (omega (arith, room, c.requires.room), c.requires.slots))
 
-pub write_loop-returns-clause-written : goal.write_loop-returns-clause-written
-write_loop-returns-clause-written t c =
+pub write_loop-returns : goal.write_loop-returns
+write_loop-returns t c =
     let old = c.args.self.now in
-    let whole = c.write.new.self in
+    let body = layout (tree_of c.args.body.now) in
     let choice = c.in_ok-choice in
     let inner = c.in_ok-inner in
-    loop_written c.args.greedy (layout (tree_of c.args.body.now))
-    (map place_of old) (map place_of c.add_empty.new.self)
-    (map place_of whole) (map place_of c.put_choice.new.self) _
-    (length old) choice.choice (length c.add_empty.new.self) inner.inner c.args.exit
-    (sym (length-map old place_of)) choice.ensures.number choice.ensures.grown
-    choice.ensures.added inner.ensures.written.0 inner.ensures.written.1 c.put_choice.ensures.put
+    record {
+      choice = choice.ensures.number;
+      body =
+          inner.ensures.written.0
+          ∙ ap (λ k. (body k choice.choice).1) choice.ensures.grown
+          ∙ ap (λ k. (body (length old + 1) k).1) choice.ensures.number;
+      written =
+          loop_written c.args.greedy body (map place_of old) (map place_of c.add_empty.new.self)
+          (map place_of c.write.new.self) (map place_of c.put_choice.new.self) _ (length old)
+          choice.choice (length c.add_empty.new.self) inner.inner c.args.exit
+          (sym (length-map old place_of)) choice.ensures.number choice.ensures.grown
+          choice.ensures.added inner.ensures.written.0 inner.ensures.written.1
+          c.put_choice.ensures.put;
+      grown =
+          omega (arith, c.put_choice.ensures.length, inner.ensures.grown, choice.ensures.grown);
+    }
 
 pub write_concat-write-requires : goal.write_concat-write-requires
 write_concat-write-requires t c =
@@ -154,22 +164,16 @@ write_alternation-returns-clause-grown t c =
 pub write_choices-write-requires : goal.write_choices-write-requires
 write_choices-write-requires t c =
     let next : c.loop-i._i + 1 ≤ c.args.count = omega (arith, c.loop-i-test.true) in
-    let more = mul-le-mul_right (places (tree_of c.args.body.now) + 1) next in (
-      search rules,
-      (omega (arith, more, c.loop-i.invariant.grown, c.requires.room), c.requires.slots),
-    )
+    let more = mul-le-mul_right (places (tree_of c.args.body.now) + 1) next in
+    let grown = c.loop-i.invariant.grown in
+    (search rules, (omega (arith, more, grown, c.requires.room), c.requires.slots))
 
 pub write_choices-add_choice-requires : goal.write_choices-add_choice-requires
 write_choices-add_choice-requires t c =
     let next : c.loop-i._i + 1 ≤ c.args.count = omega (arith, c.loop-i-test.true) in
     let more = mul-le-mul_right (places (tree_of c.args.body.now) + 1) next in
-    omega (
-      arith,
-      more,
-      c.loop-i.invariant.grown,
-      c.in_ok-inner.ensures.grown,
-      c.requires.room,
-    )
+    let grown = c.loop-i.invariant.grown in
+    omega (arith, more, grown, c.in_ok-inner.ensures.grown, c.requires.room)
 
 pub write_choices-returns : goal.write_choices-returns
 write_choices-returns t c =
@@ -180,10 +184,9 @@ write_choices-returns t c =
 pub write_copies-write-requires : goal.write_copies-write-requires
 write_copies-write-requires t c =
     let next : c.loop-i._i + 1 ≤ c.args.count = omega (arith, c.loop-i-test.true) in
-    let more = mul-le-mul_right (places (tree_of c.args.body.now)) next in (
-      search rules,
-      (omega (arith, more, c.loop-i.invariant.grown, c.requires.room), c.requires.slots),
-    )
+    let more = mul-le-mul_right (places (tree_of c.args.body.now)) next in
+    let grown = c.loop-i.invariant.grown in
+    (search rules, (omega (arith, more, grown, c.requires.room), c.requires.slots))
 
 pub write_copies-returns : goal.write_copies-returns
 write_copies-returns t c =
@@ -206,33 +209,12 @@ write_group-open_group-requires-clause-room t c =
 
 pub write_loop-put_choice-requires : goal.write_loop-put_choice-requires
 write_loop-put_choice-requires t c =
-    omega (
-      arith,
-      c.in_ok-choice.ensures.number,
-      c.in_ok-choice.ensures.grown,
-      c.in_ok-inner.ensures.grown,
-    )
+    let choice = c.in_ok-choice.ensures in
+    omega (arith, choice.number, choice.grown, c.in_ok-inner.ensures.grown)
 
 pub write_loop-write-requires : goal.write_loop-write-requires
 write_loop-write-requires t c =
     (search rules, (omega (arith, c.in_ok-choice.ensures.grown, c.requires.room), c.requires.slots))
-
-pub write_loop-returns-clause-body : goal.write_loop-returns-clause-body
-write_loop-returns-clause-body t c =
-    let body = layout (tree_of c.args.body.now) in
-    let old = c.args.self.now in
-    c.in_ok-inner.ensures.written.0
-    ∙ ap (λ k. (body k c.in_ok-choice.choice).1) c.in_ok-choice.ensures.grown
-    ∙ ap (λ k. (body (length old + 1) k).1) c.in_ok-choice.ensures.number
-
-pub write_loop-returns-clause-grown : goal.write_loop-returns-clause-grown
-write_loop-returns-clause-grown t c =
-    omega (
-      arith,
-      c.put_choice.ensures.length,
-      c.in_ok-inner.ensures.grown,
-      c.in_ok-choice.ensures.grown,
-    )
 
 pub write_repetition-write_star-requires : goal.write_repetition-write_star-requires
 write_repetition-write_star-requires t c =
@@ -291,22 +273,16 @@ write_star-add_empty-requires t c =
 pub write_star-write_loop-requires-2 : goal.write_star-write_loop-requires-2
 write_star-write_loop-requires-2 t c =
     let known : nullable (tree_of c.args.body.now) ≡ true = cc in
-    let own = ap (λ b. own_places 0 None b) known in (
-      search rules,
-      (omega (arith, own, c.in_ok-join.ensures.grown, c.requires.room), c.requires.slots),
-    )
+    let own = ap (λ b. own_places 0 None b) known in
+    let grown = c.in_ok-join.ensures.grown in
+    (search rules, (omega (arith, own, grown, c.requires.room), c.requires.slots))
 
 pub write_star-add_choice-requires : goal.write_star-add_choice-requires
 write_star-add_choice-requires t c =
     let known : nullable (tree_of c.args.body.now) ≡ true = cc in
     let own = ap (λ b. own_places 0 None b) known in
-    omega (
-      arith,
-      own,
-      c.in_ok-inner.ensures.grown,
-      c.in_ok-join.ensures.grown,
-      c.requires.room,
-    )
+    let grown = c.in_ok-inner.ensures.grown in
+    omega (arith, own, grown, c.in_ok-join.ensures.grown, c.requires.room)
 
 pub write_star-returns-clause-grown : goal.write_star-returns-clause-grown
 write_star-returns-clause-grown t c =

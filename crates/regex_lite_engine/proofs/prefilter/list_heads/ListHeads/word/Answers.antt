@@ -19,8 +19,14 @@ returns-then-is_none c n low high =
     c.word-then-is_none.result c.word-then-is_none.ensures low high in
     let none : is_none c.args.before ≡ true =
     ap not (c.is_none.ensures ∙ ap not c.if-is_none.true) in
-    rw (bit_of_either (bit_and c.word.result c.word-2.result) c.word-then-is_none.result i,
-    bit_of_both c.word.result c.word-2.result i, first, second, start, none) refl
+    rw (
+      bit_of_either (bit_and c.word.result c.word-2.result) c.word-then-is_none.result i,
+      bit_of_both c.word.result c.word-2.result i,
+      first,
+      second,
+      start,
+      none,
+    ) refl
 
 pub returns : goal.returns
 returns c n low high =
