@@ -1,12 +1,10 @@
-use Rattle.regex_lite_engine.proofs.Common.{length, sym, ◌∙◌, subst, option_map, table_of_list}
-use Rattle.regex_lite_engine.specs.LazyDfa.Remembering.{IsRememberingList}
+use Rattle.regex_lite_engine.proofs.Common.{sym, ◌∙◌, table_of_list}
 use Rattle.regex_lite_engine.proofs.meta.list_searcher.find_remembering.Goals as goal
 
 pub find_in_list-requires-clause-width : goal.find_in_list-requires-clause-width
 find_in_list-requires-clause-width c =
-    sym c.requires.fresh.between.best_width
-    ∙ (subst (λ dfa. IsRememberingList c.args.graph.now (length c.args.cache.now.best.row)
-    (option_map (λ boxed. boxed.value) dfa)) c.in-Some.is c.requires.remembers).1
+    let before = rw c.in-Some.is at c.requires.remembers in
+    sym c.requires.fresh.between.best_width ∙ before.1
 
 pub returns-in-Some-find_in_list : goal.returns-in-Some-find_in_list
 returns-in-Some-find_in_list c = record {
@@ -19,9 +17,7 @@ returns-in-Some-find_in_list c = record {
   without_slots = c.find_in_list.ensures.between.best_width ∙ c.find_in_list.ensures.width;
   width =
       let told = c.find_in_list.ensures in
-      let before =
-      subst (λ dfa. IsRememberingList c.args.graph.now (length c.args.cache.now.best.row)
-      (option_map (λ boxed. boxed.value) dfa)) c.in-Some.is c.requires.remembers in
+      let before = rw c.in-Some.is at c.requires.remembers in
       told.between.best_width ∙ told.width ∙ sym before.1;
 }
 
@@ -38,9 +34,7 @@ returns-clause-between c =
 pub returns-clause-width : goal.returns-clause-width
 returns-clause-width c =
     let told = c.find_in_list.ensures in
-    let before =
-    subst (λ dfa. IsRememberingList c.args.graph.now (length c.args.cache.now.best.row)
-    (option_map (λ boxed. boxed.value) dfa)) c.in-Some.is c.requires.remembers in
+    let before = rw c.in-Some.is at c.requires.remembers in
     c.restart.ensures.width ∙ (told.between.best_width ∙ told.width ∙ sym before.1)
 
 pub returns-in_default-clause-between : goal.returns-in_default-clause-between

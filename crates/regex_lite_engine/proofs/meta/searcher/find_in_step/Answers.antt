@@ -1,6 +1,6 @@
-use Rattle.regex_lite_engine.proofs.Common.{◌^◌, ◌<◌, [], ◌∷◌, length, chars, sym, subst, arith}
-use Rattle.regex_lite_engine.proofs.Common.{rules, table_of, best_at, with_start_kept, span_of}
-use Rattle.regex_lite_engine.proofs.Common.{IsBestOutcomeOf, position_at, IsNumberedOutcome}
+use Rattle.regex_lite_engine.proofs.Common.{◌^◌, ◌<◌, [], ◌∷◌, length, chars, arith, rules}
+use Rattle.regex_lite_engine.proofs.Common.{table_of, best_at, with_start_kept, span_of}
+use Rattle.regex_lite_engine.proofs.Common.{position_at}
 use Rattle.regex_lite_engine.proofs.lazy_dfa.OnceLemmas.{spanned}
 use Rattle.regex_lite_engine.proofs.pikevm.EndLemmas.{one_best}
 use Rattle.regex_lite_engine.proofs.search.OutcomeLemmas.{can_count}
@@ -20,9 +20,7 @@ returns-clause-found c =
     let haystack = chars c.args.haystack.now in
     let s = position_at c.args.haystack.now c.args.start in
     let row = c.run.new.cache.best.row in
-    subst (λ span. IsNumberedOutcome table haystack graph.start s (best_at span row))
-    (sym c.span_of.ensures)
+    rw c.span_of.ensures
     (one_best table haystack graph.start s (with_start_kept (best_at (span_of c.found.result) row))
     (spanned table haystack (graph.start ∷ []) s c.found.result row
-    (subst (IsBestOutcomeOf table haystack (graph.start ∷ []) s)
-    c.found.ensures c.run.ensures.found)))
+    (rw c.found.ensures at c.run.ensures.found)))

@@ -1,11 +1,6 @@
-use Rattle.regex_lite_engine.proofs.Common.{ℕ, ◌^◌, ◌<◌, List, [], length, IfSome, Some, None}
-use Rattle.regex_lite_engine.proofs.Common.{chars, sym, ap, ◌∙◌, subst, arith, rules, table_of_list}
-use Rattle.regex_lite_engine.proofs.Common.{IsGraphOfList, best_of, characters_left, CanCount}
-use Rattle.regex_lite_engine.proofs.Common.{IsBestOutcomeOf, position_at, IsBetween}
-use Rattle.regex_lite_engine.proofs.Common.{nil_from_length, option_map}
-use Rattle.regex_lite_engine.specs.LazyDfa.Remembering.{IsOriginInList, IsRememberingList}
-use Rattle.regex_lite_engine.specs.Pikevm.Searching.{IsFresh}
-use Rattle.regex_lite_engine.specs.Search.Outcomes.{IsSpanOutcomeOfList}
+use Rattle.regex_lite_engine.proofs.Common.{◌^◌, ◌<◌, [], length, Some, None, chars, ap, ◌∙◌, arith}
+use Rattle.regex_lite_engine.proofs.Common.{rules, table_of_list, characters_left, CanCount}
+use Rattle.regex_lite_engine.proofs.Common.{position_at, nil_from_length}
 use Rattle.regex_lite_engine.specs.Search.Searching.{ListSearching}
 use Rattle.regex_lite_engine.proofs.search.ListOutcomeLemmas.{list_span_told}
 use Rattle.regex_lite_engine.proofs.search.OutcomeLemmas.{can_count}
@@ -33,16 +28,8 @@ counts c =
 pub run-requires : goal.run-requires
 run-requires c = record {
   counts =
-      let haystack = c.args.haystack.now in
-      let characters = characters_left (chars haystack) (position_at haystack c.args.start) in
-      let own = c.self.inside.patterns.list.now in
-      subst (λ table. CanCount table (length own.entries) characters) (sym c.self.invariant.1)
-      (subst (λ (entries : List ℕ). CanCount (table_of_list c.self.inside.graph.now)
-      (length entries) characters) (sym c.self.invariant.2)
-      (counts (goal.at.run-requires c).After-restart));
-  fresh =
-      subst (λ table. IsFresh table c.find_remembering.new.cache) (sym c.self.invariant.1)
-      (c.find_remembering.ensures.fresh c.in_default.is);
+      rw (c.self.invariant.1, c.self.invariant.2) (counts (goal.at.run-requires c).After-restart);
+  fresh = rw c.self.invariant.1 (c.find_remembering.ensures.fresh c.in_default.is);
   boundary = on_boundary _ _ c.requires c.if-start-haystack.false;
 }
 
@@ -53,28 +40,18 @@ find_remembering-requires c = record {
       let some = some_pattern (goal.at.find_remembering-requires c).After-restart in
       c.restart.ensures.fresh (table_of_list c.self.inside.graph.now) (c.self.invariant.0 some).0;
   boundary = on_boundary _ _ c.requires c.if-start-haystack.false;
-  remembers =
-      subst (λ slots. IsRememberingList c.self.inside.graph.now slots
-      (option_map (λ dfa. dfa.value) c.self.inside.dfa)) (sym c.restart.ensures.width)
-      c.self.invariant.3;
+  remembers = rw c.restart.ensures.width c.self.invariant.3;
 }
 
 pub returns-in-Some : goal.returns-in-Some
 returns-in-Some c = record {
   found = λ trees regular is.
-      let list = c.self.inside.graph.now in
-      let haystack = c.args.haystack.now in
-      let h = chars haystack in
-      let s = position_at haystack c.args.start in
-      let of_list =
-      subst (λ (z : ListSearching). IsGraphOfList trees z.graph) (sym c.self.view_is) is in
+      let of_list = rw (← c.self.view_is) at is in
       let row =
       nil_from_length c.find_remembering.new.cache.best.row c.in-Some.ensures.without_slots in
-      subst (λ row. IsSpanOutcomeOfList trees haystack c.args.start row c.numbered.result) (sym row)
-      (list_span_told trees list of_list haystack c.args.start
+      rw row (list_span_told trees c.self.inside.graph.now of_list c.args.haystack.now c.args.start
       (omega (arith, c.if-start-haystack.false)) regular c.numbered.result []
-      (subst (IsBestOutcomeOf (table_of_list list) h list.entries s) (c.numbered.ensures [])
-      c.in-Some.ensures.found));
+      (rw (c.numbered.ensures []) at c.in-Some.ensures.found));
   graph = ap (λ (z : ListSearching). z.graph) c.self.view_is;
   slots =
       c.find_remembering.ensures.width ∙ (c.restart.ensures.width
@@ -91,12 +68,9 @@ find_origin-requires c = record {
 pub returns-in_err-found : goal.returns-in_err-found
 returns-in_err-found c = record {
   found = λ trees regular is.
-      let list = c.self.inside.graph.now in
-      let haystack = c.args.haystack.now in
-      let of_list =
-      subst (λ (z : ListSearching). IsGraphOfList trees z.graph) (sym c.self.view_is) is in
-      subst (IsSpanOutcomeOfList trees haystack c.args.start _) (sym c.from_residual.ensures)
-      (list_span_told trees list of_list haystack c.args.start
+      let of_list = rw (← c.self.view_is) at is in
+      rw c.from_residual.ensures
+      (list_span_told trees c.self.inside.graph.now of_list c.args.haystack.now c.args.start
       (omega (arith, c.if-start-haystack.false)) regular None []
       (c.in-Some-find_origin.ensures.none (ap Some c.in_err-found.was)));
   graph = ap (λ (z : ListSearching). z.graph) c.self.view_is;
@@ -108,17 +82,12 @@ returns-in_err-found c = record {
 pub returns-in-Some-find_origin : goal.returns-in-Some-find_origin
 returns-in-Some-find_origin c = record {
   found = λ trees regular is.
-      let list = c.self.inside.graph.now in
-      let haystack = c.args.haystack.now in
-      let s = position_at haystack c.args.start in
-      let of_list =
-      subst (λ (z : ListSearching). IsGraphOfList trees z.graph) (sym c.self.view_is) is in
-      list_span_told trees list of_list haystack c.args.start
+      let of_list = rw (← c.self.view_is) at is in
+      list_span_told trees c.self.inside.graph.now of_list c.args.haystack.now c.args.start
       (omega (arith, c.if-start-haystack.false)) regular c.find_slots.result
       c.find_slots.new.cache.best.row
-      (c.find_slots.ensures.found s
-      (subst (λ found. IfSome found (IsOriginInList list (chars haystack) s)) c.in_ok-found.was
-      c.in-Some-find_origin.ensures.found));
+      (c.find_slots.ensures.found (position_at c.args.haystack.now c.args.start)
+      (rw c.in_ok-found.was at c.in-Some-find_origin.ensures.found));
   graph = ap (λ (z : ListSearching). z.graph) c.self.view_is;
   slots =
       c.find_slots.ensures.width ∙ (c.find_remembering.ensures.width ∙ (c.restart.ensures.width
@@ -128,21 +97,11 @@ returns-in-Some-find_origin c = record {
 pub returns : goal.returns
 returns c = record {
   found = λ trees regular is.
-      let list = c.self.inside.graph.now in
-      let haystack = c.args.haystack.now in
-      let s = position_at haystack c.args.start in
-      let best = best_of c.run.new.cache.best in
-      let of_list =
-      subst (λ (z : ListSearching). IsGraphOfList trees z.graph) (sym c.self.view_is) is in
-      let found : IsBestOutcomeOf (table_of_list list) (chars haystack) list.entries s best =
-      subst (λ table. IsBestOutcomeOf table (chars haystack) list.entries s best) c.self.invariant.1
-      (subst (λ (entries : List ℕ). IsBestOutcomeOf (table_of_list c.self.inside.patterns.list.now)
-      (chars haystack) entries s best) c.self.invariant.2 c.run.ensures.found) in
-      list_span_told trees list of_list haystack c.args.start
+      let of_list = rw (← c.self.view_is) at is in
+      list_span_told trees c.self.inside.graph.now of_list c.args.haystack.now c.args.start
       (omega (arith, c.if-start-haystack.false)) regular c.numbered_span.result
       c.run.new.cache.best.row
-      (subst (λ own. IsBestOutcomeOf (table_of_list list) (chars haystack) list.entries s own)
-      c.numbered_span.ensures found);
+      (rw (c.self.invariant.2, c.self.invariant.1, c.numbered_span.ensures) at c.run.ensures.found);
   graph = ap (λ (z : ListSearching). z.graph) c.self.view_is;
   slots =
       c.run.ensures.width ∙ (c.find_remembering.ensures.width ∙ (c.restart.ensures.width
@@ -173,13 +132,10 @@ invariant_of-self-in_err-found c = (
 
 pub find_slots-requires : goal.find_slots-requires
 find_slots-requires c = record {
-  origin =
-      let haystack = c.args.haystack.now in
-      let s = position_at haystack c.args.start in (
-        s,
-        subst (λ found. IfSome found (IsOriginInList c.self.inside.graph.now (chars haystack) s))
-            c.in_ok-found.was c.in-Some-find_origin.ensures.found,
-      );
+  origin = (
+    position_at c.args.haystack.now c.args.start,
+    rw c.in_ok-found.was at c.in-Some-find_origin.ensures.found,
+  );
   fresh = c.find_remembering.ensures.fresh c.in_default.is;
   countable =
       (c.self.invariant.0 (some_pattern (goal.at.find_slots-requires c).After-restart)).1;
@@ -190,22 +146,15 @@ invariant_of-self-in-Some-find_origin c = (
   λ some. (c.find_slots.ensures.between, (c.self.invariant.0 some).1),
   c.self.invariant.1,
   c.self.invariant.2,
-  subst (λ slots. IsRememberingList c.self.inside.graph.now slots
-      (option_map (λ dfa. dfa.value) c.find_remembering.new.dfa))
-      (sym c.find_slots.ensures.width) c.find_remembering.ensures.remembers,
+  rw c.find_slots.ensures.width c.find_remembering.ensures.remembers,
   c.find_origin.ensures.finds,
 )
 
 pub invariant_of-self-2 : goal.invariant_of-self-2
 invariant_of-self-2 c = (
-  λ some. (
-    subst (λ table. IsBetween table c.run.new.cache) c.self.invariant.1 c.run.ensures.between,
-    (c.self.invariant.0 some).1,
-  ),
+  λ some. (rw c.self.invariant.1 at c.run.ensures.between, (c.self.invariant.0 some).1),
   c.run.ensures.table ∙ c.self.invariant.1,
   c.run.ensures.entries ∙ c.self.invariant.2,
-  subst (λ slots. IsRememberingList c.self.inside.graph.now slots
-      (option_map (λ dfa. dfa.value) c.find_remembering.new.dfa))
-      (sym c.run.ensures.width) c.find_remembering.ensures.remembers,
+  rw c.run.ensures.width c.find_remembering.ensures.remembers,
   c.find_origin.ensures.finds,
 )

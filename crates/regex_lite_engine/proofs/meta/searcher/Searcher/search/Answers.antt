@@ -1,9 +1,8 @@
 use Rattle.regex_lite_engine.proofs.Common.{[], None, IfSome, length, chars, sym, refl, ap, ◌∙◌}
-use Rattle.regex_lite_engine.proofs.Common.{subst, option_map, nil_from_length, table_of, span_told}
+use Rattle.regex_lite_engine.proofs.Common.{subst, nil_from_length, table_of, span_told}
 use Rattle.regex_lite_engine.proofs.Common.{position_at, arith}
 use Rattle.regex_lite_engine.specs.Graph.Renumbered.{IsGraphOf}
-use Rattle.regex_lite_engine.specs.LazyDfa.Remembering.{FindsSpansIn, IsRemembering}
-use Rattle.regex_lite_engine.specs.Search.Outcomes.{IsSpanOutcome}
+use Rattle.regex_lite_engine.specs.LazyDfa.Remembering.{FindsSpansIn}
 use Rattle.regex_lite_engine.specs.Search.Searching.{Searching}
 use Rattle.regex_lite_engine.proofs.pikevm.EndLemmas.{one_best}
 use Rattle.regex_lite_engine.proofs.search.OutcomeLemmas as outcome
@@ -21,7 +20,7 @@ returns-in-Some c = record {
       let row = nil_from_length c.find_in_graph.new.cache.best.row
       (told.between.best_width ∙ told.width) in
       let span = c.find_in_graph.result in
-      subst (λ row. IsSpanOutcome tree haystack c.args.start row span) (sym row)
+      rw row
       (outcome.span_told tree regular graph of_graph haystack c.args.start c.if-start-haystack.false
       span []
       (one_best (table_of graph) (chars haystack) graph.start (position_at haystack c.args.start)
@@ -29,9 +28,7 @@ returns-in-Some c = record {
   graph = ap (λ (z : Searching). z.graph) c.self.view_is;
   slots =
       let told = c.find_in_graph.ensures in
-      let before =
-      subst (λ dfa. IsRemembering c.self.inside.graph.now (length c.self.inside.cache.best.row)
-      (option_map (λ boxed. boxed.value) dfa)) c.in-Some.is c.self.invariant.2 in
+      let before = rw c.in-Some.is at c.self.invariant.2 in
       told.between.best_width ∙ told.width ∙ sym before.1
       ∙ ap (λ (z : Searching). length z.slots) c.self.view_is;
 }
@@ -45,7 +42,7 @@ returns-in_err-passed-clause-found c = λ tree regular is.
     let graph = c.self.inside.graph.now in
     let haystack = c.args.haystack.now in
     let of_graph = subst (λ (z : Searching). IsGraphOf tree z.graph) (sym c.self.view_is) is in
-    subst (IsSpanOutcome tree haystack c.args.start _) (sym c.from_residual.ensures)
+    rw c.from_residual.ensures
     (outcome.span_told tree regular graph of_graph haystack c.args.start c.if-start-haystack.false
     None [] (c.in_err-passed.ensures.none refl))
 
@@ -88,9 +85,7 @@ invariant_of-self c =
     let graph = c.self.inside.graph.now in
     let told = c.find_in_graph.ensures in
     let width = told.between.best_width ∙ told.width in
-    let before =
-    subst (λ dfa. IsRemembering graph (length c.self.inside.cache.best.row)
-    (option_map (λ boxed. boxed.value) dfa)) c.in-Some.is c.self.invariant.2 in (
+    let before = rw c.in-Some.is at c.self.invariant.2 in (
       told.between,
       c.self.invariant.1,
       (told.remembers, width),
@@ -104,8 +99,7 @@ invariant_of-self-in_err-passed c =
     let width = sym c.restart.ensures.width in (
       (c.restart.ensures.fresh (table_of graph) c.self.invariant.0).between,
       c.self.invariant.1,
-      subst (λ slots. IsRemembering graph slots (option_map (λ dfa. dfa.value) c.self.inside.dfa))
-          width c.self.invariant.2,
+      rw c.restart.ensures.width c.self.invariant.2,
       subst (λ slots. IfSome c.pass_to_match.new.spans
           (λ boxed. FindsSpansIn graph slots boxed.value)) width
           (c.pass_to_match.ensures.finds (length c.self.inside.cache.best.row) c.self.invariant.3),
@@ -115,9 +109,7 @@ pub invariant_of-self-2 : goal.invariant_of-self-2
 invariant_of-self-2 c = (
   c.find_passed.ensures.between,
   c.self.invariant.1,
-  subst (λ slots. IsRemembering c.self.inside.graph.now slots
-      (option_map (λ dfa. dfa.value) c.self.inside.dfa))
-      (sym (c.find_passed.ensures.width ∙ c.restart.ensures.width)) c.self.invariant.2,
+  rw (c.find_passed.ensures.width ∙ c.restart.ensures.width) c.self.invariant.2,
   c.find_passed.ensures.finds,
 )
 
