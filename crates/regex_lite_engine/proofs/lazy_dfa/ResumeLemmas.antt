@@ -2,7 +2,7 @@
 use Rattle.regex_lite_engine.proofs.Common.{◌≡◌, ℕ, zero, suc, ◌<◌, ◌≤◌, Bool, true, false, not}
 use Rattle.regex_lite_engine.proofs.Common.{◌⊎◌, List, [], ◌∷◌, map, length, is_some, IsSome, ◌==◌}
 use Rattle.regex_lite_engine.proofs.Common.{slice_get, Some, None, All, Option, MatchOption, sym}
-use Rattle.regex_lite_engine.proofs.Common.{refl, ap, ◌∙◌, subst, inl, inr, true≢false, arith}
+use Rattle.regex_lite_engine.proofs.Common.{refl, ap, ◌∙◌, subst, inl, inr, ⊎_elim, true≢false, arith}
 use Rattle.regex_lite_engine.proofs.Common.{nat_tests, length-map, Text, reading_of, Way, Automaton}
 use Rattle.regex_lite_engine.proofs.Common.{told_by, threads_of, ways_of, Suits, FitsTable}
 use Rattle.regex_lite_engine.proofs.Common.{IsFirstStart, IsIn, IsOnItsWay, Stands, best_told}
@@ -137,10 +137,11 @@ below_at n first ws ways e below =
 
 module _ (table : List (Place ℕ)) (h : Text) (entries : List ℕ) (s p : ℕ) (automaton : Automaton)
     {S : Type 0} (old new : Cache S) (on : IsOnItsWay table h entries s p old)
-    (kept : GoesOnWith old new) (none : best_of new.best ≡ None) where
-  between_again : length new.walk.memory.threads ≤ reading_of table
+    (kept : GoesOnWith old new) where
+  between_again : ((best_of new.best ≡ None → ⊥) → 0 < new.walk.steps.entered)
+      → length new.walk.memory.threads ≤ reading_of table
       → ThreadsBelow (length table) new.walk.memory.threads → IsBetween table new
-  between_again few below = record {
+  between_again entered few below = record {
     all_seen = kept.rounds ∙ on.ready.all_seen;
     old_rounds = kept.entered;
     cap = subst (λ n. reading_of table < n) (sym kept.room) on.ready.cap;
@@ -154,15 +155,21 @@ module _ (table : List (Place ℕ)) (h : Text) (entries : List ℕ) (s p : ℕ) 
         subst (λ (c : StepCounts). c.entered ≤ c.tried) (sym kept.steps) on.ready.entered_tried;
     looked_entered =
         subst (λ (c : StepCounts). c.looked ≤ c.entered) (sym kept.steps) on.ready.looked_entered;
-    match_entered = λ some. absurd (some none);
+    match_entered = entered;
   }
 
-  -- it goes on with the ways of the state
+  -- it goes on with the ways of the state, and with the match that was found
   module _ (q : ℕ) (stuck : Standing) (scanning : IsScanning table entries h s q automaton stuck)
       (later : p < q) (ws : List StoredWay) (ways : map way_in ws ≡ scanning.state.ways)
       (all : All (λ way. way.is_first ≡ true) ws) (fits : FitsTable table scanning.state.ways)
-      (no_best : stuck.best ≡ None)
+      (best : best_of new.best ≡ best_told stuck.best)
+      (entered : (stuck.best ≡ None) ⊎ (0 < old.walk.steps.entered))
       (threads : new.walk.memory.threads ≡ map (thread_from stuck.first) ws) where
+    match_entered : (best_of new.best ≡ None → ⊥) → 0 < new.walk.steps.entered
+    match_entered some =
+        ⊎_elim (λ none. absurd (some (best ∙ ap best_told none)))
+        (λ more. subst (λ (counts : StepCounts). 0 < counts.entered) (sym kept.steps) more) entered
+
     few_threads : length new.walk.memory.threads ≤ reading_of table
     few_threads =
         let same = ap (λ (ts : List Thread). length ts) threads in
@@ -173,27 +180,24 @@ module _ (table : List (Place ℕ)) (h : Text) (entries : List ℕ) (s p : ℕ) 
     taken_up : IsOnItsWay table h entries s q new
     taken_up =
         moved_on table h entries s p q old new on
-        (between_again few_threads (subst (ThreadsBelow (length table)) (sym threads)
+        (between_again match_entered few_threads (subst (ThreadsBelow (length table)) (sym threads)
         (below_at (length table) stuck.first ws scanning.state.ways ways fits.below)))
         kept.steps kept.now later (let few = few_threads in let more = reads_within table in
         omega (arith, few, more)) kept.row
         (subst (λ ts. IsComing table h entries s (length h) q ts (best_of new.best)) (sym threads)
         (subst (λ b. IsComing table h entries s (length h) q (map (thread_from stuck.first) ws) b)
-        (sym none)
-        (subst (λ ts. IsComing table h entries s (length h) q ts None)
+        (sym best)
+        (subst (λ ts. IsComing table h entries s (length h) q ts (best_told stuck.best))
         (threads_first stuck.first ws all)
-        (subst (λ xs. IsComing table h entries s (length h) q (threads_of stuck.first xs) None)
-        (sym ways)
-        (subst (λ b. IsComing table h entries s (length h) q
-        (threads_of stuck.first scanning.state.ways) (best_told b)) no_best scanning.coming)))))
+        (subst (λ xs. IsComing table h entries s (length h) q (threads_of stuck.first xs)
+        (best_told stuck.best)) (sym ways) scanning.coming))))
 
     is_in_stuck : IsIn automaton stuck.state stuck.first stuck.here.before new
     is_in_stuck = record {
       state = scanning.state;
       is_state = scanning.is_state;
       ways = ap (ways_of stuck.first) threads ∙ ways_first stuck.first ws all ∙ ways;
-      suits =
-          subst (Suits scanning.state.searching) (ap best_told no_best ∙ sym none) scanning.suits;
+      suits = subst (Suits scanning.state.searching) (sym best) scanning.suits;
       sees = scanning.sees;
     }
 
@@ -234,10 +238,12 @@ module _ (table : List (Place ℕ)) (h : Text) (entries : List ℕ) (s p : ℕ) 
 
   -- or from nothing
   let_gone : (here : Here) (idle : IsIdleAt table entries h s p here) → p < idle.r
-      → new.walk.memory.threads ≡ [] → IsOnItsWay table h entries s idle.r new
-  let_gone here idle later threads =
+      → best_of new.best ≡ None → new.walk.memory.threads ≡ []
+      → IsOnItsWay table h entries s idle.r new
+  let_gone here idle later none threads =
       moved_on table h entries s p idle.r old new on
-      (between_again (let n = ap (λ (ts : List Thread). length ts) threads in omega (arith, n))
+      (between_again (λ some. absurd (some none))
+      (let n = ap (λ (ts : List Thread). length ts) threads in omega (arith, n))
       (subst (ThreadsBelow (length table)) (sym threads) (λ k lt. absurd (omega (arith, lt)))))
       kept.steps kept.now later
       (let n = ap (λ (ts : List Thread). length ts) threads in omega (arith, n)) kept.row
@@ -246,14 +252,14 @@ module _ (table : List (Place ℕ)) (h : Text) (entries : List ℕ) (s p : ℕ) 
       (subst (λ b. IsComing table h entries s (length h) idle.r [] b) (sym none) idle.coming))
 
   pub stands_gone : (here : Here) (idle : IsIdleAt table entries h s p here) → p < idle.r
-      → new.walk.memory.threads ≡ [] → (state : Option ℕ)
+      → best_of new.best ≡ None → new.walk.memory.threads ≡ [] → (state : Option ℕ)
       → MatchOption state (Unit {0}) (λ y. IsEmptyState automaton y here.before) → (until : ℕ) →
       Stands table h entries s automaton
       (record { here = here; state = state; first = here.at; until = until }) new
-  stands_gone here idle later threads state empty until = record {
+  stands_gone here idle later none threads state empty until = record {
     p = idle.r;
     is = idle.is;
-    on = let_gone here idle later threads;
+    on = let_gone here idle later none threads;
     first = omega arith;
     own = own_first here.at new.walk.memory.threads threads;
     state = maybe_in_empty automaton state here.at here.before new empty threads none;

@@ -40,15 +40,16 @@ impl LazyDfa {
             (Stuck stuck idle)
             → Stands (P.table patterns.now) haystack (P.entries patterns.now) s self.now at.new
             cache.new }
-        ensures none { best_of cache.old.best ≡ None → best_of cache.new.best ≡ None }
+        ensures none { stuck.best ≡ None → best_of cache.old.best ≡ None
+            → best_of cache.new.best ≡ None }
         ensures later { at.old.here.at ≤ at.new.here.at }
     {
         if stuck.here.at == at.here.at {
             return;
         }
         let ways = self.ways(stuck.state as usize);
-        if stuck.best.is_none() && may_take_up(ways, stuck) {
-            cache.take_up_ways(ways, stuck.first);
+        if may_take_up(ways, stuck) && cache.may_have(stuck.best) {
+            cache.take_up_ways(ways, stuck.first, stuck.best);
             at.state = Some(stuck.state);
             at.first = stuck.first;
             at.here = stuck.here;

@@ -1,5 +1,5 @@
 //! Searches that remember their turns, and go by those that they remember.
-ghost use Rattle.std.specs.Prelude.{◌≡◌, [], ◌<◌, ◌≤◌, ◌+◌, ℕ, List};
+ghost use Rattle.std.specs.Prelude.{◌≡◌, [], ◌<◌, ◌≤◌, ◌+◌, ◌⊎◌, ℕ, List};
 ghost use Rattle.std.specs.Prelude.{IsCharBoundary, IsSome, MatchOption, None};
 ghost use Rattle.std.specs.Prelude.{chars, length, map, slice_index, true};
 ghost use Rattle.regex_lite_engine.specs.declared.pikevm.beginning.Origin.{Origin};
@@ -8,6 +8,7 @@ ghost use Rattle.regex_lite_engine.specs.LazyDfa.Automaton.{Automaton};
 ghost use Rattle.regex_lite_engine.specs.LazyDfa.Learning.{IsIn};
 ghost use Rattle.regex_lite_engine.specs.LazyDfa.Running.{GoesOnWith, IsOnItsWay};
 ghost use Rattle.regex_lite_engine.specs.LazyDfa.Running.{Stands, started_at, thread_from};
+ghost use Rattle.regex_lite_engine.specs.LazyDfa.Scanning.{best_told};
 ghost use Rattle.regex_lite_engine.specs.Search.Bounds.{characters_left};
 ghost use Rattle.regex_lite_engine.specs.Search.Offsets.{position_at};
 ghost use Rattle.regex_lite_engine.specs.Search.Counting.{CanCount};
@@ -173,14 +174,29 @@ impl Cache<Origin> {
         self.best.clear();
     }
 
-    /// Goes on with these ways, all of which began at this start, and without a match.
-    pub(super) fn take_up_ways(&mut self, ways: &[StoredWay], first: usize)
+    /// Whether this can be the match of a search that has done as much: none is found before a
+    /// place is entered.
+    pub(super) fn may_have(&self, found: Option<(Origin, usize)>) -> bool
+        ensures { result ≡ true → (found ≡ None) ⊎ (0 < self.now.walk.steps.entered) }
+    {
+        found.is_none() || self.walk.steps.entered() > 0
+    }
+
+    /// Goes on with these ways, all of which began at this start, and with this match, if there is
+    /// one.
+    pub(super) fn take_up_ways(
+        &mut self,
+        ways: &[StoredWay],
+        first: usize,
+        found: Option<(Origin, usize)>,
+    )
         requires few { length ways.now < self.old.walk.memory.room }
         requires width { length self.old.walk.memory.row ≡ 0 }
+        requires best_width { length self.old.best.row ≡ 0 }
         requires old { (q : ℕ) → slice_index self.old.walk.memory.rounds q
             ≤ self.old.walk.memory.now }
         ensures threads { self.new.walk.memory.threads ≡ map (thread_from first) ways.now }
-        ensures none { best_of self.new.best ≡ None }
+        ensures best { best_of self.new.best ≡ best_told found }
         ensures kept { GoesOnWith self.old self.new }
     {
         self.let_go();
@@ -194,5 +210,6 @@ impl Cache<Origin> {
             );
         }
         self.walk.memory.turn_over();
+        self.best.keep(found);
     }
 }

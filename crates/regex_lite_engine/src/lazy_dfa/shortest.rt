@@ -1,7 +1,12 @@
 //! A search for the least end of any match that remembers its turns.
 ghost use Rattle.std.specs.Prelude.{◌≡◌, ◌+◌, ◌<◌, ◌≤◌, [], ℕ, IfSome};
-ghost use Rattle.std.specs.Prelude.{IsCharBoundary, MatchOption, None, chars, length};
+ghost use Rattle.std.specs.Prelude.{IsCharBoundary, MatchOption, None, Option, chars, length};
 ghost use Rattle.regex_lite_syntax.specs.Text.{Text};
+ghost use Rattle.regex_lite_engine.specs.declared.lazy_dfa.scan.Standing.{Standing};
+ghost use Rattle.regex_lite_engine.specs.declared.lazy_dfa.shortest.ScannedEnd.TheVariants.{
+  Unknown,
+};
+ghost use Rattle.regex_lite_engine.specs.declared.search.here.Here.{Here};
 ghost use Rattle.regex_lite_engine.specs.Graph.Renumbered.{arrows_of};
 ghost use Rattle.regex_lite_engine.specs.LazyDfa.Automaton.{Remembers};
 ghost use Rattle.regex_lite_engine.specs.LazyDfa.Running.{Stands};
@@ -163,10 +168,12 @@ impl LazyDfa {
         requires none { from.best ≡ None }
         requires scanning { (low p : ℕ) × IsScanning (P.table patterns.now) (P.entries patterns.now)
             (chars haystack.now) low p self.now from }
-        ensures { (low p : ℕ) → IsScanning (P.table patterns.now) (P.entries patterns.now)
+        ensures to { (low p : ℕ) → IsScanning (P.table patterns.now) (P.entries patterns.now)
             (chars haystack.now) low p self.now from
             → ScansToEnd (P.table patterns.now) (P.entries patterns.now) (chars haystack.now) low p
             self.now result }
+        ensures none { (at : Standing) (idle : Option Here) → result ≡ Unknown at idle
+            → at.best ≡ None }
     {
         let mut at = from;
         'positions: loop {

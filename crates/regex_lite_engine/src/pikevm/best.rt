@@ -1,5 +1,6 @@
 //! The best match that a search has found so far.
-ghost use Rattle.std.specs.Prelude.{◌≡◌, ◌↔◌, IfOk, IfSome, IsTrue, None, Some, length, option_map};
+ghost use Rattle.std.specs.Prelude.{◌≡◌, ◌↔◌, [], IfOk, IfSome, IsTrue, None, Some, length};
+ghost use Rattle.std.specs.Prelude.{option_map};
 ghost use Rattle.regex_lite_engine.specs.Search.NumberedOutcomes.{best_kept, numbered_at, span_of};
 ghost use Rattle.regex_lite_engine.specs.Search.NumberedOutcomes.{with_origin_kept};
 ghost use Rattle.regex_lite_engine.specs.Search.Rows.{Row};
@@ -146,6 +147,15 @@ impl Best<Origin> {
             slots: row,
         };
         Some((origin.number as usize, outcome))
+    }
+
+    /// Makes this match the best, or forgets the match if there is none. No slots are kept.
+    pub(crate) fn keep(&mut self, found: Option<(Origin, usize)>)
+        requires { length self.old.row ≡ 0 }
+        ensures best { best_of self.new ≡ best_kept found [] }
+        ensures row { self.new.row ≡ self.old.row }
+    {
+        self.found = found;
     }
 }
 

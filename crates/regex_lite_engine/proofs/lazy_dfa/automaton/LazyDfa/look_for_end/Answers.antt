@@ -11,7 +11,7 @@ pub resume-requires : goal.resume-requires
 resume-requires g c =
     let from = c.requires.stands in
     let scanning = scanning_there from.1 c.in-Some.is None c.requires.none in
-    let scanned = c.in-Unknown.ensures from.0 from.1.p scanning in
+    let scanned = c.in-Unknown.ensures.to from.0 from.1.p scanning in
     record {
       remembers = c.requires.remembers;
       state =
@@ -22,9 +22,9 @@ resume-requires g c =
 
 pub returns-in-Known-clause-stands : goal.returns-in-Known-clause-stands
 returns-in-Known-clause-stands g c = λ s stands.
-    c.in-Known.ensures s stands.p (scanning_there stands c.in-Some.is None c.requires.none)
+    c.in-Known.ensures.to s stands.p (scanning_there stands c.in-Some.is None c.requires.none)
 
 pub returns-in-Unknown-clause-stands : goal.returns-in-Unknown-clause-stands
 returns-in-Unknown-clause-stands g c = λ s stands.
     c.resume.ensures.stands (chars c.args.haystack.now) s stands
-    (c.in-Unknown.ensures s stands.p (scanning_there stands c.in-Some.is None c.requires.none))
+    (c.in-Unknown.ensures.to s stands.p (scanning_there stands c.in-Some.is None c.requires.none))

@@ -14,8 +14,8 @@ take_up_ways-requires-clause-few g c =
     let same = ap length (c.ways-ways.ensures scanning.state scanning.is_state) in
     omega (arith, few, cap, same, length-map c.ways-ways.result.now way_in)
 
-pub returns-then-may_take_up-clause-stands : goal.returns-then-may_take_up-clause-stands
-returns-then-may_take_up-clause-stands g c = λ haystack s stands scanned.
+pub returns-then-may_have-clause-stands : goal.returns-then-may_have-clause-stands
+returns-then-may_have-clause-stands g c = λ haystack s stands scanned.
     let q = scanned.0.0 in
     let scanning = scanned.0.2 in
     let stuck = c.args.stuck in
@@ -23,16 +23,15 @@ returns-then-may_take_up-clause-stands g c = λ haystack s stands scanned.
     scanned.0.1 c.if-stuck-at.false in
     let ways = c.ways-ways.ensures scanning.state scanning.is_state in
     let fits = c.requires.remembers.fit stuck.state scanning.state scanning.is_state in
-    let no_best = none_by stuck.best c.is_none.result c.is_none.ensures c.if-is_none.true in
     stands_stuck (g.P.Patterns.table c.args.patterns.now) haystack
     (g.P.Patterns.entries c.args.patterns.now) s stands.p c.args.self.now c.args.cache.now
-    c.take_up_ways.new.self stands.on c.take_up_ways.ensures.kept c.take_up_ways.ensures.none q
-    stuck scanning later c.ways-ways.result.now ways (c.if-may_take_up.ensures.all refl) fits
-    no_best c.take_up_ways.ensures.threads (c.if-may_take_up.ensures.before refl)
+    c.take_up_ways.new.self stands.on c.take_up_ways.ensures.kept q stuck scanning later
+    c.ways-ways.result.now ways (c.if-may_take_up.ensures.all refl) fits
+    c.take_up_ways.ensures.best (c.if-may_have.ensures refl) c.take_up_ways.ensures.threads (c.if-may_take_up.ensures.before refl)
     c.args.at.now.until
 
-pub returns-then-may_take_up-clause-later : goal.returns-then-may_take_up-clause-later
-returns-then-may_take_up-clause-later g c =
+pub returns-then-may_have-clause-later : goal.returns-then-may_have-clause-later
+returns-then-may_have-clause-later g c =
     let haystack = c.requires.stands.0 in
     let stands = c.requires.stands.2 in
     let scanned = c.requires.stands.3 in
@@ -52,5 +51,5 @@ returns-then-here-at-clause-stands g c = λ haystack s stands scanned.
     (λ e. omega (arith, e, more)) in
     stands_gone (g.P.Patterns.table c.args.patterns.now) haystack
     (g.P.Patterns.entries c.args.patterns.now) s stands.p c.args.self.now c.args.cache.now
-    c.let_go.new.self stands.on c.let_go.ensures.kept c.let_go.ensures.none here idle later
+    c.let_go.new.self stands.on c.let_go.ensures.kept here idle later c.let_go.ensures.none
     c.let_go.ensures.threads c.empty_state-at.result c.empty_state-at.ensures _

@@ -31,8 +31,8 @@ idle_since-requires g c =
     idle_edge c.args.haystack.now c.utf8.haystack (omega arith)
     (then_on c.positions.invariant.on c.run_on_to_match.ensures.on) c.requires.scanning
 
-pub returns-in_default : goal.returns-in_default
-returns-in_default g c =
+pub returns-in_default-clause-to : goal.returns-in_default-clause-to
+returns-in_default-clause-to g c =
     let told = c.idle_since in
     stuck_there c.args.haystack.now c.utf8.haystack (omega arith)
     (then_on c.positions.invariant.on c.run_on_to_match.ensures.on) told.result told.ensures.at
@@ -57,17 +57,17 @@ idle_since-requires-in_default-step_shortest g c =
     (past g (goal.at.idle_since-requires-in_default-step_shortest g c).In-Some)
     c.requires.scanning
 
-pub returns-in_default-step_shortest : goal.returns-in_default-step_shortest
-returns-in_default-step_shortest g c =
+pub returns-in_default-step_shortest-clause-to : goal.returns-in_default-step_shortest-clause-to
+returns-in_default-step_shortest-clause-to g c =
     let told = c.idle_since-in_default-step_shortest in
     stuck_there c.args.haystack.now c.utf8.haystack (omega arith)
-    (past g (goal.at.returns-in_default-step_shortest g c).In-Some) told.result told.ensures.at
+    (past g (goal.at.returns-in_default-step_shortest-clause-to g c).In-Some) told.result told.ensures.at
     told.ensures.here told.ensures.other
 
-pub returns-then-hit : goal.returns-then-hit
-returns-then-hit g c = λ low p from.
+pub returns-then-hit-clause-to : goal.returns-then-hit-clause-to
+returns-then-hit-clause-to g c = λ low p from.
     let h = chars c.args.haystack.now in
-    let on = past g (goal.at.returns-then-hit g c).In-Some low p from in
+    let on = past g (goal.at.returns-then-hit-clause-to g c).In-Some low p from in
     subst
     (λ hit. EndsOrLeads (g.P.Patterns.table c.args.patterns.now) (g.P.Patterns.entries
     c.args.patterns.now) h low on.0 c.args.self.now c.in-Some.on c.in-Some-step_shortest.to hit)
@@ -86,9 +86,9 @@ led g c low p scanning =
     c.in-Some-step_shortest.to hit) c.if-hit.false
     (c.in-Some-step_shortest.ensures (chars c.args.haystack.now) low p scanning)
 
-pub returns-then-is_none : goal.returns-then-is_none
-returns-then-is_none g c = λ low p from.
-    let at = goal.at.returns-then-is_none g c in
+pub returns-then-is_none-clause-to : goal.returns-then-is_none-clause-to
+returns-then-is_none-clause-to g c = λ low p from.
+    let at = goal.at.returns-then-is_none-clause-to g c in
     let on = past g at.In-Some low p from in
     end_none (g.P.Patterns.table c.args.patterns.now) (g.P.Patterns.entries c.args.patterns.now)
     (chars c.args.haystack.now) low on.0 c.args.self.now c.in-Some.on on.2
