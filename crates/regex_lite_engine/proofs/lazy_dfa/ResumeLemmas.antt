@@ -2,9 +2,9 @@
 use Rattle.regex_lite_engine.proofs.Common.{◌≡◌, ℕ, zero, suc, ◌<◌, ◌≤◌, Bool, true, false, not}
 use Rattle.regex_lite_engine.proofs.Common.{◌⊎◌, List, [], ◌∷◌, map, length, is_some, IsSome, ◌==◌}
 use Rattle.regex_lite_engine.proofs.Common.{slice_get, Some, None, All, Option, MatchOption, sym}
-use Rattle.regex_lite_engine.proofs.Common.{refl, ap, ◌∙◌, subst, inl, inr, ⊎_elim, true≢false, arith}
-use Rattle.regex_lite_engine.proofs.Common.{nat_tests, length-map, Text, reading_of, Way, Automaton}
-use Rattle.regex_lite_engine.proofs.Common.{told_by, threads_of, ways_of, Suits, FitsTable}
+use Rattle.regex_lite_engine.proofs.Common.{refl, ap, ◌∙◌, subst, inl, inr, ⊎_elim, true≢false}
+use Rattle.regex_lite_engine.proofs.Common.{arith, nat_tests, length-map, Text, reading_of, Way}
+use Rattle.regex_lite_engine.proofs.Common.{Automaton, told_by, threads_of, ways_of, Suits, FitsTable}
 use Rattle.regex_lite_engine.proofs.Common.{IsFirstStart, IsIn, IsOnItsWay, Stands, best_told}
 use Rattle.regex_lite_engine.proofs.Common.{IsIdleAt, IsScanning, way_in, Thread, thread_at}
 use Rattle.regex_lite_engine.proofs.Common.{ThreadsBelow, IsBetween, best_of, IsComing, WayTold}

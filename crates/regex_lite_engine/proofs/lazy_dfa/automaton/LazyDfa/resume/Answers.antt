@@ -1,7 +1,7 @@
 use Rattle.regex_lite_engine.proofs.Common.{length, IfSome, refl, ap, subst, arith, length-map}
 use Rattle.regex_lite_engine.proofs.Common.{IsIdleAt, way_in}
 use Rattle.regex_lite_engine.proofs.lazy_dfa.RunLemmas.{at_later, other_at}
-use Rattle.regex_lite_engine.proofs.lazy_dfa.ResumeLemmas.{none_by, stands_gone, stands_stuck}
+use Rattle.regex_lite_engine.proofs.lazy_dfa.ResumeLemmas.{stands_gone, stands_stuck}
 use Rattle.regex_lite_engine.proofs.lazy_dfa.automaton.LazyDfa.resume.Goals as goal
 
 pub take_up_ways-requires-clause-few : goal.take_up_ways-requires-clause-few
@@ -27,8 +27,8 @@ returns-then-may_have-clause-stands g c = λ haystack s stands scanned.
     (g.P.Patterns.entries c.args.patterns.now) s stands.p c.args.self.now c.args.cache.now
     c.take_up_ways.new.self stands.on c.take_up_ways.ensures.kept q stuck scanning later
     c.ways-ways.result.now ways (c.if-may_take_up.ensures.all refl) fits
-    c.take_up_ways.ensures.best (c.if-may_have.ensures refl) c.take_up_ways.ensures.threads (c.if-may_take_up.ensures.before refl)
-    c.args.at.now.until
+    c.take_up_ways.ensures.best (c.if-may_have.ensures refl) c.take_up_ways.ensures.threads
+    (c.if-may_take_up.ensures.before refl) c.args.at.now.until
 
 pub returns-then-may_have-clause-later : goal.returns-then-may_have-clause-later
 returns-then-may_have-clause-later g c =

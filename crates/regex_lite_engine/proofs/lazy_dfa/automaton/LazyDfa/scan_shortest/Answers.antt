@@ -61,8 +61,8 @@ pub returns-in_default-step_shortest-clause-to : goal.returns-in_default-step_sh
 returns-in_default-step_shortest-clause-to g c =
     let told = c.idle_since-in_default-step_shortest in
     stuck_there c.args.haystack.now c.utf8.haystack (omega arith)
-    (past g (goal.at.returns-in_default-step_shortest-clause-to g c).In-Some) told.result told.ensures.at
-    told.ensures.here told.ensures.other
+    (past g (goal.at.returns-in_default-step_shortest-clause-to g c).In-Some) told.result
+    told.ensures.at told.ensures.here told.ensures.other
 
 pub returns-then-hit-clause-to : goal.returns-then-hit-clause-to
 returns-then-hit-clause-to g c = λ low p from.
