@@ -1,3 +1,4 @@
 pub mod CellLemmas
 pub mod ListLemmas
 pub mod ReadyLemmas
+pub mod ViewLemmas

@@ -2,10 +2,10 @@ use Rattle.regex_lite_engine.proofs.Common.{◌≡◌, ◌+◌, ◌<◌, reverse
 use Rattle.regex_lite_engine.proofs.Common.{ap, ◌∙◌, arith, nat_tests, frame_in, Cell}
 use Rattle.regex_lite_engine.specs.Pikevm.Machine.{State}
 use Rattle.regex_lite_engine.proofs.pikevm.memory.CellLemmas.{not_told, with_round}
-use Rattle.regex_lite_engine.proofs.pikevm.memory.ReadyLemmas.{counted, places_stay, frames_stay}
-use Rattle.regex_lite_engine.proofs.pikevm.memory.ReadyLemmas.{round_held, round_written}
-use Rattle.regex_lite_engine.proofs.pikevm.memory.ReadyLemmas.{stands_set, still_together}
+use Rattle.regex_lite_engine.proofs.pikevm.memory.ReadyLemmas.{places_stay, frames_stay, round_held}
+use Rattle.regex_lite_engine.proofs.pikevm.memory.ReadyLemmas.{round_written, still_together}
 use Rattle.regex_lite_engine.proofs.pikevm.memory.ReadyLemmas.{together_set}
+use Rattle.regex_lite_engine.proofs.pikevm.memory.ViewLemmas.{counted, stands_set}
 use Rattle.regex_lite_engine.proofs.pikevm.memory.Memory.insert.Given as given
 use Rattle.regex_lite_engine.proofs.pikevm.memory.Memory.insert.Goals as goal
 use Rattle.regex_lite_engine.proofs.pikevm.memory.Memory.insert.Goals.{After-reach-k}

@@ -1,5 +1,5 @@
 use Rattle.regex_lite_engine.proofs.Common.{ap, arith, length, nat_tests, nil_from_length}
-use Rattle.regex_lite_engine.proofs.pikevm.memory.ReadyLemmas.{counted}
+use Rattle.regex_lite_engine.proofs.pikevm.memory.ViewLemmas.{counted}
 use Rattle.regex_lite_engine.proofs.pikevm.memory.Memory.is_done.Goals as goal
 
 pub returns : goal.returns

@@ -1,4 +1,5 @@
-use Rattle.regex_lite_engine.proofs.pikevm.memory.ReadyLemmas.{still_stands, still_together}
+use Rattle.regex_lite_engine.proofs.pikevm.memory.ReadyLemmas.{still_together}
+use Rattle.regex_lite_engine.proofs.pikevm.memory.ViewLemmas.{still_stands}
 use Rattle.regex_lite_engine.proofs.pikevm.memory.Memory.make_rest_ready.Goals as goal
 
 pub invariant_of-self : goal.invariant_of-self

@@ -3,9 +3,10 @@ use Rattle.regex_lite_engine.proofs.Common.{round_in, Cell}
 use Rattle.regex_lite_engine.specs.Pikevm.Cells.{frame_of}
 use Rattle.regex_lite_engine.specs.Pikevm.Machine.{State}
 use Rattle.regex_lite_engine.proofs.pikevm.memory.CellLemmas.{not_told, frame_put, with_frame}
-use Rattle.regex_lite_engine.proofs.pikevm.memory.ReadyLemmas.{counted, frames_stay, rounds_still}
-use Rattle.regex_lite_engine.proofs.pikevm.memory.ReadyLemmas.{stands_set, still_together}
-use Rattle.regex_lite_engine.proofs.pikevm.memory.ReadyLemmas.{together_set, together_with}
+use Rattle.regex_lite_engine.proofs.pikevm.memory.ReadyLemmas.{frames_stay, rounds_still}
+use Rattle.regex_lite_engine.proofs.pikevm.memory.ReadyLemmas.{still_together, together_set}
+use Rattle.regex_lite_engine.proofs.pikevm.memory.ReadyLemmas.{together_with}
+use Rattle.regex_lite_engine.proofs.pikevm.memory.ViewLemmas.{counted, stands_set}
 use Rattle.regex_lite_engine.proofs.pikevm.memory.Memory.push.Goals as goal
 
 pub provide-requires : goal.provide-requires

@@ -3,8 +3,8 @@ use Rattle.regex_lite_engine.proofs.Common.{length-set, nth_row, row_on, Row}
 use Rattle.regex_lite_engine.specs.Pikevm.Cells.{with_thread}
 use Rattle.regex_lite_engine.specs.Pikevm.Machine.{State}
 use Rattle.regex_lite_engine.proofs.pikevm.memory.CellLemmas.{row_after_first, row_fits}
-use Rattle.regex_lite_engine.proofs.pikevm.memory.ReadyLemmas.{counted, stands_grown}
 use Rattle.regex_lite_engine.proofs.pikevm.memory.ReadyLemmas.{still_together}
+use Rattle.regex_lite_engine.proofs.pikevm.memory.ViewLemmas.{counted, stands_grown}
 use Rattle.regex_lite_engine.proofs.pikevm.memory.Memory.push_next.Goals as goal
 
 pub copy-requires-clause-to : goal.copy-requires-clause-to

@@ -1,7 +1,7 @@
 use Rattle.regex_lite_engine.proofs.Common.{sym, ap, arith, Thread}
 use Rattle.regex_lite_engine.specs.Pikevm.Machine.{State}
 use Rattle.regex_lite_engine.proofs.pikevm.memory.ListLemmas.{thread_read}
-use Rattle.regex_lite_engine.proofs.pikevm.memory.ReadyLemmas.{counted}
+use Rattle.regex_lite_engine.proofs.pikevm.memory.ViewLemmas.{counted}
 use Rattle.regex_lite_engine.proofs.pikevm.memory.Memory.thread.Goals as goal
 
 pub index-requires : goal.index-requires

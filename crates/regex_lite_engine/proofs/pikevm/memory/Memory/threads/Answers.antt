@@ -1,5 +1,5 @@
 use Rattle.regex_lite_engine.proofs.Common.{sym, arith}
-use Rattle.regex_lite_engine.proofs.pikevm.memory.ReadyLemmas.{counted}
+use Rattle.regex_lite_engine.proofs.pikevm.memory.ViewLemmas.{counted}
 use Rattle.regex_lite_engine.proofs.pikevm.memory.Memory.threads.Goals as goal
 
 pub returns-clause-few : goal.returns-clause-few
