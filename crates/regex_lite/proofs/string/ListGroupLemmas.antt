@@ -1,6 +1,6 @@
 -- The slots of an outcome determine the groups of what was found of several patterns.
-use Rattle.regex_lite.proofs.Common.{◌≡◌, ℕ, ◌*◌, ◌<◌, List, [], length, take, Some, None, IsUtf8}
-use Rattle.regex_lite.proofs.Common.{Option, chars, sym, refl, ap, ◌∙◌, subst, arith}
+use Rattle.regex_lite.proofs.Common.{◌≡◌, ℕ, ◌*◌, ◌<◌, ◌≤◌, List, [], length, take, Some, None}
+use Rattle.regex_lite.proofs.Common.{IsUtf8, Option, chars, sym, refl, ap, ◌∙◌, subst, arith}
 use Rattle.regex_lite.proofs.Common.{length-take-le, slice_get-get_or, Tree, HasTree, StoredGroups}
 use Rattle.regex_lite.proofs.Common.{Found, IsFoundInList, search_start, HasSlots, IsOutcomeOfList}
 use Rattle.regex_lite.proofs.Common.{IsPatternTree, Outcome, names_of, NamesGroups, groups_of}
@@ -51,9 +51,6 @@ module _ (bytes : List ℕ) (utf8 : IsUtf8 bytes) (list : List Expression) (comp
     (kept : List (Option ℕ)) (held : HasSlots (chars bytes) kept found.marks) (span : ℕ × ℕ)
     (same : span ≡ offsets (chars bytes) (found.start, found.end))
     (width : length kept ≡ compiled.kept_slots) (slots : List (Option ℕ)) where
-  abbrev stored : StoredGroups
-  stored = groups_at compiled.graph.groups number
-
   abbrev tree : Tree
   tree = answer.tree
 
@@ -64,39 +61,42 @@ module _ (bytes : List ℕ) (utf8 : IsUtf8 bytes) (list : List Expression) (comp
   pub found_there : number < length compiled.graph.groups
   found_there = (stored_at built.trees compiled.graph number tree built.groups answer.numbered).0
 
-  tells : TellsGroupsOf tree stored
-  tells = (stored_at built.trees compiled.graph number tree built.groups answer.numbered).1
+  module _ (shared : StoredGroups) (stored : shared ≡ groups_at compiled.graph.groups number)
+      (filled : slots ≡ take (2 * length shared.capture_names) (all_slots kept span)) where
+    tells : TellsGroupsOf tree shared
+    tells =
+        rw stored (stored_at built.trees compiled.graph number tree built.groups answer.numbered).1
 
-  module _ (filled : slots ≡ take (2 * length stored.capture_names) (all_slots kept span)) where
     cut_held : AreAllSlots (chars bytes) tree found slots
     cut_held =
         let all = all_slots kept span in
         let all_held = held_all (chars bytes) tree found.start found own_grammar answer.answer kept
         span held same in
-        let few = most_at compiled.graph.groups number found_there in
+        let few : length shared.capture_names ≤ most_groups compiled.graph.groups =
+        rw stored (most_at compiled.graph.groups number found_there) in
         let enough = enough_kept kept span (most_groups compiled.graph.groups)
-        (length stored.capture_names) (width ∙ built.slots) few in
-        let two = 2 * length stored.capture_names in
+        (length shared.capture_names) (width ∙ built.slots) few in
+        let two = 2 * length shared.capture_names in
         rw (filled) (
           λ k slot there. all_held k slot (in_whole all two k slot there),
           length-take-le two all enough ∙ ap (λ n. 2 * n) tells.captures,
         )
 
     -- all slots hold groups
-    pub found_groups_are : AreGroups (groups_of bytes slots stored)
+    pub found_groups_are : AreGroups (groups_of bytes slots shared)
     found_groups_are =
-        captured bytes utf8 tree own_grammar found.start found answer.answer slots cut_held stored
-        (named_groups tree stored own_grammar tells)
+        captured bytes utf8 tree own_grammar found.start found answer.answer slots cut_held shared
+        (named_groups tree shared own_grammar tells)
 
     -- which are those of what was found
-    pub found_groups : (groups : Groups) → groups ≡ groups_of bytes slots stored
+    pub found_groups : (groups : Groups) → groups ≡ groups_of bytes slots shared
         → AreGroupsOf tree bytes found groups
     found_groups groups are = subst (λ g. AreGroupsOf tree bytes found g) (sym are)
         (captured_of bytes utf8 tree own_grammar found.start found answer.answer slots cut_held
-        stored (named_groups tree stored own_grammar tells))
+        shared (named_groups tree shared own_grammar tells))
 
     -- of the pattern with the number
-    pub found_groups_in_list : (groups : Groups) → groups ≡ groups_of bytes slots stored
+    pub found_groups_in_list : (groups : Groups) → groups ≡ groups_of bytes slots shared
         → AreGroupsFoundInList list bytes number found groups
     found_groups_in_list groups are =
         let own = own_tree list built.trees number tree given answer.numbered in
@@ -107,38 +107,32 @@ module _ (bytes : List ℕ) (utf8 : IsUtf8 bytes) (start : ℕ) (list : List Exp
     (compiled : CompiledList) (built : IsBuiltList compiled) (given : AreTrees list built.trees)
     (number : ℕ) (outcome : Outcome)
     (own : IsOutcomeOfList built.trees bytes start (Some (number, outcome)))
-    (width : length outcome.slots.items ≡ compiled.kept_slots) (slots : List (Option ℕ)) where
-  abbrev own_span : ℕ × ℕ
-  own_span = (outcome.start, outcome.end)
-
-  own_span_is : own_span ≡ offsets (chars bytes) (own.0.start, own.0.end)
-  own_span_is = same_pair own.2.start own.2.end
-
-  module _
-      (filled : slots ≡ take (2 * length (groups_at compiled.graph.groups number).capture_names)
-      (all_slots outcome.slots.items own_span)) where
-    -- all slots hold groups
-    pub listed_groups_are : AreGroups
-        (groups_of bytes slots (groups_at compiled.graph.groups number))
-    listed_groups_are = found_groups_are bytes utf8 list compiled built given
-        (search_start bytes start) number own.0
-        own.1 outcome.slots.items own.2.slots own_span own_span_is width slots filled
-
-    -- which are what is returned
-    pub listed_groups_told : (groups : Groups)
-        → groups ≡ groups_of bytes slots (groups_at compiled.graph.groups number)
-        → TellsGroupsOfList list bytes start (Some (number, groups))
-    listed_groups_told groups are = (
-      built.trees,
-      given,
-      (
-        own.0,
-        own.1,
-        found_groups bytes utf8 list compiled built given (search_start bytes start) number own.0
-            own.1 outcome.slots.items own.2.slots own_span own_span_is width slots filled
-            groups are,
-      ),
-    )
+    (width : length outcome.slots.items ≡ compiled.kept_slots) (slots : List (Option ℕ))
+    (shared : StoredGroups) (stored : shared ≡ groups_at compiled.graph.groups number)
+    (filled : slots ≡ take (2 * length shared.capture_names)
+    (all_slots outcome.slots.items (outcome.start, outcome.end))) where
+  -- all slots hold groups, which are what is returned
+  pub listed_groups : AreGroups (groups_of bytes slots shared)
+      × ((groups : Groups) → groups ≡ groups_of bytes slots shared
+      → TellsGroupsOfList list bytes start (Some (number, groups)))
+  listed_groups =
+      let s = search_start bytes start in
+      let kept = outcome.slots.items in
+      let span : ℕ × ℕ = (outcome.start, outcome.end) in
+      let same = same_pair own.2.start own.2.end in (
+        found_groups_are bytes utf8 list compiled built given s number own.0 own.1 kept own.2.slots
+            span same width slots shared stored filled,
+        λ groups are. (
+          built.trees,
+          given,
+          (
+            own.0,
+            own.1,
+            found_groups bytes utf8 list compiled built given s number own.0 own.1 kept own.2.slots
+                span same width slots shared stored filled groups are,
+          ),
+        ),
+      )
 
 -- which are those of a match of the pattern
 pub listed_of_pattern : (bytes : List ℕ) (start : ℕ) (list : List Expression) (number : ℕ)

@@ -1,8 +1,8 @@
 -- The slots that a searcher keeps for several patterns determine the groups of the last match.
 use Rattle.regex_lite.proofs.Common.{◌≡◌, ℕ, ◌*◌, ◌<◌, List, length, take, Some, IsUtf8, Option}
-use Rattle.regex_lite.proofs.Common.{chars, sym, ap, ◌∙◌, subst, Tree, Found, IsFoundInList}
-use Rattle.regex_lite.proofs.Common.{groups_of, groups_at, Expression, Groups, whole_span}
-use Rattle.regex_lite.proofs.Common.{AreGroups, AreGroupsFoundInList, IsAnswerOf}
+use Rattle.regex_lite.proofs.Common.{chars, sym, ap, ◌∙◌, subst, Tree, StoredGroups, Found}
+use Rattle.regex_lite.proofs.Common.{IsFoundInList, groups_of, groups_at, Expression, Groups}
+use Rattle.regex_lite.proofs.Common.{whole_span, AreGroups, AreGroupsFoundInList, IsAnswerOf}
 use Rattle.regex_lite.proofs.Common.{IsAnswerOfPatterns, span_of_match, AreTrees, most_captures}
 use Rattle.regex_lite.proofs.Common.{AreSlotsForAllGroups, offsets, kept_slots, all_slots}
 use Rattle.regex_lite.proofs.Common.{CompiledList, Match}
@@ -63,20 +63,19 @@ module _ (bytes : List ℕ) (utf8 : IsUtf8 bytes) (list : List Expression) (comp
   last_there = found_there bytes utf8 list compiled built given last.0 told.0 own.1 answer kept
       last.2.has_slots (span_of_match told.1) last.2.is_match.span width slots
 
-  module _
-      (filled : slots ≡ take (2 * length (groups_at compiled.graph.groups told.0).capture_names)
-      (all_slots kept (span_of_match told.1))) where
-    -- all slots hold groups
-    pub last_groups_are : AreGroups (groups_of bytes slots (groups_at compiled.graph.groups told.0))
-    last_groups_are =
-        found_groups_are bytes utf8 list compiled built given last.0 told.0 own.1 answer kept
-        last.2.has_slots (span_of_match told.1) last.2.is_match.span width slots filled
-
-    -- which are those of what was found
-    pub last_groups : (groups : Groups)
-        → groups ≡ groups_of bytes slots (groups_at compiled.graph.groups told.0)
-        → AreGroupsFoundInList list bytes own.0 own.1 groups
-    last_groups groups are =
-        subst (λ number. AreGroupsFoundInList list bytes number own.1 groups) last.2.number
+  -- all slots hold groups, which are those of what was found
+  pub last_groups : (shared : StoredGroups) → shared ≡ groups_at compiled.graph.groups told.0
+      → slots ≡ take (2 * length shared.capture_names) (all_slots kept (span_of_match told.1))
+      → AreGroups (groups_of bytes slots shared)
+      × ((groups : Groups) → groups ≡ groups_of bytes slots shared
+      → AreGroupsFoundInList list bytes own.0 own.1 groups)
+  last_groups shared stored filled = (
+    found_groups_are bytes utf8 list compiled built given last.0 told.0 own.1 answer kept
+        last.2.has_slots (span_of_match told.1) last.2.is_match.span width slots shared stored
+        filled,
+    λ groups are. subst (λ number. AreGroupsFoundInList list bytes number own.1 groups)
+        last.2.number
         (found_groups_in_list bytes utf8 list compiled built given last.0 told.0 own.1 answer kept
-        last.2.has_slots (span_of_match told.1) last.2.is_match.span width slots filled groups are)
+        last.2.has_slots (span_of_match told.1) last.2.is_match.span width slots shared stored
+        filled groups are),
+  )

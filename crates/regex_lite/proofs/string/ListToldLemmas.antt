@@ -4,7 +4,8 @@ use Rattle.regex_lite.proofs.Common.{None, IsUtf8, Option, chars, sym, refl, ◌
 use Rattle.regex_lite.proofs.Common.{Tree, AreRegularPatterns, IsGraphOfList, Found, IsFoundInList}
 use Rattle.regex_lite.proofs.Common.{search_start, IsOutcomeOfList, IsPatternTree, Outcome}
 use Rattle.regex_lite.proofs.Common.{Expression, LiesIn, haystack_of_match, span_of_match, AreTrees}
-use Rattle.regex_lite.proofs.Common.{AnyMatches, TellsMatchOfList, offsets, TellsAnswer, Match}
+use Rattle.regex_lite.proofs.Common.{AnyMatches, TellsMatchOfList, offsets, TellsAnswer}
+use Rattle.regex_lite.proofs.Common.{CompiledList, Match}
 use Rattle.regex_lite_engine.specs.Graph.StoredList.{StoredList}
 use Rattle.regex_lite_engine.specs.Search.Answer.{IsAnswer}
 use Rattle.regex_lite_engine.specs.Search.AnswerOfList.{AnyMatchesFrom}
@@ -12,6 +13,7 @@ use Rattle.regex_lite_engine.specs.Search.Outcomes.{IsSpanOutcomeOfList}
 use Rattle.regex_lite_engine.specs.Search.Searching.{ListSearching}
 use Rattle.regex_lite_engine.proofs.laws.several.ListAnswerLemmas.{list_answers}
 use Rattle.regex_lite_engine.proofs.OptionLemmas.{same_some}
+use Rattle.regex_lite.specs.CompiledList.{IsBuiltList}
 use Rattle.regex_lite.specs.Scanning.{SearchesForList, TellsListSpan}
 use Rattle.regex_lite.specs.RegexList.{OfTrees}
 use Rattle.regex_lite.specs.RegexListSearches.{TellsAnswerOfList}
@@ -64,15 +66,16 @@ any_told list trees haystack start found given told = (
 )
 
 -- what holds for the graph holds for the trees
-pub outcome_of_list : (trees : List Tree) (graph own : StoredList) (bytes : List ℕ) (start : ℕ)
-    (told : Option (ℕ × Outcome)) (number : ℕ) (outcome : Outcome) → AreRegularPatterns trees
-    → IsGraphOfList trees own → graph ≡ own
-    → ((other : List Tree) → AreRegularPatterns other → IsGraphOfList other graph
-    → IsOutcomeOfList other bytes start told)
-    → told ≡ Some (number, outcome) → IsOutcomeOfList trees bytes start (Some (number, outcome))
-outcome_of_list trees graph own bytes start told number outcome regular is_graph same tells is =
-    subst (IsOutcomeOfList trees bytes start) is
-    (tells trees regular (subst (IsGraphOfList trees) (sym same) is_graph))
+pub outcome_of_list : (compiled : CompiledList) (built : IsBuiltList compiled) (graph : StoredList)
+    (bytes : List ℕ) (start : ℕ) (told : Option (ℕ × Outcome)) (number : ℕ) (outcome : Outcome)
+    → graph ≡ compiled.graph
+    → ((trees : List Tree) → AreRegularPatterns trees → IsGraphOfList trees graph
+    → IsOutcomeOfList trees bytes start told)
+    → told ≡ Some (number, outcome)
+    → IsOutcomeOfList built.trees bytes start (Some (number, outcome))
+outcome_of_list compiled built graph bytes start told number outcome same tells is =
+    subst (IsOutcomeOfList built.trees bytes start) is
+    (tells built.trees built.regular (subst (IsGraphOfList built.trees) (sym same) built.graph))
 
 -- what a searcher returns holds for the patterns' trees
 pub span_of_list : (list : List Expression) (searcher : ListSearching) (bytes : List ℕ) (start : ℕ)

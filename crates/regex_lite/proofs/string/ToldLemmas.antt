@@ -2,11 +2,12 @@
 use Rattle.regex_lite.proofs.Common.{◌≡◌, ℕ, ◌≤◌, List, length, take, IfSome, Some, None, IsUtf8}
 use Rattle.regex_lite.proofs.Common.{Option, option_map, chars, sym, refl, ap, ◌∙◌, subst, arith}
 use Rattle.regex_lite.proofs.Common.{IsTree, Tree, captures_len, IsGraphOf, StoredGroups, Found}
-use Rattle.regex_lite.proofs.Common.{search_start, IsSpanOutcome, Outcome, IsBuilt, stored_groups}
-use Rattle.regex_lite.proofs.Common.{groups_of, Expression, OfTree, LiesIn, Groups, span_at}
-use Rattle.regex_lite.proofs.Common.{group_span, AreGroups, haystack_of_match, span_of_match}
-use Rattle.regex_lite.proofs.Common.{offsets, spans_from, TellsMatch, AreGroupsOf, TellsGroups}
-use Rattle.regex_lite.proofs.Common.{TellsLocations, kept_slots, all_slots, Compiled, Match}
+use Rattle.regex_lite.proofs.Common.{search_start, IsSpanOutcome, IsPatternTree, Outcome, IsBuilt}
+use Rattle.regex_lite.proofs.Common.{stored_groups, names_of, NamesGroups, groups_of, Expression}
+use Rattle.regex_lite.proofs.Common.{OfTree, LiesIn, Groups, span_at, group_span, AreGroups}
+use Rattle.regex_lite.proofs.Common.{haystack_of_match, span_of_match, offsets, spans_from}
+use Rattle.regex_lite.proofs.Common.{TellsMatch, AreGroupsOf, TellsGroups, TellsLocations}
+use Rattle.regex_lite.proofs.Common.{kept_slots, all_slots, Compiled, Match}
 use Rattle.regex_lite_syntax.specs.Tree.Regular.{IsRegular}
 use Rattle.regex_lite_engine.specs.Graph.Stored.{StoredGraph}
 use Rattle.regex_lite_engine.specs.Search.Outcomes.{IsOutcome}
@@ -34,13 +35,17 @@ TellsSpanOfGraph graph bytes start slots told =
     → IsSpanOutcome tree bytes start slots told
 
 -- what holds for a regex's graph holds for its tree
-pub outcome_of : (compiled : Compiled) (built : IsBuilt compiled) (graph : StoredGraph)
-    (bytes : List ℕ) (start : ℕ) (told : Option Outcome) (outcome : Outcome)
-    → graph ≡ compiled.graph → TellsOutcome graph bytes start told → told ≡ Some outcome
-    → IsOutcome built.tree bytes start (Some outcome)
-outcome_of compiled built graph bytes start told outcome same tells is =
-    subst (λ o. IsOutcome built.tree bytes start o) is
-    (tells built.tree built.regular (subst (λ g. IsGraphOf built.tree g) (sym same) built.graph))
+pub outcome_of : (re : Expression) (compiled : Compiled) (built : IsBuilt compiled)
+    (graph : StoredGraph) (bytes : List ℕ) (start : ℕ) (told : Option Outcome) (outcome : Outcome)
+    → IsTree re.flags (chars re.pattern) built.tree → graph ≡ compiled.graph
+    → TellsOutcome graph bytes start told → told ≡ Some outcome
+    → OfTree re (λ tree. IsOutcome tree bytes start (Some outcome))
+outcome_of re compiled built graph bytes start told outcome given same tells is = (
+  built.tree,
+  given,
+  subst (IsOutcome built.tree bytes start) is
+      (tells built.tree built.regular (subst (IsGraphOf built.tree) (sym same) built.graph)),
+)
 
 -- and so does what a searcher returns
 pub span_of : (re : Expression) (searcher : Searching) (bytes : List ℕ) (start : ℕ)
@@ -102,27 +107,28 @@ module _ (bytes : List ℕ) (utf8 : IsUtf8 bytes) (start : ℕ) (re : Expression
         (compiled.flags, _, built.given) of_built.1 slots all span filled enough of_built.2.slots
         (same_pair of_built.2.start of_built.2.end)
 
-    -- all slots hold groups
-    pub groups_are : AreGroups (groups_of bytes all shared)
-    groups_are = subst (λ c. AreGroups (groups_of bytes all c)) (sym same)
-        (captured bytes utf8 built.tree (compiled.flags, _, built.given) (search_start bytes start)
-        of_built.0 of_built.1 all all_held (stored_groups compiled) (built_shares compiled built))
-
-    -- which are what is returned
-    pub groups_told : (groups : Groups) → groups ≡ groups_of bytes all shared
-        → TellsGroups re bytes start (Some groups)
-    groups_told groups are =
-        let own = captured_of bytes utf8 built.tree (compiled.flags, _, built.given)
-        (search_start bytes start) of_built.0 of_built.1 all all_held (stored_groups compiled)
-        (built_shares compiled built) in
-        let as_shared = subst (λ c. AreGroupsOf built.tree bytes of_built.0 (groups_of bytes all c))
-        (sym same) own in (
-          built.tree,
-          given,
-          (
-            of_built.0,
-            of_built.1,
-            subst (λ g. AreGroupsOf built.tree bytes of_built.0 g) (sym are) as_shared,
+    -- all slots hold groups, which are what is returned
+    pub groups_told : AreGroups (groups_of bytes all shared)
+        × ((groups : Groups) → groups ≡ groups_of bytes all shared
+        → TellsGroups re bytes start (Some groups))
+    groups_told =
+        let is_grammar : IsPatternTree built.tree = (compiled.flags, _, built.given) in
+        let s = search_start bytes start in
+        let shares =
+        subst (λ c. NamesGroups built.tree (names_of c) c.static_captures_len) (sym same)
+        (built_shares compiled built) in (
+          captured bytes utf8 built.tree is_grammar s of_built.0 of_built.1 all all_held shared
+              shares,
+          λ groups are. (
+            built.tree,
+            given,
+            (
+              of_built.0,
+              of_built.1,
+              subst (AreGroupsOf built.tree bytes of_built.0) (sym are)
+                  (captured_of bytes utf8 built.tree is_grammar s of_built.0 of_built.1 all
+                  all_held shared shares),
+            ),
           ),
         )
 

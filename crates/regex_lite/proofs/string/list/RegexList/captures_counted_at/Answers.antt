@@ -1,8 +1,6 @@
-use Rattle.regex_lite.proofs.Common.{◌≡◌, ◌*◌, length, take, Some, sym, ap, ◌∙◌, subst}
-use Rattle.regex_lite.proofs.Common.{StoredGroups, IsOutcomeOfList, groups_of, groups_at, Groups}
-use Rattle.regex_lite.proofs.Common.{AreGroups, AreTrees, TellsGroupsOfList, CompiledList}
-use Rattle.regex_lite.proofs.string.ListGroupLemmas.{listed_groups_are, listed_groups_told}
-use Rattle.regex_lite.proofs.string.ListGroupLemmas.{listed_of_pattern}
+use Rattle.regex_lite.proofs.Common.{◌≡◌, ◌*◌, length, take, Some, ap, ◌∙◌, groups_of, groups_at}
+use Rattle.regex_lite.proofs.Common.{Groups, AreGroups, TellsGroupsOfList, CompiledList}
+use Rattle.regex_lite.proofs.string.ListGroupLemmas.{listed_groups, listed_of_pattern}
 use Rattle.regex_lite.proofs.string.ListSlotLemmas.{kept_width}
 use Rattle.regex_lite.proofs.string.ListToldLemmas.{outcome_of_list}
 use Rattle.regex_lite.proofs.string.list.RegexList.captures_counted_at.Goals as goal
@@ -21,32 +19,23 @@ listed c =
     let built = c.self.invariant in
     let number = c.in-Some.number in
     let outcome = c.in-Some.field-0-1 in
-    let given : AreTrees a.self.now built.trees = rw (← c.self.view_is) built.given in
-    let told : IsOutcomeOfList built.trees a.haystack.now a.start (Some (number, outcome)) =
-    outcome_of_list built.trees c.deref-2.result.now.graph own.graph a.haystack.now a.start
-    c.in_ok-told.told number outcome built.regular built.graph
+    let told = outcome_of_list own built c.deref-2.result.now.graph a.haystack.now a.start
+    c.in_ok-told.told number outcome
     (ap (λ (compiled : CompiledList). compiled.graph) c.deref-2.ensures) c.in_ok-told.ensures.found
     c.in-Some.is in
     let width = kept_width c.in_ok-told.told number outcome c.deref.result.now.kept_slots
     c.in_ok-told.ensures.slots c.in-Some.is
     ∙ ap (λ (compiled : CompiledList). compiled.kept_slots) c.deref.ensures in
-    let stored : c.of_listed-source.result ≡ groups_at own.graph.groups number =
-    c.of_listed-source.ensures
+    let shared = c.of_listed-source.result in
+    let stored = c.of_listed-source.ensures
     ∙ ap (λ (compiled : CompiledList). groups_at compiled.graph.groups number)
     c.in_ok-clone.ensures.cases in
-    let slots = c.truncate.new.self.items in
-    let count = c.slots.ensures
-    ∙ ap (λ (groups : StoredGroups). 2 * length groups.capture_names) stored in
-    let filled = c.truncate.ensures.items ∙ ap (λ n. take n c.slots_with-slots.result.items) count
-    ∙ ap (take (2 * length (groups_at own.graph.groups number).capture_names))
-    c.slots_with-slots.ensures in (
-      subst (λ groups. AreGroups (groups_of a.haystack.now slots groups)) (sym stored)
-          (listed_groups_are a.haystack.now c.utf8.haystack a.start a.self.now own built given
-          number outcome told width slots filled),
-      λ groups are. listed_groups_told a.haystack.now c.utf8.haystack a.start a.self.now own built
-          given number outcome told width slots filled groups
-          (are ∙ ap (groups_of a.haystack.now slots) stored),
-    )
+    let filled = c.truncate.ensures.items
+    ∙ ap (λ n. take n c.slots_with-slots.result.items) c.slots.ensures
+    ∙ ap (take (2 * length shared.capture_names)) c.slots_with-slots.ensures in
+    listed_groups a.haystack.now c.utf8.haystack a.start a.self.now own built
+    (rw (← c.self.view_is) built.given) number outcome told width c.truncate.new.self.items shared
+    stored filled
 
 pub new-caps-requires : goal.new-caps-requires
 new-caps-requires c = (listed (goal.at.new-caps-requires c).After-truncate).0

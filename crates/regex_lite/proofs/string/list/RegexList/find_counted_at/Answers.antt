@@ -1,30 +1,27 @@
-use Rattle.regex_lite.proofs.Common.{ap, AreTrees, CompiledList}
+use Rattle.regex_lite.proofs.Common.{Some, ap, IsOutcomeOfList, CompiledList}
 use Rattle.regex_lite.proofs.string.ListToldLemmas.{list_match_told, list_span_lies}
 use Rattle.regex_lite.proofs.string.ListToldLemmas.{outcome_of_list}
 use Rattle.regex_lite.proofs.string.list.RegexList.find_counted_at.Goals as goal
+use Rattle.regex_lite.proofs.string.list.RegexList.find_counted_at.Goals.{In-Some}
+
+-- what the search told of
+told : (c : In-Some) → IsOutcomeOfList c.self.invariant.trees c.args.haystack.now c.args.start
+    (Some (c.in-Some.number, c.in-Some.outcome))
+told c =
+    outcome_of_list c.self.inside.compiled c.self.invariant c.deref.result.now.graph
+    c.args.haystack.now c.args.start c.in_ok-told.told c.in-Some.number c.in-Some.outcome
+    (ap (λ (compiled : CompiledList). compiled.graph) c.deref.ensures) c.in_ok-told.ensures.found
+    c.in-Some.is
 
 pub new-found-requires : goal.new-found-requires
 new-found-requires c =
-    let a = c.args in
-    let built = c.self.invariant in
-    let given : AreTrees a.self.now built.trees = rw (← c.self.view_is) built.given in
-    list_span_lies a.haystack.now c.utf8.haystack a.start a.self.now built.trees given
-    c.in-Some.number (c.in-Some.outcome.start, c.in-Some.outcome.end) c.in-Some.outcome.slots.items
-    (outcome_of_list built.trees c.deref.result.now.graph c.self.inside.compiled.graph
-    a.haystack.now a.start c.in_ok-told.told c.in-Some.number c.in-Some.outcome built.regular
-    built.graph
-    (ap (λ (compiled : CompiledList). compiled.graph) c.deref.ensures) c.in_ok-told.ensures.found
-    c.in-Some.is)
+    list_span_lies c.args.haystack.now c.utf8.haystack c.args.start c.args.self.now _
+    (rw (← c.self.view_is) c.self.invariant.given) c.in-Some.number _ _
+    (told (goal.at.new-found-requires c).In-Some)
 
 pub returns-clause-found : goal.returns-clause-found
 returns-clause-found c =
-    let a = c.args in
-    let built = c.self.invariant in
-    let given : AreTrees a.self.now built.trees = rw (← c.self.view_is) built.given in
-    list_match_told a.haystack.now c.utf8.haystack a.start a.self.now built.trees given
-    c.in-Some.number (c.in-Some.outcome.start, c.in-Some.outcome.end) c.in-Some.outcome.slots.items
-    (outcome_of_list built.trees c.deref.result.now.graph c.self.inside.compiled.graph
-    a.haystack.now a.start c.in_ok-told.told c.in-Some.number c.in-Some.outcome built.regular
-    built.graph
-    (ap (λ (compiled : CompiledList). compiled.graph) c.deref.ensures) c.in_ok-told.ensures.found
-    c.in-Some.is) c.new-found.result c.new-found.ensures.haystack c.new-found.ensures.span
+    list_match_told c.args.haystack.now c.utf8.haystack c.args.start c.args.self.now
+    c.self.invariant.trees (rw (← c.self.view_is) c.self.invariant.given) c.in-Some.number _ _
+    (told (goal.at.returns-clause-found c).In-Some) c.new-found.result
+    c.new-found.ensures.haystack c.new-found.ensures.span

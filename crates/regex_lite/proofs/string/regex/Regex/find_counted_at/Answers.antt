@@ -1,35 +1,25 @@
-use Rattle.regex_lite.proofs.Common.{chars, ap, IsTree}
+use Rattle.regex_lite.proofs.Common.{Some, ap, OfTree}
+use Rattle.regex_lite_engine.specs.Search.Outcomes.{IsOutcome}
 use Rattle.regex_lite.proofs.string.ToldLemmas.{match_told, outcome_of, span_lies}
 use Rattle.regex_lite.proofs.string.regex.Regex.find_counted_at.Goals as goal
+use Rattle.regex_lite.proofs.string.regex.Regex.find_counted_at.Goals.{In-Some}
+
+-- what the search told of
+told : (c : In-Some) → OfTree c.args.self.now
+    (λ tree. IsOutcome tree c.args.haystack.now c.args.start (Some c.in-Some.outcome))
+told c =
+    outcome_of c.args.self.now c.self.inside.compiled c.self.invariant c.deref.result.now.graph
+    c.args.haystack.now c.args.start c.in_ok-outcome.outcome c.in-Some.outcome
+    (rw (← c.self.view_is) c.self.invariant.given) (ap (λ compiled. compiled.graph) c.deref.ensures)
+    c.in_ok-outcome.ensures.found c.in-Some.is
 
 pub new-found-requires : goal.new-found-requires
 new-found-requires c =
-    let a = c.args in
-    let outcome = c.in-Some.outcome in
-    let given : IsTree a.self.now.flags (chars a.self.now.pattern) c.self.invariant.tree =
-    rw (← c.self.view_is) c.self.invariant.given in
-    span_lies a.haystack.now c.utf8.haystack a.start a.self.now (outcome.start, outcome.end)
-    outcome.slots.items (
-      c.self.invariant.tree,
-      given,
-      outcome_of c.self.inside.compiled c.self.invariant c.deref.result.now.graph
-          a.haystack.now a.start c.in_ok-outcome.outcome outcome
-          (ap (λ compiled. compiled.graph) c.deref.ensures) c.in_ok-outcome.ensures.found
-          c.in-Some.is,
-    )
+    span_lies c.args.haystack.now c.utf8.haystack c.args.start c.args.self.now _ _
+    (told (goal.at.new-found-requires c).In-Some)
 
 pub returns-clause-found : goal.returns-clause-found
 returns-clause-found c =
-    let a = c.args in
-    let outcome = c.in-Some.outcome in
-    let given : IsTree a.self.now.flags (chars a.self.now.pattern) c.self.invariant.tree =
-    rw (← c.self.view_is) c.self.invariant.given in
-    match_told a.haystack.now c.utf8.haystack a.start a.self.now (outcome.start, outcome.end)
-    outcome.slots.items (
-      c.self.invariant.tree,
-      given,
-      outcome_of c.self.inside.compiled c.self.invariant c.deref.result.now.graph
-          a.haystack.now a.start c.in_ok-outcome.outcome outcome
-          (ap (λ compiled. compiled.graph) c.deref.ensures) c.in_ok-outcome.ensures.found
-          c.in-Some.is,
-    ) c.new-found.result c.new-found.ensures.haystack c.new-found.ensures.span
+    match_told c.args.haystack.now c.utf8.haystack c.args.start c.args.self.now _ _
+    (told (goal.at.returns-clause-found c).In-Some) c.new-found.result
+    c.new-found.ensures.haystack c.new-found.ensures.span
