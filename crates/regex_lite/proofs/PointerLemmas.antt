@@ -1,8 +1,9 @@
 -- A struct with one pointer, by value and by reference.
-use Rattle.regex_lite.proofs.Common.{refl, subst, word, word_ty, Lft, Share, fat, flft, hidden_shr}
-use Rattle.regex_lite.proofs.Common.{part_at, RattleType, Ptr, ptr_val, Sym, Val, of_list, vstruct}
-use Rattle.regex_lite.proofs.Common.{Goal, Item, Seq, Soaks, Step, feq_i, feq_l, fjoin, fpack}
-use Rattle.regex_lite.proofs.Common.{fpick, fsplit, move, rewrite, step, use1, ‵, ◌$◌, Logic}
+use Rattle.regex_lite.proofs.Common.{sym, refl, subst, word, word_ty, Lft, Share, fat, flft, SProp}
+use Rattle.regex_lite.proofs.Common.{ent, id⊢, hidden_shr, part_at, RattleType, Ptr, ptr_val, Sym}
+use Rattle.regex_lite.proofs.Common.{Val, of_list, vstruct, Goal, Item, Seq, Soaks, Step, feq_i}
+use Rattle.regex_lite.proofs.Common.{feq_l, fjoin, fpack, fpick, fsplit, move, rewrite, step, use1}
+use Rattle.regex_lite.proofs.Common.{‵, ◌$◌, Logic}
 use mathlib.Core.Path.{◌≡◌}
 use Prim.Native.Nat.{ℕ}
 use mathlib.Core.List.{List, [], ◌∷◌, ◌++◌}
@@ -18,6 +19,21 @@ use denote.Opens.{Shut}
 use denote.Steps.{nothing, looks, shuts as shuts_part}
 use denote.Struct.Struct.{Shape, Struct, within}
 use denote.Struct.Laws.{RawPtr-laws}
+
+-- what is run with a value is run with what is equal to it
+pub run_with_one : {M : Type 1} (𝓤 : Ura M) (Run : List Val → SProp 𝓤) {us : List Val} {w : Val}
+    → us ≡ w ∷ [] → ent 𝓤 (Run (w ∷ [])) (Run (us ++ []))
+run_with_one 𝓤 Run {us} {w} eu =
+    subst (λ (ws : List Val). ent 𝓤 (Run (w ∷ [])) (Run (ws ++ []))) (sym eu)
+    (id⊢ 𝓤 (Run (w ∷ [])))
+
+-- so with two values
+pub run_with : {M : Type 1} (𝓤 : Ura M) (Run : List Val → SProp 𝓤) {us vs : List Val} {w h : Val}
+    → us ≡ w ∷ [] → vs ≡ h ∷ [] → ent 𝓤 (Run (w ∷ h ∷ [])) (Run (us ++ (vs ++ [])))
+run_with 𝓤 Run {us} {vs} {w} {h} eu ev =
+    subst (λ (ws : List Val). ent 𝓤 (Run (w ∷ h ∷ [])) (Run (ws ++ (vs ++ [])))) (sym eu)
+    (subst (λ (ws : List Val). ent 𝓤 (Run (w ∷ h ∷ [])) (Run (w ∷ (ws ++ [])))) (sym ev)
+    (id⊢ 𝓤 (Run (w ∷ h ∷ []))))
 
 module _ (params : List RattleType) (ν : Sym) where
   abbrev pub one_field : Shape

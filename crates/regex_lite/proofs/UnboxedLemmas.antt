@@ -40,7 +40,8 @@ module _ (R Z : RattleType) (L : Laws Z) (g : Ghosts Z.Denot) where
   abbrev pub Unboxed : RattleType
   Unboxed = unboxed.the_row R Z g
 
-  abbrev handle : Al
+  -- the allocator, and what its laws are
+  abbrev pub handle : Al
   handle = record { row = Z; laws = L; g = g; d = impl [] tnil dnil; drops = impl [] tnil dnil }
 
   pub both_good : (b o : ℕ) (h : Val) → Good (layout Z) h

@@ -1,7 +1,7 @@
 -- A list of patterns is accepted, or refused by the lowest that fails, or for all places together.
-use Rattle.regex_lite.proofs.Common.{◌≡◌, ℕ, zero, suc, ◌+◌, ◌<◌, ◌≤◌, ◌⊎◌, List, [], ◌∷◌}
-use Rattle.regex_lite.proofs.Common.{◌++◌, map, length, get_or, take, slice_get, Some, Err, chars}
-use Rattle.regex_lite.proofs.Common.{sym, refl, ap, ◌∙◌, inl, inr, add-one, arith, slice_get-get_or}
+use Rattle.regex_lite.proofs.Common.{◌≡◌, ℕ, zero, suc, ◌+◌, ◌<◌, ◌≤◌, ◌⊎◌, List, [], ◌∷◌, ◌++◌}
+use Rattle.regex_lite.proofs.Common.{map, length, get_or, take, slice_get, Some, Err, chars, sym}
+use Rattle.regex_lite.proofs.Common.{refl, ap, ◌∙◌, inl, inr, add-one, arith, slice_get-get_or}
 use Rattle.regex_lite.proofs.Common.{Refusal, syntax_error, too_deep, too_many_groups, passed_limit}
 use Rattle.regex_lite.proofs.Common.{out_of_memory, refused_replacement, kind_of, IsTree, Tree}
 use Rattle.regex_lite.proofs.Common.{Error, HasTree, AreRegularPatterns, places_of_all}
@@ -56,20 +56,14 @@ pub regular_trees : (list : List Expression) (trees : List Tree) → AreTrees li
 regular_trees list trees given = λ number tree there.
     regular_tree tree (pattern_tree list trees given number tree there)
 
--- a refusal is the out-of-memory error, or the pattern isn't accepted
-memory_or_not : (settings : Settings) (error : Refusal) → IsDue settings error
-    → (error ≡ out_of_memory) ⊎ (IsAccepted settings → ⊥)
-memory_or_not settings out_of_memory due = inl refl
-memory_or_not settings (syntax_error rule) due =
-    inr (λ own. absurd cc (for_memory settings (syntax_error rule) due own))
-memory_or_not settings too_deep due =
-    inr (λ own. absurd cc (for_memory settings too_deep due own))
-memory_or_not settings too_many_groups due =
-    inr (λ own. absurd cc (for_memory settings too_many_groups due own))
-memory_or_not settings (passed_limit limit) due =
-    inr (λ own. absurd cc (for_memory settings (passed_limit limit) due own))
-memory_or_not settings refused_replacement due =
-    inr (λ own. absurd cc (for_memory settings refused_replacement due own))
+-- a refusal is the out-of-memory error, or another
+pub memory_or_not : (error : Refusal) → (error ≡ out_of_memory) ⊎ (error ≡ out_of_memory → ⊥)
+memory_or_not out_of_memory = inl refl
+memory_or_not (syntax_error rule) = inr (λ wrong. absurd cc)
+memory_or_not too_deep = inr (λ wrong. absurd cc)
+memory_or_not too_many_groups = inr (λ wrong. absurd cc)
+memory_or_not (passed_limit limit) = inr (λ wrong. absurd cc)
+memory_or_not refused_replacement = inr (λ wrong. absurd cc)
 
 in_first : {A : Type 0} (xs : List A) (n k : ℕ) (x : A) → k < n → slice_get xs k ≡ Some x
     → slice_get (take n xs) k ≡ Some x
@@ -83,14 +77,14 @@ pub lowest_fails : (all : List Settings) (number : ℕ) (trees : List Tree) (set
     (error : Error) → AreAcceptedAs (take number all) trees → slice_get all number ≡ Some settings
     → IsDue settings error → (error ≡ out_of_memory) ⊎ IsDueToLowest all error
 lowest_fails all number trees settings error accepted there due =
-    elim (memory_or_not settings error due) [
+    elim (memory_or_not error) [
       | inl memory ↦ inl memory
-      | inr fails ↦ inr (record {
+      | inr other ↦ inr (record {
         number = number;
         settings = settings;
         numbered = there;
         lower = lower;
-        fails = fails;
+        fails = λ accepted. other (for_memory settings error due accepted);
         due = due;
       })
     ]

@@ -1,9 +1,9 @@
 -- `another` makes one more owner, or finds the count full, and then gives what a `&'static` holds.
-use Rattle.regex_lite.proofs.Common.{Ok, Err, sym, refl, ap, subst, arith, lit<, word, word-Good}
-use Rattle.regex_lite.proofs.Common.{word_ty, Lft, Share, fex, fhide, flft, ftok, ftrue, SProp, ent}
-use Rattle.regex_lite.proofs.Common.{id⊢, every, RefOf, yes, hidden_shr, lone, hide, layouts, param}
-use Rattle.regex_lite.proofs.Common.{param_laws, RattleType, owns, Ptr, ptr_val, plain, types_at}
-use Rattle.regex_lite.proofs.Common.{lent_at, lent_at_shr_laws, Goes-dropped, Stays, ends_at, says}
+use Rattle.regex_lite.proofs.Common.{Ok, Err, sym, refl, ap, arith, lit<, word, word-Good, word_ty}
+use Rattle.regex_lite.proofs.Common.{Lft, Share, fex, fhide, flft, ftok, ftrue, SProp, id⊢, every}
+use Rattle.regex_lite.proofs.Common.{RefOf, yes, hidden_shr, lone, hide, layouts, param, param_laws}
+use Rattle.regex_lite.proofs.Common.{RattleType, owns, Ptr, ptr_val, plain, types_at, lent_at}
+use Rattle.regex_lite.proofs.Common.{lent_at_shr_laws, Goes-dropped, Stays, ends_at, says}
 use Rattle.regex_lite.proofs.Common.{stay_dropped, walk_of, inst_fn, Sym, a_type, Val, vcons, vnil}
 use Rattle.regex_lite.proofs.Common.{vptr, align, up, Env, WpFn, alloc_all, env, free_all, get}
 use Rattle.regex_lite.proofs.Common.{look_at, pass_all, sets, through, !, at_ret, await, done}
@@ -26,13 +26,13 @@ use types.ByLocal.{is}
 use denote.RawPtr.{◌+ₚ◌}
 use denote.SharingLaws.{contraction}
 use denote.Steps.{nothing}
-use mathlib.Core.List.{List, [], ◌∷◌, ◌++◌}
+use mathlib.Core.List.{List, [], ◌∷◌}
 use denote.Signature.{type_at}
 use Rattle.std.specs.contracts.result.Result as Res
 use Rattle.std.proofs.VecSteps.Shapes.{after, head, inside}
 use Rattle.std.proofs.RcSteps.{first_Good}
 use Rattle.std.proofs.ResultValues.{ok_of, err_of}
-use Rattle.regex_lite.proofs.PointerLemmas.{Word}
+use Rattle.regex_lite.proofs.PointerLemmas.{Word, run_with_one}
 use Rattle.regex_lite.proofs.owner.CountLemmas.{lent, value, static, fills, lent_out, lent_back}
 use Rattle.regex_lite.proofs.owner.CountLemmas.{opens, shuts, more, counted, says_n, handle_made}
 use Rattle.regex_lite.proofs.owner.HandedLemmas.{held, inner, handed_at}
@@ -77,8 +77,7 @@ another_spec 𝓤 𝓛 𝓜 𝓡 wired T L =
     feq_l ! (λ eu. keep ! (0 ∷ 4 ∷ 2 ∷ 5 ∷ []) $
     use1 𝓛 (‵ (hidden_shr (Word (R ∷ []) ν) κ (c, tt) b o) ⊛ ‵ (fhide (lent R c x κ))) (id⊢ 𝓤 _) $
     split ! $
-    suffices ! (Run us) (subst (λ (ws : List Val). ent 𝓤 (Run us) (Run ws)) (sym (λ i. eu i ++ []))
-    (id⊢ 𝓤 (Run us))) $
+    suffices ! (Run us) (run_with_one 𝓤 Run eu) $
     enter ! 𝓣.C 𝓣.Λ fn us Post $ alloc_all ! (λ l. pass_all ! refl ((tt, tt), tt) $
     let Ev : Env 𝓤 H = env fn.locals l in
     lent_out R c x ν κ q b o ! tt (λ a s q'. move ! (1 ∷ 0 ∷ 6 ∷ []) $

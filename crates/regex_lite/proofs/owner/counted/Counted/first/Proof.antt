@@ -1,14 +1,13 @@
 -- `first` makes the first owner of a block.
-use Rattle.regex_lite.proofs.Common.{◌≡◌, ℕ, List, [], ◌∷◌, ◌++◌, sym, refl, subst, word, word-Good}
-use Rattle.regex_lite.proofs.Common.{Goes-blank, leaves, proved_at, fex, flft, ftrue, full_share}
-use Rattle.regex_lite.proofs.Common.{SProp, emp, ent, id⊢, ◌⊑◌, fact, fact_i, tables, no, part_at}
-use Rattle.regex_lite.proofs.Common.{layouts, param, RattleType, owns, Ptr, block_ptr, plain}
-use Rattle.regex_lite.proofs.Common.{types_at, Stays, stay_dropped, walk_of, inst_fn, Sym, a_type}
-use Rattle.regex_lite.proofs.Common.{Val, vptr, WpFn, alloc_all, free_all, get, get_in, look_at}
-use Rattle.regex_lite.proofs.Common.{pass_all, sets, !, await, by, fjoin, fsplit, join, keep, later}
-use Rattle.regex_lite.proofs.Common.{move, qed, raw, rewrite, split, suffices, use0, use3, ‵, ◌$◌}
-use Rattle.regex_lite.proofs.Common.{◌∵◌, ◌⊛◌, agg, sub, and_then, enter, fld, no_more, of_opd}
-use Rattle.regex_lite.proofs.Common.{returns, stop}
+use Rattle.regex_lite.proofs.Common.{◌≡◌, ℕ, List, [], ◌∷◌, refl, word, word-Good, Goes-blank}
+use Rattle.regex_lite.proofs.Common.{leaves, proved_at, fex, flft, ftrue, full_share, SProp, emp}
+use Rattle.regex_lite.proofs.Common.{◌⊑◌, fact, fact_i, tables, no, part_at, layouts, param}
+use Rattle.regex_lite.proofs.Common.{RattleType, owns, Ptr, block_ptr, plain, types_at, Stays}
+use Rattle.regex_lite.proofs.Common.{stay_dropped, walk_of, inst_fn, Sym, a_type, Val, vptr, WpFn}
+use Rattle.regex_lite.proofs.Common.{alloc_all, free_all, get, get_in, look_at, pass_all, sets, !}
+use Rattle.regex_lite.proofs.Common.{await, by, fjoin, fsplit, join, keep, later, move, qed, raw}
+use Rattle.regex_lite.proofs.Common.{rewrite, split, suffices, use0, use3, ‵, ◌$◌, ◌∵◌, ◌⊛◌, agg}
+use Rattle.regex_lite.proofs.Common.{sub, and_then, enter, fld, no_more, of_opd, returns, stop}
 use types.Part.{whole}
 use denote.Steps.{nothing, heard}
 use Rattle.std.specs.contracts.alloc.Global as Heap
@@ -16,7 +15,7 @@ use Rattle.std.specs.contracts.impls.GlobalAllocator.TheImpl as HeapImpl
 use Rattle.std.proofs.alloc.Global.TheLaws as HeapLaws
 use Rattle.regex_lite.proofs.UnboxedLemmas.{Unboxed, both, both_good, unboxed_had}
 use Rattle.regex_lite.proofs.owner.CountLemmas.{Id, handle}
-use Rattle.regex_lite.proofs.PointerLemmas.{word_made}
+use Rattle.regex_lite.proofs.PointerLemmas.{run_with_one, word_made}
 use Rattle.regex_lite.proofs.owner.BlockLemmas.{starts}
 use Rattle.regex_lite.specs.contracts.owner.counted.Block as Block
 use Rattle.regex_lite.specs.contracts.owner.counted.Counted as C
@@ -51,8 +50,7 @@ first_spec 𝓤 𝓛 𝓜 𝓡 wired T L =
     (λ (k : ℕ). ‵ (part_at B full_share (record { count = k; value = x }) b o)) one refl $
     move ! (4 ∷ []) $ split ! $
     -- [the token; nothing; the block; the right to free; the allocator; nothing]
-    suffices ! (Run (w ∷ [])) (subst (λ (us : List Val). ent 𝓤 (Run (w ∷ [])) (Run us))
-    (sym (λ i. ws i ++ [])) (id⊢ 𝓤 (Run (w ∷ [])))) $
+    suffices ! (Run (w ∷ [])) (run_with_one 𝓤 Run ws) $
     enter ! 𝓣.C 𝓣.Λ fn (w ∷ []) Post $ alloc_all ! (λ l. pass_all ! refl (typed, tt) $
     move ! (2 ∷ 3 ∷ 0 ∷ []) $ use3 𝓛 (later (‵ (fex Id (handle R c x)) ⊛ ‵ (flft κs.0 qs.0)))
     (starts T L b o x 𝓛 v.alloc κs.0 qs.0 le) $ await ! tt $ split ! $

@@ -1,15 +1,15 @@
 -- `release` is one owner less, and the last one has the block back. A full count stays full.
 use Rattle.regex_lite.proofs.Common.{Some, None, sym, refl, ap, ◌∙◌, subst, arith, lit<, cell, word}
-use Rattle.regex_lite.proofs.Common.{word-Good, handle_tells, flft, ftok, ftrue, SProp, ent, id⊢}
-use Rattle.regex_lite.proofs.Common.{every, ◌⊑◌, fact, no, yes, layout, layouts, param, RattleType}
-use Rattle.regex_lite.proofs.Common.{owns, Ptr, block_ptr, ptr_val, plain, types_at, Goes-dropped}
-use Rattle.regex_lite.proofs.Common.{Stays, ends_at, says, stay_dropped, walk_of, inst_fn, Sym}
-use Rattle.regex_lite.proofs.Common.{a_type, dnil, Val, vcons, vnil, vptr, Env, WpFn, alloc_all}
-use Rattle.regex_lite.proofs.Common.{env, free_all, get, get_in, look_at, pass_all, sets}
-use Rattle.regex_lite.proofs.Common.{through, !, at_ret, await, done, fjoin, frame, fsplit, group}
-use Rattle.regex_lite.proofs.Common.{join, keep, later, move, qed, raw, rewrite, split, suffices}
-use Rattle.regex_lite.proofs.Common.{use0, use1, ‵, ◌$◌, ◌∵◌, ◌⊛◌, agg, sub, and_then, blocks}
-use Rattle.regex_lite.proofs.Common.{enter, exec, first, fld, no_more, of_opd, returns, stop}
+use Rattle.regex_lite.proofs.Common.{word-Good, handle_tells, flft, ftok, ftrue, SProp, every, ◌⊑◌}
+use Rattle.regex_lite.proofs.Common.{fact, no, yes, layout, layouts, param, RattleType, owns, Ptr}
+use Rattle.regex_lite.proofs.Common.{block_ptr, ptr_val, plain, types_at, Goes-dropped, Stays}
+use Rattle.regex_lite.proofs.Common.{ends_at, says, stay_dropped, walk_of, inst_fn, Sym, a_type}
+use Rattle.regex_lite.proofs.Common.{Val, vcons, vnil, vptr, Env, WpFn, alloc_all, env, free_all}
+use Rattle.regex_lite.proofs.Common.{get, get_in, look_at, pass_all, sets, through, !, at_ret}
+use Rattle.regex_lite.proofs.Common.{await, done, fjoin, frame, fsplit, group, join, keep, later}
+use Rattle.regex_lite.proofs.Common.{move, qed, raw, rewrite, split, suffices, use0, use1, ‵, ◌$◌}
+use Rattle.regex_lite.proofs.Common.{◌∵◌, ◌⊛◌, agg, sub, and_then, blocks, enter, exec, first, fld}
+use Rattle.regex_lite.proofs.Common.{no_more, of_opd, returns, stop}
 use mathlib.Core.Path.{◌≡◌}
 use mathlib.Core.Bool.{true}
 use Prim.Native.Nat.{ℕ, ◌-◌, ◌<◌, ◌^◌}
@@ -20,17 +20,17 @@ use types.Part.{whole}
 use types.Match.{live}
 use types.ByLocal.{is}
 use denote.Steps.{nothing}
-use mathlib.Core.List.{List, [], ◌∷◌, ◌++◌}
+use mathlib.Core.List.{List, [], ◌∷◌}
 use Rattle.std.specs.contracts.option.Option as Opt
 use types.RcWeak.{part, part_in}
-use mir.Syntax.{impl, tnil}
-use Rattle.std.proofs.alloc.Calls.{Al}
 use Rattle.std.specs.contracts.alloc.Global as Heap
 use Rattle.std.specs.contracts.impls.GlobalAllocator.TheImpl as HeapImpl
 use Rattle.std.proofs.alloc.Global.TheLaws as HeapLaws
 use Rattle.std.proofs.VecSteps.Shapes.{after, head, inside}
 use Rattle.std.proofs.RcSteps.{some_Good, is_not, is_so, Some-of, none_of}
-use Rattle.regex_lite.proofs.UnboxedLemmas.{Unboxed, both, both_good, owned_at, unboxed_made}
+use Rattle.regex_lite.proofs.PointerLemmas.{run_with}
+use Rattle.regex_lite.proofs.UnboxedLemmas.{Unboxed, both, both_good, handle, owned_at}
+use Rattle.regex_lite.proofs.UnboxedLemmas.{unboxed_made}
 use Rattle.regex_lite.proofs.owner.CountLemmas.{value, opens, shuts, less}
 use Rattle.regex_lite.proofs.owner.CountLemmas.{counted, says_n, handle_had}
 use Rattle.regex_lite.proofs.owner.BlockLemmas.{ends_at_ptr}
@@ -50,13 +50,7 @@ release_spec 𝓤 𝓛 𝓜 𝓡 wired T L =
     let R : RattleType = param 0 T in
     let B : RattleType = Block.the_row R in
     let Z : RattleType = Heap.the_row in
-    let al : Al = record {
-      row = Z;
-      laws = HeapLaws.the_row_laws;
-      g = HeapImpl.ghosts;
-      d = impl [] tnil dnil;
-      drops = impl [] tnil dnil;
-    } in
+    let al = handle B Z HeapLaws.the_row_laws HeapImpl.ghosts in
     let Out : RattleType = Unboxed B Z HeapLaws.the_row_laws HeapImpl.ghosts in
     let ν : Sym = (C.the_type R).name in
     let En = F.ended T in
@@ -81,10 +75,7 @@ release_spec 𝓤 𝓛 𝓜 𝓡 wired T L =
     ∷ ‵ (ftok every) ∷ raw (fact 𝓤 (z.0.0.0 ⊑ T.lives)) ∷ ‵ ftrue ∷ []) ∵
     split ! $ move ! (1 ∷ []) $ fsplit ! $ handle_had R c x ! ν us (λ a s one eu. move ! (3 ∷ []) $
     fsplit ! $ handle_tells al ! z.0.3.1.0 vs (λ h ev fits. keep ! (2 ∷ 3 ∷ 6 ∷ 0 ∷ 5 ∷ []) $
-    suffices ! (Run (word c ∷ h ∷ []))
-    (subst (λ (ws : List Val). ent 𝓤 (Run (word c ∷ h ∷ [])) (Run (ws ++ (vs ++ [])))) (sym eu)
-    (subst (λ (ws : List Val). ent 𝓤 (Run (word c ∷ h ∷ [])) (Run (word c ∷ (ws ++ []))))
-    (sym ev) (id⊢ 𝓤 (Run (word c ∷ h ∷ []))))) $ enter ! 𝓣.C 𝓣.Λ fn (word c ∷ h ∷ []) Post $
+    suffices ! (Run (word c ∷ h ∷ [])) (run_with 𝓤 Run eu ev) $ enter ! 𝓣.C 𝓣.Λ fn (word c ∷ h ∷ []) Post $
     alloc_all ! (λ l. pass_all ! refl (word-Good ν c, (fits, tt)) $
     let Ev : Env 𝓤 H = env fn.locals l in
     move ! (1 ∷ 0 ∷ 2 ∷ []) $ opens R c x a ! tt s (λ n w cb co e fw some_n.

@@ -1,16 +1,16 @@
 -- `value` shows what every owner lends.
-use Rattle.regex_lite.proofs.Common.{sym, refl, subst, word, word_ty, proved_at, fat, fhide, flft}
-use Rattle.regex_lite.proofs.Common.{ftrue, SProp, ent, fst∗, id⊢, never, tables, RefOf, yes}
-use Rattle.regex_lite.proofs.Common.{hidden_shr, lone, hide, unhide, layouts, param, param_laws}
-use Rattle.regex_lite.proofs.Common.{RattleType, owns, Ptr, in_a_block, plain, types_at, lent_at}
-use Rattle.regex_lite.proofs.Common.{lent_at_shr_laws, Goes-dropped, Stays, ends_at, says}
-use Rattle.regex_lite.proofs.Common.{stay_dropped, walk_of, inst_fn, Sym, a_type, Val, vptr, align}
-use Rattle.regex_lite.proofs.Common.{up, Env, WpFn, alloc_all, env, free_all, get, look_at}
-use Rattle.regex_lite.proofs.Common.{pass_all, sets, through, !, at_ret, done, feq_i, feq_l, fjoin}
-use Rattle.regex_lite.proofs.Common.{fsplit, join, keep, move, qed, raw, rewrite, split, suffices}
-use Rattle.regex_lite.proofs.Common.{use1, ‵, ◌$◌, ◌∵◌, ◌⊛◌, sem, look_in, sub, addr, blocks, enter}
-use Rattle.regex_lite.proofs.Common.{exec, first, fld, of_opd, returns, stop, only_one, value_place}
-use Rattle.regex_lite.proofs.Common.{lends, owned}
+use Rattle.regex_lite.proofs.Common.{sym, refl, word, word_ty, proved_at, fat, fhide, flft, ftrue}
+use Rattle.regex_lite.proofs.Common.{SProp, fst∗, id⊢, never, tables, RefOf, yes, hidden_shr, lone}
+use Rattle.regex_lite.proofs.Common.{hide, unhide, layouts, param, param_laws, RattleType, owns}
+use Rattle.regex_lite.proofs.Common.{Ptr, in_a_block, plain, types_at, lent_at, lent_at_shr_laws}
+use Rattle.regex_lite.proofs.Common.{Goes-dropped, Stays, ends_at, says, stay_dropped, walk_of}
+use Rattle.regex_lite.proofs.Common.{inst_fn, Sym, a_type, Val, vptr, align, up, Env, WpFn}
+use Rattle.regex_lite.proofs.Common.{alloc_all, env, free_all, get, look_at, pass_all, sets}
+use Rattle.regex_lite.proofs.Common.{through, !, at_ret, done, feq_i, feq_l, fjoin, fsplit, join}
+use Rattle.regex_lite.proofs.Common.{keep, move, qed, raw, rewrite, split, suffices, use1, ‵, ◌$◌}
+use Rattle.regex_lite.proofs.Common.{◌∵◌, ◌⊛◌, sem, look_in, sub, addr, blocks, enter, exec, first}
+use Rattle.regex_lite.proofs.Common.{fld, of_opd, returns, stop, only_one, value_place, lends}
+use Rattle.regex_lite.proofs.Common.{owned}
 use Prim.Native.Nat.{ℕ, ◌+◌}
 use types.Kit.{drop}
 use types.Run.{hop}
@@ -19,10 +19,10 @@ use types.ByLocal.{sets_last}
 use denote.RcWeak.{rc_sees}
 use denote.RawPtr.{◌+ₚ◌}
 use denote.Steps.{nothing}
-use mathlib.Core.List.{List, [], ◌∷◌, ◌++◌}
+use mathlib.Core.List.{List, [], ◌∷◌}
 use denote.Memory.{shared_of}
 use Rattle.std.proofs.VecSteps.Shapes.{after}
-use Rattle.regex_lite.proofs.PointerLemmas.{Word, reads, read}
+use Rattle.regex_lite.proofs.PointerLemmas.{Word, reads, read, run_with_one}
 use Rattle.regex_lite.proofs.owner.CountLemmas.{key, S, lent}
 use Rattle.regex_lite.specs.contracts.owner.counted.Counted as counted
 use Rattle.regex_lite.specs.contracts.owner.counted.Counted.value.{ended, clauses}
@@ -66,8 +66,7 @@ value_spec 𝓤 𝓛 𝓜 𝓡 wired T L =
     ftrue (lends R c x) 𝓛 (lent_at_shr_laws R (param_laws 0 T L).shr_laws (value_place R c x) x)
     κ) $ in_a_block ! c (λ r. lent_at R (r +ₚ value_at) x κ)
     (fst∗ 𝓤 (never 𝓤) (sem 𝓛 (shared_of R x 0 0 κ))) (λ cb co e. fsplit ! $ drop ! $ hide ! $
-    suffices ! (Run us) (subst (λ (ws : List Val). ent 𝓤 (Run us) (Run ws)) (sym (λ i. is i ++ []))
-    (id⊢ 𝓤 (Run us))) $
+    suffices ! (Run us) (run_with_one 𝓤 Run is) $
     enter ! 𝓣.C 𝓣.Λ fn us Post $ alloc_all ! (λ l. pass_all ! refl ((tt, tt), tt) $
     let Ev : Env 𝓤 H = env fn.locals l in
     let at : Val = vptr cb (co + value_at) in

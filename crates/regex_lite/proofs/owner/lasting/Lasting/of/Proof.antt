@@ -1,15 +1,14 @@
 -- `of` keeps the pointer, and what the reference holds.
-use Rattle.regex_lite.proofs.Common.{◌≡◌, List, [], ◌∷◌, ◌++◌, sym, refl, subst, word, word-Good}
-use Rattle.regex_lite.proofs.Common.{leaves, proved_at, flft, ftrue, SProp, emp, ent, id⊢, fact}
-use Rattle.regex_lite.proofs.Common.{fact_i, tables, RefOf, yes, unhide, layouts, param, RattleType}
-use Rattle.regex_lite.proofs.Common.{owns, Ptr, block_ptr, plain, types_at, Goes-dropped, Stays}
-use Rattle.regex_lite.proofs.Common.{stay_dropped, walk_of, inst_fn, Sym, a_type, Val, vptr, WpFn}
-use Rattle.regex_lite.proofs.Common.{alloc_all, free_all, get, look_at, pass_all, sets, !, through}
-use Rattle.regex_lite.proofs.Common.{by, feq_l, fjoin, fsplit, keep, move, qed, raw, split}
-use Rattle.regex_lite.proofs.Common.{suffices, use0, ‵, ◌$◌, ◌∵◌, ◌⊛◌, agg, addr, and_then, enter}
-use Rattle.regex_lite.proofs.Common.{no_more, returns, stop}
+use Rattle.regex_lite.proofs.Common.{◌≡◌, List, [], ◌∷◌, refl, word, word-Good, leaves, proved_at}
+use Rattle.regex_lite.proofs.Common.{flft, ftrue, SProp, emp, fact, fact_i, tables, RefOf, yes}
+use Rattle.regex_lite.proofs.Common.{unhide, layouts, param, RattleType, owns, Ptr, block_ptr}
+use Rattle.regex_lite.proofs.Common.{plain, types_at, Goes-dropped, Stays, stay_dropped, walk_of}
+use Rattle.regex_lite.proofs.Common.{inst_fn, Sym, a_type, Val, vptr, WpFn, alloc_all, free_all}
+use Rattle.regex_lite.proofs.Common.{get, look_at, pass_all, sets, through, !, by, feq_l, fjoin}
+use Rattle.regex_lite.proofs.Common.{fsplit, keep, move, qed, raw, split, suffices, use0, ‵, ◌$◌}
+use Rattle.regex_lite.proofs.Common.{◌∵◌, ◌⊛◌, agg, addr, and_then, enter, no_more, returns, stop}
 use denote.Steps.{nothing}
-use Rattle.regex_lite.proofs.PointerLemmas.{word_made}
+use Rattle.regex_lite.proofs.PointerLemmas.{run_with_one, word_made}
 use Rattle.regex_lite.specs.contracts.owner.lasting.Lasting as lasting
 use Rattle.regex_lite.specs.contracts.owner.lasting.Lasting.of.{ended, clauses}
 use Rattle.regex_lite.specs.contracts.owner.lasting.Lasting.of.Key.{name as #self}
@@ -44,9 +43,7 @@ of_spec 𝓤 𝓛 𝓜 𝓡 wired T L =
     ∷ asked ∷ []) ∵ split ! $ move ! (1 ∷ []) $ fsplit ! $ fsplit ! $
     feq_l ! (λ is. unhide ! $ nothing ! $ fjoin ! $
     -- [what the reference holds; nothing; the tokens; what is asked]
-    keep ! (0 ∷ 2 ∷ []) $ suffices ! (Run (vptr b o ∷ []))
-    (subst (λ (us : List Val). ent 𝓤 (Run (vptr b o ∷ [])) (Run us)) (sym (λ i. is i ++ []))
-    (id⊢ 𝓤 (Run (vptr b o ∷ [])))) $
+    keep ! (0 ∷ 2 ∷ []) $ suffices ! (Run (vptr b o ∷ [])) (run_with_one 𝓤 Run is) $
     enter ! 𝓣.C 𝓣.Λ fn (vptr b o ∷ []) Post $ alloc_all ! (λ l. pass_all ! refl ((tt, tt), tt) $
     sets ! (addr ! (through ! refl (stop !))) refl (tt, tt) $
     sets ! (agg ! (and_then ! (get ! refl) (no_more !))) refl (word-Good ν p) $

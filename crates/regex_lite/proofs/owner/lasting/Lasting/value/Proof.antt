@@ -1,24 +1,24 @@
 -- `value` shows what every owner lends.
-use Rattle.regex_lite.proofs.Common.{sym, refl, subst, word, word_ty, proved_at, fat, fhide, flft}
-use Rattle.regex_lite.proofs.Common.{ftrue, SProp, ent, fst∗, id⊢, never, tables, RefOf, yes}
-use Rattle.regex_lite.proofs.Common.{hidden_shr, hide, unhide, layouts, param, RattleType, owns}
-use Rattle.regex_lite.proofs.Common.{Ptr, in_a_block, plain, types_at, Goes-dropped, Stays, ends_at}
-use Rattle.regex_lite.proofs.Common.{says, stay_dropped, walk_of, inst_fn, Sym, a_type, Val, vptr}
-use Rattle.regex_lite.proofs.Common.{Env, WpFn, alloc_all, env, free_all, get, look_at, pass_all}
-use Rattle.regex_lite.proofs.Common.{sets, through, !, at_ret, done, feq_i, feq_l, fjoin, fsplit}
-use Rattle.regex_lite.proofs.Common.{join, keep, move, qed, raw, rewrite, split, suffices, use1, ‵}
-use Rattle.regex_lite.proofs.Common.{◌$◌, ◌∵◌, ◌⊛◌, sem, look_in, sub, addr, blocks, enter, exec}
-use Rattle.regex_lite.proofs.Common.{first, fld, of_opd, returns, stop}
+use Rattle.regex_lite.proofs.Common.{sym, refl, word, word_ty, proved_at, fat, fhide, flft, ftrue}
+use Rattle.regex_lite.proofs.Common.{SProp, fst∗, id⊢, never, tables, RefOf, yes, hidden_shr, hide}
+use Rattle.regex_lite.proofs.Common.{unhide, layouts, param, RattleType, owns, Ptr, in_a_block}
+use Rattle.regex_lite.proofs.Common.{plain, types_at, Goes-dropped, Stays, ends_at, says}
+use Rattle.regex_lite.proofs.Common.{stay_dropped, walk_of, inst_fn, Sym, a_type, Val, vptr, Env}
+use Rattle.regex_lite.proofs.Common.{WpFn, alloc_all, env, free_all, get, look_at, pass_all, sets}
+use Rattle.regex_lite.proofs.Common.{through, !, at_ret, done, feq_i, feq_l, fjoin, fsplit, join}
+use Rattle.regex_lite.proofs.Common.{keep, move, qed, raw, rewrite, split, suffices, use1, ‵, ◌$◌}
+use Rattle.regex_lite.proofs.Common.{◌∵◌, ◌⊛◌, sem, look_in, sub, addr, blocks, enter, exec, first}
+use Rattle.regex_lite.proofs.Common.{fld, of_opd, returns, stop}
 use types.Kit.{drop}
 use types.Run.{hop}
 use types.Part.{whole}
 use types.ByLocal.{sets_last}
 use denote.Steps.{nothing}
-use mathlib.Core.List.{List, [], ◌∷◌, ◌++◌}
+use mathlib.Core.List.{List, [], ◌∷◌}
 use denote.Memory.{shared_of}
 use Rattle.std.proofs.VecSteps.Shapes.{after}
 use Rattle.regex_lite.specs.Owner.Ownership.{lent_static}
-use Rattle.regex_lite.proofs.PointerLemmas.{Word, reads, read}
+use Rattle.regex_lite.proofs.PointerLemmas.{Word, reads, read, run_with_one}
 use Rattle.regex_lite.specs.contracts.owner.lasting.Lasting as lasting
 use Rattle.regex_lite.specs.contracts.owner.lasting.Lasting.value.{ended, clauses}
 use Rattle.regex_lite.specs.contracts.owner.lasting.Lasting.value.Key.{name as #self}
@@ -56,8 +56,7 @@ value_spec 𝓤 𝓛 𝓜 𝓡 wired T L =
     (‵ (hidden_shr (Word (R ∷ []) ν) κs.0 (p, tt) b o) ⊛ ‵ (fhide (lent_static R p x)))
     (id⊢ 𝓤 _) $ split ! $ move ! (1 ∷ []) $ unhide ! $ in_a_block ! p (λ r. lent_static R r x)
     (fst∗ 𝓤 (never 𝓤) (sem 𝓛 (shared_of R x 0 0 []))) (λ cb co e. fsplit ! $ drop ! $ hide ! $
-    suffices ! (Run us) (subst (λ (ws : List Val). ent 𝓤 (Run us) (Run ws)) (sym (λ i. is i ++ []))
-    (id⊢ 𝓤 (Run us))) $
+    suffices ! (Run us) (run_with_one 𝓤 Run is) $
     enter ! 𝓣.C 𝓣.Λ fn us Post $ alloc_all ! (λ l. pass_all ! refl ((tt, tt), tt) $
     let Ev : Env 𝓤 H = env fn.locals l in
     let at : Val = vptr cb co in

@@ -1,15 +1,15 @@
 -- `into_box` makes the box again.
-use Rattle.regex_lite.proofs.Common.{◌≡◌, suc, List, [], ◌∷◌, ◌++◌, sym, refl, ap, subst}
-use Rattle.regex_lite.proofs.Common.{Goes-blank, leaves, proved_at, flft, ftrue, SProp, ent, id⊢}
-use Rattle.regex_lite.proofs.Common.{◌⊑◌, fact, tables, no, layout, param, param_laws, RattleType}
-use Rattle.regex_lite.proofs.Common.{owns, block_ptr, plain, types_at, triple_of, Stays}
-use Rattle.regex_lite.proofs.Common.{stay_dropped, walk_of, inst_fn, a_type, dnil, Val, vptr, WpFn}
-use Rattle.regex_lite.proofs.Common.{alloc_all, env, free_all, get, get_in, look_at, pass_all, sets}
-use Rattle.regex_lite.proofs.Common.{Goal, !, Item, Seq, Soaks, at_ret, await, by, feq_i, fjoin}
-use Rattle.regex_lite.proofs.Common.{fsplit, join, keep, later, move, pick, qed, raw, rewrite, some}
-use Rattle.regex_lite.proofs.Common.{split, split3, suffices, use1, ‵, ◌$◌, ◌∵◌, ◌⊛◌, Logic, sub}
-use Rattle.regex_lite.proofs.Common.{and_then, blocks, enter, exec, first, fld, no_more, of_opd}
-use Rattle.regex_lite.proofs.Common.{returns, stop}
+use Rattle.regex_lite.proofs.Common.{◌≡◌, suc, List, [], ◌∷◌, sym, refl, ap, subst, Goes-blank}
+use Rattle.regex_lite.proofs.Common.{leaves, proved_at, flft, ftrue, SProp, ent, id⊢, ◌⊑◌, fact}
+use Rattle.regex_lite.proofs.Common.{tables, no, layout, param, param_laws, RattleType, owns}
+use Rattle.regex_lite.proofs.Common.{block_ptr, plain, types_at, triple_of, Stays, stay_dropped}
+use Rattle.regex_lite.proofs.Common.{walk_of, inst_fn, a_type, dnil, Val, vptr, WpFn, alloc_all}
+use Rattle.regex_lite.proofs.Common.{env, free_all, get, get_in, look_at, pass_all, sets, Goal, !}
+use Rattle.regex_lite.proofs.Common.{Item, Seq, Soaks, at_ret, await, by, feq_i, fjoin, fsplit}
+use Rattle.regex_lite.proofs.Common.{join, keep, later, move, pick, qed, raw, rewrite, some, split}
+use Rattle.regex_lite.proofs.Common.{split3, suffices, use1, ‵, ◌$◌, ◌∵◌, ◌⊛◌, Logic, sub, and_then}
+use Rattle.regex_lite.proofs.Common.{blocks, enter, exec, first, fld, no_more, of_opd, returns}
+use Rattle.regex_lite.proofs.Common.{stop}
 use seplogic.Ra.Ura.{Ura}
 use mir.Syntax.{dcons}
 use types.Kit.{mean, drop}
@@ -26,6 +26,7 @@ use Rattle.std.proofs.BoxSteps.Form as box
 use Rattle.std.proofs.BoxSteps.Steps.{box_out, box_in}
 use Rattle.std.specs.contracts.boxed.Box.from_raw as callee
 use Rattle.std.proofs.boxed.Box.from_raw.Met.{met}
+use Rattle.regex_lite.proofs.PointerLemmas.{run_with_one}
 use Rattle.regex_lite.proofs.UnboxedLemmas.{Unboxed, both, both_good, others, unboxed_had}
 use Rattle.regex_lite.specs.contracts.owner.unboxed.Unboxed.into_box.{ended, clauses}
 use Rattle.regex_lite.specs.contracts.owner.unboxed.Unboxed.into_box.Key.{name as #self}
@@ -96,8 +97,7 @@ into_box_spec 𝓤 𝓛 𝓜 𝓡 wired T A L LA g d dx dd allocator glue glued 
     move ! (2 ∷ []) $ feq_i ! (List Val) (vptr b o ∷ []) (vptr b o ∷ []) refl $ fjoin ! $
     move ! (2 ∷ 0 ∷ []) $ fjoin ! $ move ! (2 ∷ 0 ∷ []) $ join ! $ join ! $
     use1 𝓛 (raw (k.pre y)) (id⊢ 𝓤 _) $
-    suffices ! (Run (w ∷ [])) (subst (λ (us : List Val). ent 𝓤 (Run (w ∷ [])) (Run us))
-    (sym (λ i. ws i ++ [])) (id⊢ 𝓤 (Run (w ∷ [])))) $ enter ! 𝓣.C 𝓣.Λ fn (w ∷ []) Post $
+    suffices ! (Run (w ∷ [])) (run_with_one 𝓤 Run ws) $ enter ! 𝓣.C 𝓣.Λ fn (w ∷ []) Post $
     alloc_all ! (λ l.
     let Ev = env fn.locals l in
     let held = holding 𝓛 Ev ((5, h) ∷ (3, h) ∷ (2, vptr b o) ∷ (1, w) ∷ []) in

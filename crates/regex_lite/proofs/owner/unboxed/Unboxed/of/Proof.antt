@@ -1,15 +1,14 @@
 -- `of` takes the pointer of the box.
-use Rattle.regex_lite.proofs.Common.{◌≡◌, List, [], ◌∷◌, ◌++◌, sym, refl, ap, ◌∙◌, subst}
-use Rattle.regex_lite.proofs.Common.{Goes-blank, handle_tells, leaves, proved_at, flft, ftrue}
-use Rattle.regex_lite.proofs.Common.{SProp, emp, ent, id⊢, fact, fact_i, tables, no, param}
-use Rattle.regex_lite.proofs.Common.{param_laws, RattleType, owns, Ptr, block_ptr, ptr_val, plain}
-use Rattle.regex_lite.proofs.Common.{types_at, triple_of, Stays, stay_dropped, walk_of, inst_fn}
-use Rattle.regex_lite.proofs.Common.{a_type, dnil, Val, of_list, vptr, vstruct, WpFn, alloc_all}
-use Rattle.regex_lite.proofs.Common.{free_all, get, get_in, look_at, pass_all, sets, !, await, by}
-use Rattle.regex_lite.proofs.Common.{feq_l, fjoin, fpick, fsplit, join, keep, later, move, pick}
-use Rattle.regex_lite.proofs.Common.{qed, raw, rewrite, some, split, split3, suffices, use0, use1}
-use Rattle.regex_lite.proofs.Common.{‵, ◌$◌, ◌∵◌, ◌⊛◌, agg, sub, and_then, enter, fld, no_more}
-use Rattle.regex_lite.proofs.Common.{of_opd, returns, stop}
+use Rattle.regex_lite.proofs.Common.{◌≡◌, List, [], ◌∷◌, ◌++◌, refl, ap, ◌∙◌, Goes-blank}
+use Rattle.regex_lite.proofs.Common.{handle_tells, leaves, proved_at, flft, ftrue, SProp, emp, id⊢}
+use Rattle.regex_lite.proofs.Common.{fact, fact_i, tables, no, param, param_laws, RattleType, owns}
+use Rattle.regex_lite.proofs.Common.{Ptr, block_ptr, ptr_val, plain, types_at, triple_of, Stays}
+use Rattle.regex_lite.proofs.Common.{stay_dropped, walk_of, inst_fn, a_type, dnil, Val, of_list}
+use Rattle.regex_lite.proofs.Common.{vptr, vstruct, WpFn, alloc_all, free_all, get, get_in, look_at}
+use Rattle.regex_lite.proofs.Common.{pass_all, sets, !, await, by, feq_l, fjoin, fpick, fsplit}
+use Rattle.regex_lite.proofs.Common.{join, keep, later, move, pick, qed, raw, rewrite, some, split}
+use Rattle.regex_lite.proofs.Common.{split3, suffices, use0, use1, ‵, ◌$◌, ◌∵◌, ◌⊛◌, agg, sub}
+use Rattle.regex_lite.proofs.Common.{and_then, enter, fld, no_more, of_opd, returns, stop}
 use mir.Syntax.{dcons}
 use types.Kit.{drop}
 use types.ByLocal.{lands_as}
@@ -25,6 +24,7 @@ use Rattle.std.proofs.BoxSteps.Form as box
 use Rattle.std.proofs.BoxSteps.Steps.{box_out, box_in}
 use Rattle.std.specs.contracts.boxed.Box.into_raw_with_allocator as callee
 use Rattle.std.proofs.boxed.Box.into_raw_with_allocator.Met.{met}
+use Rattle.regex_lite.proofs.PointerLemmas.{run_with_one}
 use Rattle.regex_lite.proofs.UnboxedLemmas.{both, both_good, owned_at, lies, unboxed_made}
 use Rattle.regex_lite.specs.contracts.owner.unboxed.Unboxed.of.{ended, clauses}
 use Rattle.regex_lite.specs.contracts.owner.unboxed.Unboxed.of.Key.{name as #self}
@@ -68,8 +68,7 @@ of_spec 𝓤 𝓛 𝓜 𝓡 wired T A L LA g d dx dd allocator glue glued =
     let y : k.Ghost = ((κs, qs, tt, (v, tt), (w ∷ [], tt)), tt) in
     box_in E ! v b o x e refl $ fjoin ! $ move ! (1 ∷ 0 ∷ []) $ join ! $ join ! $
     use1 𝓛 (raw (k.pre y)) (id⊢ 𝓤 _) $
-    suffices ! (Run (w ∷ [])) (subst (λ (us : List Val). ent 𝓤 (Run (w ∷ [])) (Run us))
-    (sym (λ i. ws i ++ [])) (id⊢ 𝓤 (Run (w ∷ [])))) $ enter ! 𝓣.C 𝓣.Λ fn (w ∷ []) Post $
+    suffices ! (Run (w ∷ [])) (run_with_one 𝓤 Run ws) $ enter ! 𝓣.C 𝓣.Λ fn (w ∷ []) Post $
     alloc_all ! (λ l. pass_all ! refl (box.box_typed E h b o fits, tt) $
     sets ! (of_opd ! (get ! refl)) refl (box.box_typed E h b o fits) $
     calls_at ! (framed 𝓤 H 𝓜 𝓣) k known y (and_then ! (get ! refl) (no_more !)) (λ u.
