@@ -3,17 +3,16 @@ use Rattle.regex_lite.proofs.Common.{◌≡◌, ℕ, zero, suc, ◌+◌, ◌*◌
 use Rattle.regex_lite.proofs.Common.{take, IfSome, slice_get, Some, None, IsUtf8, Option}
 use Rattle.regex_lite.proofs.Common.{option_map, chars, refl, ap, ◌∙◌, arith, filter_map}
 use Rattle.regex_lite.proofs.Common.{option_zip, Text, Tree, captures_len, static_captures_len}
-use Rattle.regex_lite.proofs.Common.{Found, IsFound, span, offset, IsPatternTree, LiesIn, text_at}
-use Rattle.regex_lite.proofs.Common.{spans_of, span_at, offsets, spans_from}
+use Rattle.regex_lite.proofs.Common.{Found, IsFound, span, offset, IsPatternTree, IsWithin, LiesIn}
+use Rattle.regex_lite.proofs.Common.{text_at, spans_of, span_at, offsets, spans_from}
 use Rattle.regex_lite_engine.specs.SearchLaws.{HasGroupsInside}
 use Rattle.regex_lite_engine.specs.Search.Marks.{Marks, taking_part}
-use Rattle.regex_lite_engine.specs.Graph.WrittenOut.{place_of_pattern, start_address, end_address}
 use Rattle.regex_lite_engine.proofs.OffsetLemmas.{boundary_at, offset_grows}
 use Rattle.regex_lite_engine.proofs.laws.PatternTreeLemmas.{regular_tree, numbered_tree}
-use Rattle.regex_lite_engine.proofs.laws.answer.ReachLemmas.{walk_inside}
 use Rattle.regex_lite_engine.proofs.laws.groups.SpanLemmas.{groups_inside}
 use Rattle.regex_lite_engine.proofs.laws.groups.TakingPartLemmas.{enough_take_part}
 use Rattle.regex_lite.specs.Laws.{LiesInside}
+use Rattle.regex_lite.proofs.string.LawfulLemmas.{found_within}
 
 -- two positions in order lie in the haystack
 pub positions_lie : (bytes : List ℕ) (i j : ℕ) → IsUtf8 bytes → i ≤ j → j ≤ length (chars bytes)
@@ -118,9 +117,8 @@ first_told haystack marks (suc n) first (suc count) =
 -- what is found in a haystack by a regex
 module _ (bytes : List ℕ) (utf8 : IsUtf8 bytes) (tree : Tree) (given : IsPatternTree tree) (s : ℕ)
     (found : Found) (is : IsFound tree (chars bytes) s found) where
-  end_inside : found.end ≤ length (chars bytes)
-  end_inside = walk_inside (chars bytes) (place_of_pattern tree) is.way (start_address, found.start)
-      (end_address, found.end) is.most_preferred.is_way.0 is.inside
+  within : IsWithin (chars bytes) s found
+  within = found_within tree (chars bytes) s found given is
 
   inner : HasGroupsInside found
   inner = groups_inside tree (chars bytes) s found (regular_tree tree given) is
@@ -128,8 +126,7 @@ module _ (bytes : List ℕ) (utf8 : IsUtf8 bytes) (tree : Tree) (given : IsPatte
   -- it lies there
   pub found_lies : LiesIn bytes (offsets (chars bytes) (found.start, found.end))
   found_lies =
-      let is_whole = inner.inside 0 found.start found.end inner.whole in
-      positions_lie bytes found.start found.end utf8 is_whole.1 end_inside
+      positions_lie bytes found.start found.end utf8 within.ordered within.inside
 
   abbrev whole : ℕ × ℕ
   whole = offsets (chars bytes) (found.start, found.end)
@@ -142,14 +139,12 @@ module _ (bytes : List ℕ) (utf8 : IsUtf8 bytes) (tree : Tree) (given : IsPatte
           → IfSome (option_map (offsets (chars bytes)) own) (LiesInside bytes whole)
       each None e = tt
       each (Some (from, to)) e =
-          let within = inner.inside k from to e in
-          let order = within.1 in
-          let last = within.2 in
-          let below = end_inside in
+          let own = inner.inside k from to e in
           record {
-            starts_inside = offset_grows (chars bytes) found.start from within.0;
-            ends_inside = offset_grows (chars bytes) to found.end last;
-            lies_in = positions_lie bytes from to utf8 order (omega (arith, last, below));
+            starts_inside = offset_grows (chars bytes) found.start from own.0;
+            ends_inside = offset_grows (chars bytes) to found.end own.2;
+            lies_in =
+                positions_lie bytes from to utf8 own.1 (omega (arith, own.2, within.inside));
           }
 
   -- so do its groups, and inside it

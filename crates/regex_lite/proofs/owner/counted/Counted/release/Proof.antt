@@ -75,7 +75,8 @@ release_spec 𝓤 𝓛 𝓜 𝓡 wired T L =
     ∷ ‵ (ftok every) ∷ raw (fact 𝓤 (z.0.0.0 ⊑ T.lives)) ∷ ‵ ftrue ∷ []) ∵
     split ! $ move ! (1 ∷ []) $ fsplit ! $ handle_had R c x ! ν us (λ a s one eu. move ! (3 ∷ []) $
     fsplit ! $ handle_tells al ! z.0.3.1.0 vs (λ h ev fits. keep ! (2 ∷ 3 ∷ 6 ∷ 0 ∷ 5 ∷ []) $
-    suffices ! (Run (word c ∷ h ∷ [])) (run_with 𝓤 Run eu ev) $ enter ! 𝓣.C 𝓣.Λ fn (word c ∷ h ∷ []) Post $
+    suffices ! (Run (word c ∷ h ∷ [])) (run_with 𝓤 Run eu ev) $
+    enter ! 𝓣.C 𝓣.Λ fn (word c ∷ h ∷ []) Post $
     alloc_all ! (λ l. pass_all ! refl (word-Good ν c, (fits, tt)) $
     let Ev : Env 𝓤 H = env fn.locals l in
     move ! (1 ∷ 0 ∷ 2 ∷ []) $ opens R c x a ! tt s (λ n w cb co e fw some_n.
