@@ -1,6 +1,8 @@
 -- What a call returns of a text that can be searched.
-use Rattle.regex_lite_c.proofs.Common.{◌≡◌, ℕ, ◌≤◌, ◌⊎◌, List, IsUtf8, IsCharBoundary, inl, inr}
-use Rattle.regex_lite_c.proofs.Common.{arith, NO_ROOM, OUT_OF_MEMORY, YES}
+use Rattle.regex_lite_c.proofs.Common.{◌≡◌, ℕ, zero, suc, ◌<◌, ◌≤◌, ◌⊎◌, List, IsUtf8}
+use Rattle.regex_lite_c.proofs.Common.{IsCharBoundary, refl, inl, inr, arith, cases_lt, NO, NO_ROOM}
+use Rattle.regex_lite_c.proofs.Common.{OUT_OF_MEMORY, YES}
+use Rattle.std.proofs.Common.{◌≢◌}
 use Rattle.regex_lite_c.specs.Answers.{RefusesText}
 use Rattle.regex_lite_c.specs.declared.answer.TheConstants.{NOT_TEXT, BAD_OFFSET}
 
@@ -32,3 +34,29 @@ pub one_of_more : (answer : ℕ) → IsOne answer
     ⊎ ((answer ≡ OUT_OF_MEMORY) ⊎ (answer ≡ NO_ROOM))))
 one_of_more answer (inl few) = inl few
 one_of_more answer (inr rest) = inr (inr (inr rest))
+
+-- where some are listed the answer is yes, and else no
+pub yes_or_no : (count answer : ℕ) → (0 < count → answer ≡ YES) → (count ≡ 0 → answer ≡ NO)
+    → (answer ≤ YES) × (answer ≡ YES → 0 < count) × (answer ≢ YES → count ≡ 0)
+yes_or_no zero answer some none =
+    let is = none refl in
+    (omega (arith, is), λ wrong. absurd (omega (arith, is, wrong)), λ _. refl)
+yes_or_no (suc n) answer some none =
+    let is = some (omega arith) in (omega (arith, is), λ _. omega arith, λ wrong. absurd (wrong is))
+
+-- where there is room it is yes, and else that there is too little
+pub yes_or_no_room : {Written Same : Type 0} (room count answer : ℕ)
+    → (count ≤ room → (answer ≡ YES) × Written) → (room < count → (answer ≡ NO_ROOM) × Same)
+    → IsOne answer × (answer ≡ YES → Written)
+    × (answer ≢ YES → (answer ≡ NO_ROOM) × (room < count) × Same)
+yes_or_no_room room count answer written no_room = elim (cases_lt room count) [
+  | inr within ↦
+      let own = written within in
+      (inl (omega (arith, own.0)), λ _. own.1, λ wrong. absurd (wrong own.0))
+  | inl above ↦
+      let own = no_room above in (
+        inr (inr own.0),
+        λ wrong. absurd (omega (arith, own.0, wrong)),
+        λ _. (own.0, above, own.1),
+      )
+]

@@ -1,16 +1,17 @@
 -- Groups of matches of a regex that are written one after another.
-use Rattle.regex_lite_c.proofs.Common.{◌≡◌, ℕ, ◌+◌, ◌<◌, ◌≤◌, true, false, ◌⊎◌, List, [], ◌∷◌, ◌++◌}
-use Rattle.regex_lite_c.proofs.Common.{length, Some, None, Option, chars, unwrap_or, sym, ap, subst}
-use Rattle.regex_lite_c.proofs.Common.{inl, inr, arith, cases_lt, Found, ComesNext, Expression}
-use Rattle.regex_lite_c.proofs.Common.{Groups, group_span, IsAnswerOf, spans_of_all, span_of}
-use Rattle.regex_lite_c.proofs.Common.{AreWritten, walk_room, NO, NO_ROOM, OUT_OF_MEMORY, YES, Span}
-use Rattle.std.proofs.Common.{◌≢◌, IsSome, Bool, cond}
+use Rattle.regex_lite_c.proofs.Common.{◌≡◌, ℕ, ◌+◌, ◌<◌, true, false, List, [], ◌∷◌, ◌++◌, length}
+use Rattle.regex_lite_c.proofs.Common.{Some, None, Option, chars, unwrap_or, sym, ap, subst, inl}
+use Rattle.regex_lite_c.proofs.Common.{inr, arith, cases_lt, Found, ComesNext, Expression, Groups}
+use Rattle.regex_lite_c.proofs.Common.{group_span, IsAnswerOf, spans_of_all, span_of, AreWritten}
+use Rattle.regex_lite_c.proofs.Common.{walk_room, YES, Span}
+use Rattle.std.proofs.Common.{IsSome, Bool, cond}
 use Rattle.regex_lite.specs.Groups.{span_at}
 use Rattle.regex_lite.specs.Items.{AreGroupsFound}
 use Rattle.regex_lite.specs.MatchList.{AreFirst}
 use Rattle.regex_lite.specs.Replacements.{AreGroupsOfEach}
 use Rattle.regex_lite_c.specs.GroupWalks.{AreGroupsListed, IsFilled, IsWithoutRoom}
-use Rattle.regex_lite_c.proofs.group_walk.StageLemmas.{AreSoFar, Searched, Stage}
+use Rattle.regex_lite_c.proofs.group_walk.StageLemmas.{AreSoFar, IsEndOf, Searched, Stage}
+use Rattle.regex_lite_c.proofs.group_walk.StageLemmas.{other_end}
 use Rattle.regex_lite_c.proofs.walk.WalkLemmas.{lists_all}
 
 -- one more match has its groups after those of the others
@@ -66,33 +67,8 @@ IsAnswer start now answer =
 -- why a walk ends here: none is left, memory ran out, or there is too little room
 abbrev pub IsEnd : (now : Stage Expression) → (answer : ℕ) → Type 0
 IsEnd now answer =
-    ((answer ≡ NO) × ComesNext now.ahead None)
-    ⊎ ((answer ≡ OUT_OF_MEMORY)
-    ⊎ ((answer ≡ NO_ROOM) × (now.used ≡ 0 → IsWithoutRoom now.ahead (length now.spans))))
-
--- each of these is none of the others
-other_end : (now : Stage Expression) (answer : ℕ) → IsEnd now answer
-    → (answer ≢ YES) × (answer ≡ NO → ComesNext now.ahead None)
-    × (answer ≡ NO_ROOM → now.used ≡ 0 → IsWithoutRoom now.ahead (length now.spans))
-    × ((answer ≤ YES) ⊎ ((answer ≡ OUT_OF_MEMORY) ⊎ (answer ≡ NO_ROOM)))
-other_end now answer (inl none) = (
-  λ wrong. omega (arith, none.0, wrong),
-  λ _. none.1,
-  λ wrong. absurd (omega (arith, none.0, wrong)),
-  inl (omega (arith, none.0)),
-)
-other_end now answer (inr (inl memory)) = (
-  λ wrong. omega (arith, memory, wrong),
-  λ wrong. absurd (omega (arith, memory, wrong)),
-  λ wrong. absurd (omega (arith, memory, wrong)),
-  inr (inl memory),
-)
-other_end now answer (inr (inr full)) = (
-  λ wrong. omega (arith, full.0, wrong),
-  λ wrong. absurd (omega (arith, full.0, wrong)),
-  λ _. full.1,
-  inr (inr full.0),
-)
+    IsEndOf (ComesNext now.ahead None) (now.used ≡ 0 → IsWithoutRoom now.ahead (length now.spans))
+    answer
 
 -- the answer is yes where there are some, and else says why the walk ends
 pub filled : (start now : Stage Expression) (answer otherwise : ℕ) → AreSoFar of_regex start now
@@ -111,7 +87,7 @@ filled start now answer otherwise so some none ends = elim (cases_lt 0 now.count
   | inr few ↦
       let zero : now.count ≡ 0 = omega (arith, few) in
       let same = so.none zero in
-      let end = other_end now answer (subst (IsEnd now) (sym (none zero)) ends) in
+      let end = other_end _ _ answer (subst (IsEnd now) (sym (none zero)) ends) in
       record {
         found = λ yes. absurd (end.0 yes);
         none = λ nil. subst (λ a. ComesNext a None) same.0 (end.1 nil);

@@ -1,10 +1,11 @@
 -- How far a walk has written the groups of matches, whatever is searched for, a regex or several
 -- patterns.
-use Rattle.regex_lite_c.proofs.Common.{◌≡◌, ℕ, suc, ◌+◌, ◌-◌, ◌<◌, ◌≤◌, List, [], ◌∷◌, ◌++◌, length}
-use Rattle.regex_lite_c.proofs.Common.{slice_get, Some, None, Option, option_map, sym, refl, ap}
-use Rattle.regex_lite_c.proofs.Common.{◌∙◌, subst, inl, inr, append-nil, arith, length-append}
+use Rattle.regex_lite_c.proofs.Common.{◌≡◌, ℕ, suc, ◌+◌, ◌-◌, ◌<◌, ◌≤◌, ◌⊎◌, List, [], ◌∷◌, ◌++◌}
+use Rattle.regex_lite_c.proofs.Common.{length, slice_get, Some, None, Option, option_map, sym, refl}
+use Rattle.regex_lite_c.proofs.Common.{ap, ◌∙◌, subst, inl, inr, append-nil, arith, length-append}
 use Rattle.regex_lite_c.proofs.Common.{cases_lt, Found, Groups, spans_of_all, span_of, AreWritten}
-use Rattle.regex_lite_c.proofs.Common.{ended_of, Span, Walk}
+use Rattle.regex_lite_c.proofs.Common.{ended_of, NO, NO_ROOM, OUT_OF_MEMORY, YES, Span, Walk}
+use Rattle.std.proofs.Common.{◌≢◌}
 use Rattle.std.proofs.lemmas.Grind.{flat_map-append}
 use Rattle.regex_lite_syntax.specs.Text.{Text}
 use Rattle.regex_lite_engine.proofs.LookupLemmas.{get_left, get_right}
@@ -34,6 +35,10 @@ pub record Stage (S : Type 0) : Type 0 where
   pub spans : List Span
   pub used : ℕ
   pub count : ℕ
+
+abbrev pub stage_of : {S : Type 0} → AheadOf S → Walk → List Span → (used count : ℕ) → Stage S
+stage_of ahead walk spans used count =
+    record { ahead = ahead; walk = walk; spans = spans; used = used; count = count }
 
 -- the groups end with those of the match after which the walk goes on
 pub record EndsWith (groups : List Groups) (walk : Walk) : Type 0 where
@@ -153,3 +158,31 @@ module _ {S A : Type 0} (searched : Searched S A) where
         none = λ wrong. absurd (omega (arith, wrong, one.count));
         some = λ _. record { front = so.groups; last = own; is = refl; end = one.end };
       }
+
+-- why a walk ends: none is left, memory ran out, or there is too little room
+abbrev pub IsEndOf : (over full : Type 0) → (answer : ℕ) → Type 0
+IsEndOf over full answer =
+    ((answer ≡ NO) × over) ⊎ ((answer ≡ OUT_OF_MEMORY) ⊎ ((answer ≡ NO_ROOM) × full))
+
+-- each of these is none of the others
+pub other_end : (over full : Type 0) (answer : ℕ) → IsEndOf over full answer
+    → (answer ≢ YES) × (answer ≡ NO → over) × (answer ≡ NO_ROOM → full)
+    × ((answer ≤ YES) ⊎ ((answer ≡ OUT_OF_MEMORY) ⊎ (answer ≡ NO_ROOM)))
+other_end over full answer (inl none) = (
+  λ wrong. omega (arith, none.0, wrong),
+  λ _. none.1,
+  λ wrong. absurd (omega (arith, none.0, wrong)),
+  inl (omega (arith, none.0)),
+)
+other_end over full answer (inr (inl memory)) = (
+  λ wrong. omega (arith, memory, wrong),
+  λ wrong. absurd (omega (arith, memory, wrong)),
+  λ wrong. absurd (omega (arith, memory, wrong)),
+  inr (inl memory),
+)
+other_end over full answer (inr (inr small)) = (
+  λ wrong. omega (arith, small.0, wrong),
+  λ wrong. absurd (omega (arith, small.0, wrong)),
+  λ _. small.1,
+  inr (inr small.0),
+)

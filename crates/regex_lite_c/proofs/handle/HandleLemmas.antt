@@ -1,14 +1,13 @@
 -- A handle by value: one pointer, and what is at it.
-use Rattle.regex_lite_c.proofs.Common.{Some, None, Option, sym, refl, subst, word, SProp, layout}
-use Rattle.regex_lite_c.proofs.Common.{RattleType, Ptr, block_ptr, null_ptr, Sym, Val, vcons, vnil}
-use Rattle.regex_lite_c.proofs.Common.{vptr, move, raw, use0, ‵, ◌$◌, live}
+use Rattle.regex_lite_c.proofs.Common.{Some, None, Option, refl, word, layout, RattleType, Ptr}
+use Rattle.regex_lite_c.proofs.Common.{block_ptr, null_ptr, Sym, Val, vcons, vnil, vptr, move, raw}
+use Rattle.regex_lite_c.proofs.Common.{use0, ‵, ◌$◌, live}
 use mathlib.Core.Path.{◌≡◌}
 use Prim.Native.Nat.{ℕ}
-use mathlib.Core.List.{List, [], ◌∷◌, ◌++◌}
+use mathlib.Core.List.{List, [], ◌∷◌}
 use seplogic.Ra.Ura.{Ura}
 use mir.Raw.{raw as bare}
-use mir.Syntax.{impl, tnil, dnil}
-use base.Logic.{ent, emp, via, snd∗, guard, guard_i, id⊢}
+use base.Logic.{ent, emp, via, snd∗, guard, guard_i}
 use base.Fml.{Fml}
 use base.Fraction.{full_share}
 use types.Logic.{Logic, sem}
@@ -22,41 +21,16 @@ use Rattle.std.specs.contracts.impls.GlobalAllocator.TheImpl as HeapImpl
 use Rattle.std.specs.contracts.option.Option as Opt
 use Rattle.std.proofs.GlobalToken.{dealloc_token-Testable}
 use Rattle.std.proofs.RcSteps.{Some-of}
-use Rattle.std.proofs.alloc.Calls.{Al, handle_tells}
+use Rattle.std.proofs.alloc.Calls.{handle_tells}
 use Rattle.std.proofs.alloc.Global.TheLaws as HeapLaws
 use Rattle.std.proofs.cell.Inside.{Good}
 use Rattle.regex_lite.proofs.PointerLemmas.{Word, word_had}
-use Rattle.regex_lite.proofs.UnboxedLemmas.{Unboxed, both, unboxed_made}
+use Rattle.regex_lite.proofs.UnboxedLemmas.{Unboxed, both, handle, unboxed_made}
 use Rattle.regex_lite_c.specs.Handles.{holds_of}
 
 -- the type of the allocator
 abbrev pub Z : RattleType
 Z = Heap.the_row
-
--- and what its laws are
-abbrev al : Al
-al = record {
-  row = Z;
-  laws = HeapLaws.the_row_laws;
-  g = HeapImpl.ghosts;
-  d = impl [] tnil dnil;
-  drops = impl [] tnil dnil;
-}
-
--- what is run with a value is run with what is equal to it
-pub run_with_one : {M : Type 1} (𝓤 : Ura M) (Run : List Val → SProp 𝓤) {us : List Val} {w : Val}
-    → us ≡ w ∷ [] → ent 𝓤 (Run (w ∷ [])) (Run (us ++ []))
-run_with_one 𝓤 Run {us} {w} eu =
-    subst (λ (ws : List Val). ent 𝓤 (Run (w ∷ [])) (Run (ws ++ []))) (sym eu)
-    (id⊢ 𝓤 (Run (w ∷ [])))
-
--- so with two values
-pub run_with : {M : Type 1} (𝓤 : Ura M) (Run : List Val → SProp 𝓤) {us vs : List Val} {w h : Val}
-    → us ≡ w ∷ [] → vs ≡ h ∷ [] → ent 𝓤 (Run (w ∷ h ∷ [])) (Run (us ++ (vs ++ [])))
-run_with 𝓤 Run {us} {vs} {w} {h} eu ev =
-    subst (λ (ws : List Val). ent 𝓤 (Run (w ∷ h ∷ [])) (Run (ws ++ (vs ++ [])))) (sym eu)
-    (subst (λ (ws : List Val). ent 𝓤 (Run (w ∷ h ∷ [])) (Run (w ∷ (ws ++ [])))) (sym ev)
-    (id⊢ 𝓤 (Run (w ∷ h ∷ []))))
 
 -- what is held is of the type with this row
 module _ (R : RattleType) where
@@ -103,7 +77,8 @@ module _ (R : RattleType) where
         ∷ ‵ (Z.own_val a vs) ∷ Γ) G
     had t ν c v a us vs next =
         word_had [] ν c t us (λ eu. move t (1 ∷ []) $
-        handle_tells al t a vs (λ h ev fits. move t (1 ∷ []) $ next h eu ev fits))
+        handle_tells (handle R Z HeapLaws.the_row_laws HeapImpl.ghosts) t a vs
+        (λ h ev fits. move t (1 ∷ []) $ next h eu ev fits))
 
     -- a box is handed out beside the allocator
     pub handed_out : K → (b o : ℕ) (h : Val) (a : Z.Denot) (x : R.Denot)

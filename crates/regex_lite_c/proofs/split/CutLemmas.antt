@@ -36,6 +36,9 @@ pub record Stage : Type 0 where
   pub walk : Walk
   pub spans : List Span
 
+abbrev pub cut_stage : Ahead → Walk → List Span → Stage
+cut_stage ahead walk spans = record { ahead = ahead; walk = walk; spans = spans }
+
 -- since the start the pieces before this many matches were written, the first of those ahead there
 pub record AreSoFar (start now : Stage) (k : ℕ) : Type 0 where
   pub list : List Found

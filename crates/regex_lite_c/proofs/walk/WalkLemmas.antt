@@ -1,9 +1,9 @@
 -- Matches that are listed one after another, and spans that are written one after another.
-use Rattle.regex_lite_c.proofs.Common.{◌≡◌, ℕ, zero, suc, ◌<◌, List, [], ◌∷◌, ◌++◌, length}
-use Rattle.regex_lite_c.proofs.Common.{slice_get, slice_set, Some, None, Option, option_map, chars}
-use Rattle.regex_lite_c.proofs.Common.{sym, refl, ap, ◌∙◌, subst, inl, inr, append_assoc}
-use Rattle.regex_lite_c.proofs.Common.{append-nil, arith, length-append, cases_lt, Found}
-use Rattle.regex_lite_c.proofs.Common.{IsAnswerOf, AreWrittenAs}
+use Rattle.regex_lite_c.proofs.Common.{◌≡◌, ℕ, zero, suc, ◌+◌, ◌-◌, ◌<◌, List, [], ◌∷◌, ◌++◌, map}
+use Rattle.regex_lite_c.proofs.Common.{length, slice_get, slice_set, Some, None, Option, option_map}
+use Rattle.regex_lite_c.proofs.Common.{chars, sym, refl, ap, ◌∙◌, subst, inl, inr, append_assoc}
+use Rattle.regex_lite_c.proofs.Common.{append-nil, arith, length-append, cases_lt, length-map}
+use Rattle.regex_lite_c.proofs.Common.{map-append, Found, IsAnswerOf, AreWrittenAs}
 use Rattle.regex_lite_syntax.specs.Text.{Text}
 use Rattle.regex_lite_engine.proofs.LookupLemmas.{get_left, get_seam, set_elsewhere, set_here}
 use Rattle.regex_lite.specs.Ahead.{Ahead, AheadOf, AnswerComesNext, NoneIsAhead, PassesAnswer}
@@ -121,3 +121,38 @@ written_more view told one old now n s is number below same =
           set_elsewhere now n k s (λ e. omega (arith, e, le, longer, number))
           ∙ is.rest k (omega (arith, le, longer));
     }
+
+-- an answer is told as this, and written as what is viewed like that
+module _ {S A X Y : Type 0} (found_of : A → Found)
+    (IsAnswerTo : S → Text → (s : ℕ) → Option A → Type 0) (view : X → Y)
+    (tell : List ℕ → A → Y) where
+  -- this many of the answers ahead were written, the first of them
+  pub record AreFirstWritten (start a : AheadOf S) (old now : List X) (k : ℕ) : Type 0 where
+    pub list : List A
+    pub number : length list ≡ k
+    pub lists : ListsAnswers found_of IsAnswerTo start a (length old) (length old - k) list
+    pub written : AreWrittenAs view (map (tell start.haystack) list) old now
+    pub same : k ≡ 0 → (a ≡ start) × (now ≡ old)
+
+  -- one more was
+  pub first_written_more : (start a next : AheadOf S) (old now : List X) (k : ℕ) (answer : A)
+      (s : X)
+      → AreFirstWritten start a old now k → k < length old → length now ≡ length old
+      → PassesAnswer found_of IsAnswerTo a answer next → view s ≡ tell start.haystack answer
+      → AreFirstWritten start next old (slice_set now k s) (k + 1)
+  first_written_more start a next old now k answer s so below len passes is =
+      let left = length old - (k + 1) in
+      let less : length old - k ≡ suc left = omega (arith, below) in
+      let own = tell start.haystack in
+      record {
+        list = so.list ++ (answer ∷ []);
+        number = omega (arith, length-append so.list (answer ∷ []), so.number);
+        lists = lists_more found_of IsAnswerTo start a next (length old) left so.list answer
+            (subst (λ n. ListsAnswers found_of IsAnswerTo start a (length old) n so.list) less
+            so.lists) passes;
+        written = subst (λ told. AreWrittenAs view told old (slice_set now k s))
+            (sym (map-append own so.list (answer ∷ [])))
+            (written_more view (map own so.list) (own answer) old now k s so.written
+            (length-map so.list own ∙ so.number) (omega (arith, below, len)) is);
+        same = λ none. absurd (omega (arith, none));
+      }

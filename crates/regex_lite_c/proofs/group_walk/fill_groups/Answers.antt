@@ -4,38 +4,25 @@ use Rattle.regex_lite_c.proofs.walk.WalkLemmas.{comes_none}
 use Rattle.regex_lite_c.proofs.group_walk.GroupWalkLemmas.{end_of_span, filled, of_regex}
 use Rattle.regex_lite_c.proofs.group_walk.GroupWalkLemmas.{some_groups}
 use Rattle.regex_lite_c.proofs.group_walk.StageLemmas.{AreSoFar, Stage, more_so_far, none_so_far}
+use Rattle.regex_lite_c.proofs.group_walk.StageLemmas.{stage_of}
 use Rattle.regex_lite_c.proofs.group_walk.fill_groups.Goals as goal
 use Rattle.regex_lite_c.proofs.group_walk.fill_groups.Goals.{After-next}
 
 -- where the walk begins
 abbrev start_of : (c : After-next) → Stage Expression
-start_of c = record {
-  ahead = ahead_of c.args.items;
-  walk = c.args.walk.now;
-  spans = c.args.spans.now;
-  used = 0;
-  count = c.args.count.now;
-}
+start_of c =
+    stage_of (ahead_of c.args.items) c.args.walk.now c.args.spans.now 0 c.args.count.now
 
 -- where it stands when the next match is looked for
 abbrev now_of : (c : After-next) → Stage Expression
-now_of c = record {
-  ahead = ahead_of c.loop-item.item-iterator;
-  walk = c.loop-item.walk;
-  spans = c.loop-item.spans;
-  used = c.loop-item.used;
-  count = c.loop-item.count;
-}
+now_of c =
+    stage_of (ahead_of c.loop-item.item-iterator) c.loop-item.walk c.loop-item.spans
+    c.loop-item.used c.loop-item.count
 
 pub loop-item-init : goal.loop-item-init
 loop-item-init c =
-    let start : Stage Expression = record {
-      ahead = ahead_of c.args.items;
-      walk = c.args.walk.now;
-      spans = c.args.spans.now;
-      used = 0;
-      count = c.args.count.now;
-    } in
+    let start : Stage Expression =
+    stage_of (ahead_of c.args.items) c.args.walk.now c.args.spans.now 0 c.args.count.now in
     record {
       can = tt;
       finite = tt;
@@ -77,13 +64,8 @@ loop-item-preserved c =
     let own = c.in-Ok.caps in
     let step = rw c.in-Ok.is at c.in-Some.ensures.steps in
     let some = some_groups now.ahead.sought now.ahead.haystack step.0 own step.1 in
-    let next : Stage Expression = record {
-      ahead = ahead_of c.next.new.self;
-      walk = c.after.result;
-      spans = c.put_groups.new.spans;
-      used = c.loop-item.used + c.len-used.result;
-      count = c.loop-item.count + 1;
-    } in
+    let next = stage_of (ahead_of c.next.new.self) c.after.result c.put_groups.new.spans
+    (c.loop-item.used + c.len-used.result) (c.loop-item.count + 1) in
     record {
       can = tt;
       finite = tt;

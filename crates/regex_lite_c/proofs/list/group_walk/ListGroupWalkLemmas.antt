@@ -1,11 +1,10 @@
 -- Groups of matches of several patterns that are written one after another.
-use Rattle.regex_lite_c.proofs.Common.{◌≡◌, ℕ, suc, ◌+◌, ◌<◌, ◌≤◌, ◌⊎◌, List, [], ◌∷◌, ◌++◌, length}
+use Rattle.regex_lite_c.proofs.Common.{◌≡◌, ℕ, suc, ◌+◌, ◌<◌, ◌≤◌, List, [], ◌∷◌, ◌++◌, length}
 use Rattle.regex_lite_c.proofs.Common.{slice_set, None, chars, sym, refl, ap, ◌∙◌, subst, inl, inr}
 use Rattle.regex_lite_c.proofs.Common.{arith, cases_lt, Found, Expression, Groups, group_span}
 use Rattle.regex_lite_c.proofs.Common.{ListComesNext, IsAnswerOfPatterns, spans_of_all}
-use Rattle.regex_lite_c.proofs.Common.{AreWrittenAs, AreWritten, NO, NO_ROOM, OUT_OF_MEMORY, YES}
-use Rattle.regex_lite_c.proofs.Common.{ListGroups}
-use Rattle.std.proofs.Common.{IsSome}
+use Rattle.regex_lite_c.proofs.Common.{AreWrittenAs, AreWritten, NO_ROOM, YES, ListGroups}
+use Rattle.std.proofs.Common.{◌≢◌, IsSome}
 use Rattle.std.proofs.lemmas.List.{length-set}
 use Rattle.regex_lite.specs.ListAhead.{AreGroupsFoundInList}
 use Rattle.regex_lite.specs.MatchList.{AreFirstAnswers}
@@ -13,8 +12,8 @@ use Rattle.regex_lite_c.specs.ListGroupWalks.{AreListGroupsListed, AreListGroups
 use Rattle.regex_lite_c.specs.ListGroupWalks.{IsListFilled, IsWithoutListRoom, counts_of}
 use Rattle.regex_lite_c.specs.ListGroupWalks.{ListGroupRoom, counts_of_each, list_group_room}
 use Rattle.regex_lite_c.proofs.group_walk.GroupWalkLemmas.{some_groups}
-use Rattle.regex_lite_c.proofs.group_walk.StageLemmas.{AreSoFar, IsOneMore, Searched, Stage}
-use Rattle.regex_lite_c.proofs.group_walk.StageLemmas.{more_so_far, none_so_far}
+use Rattle.regex_lite_c.proofs.group_walk.StageLemmas.{AreSoFar, IsEndOf, IsOneMore, Searched}
+use Rattle.regex_lite_c.proofs.group_walk.StageLemmas.{Stage, more_so_far, none_so_far, other_end}
 use Rattle.regex_lite_c.proofs.walk.WalkLemmas.{lists_all, written_more}
 
 -- the match in an answer
@@ -164,100 +163,54 @@ abbrev pub IsAnswer : (start now : ListStage) → (count answer : ℕ) → Type 
 IsAnswer start now count answer =
     IsListFilled start.stage.ahead (room_of start) (room_of now) count answer
 
--- if there are any, the answer is yes
-filled : (start now : ListStage) (answer : ℕ) → IsListSoFar start now → 0 < now.stage.count
-    → answer ≡ YES → IsAnswer start now now.stage.count answer
-filled start now answer sofar some is = record {
-  found = λ _. (listed start now sofar some, some);
-  none = λ wrong. absurd (omega (arith, is, wrong));
-  no_room = λ wrong. absurd (omega (arith, is, wrong));
-  same = λ wrong. absurd (wrong is);
-  no_count = λ wrong _. absurd (wrong is);
-  one_of = inl (omega (arith, is));
-}
-
--- why a walk ends here: none is left, or memory ran out
-abbrev pub IsEnd : (now : ListStage) → (answer : ℕ) → Type 0
-IsEnd now answer = ((answer ≡ NO) × ListComesNext now.stage.ahead None) ⊎ (answer ≡ OUT_OF_MEMORY)
-
--- without any the answer is no, if none is left, or that memory ran out
-not_filled : (start now : ListStage) (answer : ℕ) → IsListSoFar start now → now.stage.count ≡ 0
-    → IsEnd now answer → IsAnswer start now now.stage.count answer
-not_filled start now answer sofar zero (inl none) =
-    let same = sofar.so.none zero in
-    let is = none.0 in
-    record {
-      found = λ wrong. absurd (omega (arith, is, wrong));
-      none = λ _. subst (λ a. ListComesNext a None) same.0 none.1;
-      no_room = λ wrong. absurd (omega (arith, is, wrong));
-      same = λ _. (same.1, sofar.same zero, same.2);
-      no_count = λ _ _. zero;
-      one_of = inl (omega (arith, is));
-    }
-not_filled start now answer sofar zero (inr is) =
-    let same = sofar.so.none zero in
-    record {
-      found = λ wrong. absurd (omega (arith, is, wrong));
-      none = λ wrong. absurd (omega (arith, is, wrong));
-      no_room = λ wrong. absurd (omega (arith, is, wrong));
-      same = λ _. (same.1, sofar.same zero, same.2);
-      no_count = λ _ _. zero;
-      one_of = inr (inl is);
-    }
-
 -- there is no room for the next match, which has this many groups
 abbrev pub IsFull : (now : ListStage) → (need : ℕ) → Type 0
 IsFull now need =
     IsWithoutListRoom now.stage.ahead (length now.told) (length now.stage.spans) need
 
--- or that there is no room for the first
-no_room : (start now : ListStage) (need answer : ℕ) → IsListSoFar start now
-    → now.stage.count ≡ 0 → answer ≡ NO_ROOM → IsFull now need → IsAnswer start now need answer
-no_room start now need answer sofar zero is full =
-    let same = sofar.so.none zero in
-    let ahead = now.stage.ahead in
-    record {
-      found = λ wrong. absurd (omega (arith, is, wrong));
-      none = λ wrong. absurd (omega (arith, is, wrong));
-      no_room = λ _.
-          subst (λ a. IsWithoutListRoom a (length start.told) (length start.stage.spans) need)
-          same.0
-          (subst (λ told. IsWithoutListRoom ahead (length told) (length start.stage.spans) need)
-          (sofar.same zero)
-          (subst (λ spans. IsWithoutListRoom ahead (length now.told) (length spans) need) same.2
-          full));
-      same = λ _. (same.1, sofar.same zero, same.2);
-      no_count = λ _ wrong. absurd (wrong is);
-      one_of = inr (inr is);
-    }
+-- why a walk ends here, with this number written
+abbrev pub IsEnd : (now : ListStage) → (count answer : ℕ) → Type 0
+IsEnd now count answer =
+    IsEndOf (ListComesNext now.stage.ahead None)
+    (now.stage.count ≡ 0 → now.stage.used ≡ 0 → IsFull now count) answer
 
--- at the end the answer is yes if there are any, and else says why there are none
-pub over : (start now : ListStage) (answer otherwise : ℕ) → IsListSoFar start now
-    → (0 < now.stage.count → answer ≡ YES) → (now.stage.count ≡ 0 → answer ≡ otherwise)
-    → IsEnd now otherwise → IsAnswer start now now.stage.count answer
-over start now answer otherwise sofar some none ends = elim (cases_lt 0 now.stage.count) [
-  | inl more ↦ filled start now answer sofar more (some more)
-  | inr few ↦
-      let zero : now.stage.count ≡ 0 = omega (arith, few) in
-      not_filled start now answer sofar zero (subst (IsEnd now) (sym (none zero)) ends)
-]
-
--- where the next has no room, it is yes if there are any, and else its count is written
-pub full : (start now : ListStage) (count need answer : ℕ) → IsListSoFar start now
+-- the answer is yes where there are some, and else says why the walk ends
+pub filled : (start now : ListStage) (count answer otherwise : ℕ) → IsListSoFar start now
     → (0 < now.stage.count → (answer ≡ YES) × (count ≡ now.stage.count))
-    → (now.stage.count ≡ 0 → (answer ≡ NO_ROOM) × (count ≡ need))
-    → (now.stage.count ≡ 0 → now.stage.used ≡ 0 → IsFull now need) → IsAnswer start now count answer
-full start now count need answer sofar some none without = elim (cases_lt 0 now.stage.count) [
-  | inl more ↦
-      let told = some more in
-      subst (λ n. IsAnswer start now n answer) (sym told.1)
-      (filled start now answer sofar more told.0)
-  | inr few ↦
-      let zero : now.stage.count ≡ 0 = omega (arith, few) in
-      let told = none zero in
-      subst (λ n. IsAnswer start now n answer) (sym told.1)
-      (no_room start now need answer sofar zero told.0 (without zero (sofar.so.none zero).3))
-]
+    → (now.stage.count ≡ 0 → answer ≡ otherwise)
+    → (now.stage.count ≡ 0 → otherwise ≢ NO_ROOM → count ≡ 0) → IsEnd now count otherwise
+    → IsAnswer start now count answer
+filled start now count answer otherwise sofar some none no_count ends =
+    elim (cases_lt 0 now.stage.count) [
+      | inl more ↦ let is = some more in record {
+        found = λ _. subst (λ n. AreListGroupsListed start.stage.ahead (room_of start)
+            (room_of now) n × (0 < n)) (sym is.1) (listed start now sofar more, more);
+        none = λ wrong. absurd (omega (arith, is.0, wrong));
+        no_room = λ wrong. absurd (omega (arith, is.0, wrong));
+        same = λ wrong. absurd (wrong is.0);
+        no_count = λ wrong _. absurd (wrong is.0);
+        one_of = inl (omega (arith, is.0));
+      }
+      | inr few ↦
+          let zero : now.stage.count ≡ 0 = omega (arith, few) in
+          let told = sofar.same zero in
+          let same = sofar.so.none zero in
+          let end = other_end _ _ answer (subst (IsEnd now count) (sym (none zero)) ends) in
+          record {
+            found = λ yes. absurd (end.0 yes);
+            none = λ nil. subst (λ a. ListComesNext a None) same.0 (end.1 nil);
+            no_room = λ full.
+                subst (λ a. IsWithoutListRoom a (length start.told) (length start.stage.spans)
+                count) same.0
+                (subst (λ own. IsWithoutListRoom now.stage.ahead (length own)
+                (length start.stage.spans) count) told
+                (subst (λ spans. IsWithoutListRoom now.stage.ahead (length now.told)
+                (length spans) count) same.2 (end.2 full zero same.3)));
+            same = λ _. (same.1, told, same.2);
+            no_count = λ _ roomy. no_count zero (λ is. roomy (none zero ∙ is));
+            one_of = end.3;
+          }
+    ]
 
 -- the groups of a match that was found are some, of which the whole match is one
 pub some_list_groups : (patterns : List Expression) (haystack : List ℕ) (number : ℕ)

@@ -3,7 +3,8 @@ use Rattle.regex_lite_c.proofs.Common.{chars, unwrap_or, refl, ap, ◌∙◌, su
 use Rattle.regex_lite_c.proofs.Common.{found_span, span_of, ended_of, Span}
 use Rattle.std.proofs.Common.{Bool, cond}
 use Rattle.regex_lite_c.specs.Cuts.{ArePiecesListed}
-use Rattle.regex_lite_c.proofs.split.CutLemmas.{Stage, full_of_pieces, last_piece, one_piece_more}
+use Rattle.regex_lite_c.proofs.split.CutLemmas.{cut_stage, full_of_pieces, last_piece}
+use Rattle.regex_lite_c.proofs.split.CutLemmas.{one_piece_more}
 use Rattle.regex_lite_c.proofs.split.put_pieces.Goals as goal
 
 -- so whether it is there or not
@@ -17,16 +18,8 @@ end_is s span is = end_of s.is_there s.start s.end span is
 
 pub returns-in-None-clause-listed : goal.returns-in-None-clause-listed
 returns-in-None-clause-listed c =
-    let start : Stage = record {
-      ahead = ahead_of c.args.matches.now;
-      walk = c.args.cut.now.walk;
-      spans = c.args.pieces.now;
-    } in
-    let now : Stage = record {
-      ahead = ahead_of c.loop-k.matches;
-      walk = c.loop-k.cut.walk;
-      spans = c.loop-k.pieces;
-    } in
+    let start = cut_stage (ahead_of c.args.matches.now) c.args.cut.now.walk c.args.pieces.now in
+    let now = cut_stage (ahead_of c.loop-k.matches) c.loop-k.cut.walk c.loop-k.pieces in
     let from = c.unwrap_or-from.ensures ∙ ap (λ e. unwrap_or e 0) c.ended.ensures in
     last_piece start now c.loop-k.k c.between-in-None.result c.loop-k.invariant.0
     (omega (arith, c.loop-k-test.true, c.loop-k.auto.pieces)) c.loop-k.auto.pieces
@@ -36,22 +29,11 @@ returns-in-None-clause-listed c =
 
 pub loop-k-preserved : goal.loop-k-preserved
 loop-k-preserved c =
-    let start : Stage = record {
-      ahead = ahead_of c.args.matches.now;
-      walk = c.args.cut.now.walk;
-      spans = c.args.pieces.now;
-    } in
-    let now : Stage = record {
-      ahead = ahead_of c.loop-k.matches;
-      walk = c.loop-k.cut.walk;
-      spans = c.loop-k.pieces;
-    } in
+    let start = cut_stage (ahead_of c.args.matches.now) c.args.cut.now.walk c.args.pieces.now in
+    let now = cut_stage (ahead_of c.loop-k.matches) c.loop-k.cut.walk c.loop-k.pieces in
     let piece = c.between.result in
-    let next : Stage = record {
-      ahead = ahead_of c.next.new.self;
-      walk = c.after-cut.result;
-      spans = slice_set c.loop-k.pieces c.loop-k.k piece;
-    } in
+    let next = cut_stage (ahead_of c.next.new.self) c.after-cut.result
+    (slice_set c.loop-k.pieces c.loop-k.k piece) in
     let step = c.in-Some.ensures.steps in
     let own = found_span (chars now.ahead.haystack) step.0 in
     let from = c.unwrap_or-from.ensures ∙ ap (λ e. unwrap_or e 0) c.ended.ensures in
@@ -72,11 +54,7 @@ loop-k-preserved c =
 
 pub returns-clause-listed : goal.returns-clause-listed
 returns-clause-listed c =
-    let start : Stage = record {
-      ahead = ahead_of c.args.matches.now;
-      walk = c.args.cut.now.walk;
-      spans = c.args.pieces.now;
-    } in
+    let start = cut_stage (ahead_of c.args.matches.now) c.args.cut.now.walk c.args.pieces.now in
     let all : c.loop-k.k ≡ length c.loop-k.pieces =
     omega (arith, c.loop-k-test.false, c.loop-k.auto.k-end, c.loop-k.auto.pieces) in
     subst (ArePiecesListed start.ahead (ended_of start.walk) c.loop-k.cut start.spans

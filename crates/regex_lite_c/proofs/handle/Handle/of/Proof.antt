@@ -3,16 +3,16 @@ use Rattle.regex_lite_c.proofs.Common.{◌≡◌, List, [], ◌∷◌, Some, Opt
 use Rattle.regex_lite_c.proofs.Common.{leaves, proved_at, ftrue, SProp, tables, yes, RattleType}
 use Rattle.regex_lite_c.proofs.Common.{owns, Ptr, block_ptr, plain, types_at, nothing, Goes-dropped}
 use Rattle.regex_lite_c.proofs.Common.{Stays, stay_dropped, walk_of, Sym, Val, vptr, WpFn}
-use Rattle.regex_lite_c.proofs.Common.{alloc_all, free_all, get, get_in, look_at, pass_all, !, sets}
-use Rattle.regex_lite_c.proofs.Common.{by, fjoin, fsplit, keep, move, qed, raw, split, suffices, ‵}
-use Rattle.regex_lite_c.proofs.Common.{◌$◌, ◌∵◌, ◌⊛◌, agg, sub, whole, and_then, enter, fld}
+use Rattle.regex_lite_c.proofs.Common.{alloc_all, free_all, get, get_in, look_at, pass_all, sets}
+use Rattle.regex_lite_c.proofs.Common.{by, !, fjoin, fsplit, keep, move, qed, raw, split, suffices}
+use Rattle.regex_lite_c.proofs.Common.{‵, ◌$◌, ◌∵◌, ◌⊛◌, agg, sub, whole, and_then, enter, fld}
 use Rattle.regex_lite_c.proofs.Common.{no_more, of_opd, returns, stop}
 use types.Kit.{drop, fpack}
 use Rattle.std.specs.contracts.impls.GlobalAllocator.TheImpl as HeapImpl
 use Rattle.std.proofs.alloc.Global.TheLaws as HeapLaws
 use Rattle.regex_lite.proofs.UnboxedLemmas.{both, both_good, unboxed_had}
-use Rattle.regex_lite.proofs.PointerLemmas.{word_made}
-use Rattle.regex_lite_c.proofs.handle.HandleLemmas.{Out, Z, boxed, run_with_one, stated}
+use Rattle.regex_lite.proofs.PointerLemmas.{run_with_one, word_made}
+use Rattle.regex_lite_c.proofs.handle.HandleLemmas.{Out, Z, boxed, stated}
 use Rattle.regex_lite.specs.contracts.string.regex.Regex as stored
 use Rattle.regex_lite_c.specs.contracts.handle.Handle as handle
 use Rattle.regex_lite_c.specs.contracts.handle.Handle.of as f

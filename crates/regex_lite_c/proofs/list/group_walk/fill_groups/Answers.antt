@@ -3,11 +3,10 @@ use Rattle.regex_lite_c.proofs.Common.{inr, arith, Expression, group_span, list_
 use Rattle.regex_lite_c.proofs.Common.{IsAnswerOfPatterns, ListGroups}
 use Rattle.regex_lite_c.proofs.walk.WalkLemmas.{comes_none}
 use Rattle.regex_lite_c.proofs.group_walk.GroupWalkLemmas.{end_of_span}
-use Rattle.regex_lite_c.proofs.group_walk.StageLemmas.{Stage}
+use Rattle.regex_lite_c.proofs.group_walk.StageLemmas.{Stage, stage_of}
 use Rattle.regex_lite_c.proofs.list.group_walk.ListGroupWalkLemmas.{IsListSoFar, ListStage}
-use Rattle.regex_lite_c.proofs.list.group_walk.ListGroupWalkLemmas.{found_in, full, nothing_yet}
-use Rattle.regex_lite_c.proofs.list.group_walk.ListGroupWalkLemmas.{one_more, over}
-use Rattle.regex_lite_c.proofs.list.group_walk.ListGroupWalkLemmas.{some_list_groups}
+use Rattle.regex_lite_c.proofs.list.group_walk.ListGroupWalkLemmas.{filled, found_in, nothing_yet}
+use Rattle.regex_lite_c.proofs.list.group_walk.ListGroupWalkLemmas.{one_more, some_list_groups}
 use Rattle.regex_lite_c.proofs.list.group_walk.fill_groups.Goals as goal
 use Rattle.regex_lite_c.proofs.list.group_walk.fill_groups.Goals.{
   After-next,
@@ -18,38 +17,23 @@ use Rattle.regex_lite_c.proofs.list.group_walk.fill_groups.Goals.{
 -- where the walk begins
 abbrev start_of : (c : After-next) → ListStage
 start_of c = record {
-  stage = record {
-    ahead = list_ahead_of c.args.items;
-    walk = c.args.walk.now;
-    spans = c.args.spans.now;
-    used = 0;
-    count = c.args.count.now;
-  };
+  stage =
+      stage_of (list_ahead_of c.args.items) c.args.walk.now c.args.spans.now 0 c.args.count.now;
   told = c.args.told.now;
 }
 
 -- where it stands when the next match is looked for
 abbrev now_of : (c : After-next) → ListStage
 now_of c = record {
-  stage = record {
-    ahead = list_ahead_of c.loop-item.item-iterator;
-    walk = c.loop-item.walk;
-    spans = c.loop-item.spans;
-    used = c.loop-item.used;
-    count = c.loop-item.count;
-  };
+  stage = stage_of (list_ahead_of c.loop-item.item-iterator) c.loop-item.walk c.loop-item.spans
+      c.loop-item.used c.loop-item.count;
   told = c.loop-item.told;
 }
 
 pub loop-item-init : goal.loop-item-init
 loop-item-init c =
-    let begun : Stage (List Expression) = record {
-      ahead = list_ahead_of c.args.items;
-      walk = c.args.walk.now;
-      spans = c.args.spans.now;
-      used = 0;
-      count = c.args.count.now;
-    } in
+    let begun : Stage (List Expression) =
+    stage_of (list_ahead_of c.args.items) c.args.walk.now c.args.spans.now 0 c.args.count.now in
     let start : ListStage = record { stage = begun; told = c.args.told.now } in
     record {
       can = tt;
@@ -64,32 +48,38 @@ loop-item-init c =
 pub returns-in_default : goal.returns-in_default
 returns-in_default c =
     let here = (goal.at.returns-in_default c).After-next in
-    over (start_of here) (now_of here) c.or_yes.result 6 c.loop-item.invariant.so_far
-    c.or_yes.ensures.some c.or_yes.ensures.none (inr refl)
+    filled (start_of here) (now_of here) c.loop-item.count c.or_yes.result 6
+    c.loop-item.invariant.so_far (λ some. (c.or_yes.ensures.some some, refl)) c.or_yes.ensures.none
+    (λ zero _. zero) (inr (inl refl))
 
 pub returns-then-count-told : goal.returns-then-count-told
 returns-then-count-told c =
     let here = (goal.at.returns-then-count-told c).After-next in
     let step = rw c.in-Ok.is at c.in-Some.ensures.steps in
-    full (start_of here) (now_of here) c.or_need.new.count c.len-then-count-told.result
-    c.or_need.result c.loop-item.invariant.so_far c.or_need.ensures.some c.or_need.ensures.none
-    (λ none none_used. (
-      (c.in-Ok.number, step.0),
-      c.in-Ok.caps,
-      step.4.comes,
-      step.1,
-      c.len-then-count-told.ensures,
-      elim c.then-count-told.branch [
-        | then-count-told-via-then-count-told w ↦ inl (omega (arith, none, w.if-count-told.true))
-        | then-count-told-via-else-count-told+then-spans-used w ↦ inr (omega (
-          arith,
-          none_used,
-          w.if-spans-used.true,
-          w.len.ensures,
-          c.len-then-count-told.ensures,
-        ))
-      ],
-    ))
+    let need = c.or_need.ensures.none in
+    filled (start_of here) (now_of here) c.or_need.new.count c.or_need.result 5
+    c.loop-item.invariant.so_far c.or_need.ensures.some (λ zero. (need zero).0)
+    (λ zero wrong. absurd (wrong refl)) (inr (inr (
+      refl,
+      λ zero none_used. (
+        (c.in-Ok.number, step.0),
+        c.in-Ok.caps,
+        step.4.comes,
+        step.1,
+        (need zero).1 ∙ c.len-then-count-told.ensures,
+        elim c.then-count-told.branch [
+          | then-count-told-via-then-count-told w ↦ inl (omega (arith, zero, w.if-count-told.true))
+          | then-count-told-via-else-count-told+then-spans-used w ↦ inr (omega (
+            arith,
+            none_used,
+            w.if-spans-used.true,
+            w.len.ensures,
+            (need zero).1,
+            c.len-then-count-told.ensures,
+          ))
+        ],
+      ),
+    )))
 
 pub loop-item-preserved : goal.loop-item-preserved
 loop-item-preserved c =
@@ -103,13 +93,8 @@ loop-item-preserved c =
     step.1 in
     let one : ListGroups =
     record { number = c.in-Ok.number; count = c.len-in-loop-item.result } in
-    let passed : Stage (List Expression) = record {
-      ahead = list_ahead_of c.next.new.self;
-      walk = c.after.result;
-      spans = c.put_groups.new.spans;
-      used = c.loop-item.used + c.len-used.result;
-      count = c.loop-item.count + 1;
-    } in
+    let passed = stage_of (list_ahead_of c.next.new.self) c.after.result c.put_groups.new.spans
+    (c.loop-item.used + c.len-used.result) (c.loop-item.count + 1) in
     let next : ListStage =
     record { stage = passed; told = slice_set c.loop-item.told c.loop-item.count one } in
     record {
@@ -142,8 +127,8 @@ returns c =
     let here = (goal.at.returns c).After-next in
     let now = now_of here in
     let sofar = c.loop-item.invariant.so_far in
-    over (start_of here) now c.or_yes-2.result 0 sofar c.or_yes-2.ensures.some
-    c.or_yes-2.ensures.none
+    filled (start_of here) now c.loop-item.count c.or_yes-2.result 0 sofar
+    (λ some. (c.or_yes-2.ensures.some some, refl)) c.or_yes-2.ensures.none (λ zero _. zero)
     (inl (
       refl,
       comes_none found_in IsAnswerOfPatterns now.stage.ahead (sofar.so.lists 0).limit

@@ -1,11 +1,10 @@
-use Rattle.regex_lite_c.proofs.Common.{◌≡◌, ℕ, suc, ◌+◌, ◌-◌, ◌<◌, [], ◌∷◌, ◌++◌, map, length}
-use Rattle.regex_lite_c.proofs.Common.{slice_set, None, chars, sym, ap, ◌∙◌, subst, arith}
-use Rattle.regex_lite_c.proofs.Common.{length-append, length-map, map-append, Found, ListComesNext}
-use Rattle.regex_lite_c.proofs.Common.{list_ahead_of, IsAnswerOfPatterns, found_span, AreWrittenAs}
+use Rattle.regex_lite_c.proofs.Common.{ℕ, ◌-◌, length, None, chars, sym, ap, ◌∙◌, subst, arith}
+use Rattle.regex_lite_c.proofs.Common.{Found, ListComesNext, list_ahead_of, IsAnswerOfPatterns}
+use Rattle.regex_lite_c.proofs.Common.{found_span}
 use Rattle.regex_lite_c.specs.ListSpans.{list_span_of}
 use Rattle.regex_lite_c.specs.ListWalks.{told_of_answer}
-use Rattle.regex_lite_c.proofs.walk.WalkLemmas.{ListsAnswers, comes_none, lists_all}
-use Rattle.regex_lite_c.proofs.walk.WalkLemmas.{lists_more, lists_to_end, written_more}
+use Rattle.regex_lite_c.proofs.walk.WalkLemmas.{ListsAnswers, comes_none, first_written_more}
+use Rattle.regex_lite_c.proofs.walk.WalkLemmas.{lists_all, lists_to_end}
 use Rattle.regex_lite_c.proofs.list.walk.fill.Goals as goal
 
 abbrev found_in : ℕ × Found → Found
@@ -13,70 +12,51 @@ found_in own = own.1
 
 pub returns-in-None-clause-listed : goal.returns-in-None-clause-listed
 returns-in-None-clause-listed c =
-    let inv = c.loop-k.invariant in
-    let start = list_ahead_of c.args.matches.now in
+    let so = c.loop-k.invariant in
     let room = length c.args.spans.now in
     record {
-      list = inv.0;
-      are_first =
-          lists_to_end found_in IsAnswerOfPatterns start (list_ahead_of c.loop-k.matches) room
-          (room - c.loop-k.k) inv.0 inv.2 c.in-None.ensures.steps.over;
-      number = sym inv.1;
-      written = inv.3;
+      list = so.list;
+      are_first = lists_to_end found_in IsAnswerOfPatterns (list_ahead_of c.args.matches.now)
+          (list_ahead_of c.loop-k.matches) room (room - c.loop-k.k) so.list so.lists
+          c.in-None.ensures.steps.over;
+      number = sym so.number;
+      written = so.written;
     }
 
 pub returns-in-None-clause-none : goal.returns-in-None-clause-none
-returns-in-None-clause-none c =
-    let inv = c.loop-k.invariant in
-    let now = list_ahead_of c.loop-k.matches in
-    λ none _. (
-      subst (λ a. ListComesNext a None) (inv.4 none).0
-          (comes_none found_in IsAnswerOfPatterns now inv.2.limit c.in-None.ensures.steps.over),
-      (inv.4 none).1,
+returns-in-None-clause-none c = λ none _.
+    let so = c.loop-k.invariant in
+    let same = so.same none in (
+      subst (λ a. ListComesNext a None) same.0
+          (comes_none found_in IsAnswerOfPatterns (list_ahead_of c.loop-k.matches) so.lists.limit
+          c.in-None.ensures.steps.over),
+      same.1,
     )
 
 pub loop-k-preserved : goal.loop-k-preserved
 loop-k-preserved c =
-    let inv = c.loop-k.invariant in
-    let start = list_ahead_of c.args.matches.now in
-    let old = list_ahead_of c.loop-k.matches in
-    let new = list_ahead_of c.next.new.self in
-    let room = length c.args.spans.now in
-    let k = c.loop-k.k in
+    let so = c.loop-k.invariant in
     let step = c.in-Some.ensures.steps in
     let answer : ℕ × Found = (c.in-Some.number, step.0) in
-    let tell = told_of_answer start.haystack in
-    let below : k < room = omega (arith, c.loop-k-test.true, c.loop-k.auto.spans) in
-    let less : room - k ≡ suc (room - (k + 1)) = omega (arith, below) in (
-      inv.0 ++ (answer ∷ []),
-      omega (arith, length-append inv.0 (answer ∷ []), inv.1),
-      lists_more found_in IsAnswerOfPatterns start old new room (room - (k + 1)) inv.0 answer
-          (subst (λ n. ListsAnswers found_in IsAnswerOfPatterns start old room n inv.0) less inv.2)
-          step.4,
-      subst (λ told. AreWrittenAs list_span_of told c.args.spans.now
-          (slice_set c.loop-k.spans k c.of.result))
-          (sym (map-append tell inv.0 (answer ∷ [])))
-          (written_more list_span_of (map tell inv.0)
-          (tell answer) c.args.spans.now c.loop-k.spans k c.of.result inv.3
-          (length-map inv.0 tell ∙ inv.1) (omega (arith, below, c.loop-k.auto.spans))
-          (c.of.ensures
-          ∙ ap (λ s. (c.in-Some.number, s))
-          (step.1.span ∙ ap (λ bytes. found_span (chars bytes) step.0) inv.2.haystack))),
-      λ none. absurd (omega (arith, none)),
-    )
+    first_written_more found_in IsAnswerOfPatterns list_span_of told_of_answer
+    (list_ahead_of c.args.matches.now) (list_ahead_of c.loop-k.matches)
+    (list_ahead_of c.next.new.self) c.args.spans.now c.loop-k.spans c.loop-k.k answer c.of.result so
+    (omega (arith, c.loop-k-test.true, c.loop-k.auto.spans)) c.loop-k.auto.spans step.4
+    (c.of.ensures ∙ ap (λ s. (c.in-Some.number, s))
+    (step.1.span ∙ ap (λ bytes. found_span (chars bytes) step.0) so.lists.haystack))
 
 pub returns-clause-listed : goal.returns-clause-listed
 returns-clause-listed c =
-    let inv = c.loop-k.invariant in
+    let so = c.loop-k.invariant in
     let start = list_ahead_of c.args.matches.now in
+    let now = list_ahead_of c.loop-k.matches in
     let room = length c.args.spans.now in
     record {
-      list = inv.0;
-      are_first =
-          lists_all found_in IsAnswerOfPatterns start (list_ahead_of c.loop-k.matches) room inv.0
-          (subst (λ n. ListsAnswers found_in IsAnswerOfPatterns start
-          (list_ahead_of c.loop-k.matches) room n inv.0)
-          (omega (arith, c.loop-k-test.false, c.loop-k.auto.spans)) inv.2);
-      number = omega (arith, c.loop-k-test.false, c.loop-k.auto.spans, c.loop-k.auto.k-end, inv.1);
-      written = inv.3;
+      list = so.list;
+      are_first = lists_all found_in IsAnswerOfPatterns start now room so.list
+          (subst (λ n. ListsAnswers found_in IsAnswerOfPatterns start now room n so.list)
+          (omega (arith, c.loop-k-test.false, c.loop-k.auto.spans)) so.lists);
+      number =
+          omega (arith, c.loop-k-test.false, c.loop-k.auto.spans, c.loop-k.auto.k-end, so.number);
+      written = so.written;
     }

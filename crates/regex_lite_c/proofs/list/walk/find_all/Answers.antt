@@ -1,47 +1,9 @@
-use Rattle.regex_lite_c.proofs.Common.{◌≡◌, ℕ, zero, suc, ◌<◌, List, None, IsUtf8, IsCharBoundary}
-use Rattle.regex_lite_c.proofs.Common.{unwrap_or, refl, ap, ◌∙◌, subst, inl, arith, Expression}
-use Rattle.regex_lite_c.proofs.Common.{ListComesNext, ended_of, WalkRoom, walk_room, NO, YES}
+use Rattle.regex_lite_c.proofs.Common.{None, IsCharBoundary, unwrap_or, ap, ◌∙◌, subst, inl, arith}
+use Rattle.regex_lite_c.proofs.Common.{ListComesNext, ended_of}
 use Rattle.regex_lite.specs.ListAhead.{list_after}
-use Rattle.regex_lite_c.specs.ListWalks.{AreListSpansListed, IsListWalkAnswer}
-use Rattle.regex_lite_c.specs.Walks.{GoesOnAfterLast}
-use Rattle.regex_lite_c.specs.declared.list.types.ListSpan.{ListSpan}
-use Rattle.regex_lite_c.proofs.AnswerLemmas.{nothing_refused}
+use Rattle.regex_lite_c.specs.ListWalks.{AreListSpansListed}
+use Rattle.regex_lite_c.proofs.AnswerLemmas.{nothing_refused, yes_or_no}
 use Rattle.regex_lite_c.proofs.list.walk.find_all.Goals as goal
-
--- with a text that can be searched from there on, what was listed is the answer
-walk_told : (list : List Expression) (bytes : List ℕ) (old new : WalkRoom ListSpan)
-    (count answer : ℕ)
-    → IsUtf8 bytes → IsCharBoundary bytes (unwrap_or (ended_of old.walk) 0)
-    → (0 < count → (answer ≡ YES)
-    × AreListSpansListed (list_after list bytes (ended_of old.walk)) old.room new.room count
-    × GoesOnAfterLast (λ span. span.end) new.room count new.walk)
-    → (count ≡ 0 → (answer ≡ NO) × ListComesNext (list_after list bytes (ended_of old.walk)) None
-    × (new.walk ≡ old.walk) × (new.room ≡ old.room))
-    → IsListWalkAnswer list bytes old new count answer
-walk_told list bytes old new zero answer utf8 boundary some none =
-    let told = none refl in
-    let is = told.0 in
-    record {
-      found = λ wrong. absurd (omega (arith, is, wrong));
-      none = λ _. told.1;
-      same = λ _. (told.2, told.3, refl);
-      no_room = λ wrong. absurd (omega (arith, is, wrong));
-      refused = nothing_refused bytes (unwrap_or (ended_of old.walk) 0) answer utf8 boundary
-          (inl (omega (arith, is)));
-      one_of = inl (omega (arith, is));
-    }
-walk_told list bytes old new (suc n) answer utf8 boundary some none =
-    let told = some (omega arith) in
-    let is = told.0 in
-    record {
-      found = λ _. (told.1, told.2);
-      none = λ wrong. absurd (omega (arith, is, wrong));
-      same = λ wrong. absurd (wrong is);
-      no_room = λ wrong. absurd (omega (arith, is, wrong));
-      refused = nothing_refused bytes (unwrap_or (ended_of old.walk) 0) answer utf8 boundary
-          (inl (omega (arith, is)));
-      one_of = inl (omega (arith, is));
-    }
 
 pub returns-in-Ok-find_iter_after : goal.returns-in-Ok-find_iter_after
 returns-in-Ok-find_iter_after c =
@@ -51,17 +13,23 @@ returns-in-Ok-find_iter_after c =
     let text = c.in-Ok.ensures in
     let found = c.write_next.ensures.found in
     let none = c.write_next.ensures.none in
+    let answer = c.write_next.result in
     let is = c.in-Ok-find_iter_after.ensures.ahead
     ∙ ap (λ b. list_after list b c.ended-ended.result) text.0 ∙ ap (list_after list bytes) ended in
-    walk_told list bytes (walk_room c.args.walk.now c.args.spans.now)
-    (walk_room c.write_next.new.walk c.write_next.new.spans) c.write_next.new.count
-    c.write_next.result text.1
-    (subst (IsCharBoundary bytes) (c.unwrap_or.ensures ∙ ap (λ e. unwrap_or e 0) ended) text.2)
-    (λ some. let told = found some in (
-      told.0,
-      subst (λ a. AreListSpansListed a c.args.spans.now c.write_next.new.spans
-          c.write_next.new.count) is told.1,
-      told.2,
-    ))
-    (λ zero_found. let told = none zero_found in
-    (told.0, subst (λ a. ListComesNext a None) is told.1, told.2, told.3))
+    let told = yes_or_no c.write_next.new.count answer (λ some. (found some).0)
+    (λ zero_found. (none zero_found).0) in
+    record {
+      found = λ yes. let own = found (told.1 yes) in (
+        subst (λ a. AreListSpansListed a c.args.spans.now c.write_next.new.spans
+            c.write_next.new.count) is own.1,
+        own.2,
+      );
+      none = λ no. let own = none (told.2 (λ yes. omega (arith, no, yes))) in
+          subst (λ a. ListComesNext a None) is own.1;
+      same = λ other. let own = none (told.2 other) in (own.2, own.3, told.2 other);
+      no_room = λ wrong. absurd (omega (arith, told.0, wrong));
+      refused = nothing_refused bytes (unwrap_or (ended_of c.args.walk.now) 0) answer text.1
+          (subst (IsCharBoundary bytes) (c.unwrap_or.ensures ∙ ap (λ e. unwrap_or e 0) ended)
+          text.2) (inl told.0);
+      one_of = inl told.0;
+    }

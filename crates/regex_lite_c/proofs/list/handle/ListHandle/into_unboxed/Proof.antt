@@ -4,7 +4,7 @@ use Rattle.regex_lite_c.proofs.Common.{word-Good, leaves, proved_at, ftrue, SPro
 use Rattle.regex_lite_c.proofs.Common.{layout, RattleType, owns, Ptr, block_ptr, plain, types_at}
 use Rattle.regex_lite_c.proofs.Common.{nothing, Goes-dropped, Stays, stay_dropped, walk_of, Sym}
 use Rattle.regex_lite_c.proofs.Common.{Val, vcons, vnil, vptr, WpFn, alloc_all, free_all, get}
-use Rattle.regex_lite_c.proofs.Common.{get_in, look_at, pass_all, sets, !, by, fjoin, fsplit, keep}
+use Rattle.regex_lite_c.proofs.Common.{get_in, look_at, pass_all, sets, by, !, fjoin, fsplit, keep}
 use Rattle.regex_lite_c.proofs.Common.{move, qed, raw, split, suffices, use0, ‵, ◌$◌, ◌∵◌, ◌⊛◌}
 use Rattle.regex_lite_c.proofs.Common.{live, agg, sub, whole, and_then, enter, fld, lit, no_more}
 use Rattle.regex_lite_c.proofs.Common.{of_opd, returns, stop}
@@ -17,9 +17,9 @@ use Rattle.std.proofs.VecSteps.Shapes.{after}
 use Rattle.std.specs.contracts.option.Option as Opt
 use Rattle.std.specs.contracts.impls.GlobalAllocator.TheImpl as HeapImpl
 use Rattle.std.proofs.alloc.Global.TheLaws as HeapLaws
+use Rattle.regex_lite.proofs.PointerLemmas.{run_with}
 use Rattle.regex_lite.proofs.UnboxedLemmas.{both, both_good}
-use Rattle.regex_lite_c.proofs.handle.HandleLemmas.{Out, Z, either, had, handed_out}
-use Rattle.regex_lite_c.proofs.handle.HandleLemmas.{run_with, stated}
+use Rattle.regex_lite_c.proofs.handle.HandleLemmas.{Out, Z, either, had, handed_out, stated}
 use Rattle.regex_lite.specs.contracts.string.list.RegexList as stored
 use Rattle.regex_lite_c.specs.contracts.list.handle.ListHandle as handle
 use Rattle.regex_lite_c.specs.contracts.list.handle.ListHandle.into_unboxed as f
