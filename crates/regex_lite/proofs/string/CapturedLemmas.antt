@@ -96,24 +96,26 @@ module _ (bytes : List ℕ) (utf8 : IsUtf8 bytes) (tree : Tree) (given : IsPatte
   some_group_0 = subst IsSome (sym (ap (λ all. span_at all 0) spans_are
       ∙ group_0 (chars bytes) tree s found (captures_len tree) given is (omega arith))) refl
 
-  pub captured_of : AreGroupsOf tree bytes found (groups_of bytes slots shared)
-  captured_of = record {
-    haystack = refl;
-    spans = spans_are;
-    names = shares.names_are;
-    static_captures = shares.static_is;
-    whole = some_group_0;
-  }
-
+  -- the slots hold groups, which are those of what was found
   pub captured : AreGroups (groups_of bytes slots shared)
-  captured = record {
-    inside = λ k. subst (λ all. IfSome (span_at all k) (LiesIn bytes)) (sym spans_are)
-        (groups_lie bytes utf8 tree given s found is (captures_len tree) k);
-    each = ap length spans_are ∙ length_spans (chars bytes) found.marks 0 (captures_len tree)
-        ∙ sym shares.names_are.each_group;
-    whole = some_group_0;
-    enough = each shared.static_captures_len shares.static_is;
-  }
+      × AreGroupsOf tree bytes found (groups_of bytes slots shared)
+  captured = (
+    record {
+      inside = λ k. subst (λ all. IfSome (span_at all k) (LiesIn bytes)) (sym spans_are)
+          (groups_lie bytes utf8 tree given s found is (captures_len tree) k);
+      each = ap length spans_are ∙ length_spans (chars bytes) found.marks 0 (captures_len tree)
+          ∙ sym shares.names_are.each_group;
+      whole = some_group_0;
+      enough = each shared.static_captures_len shares.static_is;
+    },
+    record {
+      haystack = refl;
+      spans = spans_are;
+      names = shares.names_are;
+      static_captures = shares.static_is;
+      whole = some_group_0;
+    },
+  )
     where
       each : (known : Option ℕ) → known ≡ static_captures_len tree
           → IfSome known (λ n. n ≤ length (texts_from (groups_of bytes slots shared) 0))

@@ -4,17 +4,17 @@ use Rattle.regex_lite.proofs.Common.{IsUtf8, Option, chars, sym, refl, ap, ◌�
 use Rattle.regex_lite.proofs.Common.{length-take-le, slice_get-get_or, Tree, HasTree, StoredGroups}
 use Rattle.regex_lite.proofs.Common.{Found, IsFoundInList, search_start, HasSlots, IsOutcomeOfList}
 use Rattle.regex_lite.proofs.Common.{IsPatternTree, Outcome, names_of, NamesGroups, groups_of}
-use Rattle.regex_lite.proofs.Common.{groups_at, Expression, Groups, AreGroups, AreGroupsFoundInList}
-use Rattle.regex_lite.proofs.Common.{AreTrees, TellsGroupsOfList, offsets, AreGroupsOf, all_slots}
+use Rattle.regex_lite.proofs.Common.{groups_at, Expression, Groups, AreGroups, AreTrees}
+use Rattle.regex_lite.proofs.Common.{TellsGroupsOfList, offsets, AreGroupsOf, all_slots}
 use Rattle.regex_lite.proofs.Common.{most_groups, CompiledList}
 use Rattle.std.proofs.lemmas.Option.{slice_get_within, unwrap_or-slice_get}
 use Rattle.regex_lite_engine.specs.Graph.StoredList.{HasGroupsOfList, StoredList, TellsGroupsOf}
 use Rattle.regex_lite_engine.proofs.laws.PatternTreeLemmas.{regular_tree}
 use Rattle.regex_lite.specs.CompiledList.{IsBuiltList}
 use Rattle.regex_lite.specs.RegexListSearches.{AreOfPattern}
-use Rattle.regex_lite.proofs.string.CapturedLemmas.{AreAllSlots, captured, captured_of, held_all}
+use Rattle.regex_lite.proofs.string.CapturedLemmas.{AreAllSlots, captured, held_all}
 use Rattle.regex_lite.proofs.string.GroupNameLemmas.{are_names}
-use Rattle.regex_lite.proofs.string.ListBuildLemmas.{own_tree, pattern_tree}
+use Rattle.regex_lite.proofs.string.ListBuildLemmas.{pattern_tree}
 use Rattle.regex_lite.proofs.string.ListSlotLemmas.{enough_kept, in_whole, most_at}
 use Rattle.regex_lite.proofs.string.ListToldLemmas.{of_pattern}
 use Rattle.regex_lite.proofs.string.ToldLemmas.{same_pair}
@@ -82,25 +82,14 @@ module _ (bytes : List ℕ) (utf8 : IsUtf8 bytes) (list : List Expression) (comp
           length-take-le two all enough ∙ ap (λ n. 2 * n) tells.captures,
         )
 
-    -- all slots hold groups
-    pub found_groups_are : AreGroups (groups_of bytes slots shared)
-    found_groups_are =
-        captured bytes utf8 tree own_grammar found.start found answer.answer slots cut_held shared
-        (named_groups tree shared own_grammar tells)
-
-    -- which are those of what was found
-    pub found_groups : (groups : Groups) → groups ≡ groups_of bytes slots shared
-        → AreGroupsOf tree bytes found groups
-    found_groups groups are = subst (λ g. AreGroupsOf tree bytes found g) (sym are)
-        (captured_of bytes utf8 tree own_grammar found.start found answer.answer slots cut_held
-        shared (named_groups tree shared own_grammar tells))
-
-    -- of the pattern with the number
-    pub found_groups_in_list : (groups : Groups) → groups ≡ groups_of bytes slots shared
-        → AreGroupsFoundInList list bytes number found groups
-    found_groups_in_list groups are =
-        let own = own_tree list built.trees number tree given answer.numbered in
-        (own.0, own.1, (tree, own.2, found_groups groups are))
+    -- all slots hold groups, which are those of what was found
+    pub found_groups : AreGroups (groups_of bytes slots shared)
+        × ((groups : Groups) → groups ≡ groups_of bytes slots shared
+        → AreGroupsOf tree bytes found groups)
+    found_groups =
+        let own = captured bytes utf8 tree own_grammar found.start found answer.answer slots
+        cut_held shared (named_groups tree shared own_grammar tells) in
+        (own.0, λ groups are. subst (AreGroupsOf tree bytes found) (sym are) own.1)
 
 -- so of the outcome of a search
 module _ (bytes : List ℕ) (utf8 : IsUtf8 bytes) (start : ℕ) (list : List Expression)
@@ -116,23 +105,10 @@ module _ (bytes : List ℕ) (utf8 : IsUtf8 bytes) (start : ℕ) (list : List Exp
       × ((groups : Groups) → groups ≡ groups_of bytes slots shared
       → TellsGroupsOfList list bytes start (Some (number, groups)))
   listed_groups =
-      let s = search_start bytes start in
-      let kept = outcome.slots.items in
-      let span : ℕ × ℕ = (outcome.start, outcome.end) in
-      let same = same_pair own.2.start own.2.end in (
-        found_groups_are bytes utf8 list compiled built given s number own.0 own.1 kept own.2.slots
-            span same width slots shared stored filled,
-        λ groups are. (
-          built.trees,
-          given,
-          (
-            own.0,
-            own.1,
-            found_groups bytes utf8 list compiled built given s number own.0 own.1 kept own.2.slots
-                span same width slots shared stored filled groups are,
-          ),
-        ),
-      )
+      let all = found_groups bytes utf8 list compiled built given (search_start bytes start) number
+      own.0 own.1 outcome.slots.items own.2.slots (outcome.start, outcome.end)
+      (same_pair own.2.start own.2.end) width slots shared stored filled in
+      (all.0, λ groups are. (built.trees, given, (own.0, own.1, all.1 groups are)))
 
 -- which are those of a match of the pattern
 pub listed_of_pattern : (bytes : List ℕ) (start : ℕ) (list : List Expression) (number : ℕ)

@@ -10,8 +10,7 @@ use Rattle.regex_lite_engine.proofs.OptionLemmas.{same_some}
 use Rattle.regex_lite.specs.CompiledList.{IsBuiltList}
 use Rattle.regex_lite.specs.Scanning.{IsMatchOfSearch}
 use Rattle.regex_lite.proofs.string.ListBuildLemmas.{one_list, own_tree}
-use Rattle.regex_lite.proofs.string.ListGroupLemmas.{found_groups_are, found_groups_in_list}
-use Rattle.regex_lite.proofs.string.ListGroupLemmas.{found_there}
+use Rattle.regex_lite.proofs.string.ListGroupLemmas.{found_groups, found_there}
 use Rattle.regex_lite.proofs.string.ListSlotLemmas.{most_are}
 use Rattle.regex_lite.proofs.string.ScanLemmas.{whole_of_groups}
 
@@ -69,13 +68,12 @@ module _ (bytes : List ℕ) (utf8 : IsUtf8 bytes) (list : List Expression) (comp
       → AreGroups (groups_of bytes slots shared)
       × ((groups : Groups) → groups ≡ groups_of bytes slots shared
       → AreGroupsFoundInList list bytes own.0 own.1 groups)
-  last_groups shared stored filled = (
-    found_groups_are bytes utf8 list compiled built given last.0 told.0 own.1 answer kept
-        last.2.has_slots (span_of_match told.1) last.2.is_match.span width slots shared stored
-        filled,
-    λ groups are. subst (λ number. AreGroupsFoundInList list bytes number own.1 groups)
-        last.2.number
-        (found_groups_in_list bytes utf8 list compiled built given last.0 told.0 own.1 answer kept
-        last.2.has_slots (span_of_match told.1) last.2.is_match.span width slots shared stored
-        filled groups are),
-  )
+  last_groups shared stored filled =
+      let all = found_groups bytes utf8 list compiled built given last.0 told.0 own.1 answer kept
+      last.2.has_slots (span_of_match told.1) last.2.is_match.span width slots shared stored filled
+      in
+      let re = own_tree list built.trees told.0 answer.tree given answer.numbered in (
+        all.0,
+        λ groups are. subst (λ number. AreGroupsFoundInList list bytes number own.1 groups)
+            last.2.number (re.0, re.1, (answer.tree, re.2, all.1 groups are)),
+      )

@@ -14,7 +14,7 @@ use Rattle.regex_lite.specs.Ahead.{AheadOf, ahead_by}
 use Rattle.regex_lite.specs.Compiled.{AreOfRegex, SharesGroups}
 use Rattle.regex_lite.specs.Items.{Came, GroupsCame}
 use Rattle.regex_lite.specs.Scanning.{AreSlotsForGroups, IsMatchOfSearch}
-use Rattle.regex_lite.proofs.string.CapturedLemmas.{AreAllSlots, all_told, captured, captured_of}
+use Rattle.regex_lite.proofs.string.CapturedLemmas.{AreAllSlots, all_told, captured}
 use Rattle.regex_lite.proofs.string.FoundLemmas.{group_0}
 use Rattle.regex_lite.proofs.string.NextLemmas.{next_answer}
 use Rattle.regex_lite.proofs.string.OneTreeLemmas.{one_tree}
@@ -46,20 +46,13 @@ module _ (bytes : List ℕ) (utf8 : IsUtf8 bytes) (re : Expression) (kept slots 
   all_held = all_told (chars bytes) tree last.0 found (re.flags, _, shares.1) is_found kept slots
       (span_of_match told.1) filled enough last.2.has_slots last.2.is_match.span
 
-  -- all slots hold groups
-  pub groups_held : AreGroups (groups_of bytes slots shared)
-  groups_held =
-      captured bytes utf8 tree (re.flags, _, shares.1) last.0 found is_found slots all_held shared
-      shares.2
-
-  -- which are those of what was found
-  pub groups_kept : AreGroupsFound re bytes found (groups_of bytes slots shared)
-  groups_kept = (
-    tree,
-    shares.1,
-    captured_of bytes utf8 tree (re.flags, _, shares.1) last.0 found is_found slots all_held shared
-        shares.2,
-  )
+  -- all slots hold groups, which are those of what was found
+  pub groups_kept : AreGroups (groups_of bytes slots shared)
+      × AreGroupsFound re bytes found (groups_of bytes slots shared)
+  groups_kept =
+      let own = captured bytes utf8 tree (re.flags, _, shares.1) last.0 found is_found slots
+      all_held shared shares.2 in
+      (own.0, (tree, shares.1, own.1))
 
 -- groups that were found are those of the regex
 pub of_regex : (re : Expression) (bytes : List ℕ) (found : Found) (groups : Groups)

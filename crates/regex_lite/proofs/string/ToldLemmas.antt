@@ -2,12 +2,12 @@
 use Rattle.regex_lite.proofs.Common.{◌≡◌, ℕ, ◌≤◌, List, length, take, IfSome, Some, None, IsUtf8}
 use Rattle.regex_lite.proofs.Common.{Option, option_map, chars, sym, refl, ap, ◌∙◌, subst, arith}
 use Rattle.regex_lite.proofs.Common.{IsTree, Tree, captures_len, IsGraphOf, StoredGroups, Found}
-use Rattle.regex_lite.proofs.Common.{search_start, IsSpanOutcome, IsPatternTree, Outcome, IsBuilt}
-use Rattle.regex_lite.proofs.Common.{stored_groups, names_of, NamesGroups, groups_of, Expression}
-use Rattle.regex_lite.proofs.Common.{OfTree, LiesIn, Groups, span_at, group_span, AreGroups}
-use Rattle.regex_lite.proofs.Common.{haystack_of_match, span_of_match, offsets, spans_from}
-use Rattle.regex_lite.proofs.Common.{TellsMatch, AreGroupsOf, TellsGroups, TellsLocations}
-use Rattle.regex_lite.proofs.Common.{kept_slots, all_slots, Compiled, Match}
+use Rattle.regex_lite.proofs.Common.{search_start, IsSpanOutcome, Outcome, IsBuilt, stored_groups}
+use Rattle.regex_lite.proofs.Common.{names_of, NamesGroups, groups_of, Expression, OfTree, LiesIn}
+use Rattle.regex_lite.proofs.Common.{Groups, span_at, group_span, AreGroups, haystack_of_match}
+use Rattle.regex_lite.proofs.Common.{span_of_match, offsets, spans_from, TellsMatch, AreGroupsOf}
+use Rattle.regex_lite.proofs.Common.{TellsGroups, TellsLocations, kept_slots, all_slots, Compiled}
+use Rattle.regex_lite.proofs.Common.{Match}
 use Rattle.regex_lite_syntax.specs.Tree.Regular.{IsRegular}
 use Rattle.regex_lite_engine.specs.Graph.Stored.{StoredGraph}
 use Rattle.regex_lite_engine.specs.Search.Outcomes.{IsOutcome}
@@ -15,8 +15,7 @@ use Rattle.regex_lite_engine.specs.Search.Searching.{Searching}
 use Rattle.regex_lite_engine.proofs.OptionLemmas.{not_there, same_some}
 use Rattle.regex_lite.specs.Compiled.{SearchesFor}
 use Rattle.regex_lite.specs.Scanning.{TellsSpan}
-use Rattle.regex_lite.proofs.string.CapturedLemmas.{AreAllSlots, all_told, built_shares}
-use Rattle.regex_lite.proofs.string.CapturedLemmas.{captured, captured_of}
+use Rattle.regex_lite.proofs.string.CapturedLemmas.{AreAllSlots, all_told, built_shares, captured}
 use Rattle.regex_lite.proofs.string.FoundLemmas.{first_told, found_lies, group_0, length_spans}
 use Rattle.regex_lite.proofs.string.OneTreeLemmas.{one_tree}
 
@@ -112,22 +111,18 @@ module _ (bytes : List ℕ) (utf8 : IsUtf8 bytes) (start : ℕ) (re : Expression
         × ((groups : Groups) → groups ≡ groups_of bytes all shared
         → TellsGroups re bytes start (Some groups))
     groups_told =
-        let is_grammar : IsPatternTree built.tree = (compiled.flags, _, built.given) in
-        let s = search_start bytes start in
-        let shares =
-        subst (λ c. NamesGroups built.tree (names_of c) c.static_captures_len) (sym same)
-        (built_shares compiled built) in (
-          captured bytes utf8 built.tree is_grammar s of_built.0 of_built.1 all all_held shared
-              shares,
+        let own = captured bytes utf8 built.tree (compiled.flags, _, built.given)
+        (search_start bytes start) of_built.0 of_built.1 all all_held shared
+        (subst (λ c. NamesGroups built.tree (names_of c) c.static_captures_len) (sym same)
+        (built_shares compiled built)) in (
+          own.0,
           λ groups are. (
             built.tree,
             given,
             (
               of_built.0,
               of_built.1,
-              subst (AreGroupsOf built.tree bytes of_built.0) (sym are)
-                  (captured_of bytes utf8 built.tree is_grammar s of_built.0 of_built.1 all
-                  all_held shared shares),
+              subst (AreGroupsOf built.tree bytes of_built.0) (sym are) own.1,
             ),
           ),
         )

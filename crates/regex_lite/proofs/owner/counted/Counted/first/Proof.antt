@@ -4,7 +4,7 @@ use Rattle.regex_lite.proofs.Common.{leaves, proved_at, fex, flft, ftrue, full_s
 use Rattle.regex_lite.proofs.Common.{◌⊑◌, fact, fact_i, tables, no, part_at, layouts, param}
 use Rattle.regex_lite.proofs.Common.{RattleType, owns, Ptr, block_ptr, plain, types_at, Stays}
 use Rattle.regex_lite.proofs.Common.{stay_dropped, walk_of, inst_fn, Sym, a_type, Val, vptr, WpFn}
-use Rattle.regex_lite.proofs.Common.{alloc_all, free_all, get, get_in, look_at, pass_all, sets, !}
+use Rattle.regex_lite.proofs.Common.{alloc_all, free_all, get, get_in, look_at, pass_all, sets, ! }
 use Rattle.regex_lite.proofs.Common.{await, by, fjoin, fsplit, join, keep, later, move, qed, raw}
 use Rattle.regex_lite.proofs.Common.{rewrite, split, suffices, use0, use3, ‵, ◌$◌, ◌∵◌, ◌⊛◌, agg}
 use Rattle.regex_lite.proofs.Common.{sub, and_then, enter, fld, no_more, of_opd, returns, stop}

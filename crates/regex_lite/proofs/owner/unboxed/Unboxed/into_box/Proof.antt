@@ -4,7 +4,7 @@ use Rattle.regex_lite.proofs.Common.{leaves, proved_at, flft, ftrue, SProp, ent,
 use Rattle.regex_lite.proofs.Common.{tables, no, layout, param, param_laws, RattleType, owns}
 use Rattle.regex_lite.proofs.Common.{block_ptr, plain, types_at, triple_of, Stays, stay_dropped}
 use Rattle.regex_lite.proofs.Common.{walk_of, inst_fn, a_type, dnil, Val, vptr, WpFn, alloc_all}
-use Rattle.regex_lite.proofs.Common.{env, free_all, get, get_in, look_at, pass_all, sets, Goal, !}
+use Rattle.regex_lite.proofs.Common.{env, free_all, get, get_in, look_at, pass_all, sets, Goal, ! }
 use Rattle.regex_lite.proofs.Common.{Item, Seq, Soaks, at_ret, await, by, feq_i, fjoin, fsplit}
 use Rattle.regex_lite.proofs.Common.{join, keep, later, move, pick, qed, raw, rewrite, some, split}
 use Rattle.regex_lite.proofs.Common.{split3, suffices, use1, ‵, ◌$◌, ◌∵◌, ◌⊛◌, Logic, sub, and_then}

@@ -1,6 +1,6 @@
 use Rattle.regex_lite.proofs.Common.{◌≡◌, sym, ap, ◌∙◌, subst, rules, AreGroupsFound, span_of_match}
 use Rattle.regex_lite.proofs.Common.{RegexSearching, all_slots}
-use Rattle.regex_lite.proofs.string.ScanLemmas.{groups_held, groups_kept, span_of_last}
+use Rattle.regex_lite.proofs.string.ScanLemmas.{groups_kept, span_of_last}
 use Rattle.regex_lite.proofs.string.searcher.SearcherFinds.captures.Goals as goal
 
 pub new-requires : goal.new-requires
@@ -10,10 +10,9 @@ new-requires c =
     let slots = c.in_ok-slots-2.slots.items in
     let held : slots ≡ all_slots c.self.inside.inner.slots span = search rules in
     let filled = held ∙ ap (λ (own : RegexSearching). all_slots own.slots span) c.self.view_is in
-    groups_held a.haystack.now c.utf8.haystack a.self.now.regex a.self.now.slots slots
-    c.requires.room
-    c.in_ok-slots.source c.in_ok-slots.ensures.ok c.requires.last.0 a.last.now filled
-    c.requires.last.1
+    (groups_kept a.haystack.now c.utf8.haystack a.self.now.regex a.self.now.slots slots
+    c.requires.room c.in_ok-slots.source c.in_ok-slots.ensures.ok c.requires.last.0 a.last.now
+    filled c.requires.last.1).0
 
 pub returns-clause-groups : goal.returns-clause-groups
 returns-clause-groups c = λ found last.
@@ -24,7 +23,7 @@ returns-clause-groups c = λ found last.
     let filled = held ∙ ap (λ (own : RegexSearching). all_slots own.slots span) c.self.view_is in
     subst (AreGroupsFound a.self.now.regex a.haystack.now found) (sym c.new.ensures)
     (groups_kept a.haystack.now c.utf8.haystack a.self.now.regex a.self.now.slots slots
-    c.requires.room c.in_ok-slots.source c.in_ok-slots.ensures.ok found a.last.now filled last)
+    c.requires.room c.in_ok-slots.source c.in_ok-slots.ensures.ok found a.last.now filled last).1
 
 pub returns-clause-span : goal.returns-clause-span
 returns-clause-span c =
