@@ -7,4 +7,5 @@ pub mod UnboxedLemmas
 pub use Rattle.regex_lite.proofs.string.AgreementLemmas
 pub use Rattle.regex_lite.proofs.string.AheadLemmas
 pub use Rattle.regex_lite.proofs.string.AnsweredLemmas
+pub use Rattle.regex_lite.proofs.string.ListBuildLemmas
 pub use Rattle.regex_lite.proofs.string.ReplacementLemmas

@@ -57,7 +57,7 @@ regular_trees list trees given = λ number tree there.
     regular_tree tree (pattern_tree list trees given number tree there)
 
 -- a refusal is the out-of-memory error, or another
-memory_or_not : (error : Refusal) → (error ≡ out_of_memory) ⊎ (error ≡ out_of_memory → ⊥)
+pub memory_or_not : (error : Refusal) → (error ≡ out_of_memory) ⊎ (error ≡ out_of_memory → ⊥)
 memory_or_not out_of_memory = inl refl
 memory_or_not (syntax_error rule) = inr (λ wrong. absurd cc)
 memory_or_not too_deep = inr (λ wrong. absurd cc)

@@ -1,21 +1,20 @@
 -- Patterns that are cut out of bytes, and the first of them that is refused.
-use Rattle.regex_lite_c.proofs.Common.{◌≡◌, ℕ, zero, suc, ◌+◌, ◌<◌, false, ◌⊎◌, List, [], ◌∷◌}
-use Rattle.regex_lite_c.proofs.Common.{◌++◌, map, length, get_or, drop, slice_get, Some, IsUtf8}
+use Rattle.regex_lite_c.proofs.Common.{◌≡◌, ℕ, zero, suc, ◌+◌, ◌<◌, false, ◌⊎◌, List, [], ◌∷◌, ◌++◌}
+use Rattle.regex_lite_c.proofs.Common.{map, length, get_or, drop, slice_get, Some, IsUtf8}
 use Rattle.regex_lite_c.proofs.Common.{option_map, unwrap_or, sym, refl, ap, ◌∙◌, subst, inl, inr}
-use Rattle.regex_lite_c.proofs.Common.{append_assoc, arith, length-append, cases_lt}
-use Rattle.regex_lite_c.proofs.Common.{length-map, map-append, IsAccepted, settings_of_all}
-use Rattle.regex_lite_c.proofs.Common.{settings_of_source, IsFirstOtherBytes, settings_of}
+use Rattle.regex_lite_c.proofs.Common.{append_assoc, arith, length-append, cases_lt, length-map}
+use Rattle.regex_lite_c.proofs.Common.{map-append, IsAccepted, settings_of_all, settings_of_source}
+use Rattle.regex_lite_c.proofs.Common.{IsFirstOtherBytes, settings_of}
 use Rattle.std.proofs.Common.{Err, add-one, drop-cons, take}
 use Rattle.std.proofs.lemmas.List.Sums.{sum_by-cons}
 use Rattle.std.proofs.lemmas.Option.{slice_get-get_or, slice_get-map}
-use Rattle.regex_lite_syntax.specs.Errors.{Refusal, out_of_memory, passed_limit}
-use Rattle.regex_lite_syntax.specs.Errors.{refused_replacement, syntax_error, too_deep}
-use Rattle.regex_lite_syntax.specs.Errors.{too_many_groups}
+use Rattle.regex_lite_syntax.specs.Errors.{Refusal, out_of_memory}
 use Rattle.regex_lite_syntax.specs.Tree.{Tree}
 use Rattle.regex_lite.specs.Expression.{Builds}
 use Rattle.regex_lite.specs.RegexList.{AreAccepted, AreAcceptedAs, BuildsList, IsDueToAll}
 use Rattle.regex_lite.specs.RegexList.{IsDueToLowest}
 use Rattle.regex_lite.specs.Settings.{Settings}
+use Rattle.regex_lite.proofs.ListBuildLemmas.{memory_or_not}
 use Rattle.regex_lite_c.specs.ListBuilding.{AreTexts, IsDueAt, IsEachAccepted, all_len}
 use Rattle.regex_lite_c.specs.declared.list.patterns.Source.{Source}
 use Rattle.regex_lite_c.specs.declared.list.types.ListPattern.{ListPattern}
@@ -174,14 +173,6 @@ accepted_more all k settings before there is j own less own_there =
           sym there ∙ ap (slice_get all) (sym same) ∙ own_there in
           subst IsAccepted (ap (λ o. unwrap_or o settings) here) is
     ]
-
-memory_or_not : (error : Refusal) → (error ≡ out_of_memory) ⊎ (error ≡ out_of_memory → ⊥)
-memory_or_not out_of_memory = inl refl
-memory_or_not (syntax_error rule) = inr (λ wrong. absurd cc)
-memory_or_not too_deep = inr (λ wrong. absurd cc)
-memory_or_not too_many_groups = inr (λ wrong. absurd cc)
-memory_or_not (passed_limit limit) = inr (λ wrong. absurd cc)
-memory_or_not refused_replacement = inr (λ wrong. absurd cc)
 
 -- the first that is refused by itself, unless memory ran out
 pub refused_first : (all : List Settings) (k number : ℕ) (settings : Settings) (error : Refusal)
