@@ -45,8 +45,7 @@ loop-item-preserved g c =
 
 pub returns-in_err-caps-clause-kept : goal.returns-in_err-caps-clause-kept
 returns-in_err-caps-clause-kept g c =
-    let inv = c.loop-item.invariant in
-    (inv.printed, tt, inv.puts)
+    (c.loop-item.invariant.printed, tt, c.loop-item.invariant.puts)
 
 pub returns-clause-ok : goal.returns-clause-ok
 returns-clause-ok g c =
@@ -58,6 +57,4 @@ returns-clause-ok g c =
     )
 
 pub returns-clause-kept : goal.returns-clause-kept
-returns-clause-kept g c =
-    let inv = c.loop-item.invariant in
-    (inv.printed, tt, inv.puts)
+returns-clause-kept g c = (c.loop-item.invariant.printed, tt, c.loop-item.invariant.puts)

@@ -54,6 +54,4 @@ returns-clause-ok g c =
     )
 
 pub returns-clause-kept : goal.returns-clause-kept
-returns-clause-kept g c =
-    let inv = c.loop-found.invariant in
-    (inv.printed, tt, inv.puts)
+returns-clause-kept g c = (c.loop-found.invariant.printed, tt, c.loop-found.invariant.puts)

@@ -47,6 +47,4 @@ returns-clause-ok g c =
     )
 
 pub returns-clause-kept : goal.returns-clause-kept
-returns-clause-kept g c =
-    let held = c.loop-piece.invariant in
-    (held.printed, tt, held.puts)
+returns-clause-kept g c = (c.loop-piece.invariant.printed, tt, c.loop-piece.invariant.puts)
