@@ -1,5 +1,6 @@
 //! Entering a place: what its arrows offer.
-ghost use Rattle.std.specs.Prelude.{◌≡◌, ◌+◌, ◌^◌, ◌≤◌, ◌<◌, ◌∷◌, ℕ, length, true};
+ghost use Rattle.std.specs.Prelude.{◌≡◌, ◌+◌, ◌^◌, ◌≤◌, ◌<◌, ◌∷◌, ◌++◌, ℕ, length, map};
+ghost use Rattle.std.specs.Prelude.{false, true};
 ghost use Rattle.regex_lite_syntax.specs.Ranges.{in_ranges};
 ghost use Rattle.regex_lite_syntax.specs.Sets.{just};
 ghost use Rattle.regex_lite_engine.specs.Graph.Places.{kept_back};
@@ -69,7 +70,7 @@ pub fn enter<S: Beginning, const READY: bool>(
             memory.push::<READY>(Frame::Explore(*second));
             return Onward::To(*first);
         }
-        Place::Branches(entries) => memory.push_all::<READY>(entries),
+        Place::Branches(entries) => return branch::<S, READY>(entries, memory),
         Place::Match => return Onward::Complete,
     }
     Onward::Back
@@ -104,6 +105,24 @@ fn read_on<S: Beginning, const READY: bool>(reads: bool, to: u32, start: S, memo
 {
     if reads {
         memory.push_next::<READY>(to, start);
+    }
+}
+
+/// Goes on to the first of these places, and pushes the others.
+fn branch<S: Beginning, const READY: bool>(entries: &[u32], memory: &mut Memory<S>) -> Onward
+    requires room { length memory.old.frames + length entries.now ≤ length memory.old.rounds }
+    requires ready { READY ≡ true → memory.old.ready ≡ true }
+    ensures onto { onto result memory.new.frames
+        ≡ map explore entries.now ++ memory.old.frames }
+    ensures open { completes result ≡ false }
+    ensures same { memory.new ≡ record memory.old { frames = memory.new.frames } }
+{
+    match entries.split_first() {
+        None => Onward::Back,
+        Some((first, others)) => {
+            memory.push_all::<READY>(others);
+            Onward::To(*first)
+        }
     }
 }
 

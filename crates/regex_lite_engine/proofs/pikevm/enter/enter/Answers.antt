@@ -2,8 +2,6 @@ use Rattle.regex_lite_engine.proofs.Common.{false, ◌∷◌, sym, refl, subst}
 use Rattle.regex_lite_engine.specs.declared.nfa.place.Place as code
 use Rattle.regex_lite_engine.specs.Pikevm.Entering.{Enters}
 use Rattle.regex_lite_engine.specs.Pikevm.Machine.{explore}
-use Rattle.regex_lite_engine.proofs.Common.{arith}
-use Rattle.std.proofs.lemmas.Grind.{common_steps}
 use Rattle.regex_lite_engine.proofs.pikevm.enter.enter.Goals as goal
 
 pub returns-in-Slot-clause-entered : goal.returns-in-Slot-clause-entered
@@ -12,7 +10,3 @@ returns-in-Slot-clause-entered g c =
     subst (λ (x : code.Place). Enters a.here (g.S.Beginning.told a.start) x a.memory.now
     (record n { frames = explore c.in-Slot.to ∷ n.frames }) false) (sym c.in-Slot.is)
     (c.mark.ensures.marked c.in-Slot.to, refl)
-
--- It has an answer because the prover would try other calls first, which takes long
-pub push_all-requires-clause-room : goal.push_all-requires-clause-room
-push_all-requires-clause-room g c = grind (arith, common_steps)
