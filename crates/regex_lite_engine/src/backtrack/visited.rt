@@ -9,7 +9,7 @@ use std::alloc::{AllocError, Global};
 use std::marker::Model;
 
 /// Up to this number of words are held in the value itself, without an allocation.
-const FEW: usize = 64;
+const FEW: usize = 32;
 
 /// How many words are added when a search goes past the last one.
 const BLOCK: usize = 16;
@@ -96,7 +96,7 @@ impl Visited {
     pub fn few(places: usize, first: usize, last: usize) -> Visited
         requires from { first ≤ last }
         requires some { 0 < places }
-        requires few { places * (last - first + 1) ≤ 4096 }
+        requires few { places * (last - first + 1) ≤ 2048 }
         ensures none { result.entered ≡ replicate (places * (last - first + 1)) false }
         ensures places { result.places ≡ places }
         ensures first { result.first ≡ first }
