@@ -20,6 +20,8 @@ PARTS = ('src', 'specs', 'proofs')
 CALLER = 'caller'
 ENDING = '.txt'  # the gate refuses files of the language outside the crates
 SCRIPTS = ('rt', 'rtlib.py')
+PROVER = 'rattle'
+NO_PROVER = '#!/bin/sh\nexit 2\n'
 MOST = 48 << 20  # bytes of cases at a time, since the kit passes on no more than 64 MiB
 # The kit's own interpreter would take hours, so only the compiled program runs to its end.
 ONCE = ('--steps', '1')
@@ -112,19 +114,26 @@ def link_all(source: Path, target: Path, but: Sequence[str] = ()) -> None:
             (target / path.name).symlink_to(path)
 
 
+def write_script(file: Path, text: str) -> None:
+    """Writes a file that can be run."""
+    file.write_text(text, encoding='utf-8')
+    file.chmod(0o755)
+
+
 def lay_out_kit(target: Path, compiler: str) -> Path:
     """Makes the folder a kit whose `rt try` compiles with this script, and returns its `rt`. The
-    rest of the kit is linked, except the scripts that take the folder above them for the kit."""
+    rest of the kit is linked, except the scripts that take the folder above them for the kit, and
+    the prover: beside each program `rt try` has it look for names that a check would refuse, for
+    half a minute, and the gate does so anyway."""
     source = kit()
     link_all(source, target, ('bin', 'toolchain'))
     link_all(source / 'toolchain', target / 'toolchain', ('bin',))
     link_all(source / 'toolchain' / 'bin', target / 'toolchain' / 'bin', ('clang',))
-    link_all(source / 'bin', target / 'bin', SCRIPTS)
+    link_all(source / 'bin', target / 'bin', (*SCRIPTS, PROVER))
     for name in SCRIPTS:
         shutil.copy2(source / 'bin' / name, target / 'bin' / name)
-    clang = target / 'toolchain' / 'bin' / 'clang'
-    clang.write_text(compiler, encoding='utf-8')
-    clang.chmod(0o755)
+    write_script(target / 'bin' / PROVER, NO_PROVER)
+    write_script(target / 'toolchain' / 'bin' / 'clang', compiler)
     return target / 'bin' / 'rt'
 
 
