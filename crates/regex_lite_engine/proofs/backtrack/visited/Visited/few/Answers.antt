@@ -9,4 +9,4 @@ overflow_add-result c =
 
 pub returns-clause-none : goal.returns-clause-none
 returns-clause-none c =
-    none_of_zeros 64 (c.args.places * (c.args.last - c.args.first + 1))
+    none_of_zeros 32 (c.args.places * (c.args.last - c.args.first + 1))

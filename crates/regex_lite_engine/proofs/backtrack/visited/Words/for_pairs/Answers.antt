@@ -3,7 +3,7 @@ use Rattle.regex_lite_engine.proofs.backtrack.BitLemmas.{none_of_zeros}
 use Rattle.regex_lite_engine.proofs.backtrack.visited.Words.for_pairs.Goals as goal
 
 pub returns-then-count-clause-none : goal.returns-then-count-clause-none
-returns-then-count-clause-none c = none_of_zeros 64 c.args.count
+returns-then-count-clause-none c = none_of_zeros 32 c.args.count
 
 pub returns-clause-none : goal.returns-clause-none
 returns-clause-none c =
