@@ -124,7 +124,7 @@ def lay_out_kit(target: Path, compiler: str) -> Path:
     """Makes the folder a kit whose `rt try` compiles with this script, and returns its `rt`. The
     rest of the kit is linked, except the scripts that take the folder above them for the kit, and
     the prover: beside each program `rt try` has it look for names that a check would refuse, for
-    half a minute, and the gate does so anyway."""
+    half a minute, and in our crates the gate finds those too."""
     source = kit()
     link_all(source, target, ('bin', 'toolchain'))
     link_all(source / 'toolchain', target / 'toolchain', ('bin',))
