@@ -1,15 +1,13 @@
 -- The definitions that most proofs cite, passed on from one place. Declares nothing.
-pub use Rattle.std.proofs.Common.{◌≡◌, ℕ, zero, suc, ◌+◌, ◌-◌, ◌*◌, ◌/◌, ◌%◌, ◌^◌, ◌<◌, ◌≤◌, min}
-pub use Rattle.std.proofs.Common.{Bool, true, false, cond, not, ◌&&◌, ◌||◌, ◌≢◌, ◌⊎◌, ◌↔◌, List, []}
-pub use Rattle.std.proofs.Common.{◌∷◌, ◌++◌, map, reverse, length, get_or, take, drop, set}
-pub use Rattle.std.proofs.Common.{replicate, is_some, is_none, IfSome, if◌then◌else◌, IsSome}
-pub use Rattle.std.proofs.Common.{IsTrue, nat_lt, ◌==◌, slice_get, slice_index, slice_index_or}
-pub use Rattle.std.proofs.Common.{slice_set, bit_and, bit_or, Some, None, vec_capacity, IsUtf8, All}
-pub use Rattle.std.proofs.Common.{sum_by, filter, Option, MatchOption, option_map, chars}
+pub use Rattle.std.proofs.Common.{◌≡◌, ℕ, zero, suc, ◌+◌, ◌-◌, ◌*◌, ◌^◌, ◌<◌, ◌≤◌, Bool, true}
+pub use Rattle.std.proofs.Common.{false, not, ◌&&◌, ◌||◌, ◌≢◌, ◌⊎◌, ◌↔◌, List, [], ◌∷◌, ◌++◌, map}
+pub use Rattle.std.proofs.Common.{reverse, length, get_or, take, drop, set, replicate, is_some}
+pub use Rattle.std.proofs.Common.{IfSome, if◌then◌else◌, IsSome, IsTrue, nat_lt, ◌==◌, slice_get}
+pub use Rattle.std.proofs.Common.{slice_index, slice_index_or, slice_set, Some, None, vec_capacity}
+pub use Rattle.std.proofs.Common.{IsUtf8, All, sum_by, Option, MatchOption, option_map, chars}
 pub use Rattle.std.proofs.Common.{IsCharBoundary, unwrap_or, sym, refl, ap, ◌∙◌, subst, inl, inr}
-pub use Rattle.std.proofs.Common.{⊎_elim, true≢false, append_assoc, append-nil, arith}
-pub use Rattle.std.proofs.Common.{length-append, length-drop, length-set, rules}
-pub use Rattle.std.proofs.Math.Bool.{or-false}
+pub use Rattle.std.proofs.Common.{⊎_elim, append_assoc, append-nil, arith, length-append}
+pub use Rattle.std.proofs.Common.{length-drop, length-set, rules}
 pub use Rattle.std.proofs.Math.Nat.{mul-le-mul_left, mul-le-mul_right, mul-suc, suc-mul}
 pub use Rattle.std.proofs.Math.Seq.{drop-cons, get_or-append_seam, take-append_seam}
 pub use Rattle.std.proofs.lemmas.Bool.{cases_eq, cases_lt, cases_order}
@@ -21,16 +19,13 @@ pub use Rattle.std.proofs.lemmas.List.{map-append, map-set, nil_from_length, set
 pub use Rattle.std.proofs.lemmas.List.{take-append-drop, take-append-le, take-take, take_all}
 pub use Rattle.std.proofs.lemmas.List.FromFn.{get_or-map-range_with_len, length-map-range_with_len}
 pub use Rattle.std.proofs.lemmas.List.Sums.{sum_by-cons}
-pub use Rattle.std.proofs.lemmas.Nat.Bits.{shr_and_one}
 pub use Rattle.std.proofs.lemmas.Option.{get_or_from_slice_get, slice_get-get_or, slice_get-map}
-pub use Rattle.std.proofs.lemmas.Option.{slice_get_past, slice_get_within}
+pub use Rattle.std.proofs.lemmas.Option.{slice_get_within}
 pub use Rattle.std.proofs.lemmas.Str.{IsUtf8-take, encodes-chars}
 pub use Rattle.std.proofs.lemmas.Str.Pattern.{strip_prefix_char}
 pub use Rattle.std.specs.Char.{len_utf8}
-pub use Rattle.std.specs.Int.{bit_at}
 pub use Rattle.std.specs.List.{range_with_len}
 pub use Rattle.std.specs.Option.{option_or}
-pub use Rattle.regex_lite_syntax.specs.AsciiMaps.{bit_of_words}
 pub use Rattle.regex_lite_syntax.specs.Characters.{is_digit, number_of}
 pub use Rattle.regex_lite_syntax.specs.Ranges.{in_ranges}
 pub use Rattle.regex_lite_syntax.specs.Sets.{Set, just}
@@ -42,9 +37,8 @@ pub use Rattle.regex_lite_syntax.specs.Tree.Matches.{AtMost, Matches, Chain, Som
 pub use Rattle.regex_lite_syntax.specs.Tree.Properties.{nullable, greatest_index, greatest_index_in}
 pub use Rattle.regex_lite_syntax.specs.Tree.Properties.{sum}
 pub use Rattle.regex_lite_syntax.specs.Tree.Regular.{IsRegular}
-pub use Rattle.regex_lite_syntax.specs.Tree.Views.{text_of_name, tree_of}
+pub use Rattle.regex_lite_syntax.specs.Tree.Views.{tree_of}
 pub use Rattle.regex_lite_syntax.specs.declared.class.ClassRange.{ClassRange}
-pub use Rattle.regex_lite_syntax.specs.declared.hir.Hir.{Hir}
 pub use Rattle.regex_lite_syntax.specs.declared.hir.look.Look.{Look}
 pub use Rattle.regex_lite_engine.specs.Backtrack.Bits.{bits_of}
 pub use Rattle.regex_lite_engine.specs.Backtrack.Machine.{Pairs, pair_number, was_entered, Held}
@@ -84,8 +78,8 @@ pub use Rattle.regex_lite_engine.specs.Graph.WrittenOut.{written_out, place_of_p
 pub use Rattle.regex_lite_engine.specs.Graph.WrittenOut.{IsWayThrough}
 pub use Rattle.regex_lite_engine.specs.Interpolation.{plain, is_name_character, BeginsWith}
 pub use Rattle.regex_lite_engine.specs.Interpolation.{no_dollar, reference, one_dollar}
-pub use Rattle.regex_lite_engine.specs.LazyDfa.Automaton.{Way, Automaton, unknown}
-pub use Rattle.regex_lite_engine.specs.LazyDfa.Automaton.{told_by, threads_of, ways_of, best_left}
+pub use Rattle.regex_lite_engine.specs.LazyDfa.Automaton.{Way, Automaton, unknown, told_by}
+pub use Rattle.regex_lite_engine.specs.LazyDfa.Automaton.{threads_of, ways_of, best_left}
 pub use Rattle.regex_lite_engine.specs.LazyDfa.Automaton.{searching_after, Suits, LeadsOn}
 pub use Rattle.regex_lite_engine.specs.LazyDfa.Automaton.{FitsTable, Remembers}
 pub use Rattle.regex_lite_engine.specs.LazyDfa.Boundaries.{Grows}
@@ -117,19 +111,11 @@ pub use Rattle.regex_lite_engine.specs.Pikevm.Searching.{IsBetween}
 pub use Rattle.regex_lite_engine.specs.Pikevm.Turns.{best_of, Between, StepsTo, IsComing, begun}
 pub use Rattle.regex_lite_engine.specs.Pikevm.Turns.{with_starts}
 pub use Rattle.regex_lite_engine.specs.Pikevm.Walking.{WayTold, ThreadsHold, InStep, SearchAt}
-pub use Rattle.regex_lite_engine.specs.Prefilter.Bytes.{is_among, suits, StandsBelow}
-pub use Rattle.regex_lite_engine.specs.Prefilter.Heads.{Reads, ReadsEach, AreHeadsOfTree}
-pub use Rattle.regex_lite_engine.specs.Prefilter.Heads.{NeverBegins, IsPassed}
-pub use Rattle.regex_lite_engine.specs.Prefilter.ListHeads.{may_start, may_start_at}
-pub use Rattle.regex_lite_engine.specs.Prefilter.ListHeads.{is_candidate_at, IsPassedByAll}
-pub use Rattle.regex_lite_engine.specs.Prefilter.ListHeads.{IsIndexOf, AreEachHeadsOf}
-pub use Rattle.regex_lite_engine.specs.Prefilter.Pairs.{in_set, has_pair, begins_with_pair}
-pub use Rattle.regex_lite_engine.specs.Prefilter.Rows.{column, first_row, second_row, start_row}
-pub use Rattle.regex_lite_engine.specs.Prefilter.Rows.{is_in_column, has, goes_on_with, belongs}
-pub use Rattle.regex_lite_engine.specs.Prefilter.Rows.{set_from}
-pub use Rattle.regex_lite_engine.specs.Prefilter.Starts.{begins_with, stops_at, may_begin, MayBegin}
-pub use Rattle.regex_lite_engine.specs.Prefilter.Starts.{IsWider, BeginsOrPasses, IsUnionOf}
-pub use Rattle.regex_lite_engine.specs.Prefilter.Thirds.{in_mask, may_go_on, AreMasksOf}
+pub use Rattle.regex_lite_syntax.specs.Prefilter.Heads.{NeverBegins, IsPassed}
+pub use Rattle.regex_lite_syntax.specs.Prefilter.ListHeads.{may_start, is_candidate_at}
+pub use Rattle.regex_lite_syntax.specs.Prefilter.ListHeads.{IsPassedByAll}
+pub use Rattle.regex_lite_syntax.specs.Prefilter.Starts.{stops_at, MayBegin}
+pub use Rattle.regex_lite_syntax.specs.Prefilter.Thirds.{may_go_on, AreMasksOf}
 pub use Rattle.regex_lite_engine.specs.Search.Answer.{IsMatchFrom, HasMatchFrom, Found, IsFound}
 pub use Rattle.regex_lite_engine.specs.Search.Answer.{IsAnswer}
 pub use Rattle.regex_lite_engine.specs.Search.AnswerOfList.{AnyMatchesFrom, IsAnswerOfList}
@@ -169,8 +155,8 @@ pub use Rattle.regex_lite_engine.specs.declared.lazy_dfa.state.Target.{Target}
 pub use Rattle.regex_lite_engine.specs.declared.pikevm.beginning.Origin.{Origin}
 pub use Rattle.regex_lite_engine.specs.declared.pikevm.cache.Cache.{Cache}
 pub use Rattle.regex_lite_engine.specs.declared.pikevm.cell.Cell.{Cell}
-pub use Rattle.regex_lite_engine.specs.declared.prefilter.heads.Heads.{Heads}
-pub use Rattle.regex_lite_engine.specs.declared.prefilter.list_heads.ListHeads.{ListHeads}
-pub use Rattle.regex_lite_engine.specs.declared.prefilter.starts.Starts.{Starts}
+pub use Rattle.regex_lite_syntax.specs.declared.prefilter.heads.Heads.{Heads}
+pub use Rattle.regex_lite_syntax.specs.declared.prefilter.list_heads.ListHeads.{ListHeads}
+pub use Rattle.regex_lite_syntax.specs.declared.prefilter.starts.Starts.{Starts}
 pub use Rattle.regex_lite_engine.specs.declared.search.here.Here.{Here}
 pub use Rattle.regex_lite_engine.specs.declared.search.patterns.Start.{Start}

@@ -10,7 +10,7 @@ use Rattle.std.proofs.lemmas.List.{drop-drop, take-take}
 use Rattle.std.proofs.lemmas.List.Sums.{sum_by-take-le}
 use Rattle.std.proofs.lemmas.Str.{IsUtf8-past_char, length-encode}
 use Rattle.std.proofs.lemmas.Str.{len_utf8_bounds, IsCharBoundary-from_drop}
-use Rattle.regex_lite_engine.proofs.OptionLemmas.{not_there, same_some}
+use Rattle.regex_lite_syntax.proofs.OptionLemmas.{not_there, same_some}
 
 pub length_encodes : (cs : List ℕ) → length (encodes cs) ≡ sum_by len_utf8 cs
 length_encodes [] = refl

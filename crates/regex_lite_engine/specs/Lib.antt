@@ -9,10 +9,9 @@ pub mod SearchLaws
 pub mod ListSearchLaws
 pub mod Interpolation
 pub mod TemplateLaws
--- What the functions of nfa and prefilter, and those of the searches, promise one another. No
+-- What the functions of nfa, and those of the searches, promise one another. No
 -- public contract rests on it.
 pub mod Nfa
-pub mod Prefilter
 pub mod Pikevm
 pub mod LazyDfa
 pub mod Backtrack

@@ -16,7 +16,6 @@ mod lazy_dfa;
 mod meta;
 mod nfa;
 mod pikevm;
-mod prefilter;
 mod search;
 mod steps;
 

@@ -19,10 +19,10 @@ pub(crate) mod table;
 mod write;
 
 use crate::count::Counts;
-use crate::prefilter::filter::Filter;
 use crate::steps::Steps;
 use groups::Groups;
 use place::Place;
+use regex_lite_syntax::prefilter::Filter;
 use regex_lite_syntax::{Error, Hir};
 use std::alloc::Global;
 use std::marker::Model;

@@ -5,20 +5,28 @@ pub use Rattle.std.proofs.Common.{◌++◌, map, reverse, length, get_or, take, 
 pub use Rattle.std.proofs.Common.{if◌then◌else◌, IsTrue, nat_lt, nat_le, ◌==◌, slice_range, Some}
 pub use Rattle.std.proofs.Common.{None, Ok, Err, codes, MatchBool, All, Contains, Option, Result}
 pub use Rattle.std.proofs.Common.{option_map, chars, Global, sym, refl, ap, ◌∙◌, subst, inl, inr}
-pub use Rattle.std.proofs.Common.{append_assoc, add-one, arith, length-append, rules}
+pub use Rattle.std.proofs.Common.{append_assoc, add-one, arith, length-append, rules, bit_and}
+pub use Rattle.std.proofs.Common.{bit_or, is_none, replicate, slice_get, slice_index}
+pub use Rattle.std.proofs.Common.{slice_index_or, slice_set, vec_capacity}
+pub use Rattle.std.proofs.Math.Bool.{or-false}
 pub use Rattle.std.proofs.lemmas.Bool.{and_from, and_parts, both_ways, eqb-false, eqb-true}
 pub use Rattle.std.proofs.lemmas.Bool.{false≢true, le-leb, leb-true, ne_eqb, not-true}
 pub use Rattle.std.proofs.lemmas.Bool.{not_from_false, or_cases, or_left, or_parts, or_right}
+pub use Rattle.std.proofs.lemmas.Bool.{cases_eq, cases_lt}
 pub use Rattle.std.proofs.lemmas.Bool.Decides.{nat_tests}
 pub use Rattle.std.proofs.lemmas.List.{append-nil, drop_all, drop_more, get_or-drop, take_all}
+pub use Rattle.std.proofs.lemmas.List.{get_or-set_other}
 pub use Rattle.std.proofs.lemmas.List.Folds.{drop_split, list_all-append}
 pub use Rattle.std.proofs.lemmas.List.Sums.{AllPass-from_list_all, fold-append}
 pub use Rattle.std.proofs.lemmas.List.Sums.{list_all-from_AllPass}
+pub use Rattle.std.proofs.lemmas.Option.{slice_get-get_or}
 pub use Rattle.std.proofs.lemmas.Result.{IfErr-weaker, IfOk-weaker}
 pub use Rattle.std.proofs.lemmas.Str.{chars_from_encodes}
-pub use Rattle.std.specs.List.{AllPass, list_all, list_any}
+pub use Rattle.std.specs.Int.{bit_at}
+pub use Rattle.std.specs.List.{AllPass, list_all, list_any, range_with_len}
 pub use Rattle.std.specs.Option.{option_or}
 pub use Rattle.std.specs.declared.rc.RcStr.{RcStr}
+pub use Rattle.regex_lite_syntax.specs.AsciiMaps.{bit_of_words}
 pub use Rattle.regex_lite_syntax.specs.Characters.{is_character, AreCharacters, is_one_of}
 pub use Rattle.regex_lite_syntax.specs.Characters.{is_white_space, is_lower, is_letter, is_digit}
 pub use Rattle.regex_lite_syntax.specs.Characters.{is_hex_digit, digit_value, number_of}
@@ -79,13 +87,24 @@ pub use Rattle.regex_lite_syntax.specs.Parser.Readings.{ReachesTo, IsNotBelow}
 pub use Rattle.regex_lite_syntax.specs.Parser.SetNames.{name_of}
 pub use Rattle.regex_lite_syntax.specs.Parser.States.{frame_of, StepsTo, CanRead, CanReadOn}
 pub use Rattle.regex_lite_syntax.specs.Parser.States.{BeginsCapture, BeginsTooMany}
+pub use Rattle.regex_lite_syntax.specs.Prefilter.Bytes.{StandsBelow, is_among}
+pub use Rattle.regex_lite_syntax.specs.Prefilter.Heads.{Reads, ReadsEach}
+pub use Rattle.regex_lite_syntax.specs.Prefilter.ListHeads.{AreEachHeadsOf, IsIndexOf, may_start}
+pub use Rattle.regex_lite_syntax.specs.Prefilter.Pairs.{begins_with_pair, has_pair, in_set}
+pub use Rattle.regex_lite_syntax.specs.Prefilter.Rows.{belongs, column, first_row, goes_on_with}
+pub use Rattle.regex_lite_syntax.specs.Prefilter.Rows.{has, is_in_column, second_row, set_from}
+pub use Rattle.regex_lite_syntax.specs.Prefilter.Rows.{start_row}
+pub use Rattle.regex_lite_syntax.specs.Prefilter.Starts.{BeginsOrPasses, IsUnionOf, IsWider}
+pub use Rattle.regex_lite_syntax.specs.Prefilter.Starts.{MayBegin, begins_with, may_begin}
+pub use Rattle.regex_lite_syntax.specs.Prefilter.Thirds.{in_mask}
 pub use Rattle.regex_lite_syntax.specs.Ranges.{in_ranges, next_character, AreRuns, AreRunsOf}
 pub use Rattle.regex_lite_syntax.specs.Refusals.{NoReading, Refuses, Denies, Completable}
 pub use Rattle.regex_lite_syntax.specs.Refusals.{IfCutShort}
 pub use Rattle.regex_lite_syntax.specs.Sets.{Set, just, span, union, complement, case_closure}
-pub use Rattle.regex_lite_syntax.specs.Text.{Text, Begins, is_text, the}
+pub use Rattle.regex_lite_syntax.specs.Text.{Text, Begins, is_text, the, after}
 pub use Rattle.regex_lite_syntax.specs.Tree.{Tree, class, look, repetition, concat, alternation}
 pub use Rattle.regex_lite_syntax.specs.Tree.{Trees, more, trees, sequence_of, choice_of, repeated}
+pub use Rattle.regex_lite_syntax.specs.Tree.Matches.{Chain, Matches, SomeBranch}
 pub use Rattle.regex_lite_syntax.specs.Tree.NameTables.{name_at, AddsNames}
 pub use Rattle.regex_lite_syntax.specs.Tree.Properties.{group_name, group_name_in}
 pub use Rattle.regex_lite_syntax.specs.Tree.Regular.{IsRegular}
@@ -98,3 +117,6 @@ pub use Rattle.regex_lite_syntax.specs.declared.hir.look.Look.{Look}
 pub use Rattle.regex_lite_syntax.specs.declared.parse.Parser.{Parser}
 pub use Rattle.regex_lite_syntax.specs.declared.parse.bracket.item.Element.{Element}
 pub use Rattle.regex_lite_syntax.specs.declared.parse.fault.Stop.{Stop}
+pub use Rattle.regex_lite_syntax.specs.declared.prefilter.heads.Heads.{Heads}
+pub use Rattle.regex_lite_syntax.specs.declared.prefilter.list_heads.ListHeads.{ListHeads}
+pub use Rattle.regex_lite_syntax.specs.declared.prefilter.starts.Starts.{Starts}

@@ -16,6 +16,8 @@ pub mod Limits
 pub mod FaultPlaces
 pub mod Refusals
 pub mod SyntaxLaws
+-- Where matches of trees can begin. The searches of the crate above rest on it.
+pub mod Prefilter
 -- What the functions of the parser promise one another, and what an error holds inside. No public
 -- contract rests on them.
 pub mod Parser

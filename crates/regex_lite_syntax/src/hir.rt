@@ -5,6 +5,7 @@ ghost use Rattle.regex_lite_syntax.specs.Tree.{repeated, trees as trees_of};
 ghost use Rattle.regex_lite_syntax.specs.Limits.{depth, depth_of_list};
 ghost use Rattle.regex_lite_syntax.specs.Tree.Views.{text_of_name, tree_of};
 
+pub(crate) mod as_hir;
 pub(crate) mod look;
 mod names;
 pub(crate) mod properties;

@@ -5,7 +5,7 @@ use Rattle.regex_lite.proofs.Common.{AreLawful, Expression, IsAnswerOf, one_less
 use Rattle.regex_lite.proofs.Common.{AreWithin}
 use Rattle.regex_lite_engine.proofs.laws.PatternTreeLemmas.{regular_tree}
 use Rattle.regex_lite_engine.proofs.laws.groups.SpanLemmas.{groups_inside}
-use Rattle.regex_lite_engine.proofs.OptionLemmas.{not_there, same_some}
+use Rattle.regex_lite_syntax.proofs.OptionLemmas.{not_there, same_some}
 use Rattle.regex_lite.specs.MatchList.{AreAnswersWithin, AreFirstAnswers, IsNext}
 use Rattle.regex_lite.proofs.string.LawfulLemmas.{regex_lawful}
 use Rattle.regex_lite.proofs.string.ListLemmas.{one_next}

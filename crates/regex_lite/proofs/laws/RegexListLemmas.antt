@@ -17,7 +17,7 @@ use Rattle.regex_lite_engine.specs.Search.Bounds.{IsBoundedBy, characters_left}
 use Rattle.regex_lite_engine.specs.Search.Outcomes.{HasCostOfList}
 use Rattle.regex_lite_engine.proofs.laws.several.ListAnswerLemmas.{alone_by_itself, alone_in_list}
 use Rattle.regex_lite_engine.proofs.laws.several.ListAnswerLemmas.{none_match, one_list_answer}
-use Rattle.regex_lite_engine.proofs.OptionLemmas.{same_some}
+use Rattle.regex_lite_syntax.proofs.OptionLemmas.{same_some}
 use Rattle.regex_lite.specs.RegexListLaws.{AgreeOnList, AnswersAsItsRegex}
 use Rattle.regex_lite.specs.RegexListLaws.{FindsNothing, TellsAlike, of_the_only}
 use Rattle.regex_lite.specs.RegexListSearches.{IsWithinListCost, TellsAnswerOfList}

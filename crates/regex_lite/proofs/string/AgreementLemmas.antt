@@ -8,7 +8,7 @@ use Rattle.regex_lite.proofs.Common.{TellsGroups, Match}
 use Rattle.std.proofs.Common.{option_and_then}
 use Rattle.regex_lite_engine.proofs.laws.PatternTreeLemmas.{regular_tree}
 use Rattle.regex_lite_engine.proofs.laws.answer.AnswerLemmas.{found_match, one_answer}
-use Rattle.regex_lite_engine.proofs.OptionLemmas.{same_some}
+use Rattle.regex_lite_syntax.proofs.OptionLemmas.{same_some}
 use Rattle.regex_lite.specs.Laws.{Agree}
 use Rattle.regex_lite.specs.Searches.{TellsEnd}
 use Rattle.regex_lite.proofs.string.FoundLemmas.{group_0}

@@ -8,7 +8,7 @@ use Rattle.std.proofs.Common.{MatchOption}
 use Rattle.std.specs.Cow.{cow_str_bytes}
 use Rattle.std.specs.declared.borrow.CowStr.{CowStr}
 use Rattle.std.proofs.lemmas.Str.{chars-nil}
-use Rattle.regex_lite_engine.proofs.OptionLemmas.{not_there}
+use Rattle.regex_lite_syntax.proofs.OptionLemmas.{not_there}
 use Rattle.regex_lite.specs.Ahead.{AheadOf, NoneIsAhead, PassesAnswer, whole}
 use Rattle.regex_lite.specs.Replacements.{limit_of}
 use Rattle.regex_lite.proofs.string.LawfulLemmas.{regex_lawful}

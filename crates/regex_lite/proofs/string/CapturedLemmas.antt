@@ -11,7 +11,7 @@ use Rattle.regex_lite.proofs.Common.{Compiled}
 use Rattle.std.proofs.Common.{IsSome}
 use Rattle.regex_lite_engine.proofs.laws.PatternTreeLemmas.{regular_tree}
 use Rattle.regex_lite_engine.proofs.laws.groups.SpanLemmas.{groups_inside}
-use Rattle.regex_lite_engine.proofs.OptionLemmas.{same_some}
+use Rattle.regex_lite_syntax.proofs.OptionLemmas.{same_some}
 use Rattle.regex_lite.proofs.string.SlotLemmas.{none_kept, some_kept}
 use Rattle.regex_lite.proofs.string.FoundLemmas.{slots_told, length_spans}
 use Rattle.regex_lite.proofs.string.FoundLemmas.{groups_lie, group_0, enough_texts}

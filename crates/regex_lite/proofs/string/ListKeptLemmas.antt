@@ -7,7 +7,7 @@ use Rattle.regex_lite.proofs.Common.{Expression, spans_of, resized, IsAnswerOfPa
 use Rattle.regex_lite.proofs.Common.{span_of_match, AreTrees, TellsMatchOfList, most_captures}
 use Rattle.regex_lite.proofs.Common.{AreSlotsForAllGroups, spans_from, kept_slots, all_slots, Match}
 use Rattle.std.proofs.lemmas.Option.{slice_get_within}
-use Rattle.regex_lite_engine.proofs.OptionLemmas.{same_some}
+use Rattle.regex_lite_syntax.proofs.OptionLemmas.{same_some}
 use Rattle.regex_lite.specs.Answers.{TellsOfAnswer}
 use Rattle.regex_lite.specs.RegexList.{OfTrees}
 use Rattle.regex_lite.specs.RegexListSearches.{TellsLocationsOfList}

@@ -3,7 +3,7 @@ use Rattle.regex_lite.proofs.Common.{◌≡◌, ℕ, suc, ◌+◌, ◌<◌, ◌�
 use Rattle.regex_lite.proofs.Common.{length, Some, None, MatchBool, Option, sym, refl, ap, ◌∙◌}
 use Rattle.regex_lite.proofs.Common.{subst, arith, nat_tests, Text, Found, IsWithin, AreLawful}
 use Rattle.regex_lite.proofs.Common.{IsAnswerOf, IsNextAnswer}
-use Rattle.regex_lite_engine.proofs.OptionLemmas.{not_there, same_some}
+use Rattle.regex_lite_syntax.proofs.OptionLemmas.{not_there, same_some}
 use Rattle.regex_lite.specs.ListLaws.{AreAnswersApart, Follows, MatchesAreApart, OneMatchList}
 use Rattle.regex_lite.specs.MatchList.{AreAnswers, is_empty_answer}
 use Rattle.regex_lite.proofs.string.LawfulLemmas.{regex_lawful}

@@ -6,7 +6,7 @@ use Rattle.regex_lite.proofs.Common.{whole_span, AreGroups, AreGroupsFoundInList
 use Rattle.regex_lite.proofs.Common.{IsAnswerOfPatterns, span_of_match, AreTrees, most_captures}
 use Rattle.regex_lite.proofs.Common.{AreSlotsForAllGroups, offsets, kept_slots, all_slots}
 use Rattle.regex_lite.proofs.Common.{CompiledList, Match}
-use Rattle.regex_lite_engine.proofs.OptionLemmas.{same_some}
+use Rattle.regex_lite_syntax.proofs.OptionLemmas.{same_some}
 use Rattle.regex_lite.specs.CompiledList.{IsBuiltList}
 use Rattle.regex_lite.specs.Scanning.{IsMatchOfSearch}
 use Rattle.regex_lite.proofs.string.ListBuildLemmas.{one_list, own_tree}

@@ -4,7 +4,7 @@ use Rattle.regex_lite.proofs.Common.{IfSome, slice_get, Some, None, Option, sym,
 use Rattle.regex_lite.proofs.Common.{arith, Tree, StoredGroups, Outcome, groups_at, most_captures}
 use Rattle.regex_lite.proofs.Common.{kept_slots, all_slots, most_groups}
 use Rattle.regex_lite_engine.specs.Graph.StoredList.{TellGroupsOf}
-use Rattle.regex_lite_engine.proofs.OptionLemmas.{not_there, same_some}
+use Rattle.regex_lite_syntax.proofs.OptionLemmas.{not_there, same_some}
 
 -- as many slots are kept as were asked for
 pub kept_width : (told : Option (ℕ × Outcome)) (number : ℕ) (outcome : Outcome) (n : ℕ)

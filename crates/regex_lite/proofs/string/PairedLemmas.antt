@@ -1,7 +1,7 @@
 -- Lists of which the elements belong together pairwise.
 use Rattle.regex_lite.proofs.Common.{◌≡◌, ℕ, zero, suc, List, [], ◌∷◌, ◌++◌, map, length, slice_get}
 use Rattle.regex_lite.proofs.Common.{Some, refl, ap}
-use Rattle.regex_lite_engine.proofs.OptionLemmas.{same_some}
+use Rattle.regex_lite_syntax.proofs.OptionLemmas.{same_some}
 use Rattle.regex_lite.specs.RegexList.{AllPaired}
 
 module _ {A B : Type 0} (R : A → B → Type 0) where

@@ -8,7 +8,7 @@ use Rattle.std.proofs.Common.{◌/◌, min}
 use Rattle.std.proofs.lemmas.List.{length-append, length-replicate, take-append-le}
 use Rattle.std.specs.Option.{option_flatten}
 use Rattle.std.proofs.lemmas.Option.{slice_get_past}
-use Rattle.regex_lite_engine.proofs.OptionLemmas.{same_some}
+use Rattle.regex_lite_syntax.proofs.OptionLemmas.{same_some}
 
 none_after : (start : Option ℕ) → None ≡ option_zip {U = ℕ} start None
 none_after None = refl

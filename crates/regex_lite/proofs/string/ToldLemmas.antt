@@ -12,7 +12,7 @@ use Rattle.regex_lite_syntax.specs.Tree.Regular.{IsRegular}
 use Rattle.regex_lite_engine.specs.Graph.Stored.{StoredGraph}
 use Rattle.regex_lite_engine.specs.Search.Outcomes.{IsOutcome}
 use Rattle.regex_lite_engine.specs.Search.Searching.{Searching}
-use Rattle.regex_lite_engine.proofs.OptionLemmas.{not_there, same_some}
+use Rattle.regex_lite_syntax.proofs.OptionLemmas.{not_there, same_some}
 use Rattle.regex_lite.specs.Compiled.{SearchesFor}
 use Rattle.regex_lite.specs.Scanning.{TellsSpan}
 use Rattle.regex_lite.proofs.string.CapturedLemmas.{AreAllSlots, all_told, built_shares, captured}

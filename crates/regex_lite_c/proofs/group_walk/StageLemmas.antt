@@ -8,7 +8,7 @@ use Rattle.regex_lite_c.proofs.Common.{ended_of, NO, NO_ROOM, OUT_OF_MEMORY, YES
 use Rattle.std.proofs.Common.{◌≢◌}
 use Rattle.std.proofs.lemmas.Grind.{flat_map-append}
 use Rattle.regex_lite_syntax.specs.Text.{Text}
-use Rattle.regex_lite_engine.proofs.LookupLemmas.{get_left, get_right}
+use Rattle.regex_lite_syntax.proofs.LookupLemmas.{get_left, get_right}
 use Rattle.regex_lite.specs.Ahead.{AheadOf, PassesAnswer}
 use Rattle.regex_lite.specs.Groups.{whole_span}
 use Rattle.regex_lite_c.specs.Spans.{AreWrittenAt}

@@ -19,7 +19,7 @@ use Rattle.regex_lite_c.specs.ListBuilding.{AreTexts, IsDueAt, IsEachAccepted, a
 use Rattle.regex_lite_c.specs.declared.list.patterns.Source.{Source}
 use Rattle.regex_lite_c.specs.declared.list.types.ListPattern.{ListPattern}
 use Rattle.regex_lite_c.specs.declared.types.Options.{Options}
-use Rattle.regex_lite_engine.proofs.LookupLemmas.{get_left, get_seam}
+use Rattle.regex_lite_syntax.proofs.LookupLemmas.{get_left, get_seam}
 
 -- what stands for an element past the end of a list
 abbrev pub no_options : Options

@@ -5,7 +5,7 @@ use Rattle.regex_lite_c.proofs.Common.{chars, sym, refl, ap, ◌∙◌, subst, i
 use Rattle.regex_lite_c.proofs.Common.{append-nil, arith, length-append, cases_lt, length-map}
 use Rattle.regex_lite_c.proofs.Common.{map-append, Found, IsAnswerOf, AreWrittenAs}
 use Rattle.regex_lite_syntax.specs.Text.{Text}
-use Rattle.regex_lite_engine.proofs.LookupLemmas.{get_left, get_seam, set_elsewhere, set_here}
+use Rattle.regex_lite_syntax.proofs.LookupLemmas.{get_left, get_seam, set_elsewhere, set_here}
 use Rattle.regex_lite.specs.Ahead.{Ahead, AheadOf, AnswerComesNext, NoneIsAhead, PassesAnswer}
 use Rattle.regex_lite.specs.MatchList.{AreFirstAnswers, IsNextAnswer, one_less}
 

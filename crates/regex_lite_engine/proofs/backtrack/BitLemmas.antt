@@ -1,19 +1,23 @@
 -- Bits in words of 64.
-use Rattle.regex_lite_engine.proofs.Common.{◌≡◌, ℕ, ◌-◌, ◌*◌, ◌/◌, ◌%◌, ◌^◌, ◌<◌, Bool, true, false}
-use Rattle.regex_lite_engine.proofs.Common.{◌↔◌, List, ◌++◌, length, set, replicate, IsTrue, ◌==◌}
-use Rattle.regex_lite_engine.proofs.Common.{slice_index, slice_index_or, slice_set, bit_and, bit_or}
-use Rattle.regex_lite_engine.proofs.Common.{sym, refl, ap, ◌∙◌, subst, inl, inr, arith, length-set}
-use Rattle.regex_lite_engine.proofs.Common.{cases_eq, cases_lt, nat_tests, get_or-replicate}
-use Rattle.regex_lite_engine.proofs.Common.{get_or-set_other, get_or-set_same, get_or_past}
-use Rattle.regex_lite_engine.proofs.Common.{length-replicate, set-get_or, get_or-map-range_with_len}
-use Rattle.regex_lite_engine.proofs.Common.{length-map-range_with_len, shr_and_one, bit_at}
-use Rattle.regex_lite_engine.proofs.Common.{bit_of_words, bits_of, Pairs, pair_number, was_entered}
+use Rattle.regex_lite_engine.proofs.Common.{◌≡◌, ℕ, ◌-◌, ◌*◌, ◌^◌, ◌<◌, Bool, true, false, ◌↔◌}
+use Rattle.regex_lite_engine.proofs.Common.{List, ◌++◌, length, set, replicate, IsTrue, ◌==◌}
+use Rattle.regex_lite_engine.proofs.Common.{slice_index, slice_index_or, slice_set, sym, refl, ap}
+use Rattle.regex_lite_engine.proofs.Common.{◌∙◌, subst, inl, inr, arith, length-set, cases_eq}
+use Rattle.regex_lite_engine.proofs.Common.{cases_lt, nat_tests, get_or-replicate, get_or-set_other}
+use Rattle.regex_lite_engine.proofs.Common.{get_or-set_same, get_or_past, length-replicate}
+use Rattle.regex_lite_engine.proofs.Common.{set-get_or, get_or-map-range_with_len}
+use Rattle.regex_lite_engine.proofs.Common.{length-map-range_with_len, bits_of, Pairs, pair_number}
+use Rattle.regex_lite_engine.proofs.Common.{was_entered}
+use Rattle.std.proofs.Common.{◌/◌, ◌%◌, bit_and, bit_or}
+use Rattle.std.proofs.lemmas.Nat.Bits.{shr_and_one}
+use Rattle.std.specs.Int.{bit_at}
+use Rattle.regex_lite_syntax.specs.AsciiMaps.{bit_of_words}
 use Rattle.std.proofs.lemmas.List.{get_or_append_left, get_or-append_right}
 use Rattle.std.proofs.lemmas.List.FromFn.{fill_by_all}
 use Rattle.regex_lite_engine.specs.declared.backtrack.visited.Visited.TheInside.{Inside}
 use Rattle.regex_lite_engine.specs.Backtrack.Bits.{words_of}
-use Rattle.regex_lite_engine.proofs.WordBitLemmas.{zero_at, zero_bit, words_with, set_bit}
-use Rattle.regex_lite_engine.proofs.WordBitLemmas.{other_bit}
+use Rattle.regex_lite_syntax.proofs.WordBitLemmas.{zero_at, zero_bit, words_with, set_bit}
+use Rattle.regex_lite_syntax.proofs.WordBitLemmas.{other_bit}
 
 -- whether bit k of the words is 1
 abbrev is_set : List ℕ → ℕ → Bool

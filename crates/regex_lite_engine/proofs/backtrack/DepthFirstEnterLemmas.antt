@@ -11,7 +11,7 @@ use Rattle.regex_lite_engine.proofs.laws.search.WayOrderLemmas.{NotAfter-trans, 
 use Rattle.regex_lite_engine.proofs.search.RecordLemmas.{or_dead}
 use Rattle.regex_lite_engine.proofs.search.OfferLemmas as order
 use Rattle.regex_lite_engine.proofs.search.OfferLemmas.{preferred_before, below_front, below_append}
-use Rattle.regex_lite_engine.proofs.OptionLemmas.{not_there}
+use Rattle.regex_lite_syntax.proofs.OptionLemmas.{not_there}
 use Rattle.regex_lite_engine.proofs.search.RecordLemmas as records
 
 module _ (N : Type 0) (step : N → ℕ → Option N) (start : ℕ → N) (is_end : N → Bool)

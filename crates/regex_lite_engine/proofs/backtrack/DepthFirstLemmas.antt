@@ -10,7 +10,7 @@ use Rattle.regex_lite_engine.specs.Search.Offers as offered
 use Rattle.regex_lite_engine.proofs.search.RecordLemmas.{or_dead}
 use Rattle.regex_lite_engine.proofs.laws.search.Explored as over
 use Rattle.regex_lite_engine.proofs.search.OfferLemmas.{preferred_before, below_front, below_up}
-use Rattle.regex_lite_engine.proofs.OptionLemmas.{not_there}
+use Rattle.regex_lite_syntax.proofs.OptionLemmas.{not_there}
 
 module _ (N : Type 0) (step : N → ℕ → Option N) (start : ℕ → N) (is_end : N → Bool)
     (first last : ℕ) where

@@ -12,7 +12,7 @@ use Rattle.std.proofs.Math.Nat.{mul_comm}
 use Rattle.regex_lite_engine.specs.Backtrack.Room.{AreAll, left_in, left_from, left_of}
 use Rattle.regex_lite_engine.specs.Graph.Places.{Place}
 use Rattle.regex_lite_engine.proofs.OffsetLemmas.{offset_less, positions_order}
-use Rattle.regex_lite_engine.proofs.OptionLemmas.{not_there, same_some}
+use Rattle.regex_lite_syntax.proofs.OptionLemmas.{not_there, same_some}
 use Rattle.regex_lite_engine.proofs.search.CountLemmas.{test_most}
 use Rattle.regex_lite_engine.proofs.PositionLemmas.{position_is}
 

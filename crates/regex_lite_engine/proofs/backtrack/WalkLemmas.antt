@@ -24,7 +24,7 @@ use Rattle.regex_lite_engine.proofs.backtrack.NumberedLemmas.{numbered_complete}
 use Rattle.regex_lite_engine.proofs.OffsetLemmas.{offset_grows}
 use Rattle.regex_lite_engine.proofs.backtrack.PairLemmas.{same_pair, none_entered}
 use Rattle.regex_lite_engine.proofs.backtrack.UnwindLemmas.{taken_up}
-use Rattle.regex_lite_engine.proofs.OptionLemmas.{not_there}
+use Rattle.regex_lite_syntax.proofs.OptionLemmas.{not_there}
 use Rattle.regex_lite_engine.proofs.search.RecordLemmas as records
 use Rattle.regex_lite_engine.proofs.search.RecordLemmas.{same_node, none_or}
 use Rattle.regex_lite_engine.proofs.search.PlaceLemmas.{wide, offered_by}

@@ -3,7 +3,8 @@ use Rattle.regex_lite_engine.proofs.Common.{◌≡◌, ℕ, Bool, true, false, l
 use Rattle.regex_lite_engine.proofs.Common.{Option, sym, refl, ap, ◌∙◌, arith, encodes-chars}
 use Rattle.regex_lite_engine.proofs.Common.{len_utf8, option_or, Text, Tree, empty, character}
 use Rattle.regex_lite_engine.proofs.Common.{class, look, repetition, capture, concat, alternation}
-use Rattle.regex_lite_engine.proofs.Common.{Trees, none, more, text_of_name}
+use Rattle.regex_lite_engine.proofs.Common.{Trees, none, more}
+use Rattle.regex_lite_syntax.specs.Tree.Views.{text_of_name}
 use Rattle.std.proofs.Common.{Global}
 use Rattle.std.specs.List.{sum_by}
 use Rattle.std.proofs.lemmas.Str.{IsUtf8-string_bytes}

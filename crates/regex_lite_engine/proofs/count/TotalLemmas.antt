@@ -1,19 +1,13 @@
 -- What several patterns take together, one after another.
 use Rattle.regex_lite_engine.proofs.Common.{◌≡◌, ℕ, ◌+◌, ◌<◌, ◌≤◌, List, [], ◌∷◌, map, length}
-use Rattle.regex_lite_engine.proofs.Common.{get_or, drop, slice_get, Some, option_map, sym, ap, ◌∙◌}
-use Rattle.regex_lite_engine.proofs.Common.{arith, sum_by-cons, slice_get-get_or, slice_get-map}
-use Rattle.regex_lite_engine.proofs.Common.{Tree, tree_of, Hir, reading_places, whole_places}
-use Rattle.regex_lite_engine.proofs.Common.{places_of_all, reading_of_all}
+use Rattle.regex_lite_engine.proofs.Common.{get_or, drop, sym, ap, ◌∙◌, arith, sum_by-cons, Tree}
+use Rattle.regex_lite_engine.proofs.Common.{tree_of, reading_places, whole_places, places_of_all}
+use Rattle.regex_lite_engine.proofs.Common.{reading_of_all}
+use Rattle.regex_lite_syntax.specs.declared.hir.Hir.{Hir}
 use Rattle.std.proofs.lemmas.List.{drop_more}
 use Rattle.regex_lite_engine.proofs.count.ReadingCountLemmas.{reading_few}
 
--- the tree with a number, and those that are left from it on
-pub tree_there : (hirs : List Hir) (k : ℕ) (hir : Hir) → k < length hirs → hir ≡ get_or hirs k hir
-    → slice_get (map tree_of hirs) k ≡ Some (tree_of hir)
-tree_there hirs k hir less is =
-    slice_get-map tree_of hirs k
-    ∙ ap (option_map tree_of) (slice_get-get_or hirs k hir less ∙ ap Some (sym is))
-
+-- the trees that are left from a number on
 pub trees_left : (hirs : List Hir) (k : ℕ) (hir : Hir) → k < length hirs → hir ≡ get_or hirs k hir
     → map tree_of (drop k hirs) ≡ tree_of hir ∷ map tree_of (drop (k + 1) hirs)
 trees_left hirs k hir less is =

@@ -1,7 +1,7 @@
 -- Where arrows lead: on from where others lead, and to one node.
 use Rattle.regex_lite_engine.proofs.Common.{◌≡◌, ℕ, List, [], ◌∷◌, ◌++◌, Some, Option, sym, refl}
 use Rattle.regex_lite_engine.proofs.Common.{ap, ◌∙◌, subst, Leads}
-use Rattle.regex_lite_engine.proofs.OptionLemmas.{same_some}
+use Rattle.regex_lite_syntax.proofs.OptionLemmas.{same_some}
 
 pub leads_append : {N : Type 0} (step : N → ℕ → Option N) (us vs : List ℕ) (a b c : N)
     → Leads N step a us b → Leads N step b vs c → Leads N step a (us ++ vs) c

@@ -5,7 +5,7 @@ use Rattle.regex_lite_engine.proofs.Common.{ap, ◌∙◌, Set, Text, with_arrow
 use Rattle.regex_lite_engine.proofs.Common.{step_from, step, Leads}
 use Rattle.regex_lite_engine.specs.Graph.Places.{Place}
 use Rattle.regex_lite_engine.proofs.laws.LeadsLemmas.{leads_append}
-use Rattle.regex_lite_engine.proofs.OptionLemmas.{same_some}
+use Rattle.regex_lite_syntax.proofs.OptionLemmas.{same_some}
 
 pub record Walk (haystack : Text) {A : Type 0} (place : A → Place A) (a : A) (i : ℕ) (b : A) (j : ℕ)
     : Type 0 where

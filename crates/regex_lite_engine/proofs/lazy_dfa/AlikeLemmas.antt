@@ -21,7 +21,7 @@ use Rattle.regex_lite_engine.specs.LazyDfa.Intervals.{LooksAlike}
 use Rattle.regex_lite_engine.specs.Pikevm.Again.{FitAlike, FitsAlike}
 use Rattle.regex_lite_engine.proofs.lazy_dfa.IntervalLemmas.{interval_within, same_between}
 use Rattle.regex_lite_engine.proofs.lazy_dfa.IntervalLemmas.{same_char, same_set}
-use Rattle.regex_lite_engine.proofs.OptionLemmas.{not_there, same_some}
+use Rattle.regex_lite_syntax.proofs.OptionLemmas.{not_there, same_some}
 
 -- the look, by what it sees of both neighbours
 abbrev holds_by : Look → Side → Side → Bool

@@ -16,7 +16,7 @@ use Rattle.std.proofs.Common.{slice_range}
 use Rattle.std.proofs.lemmas.List.{take_at}
 use Rattle.regex_lite_engine.specs.Graph.Places.{Place}
 use Rattle.regex_lite_engine.proofs.OffsetLemmas.{boundary_at, offset_less}
-use Rattle.regex_lite_engine.proofs.OptionLemmas.{same_some}
+use Rattle.regex_lite_syntax.proofs.OptionLemmas.{same_some}
 use Rattle.regex_lite_engine.proofs.PositionLemmas.{position_of, chars_cut}
 use Rattle.regex_lite_engine.proofs.laws.answer.OrderLemmas as order
 use Rattle.regex_lite_engine.proofs.laws.answer.ReachLemmas.{walk_inside}

@@ -16,7 +16,7 @@ use Rattle.regex_lite_engine.specs.Pikevm.Searching.{IsHit}
 use Rattle.regex_lite_engine.proofs.lazy_dfa.AlikeLemmas.{same_side_of}
 use Rattle.regex_lite_engine.proofs.lazy_dfa.RememberedLemmas.{remembered, set_other, set_there}
 use Rattle.regex_lite_engine.proofs.lazy_dfa.RememberedLemmas.{still_remembers}
-use Rattle.regex_lite_engine.proofs.OptionLemmas.{not_there, same_some}
+use Rattle.regex_lite_syntax.proofs.OptionLemmas.{not_there, same_some}
 
 -- what is pending is none of it
 pub remembers_pending : (table : List (Place ℕ)) (entries : List ℕ) (automaton : Automaton)

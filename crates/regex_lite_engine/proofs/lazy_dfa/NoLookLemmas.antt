@@ -9,7 +9,7 @@ use Rattle.regex_lite_engine.specs.LazyDfa.Automaton.{State}
 use Rattle.regex_lite_engine.specs.LazyDfa.Intervals.{AreIntervalsFor}
 use Rattle.regex_lite_engine.specs.LazyDfa.Remembering.{RemembersFor}
 use Rattle.regex_lite_engine.proofs.lazy_dfa.AlikeLemmas.{alike_at}
-use Rattle.regex_lite_engine.proofs.OptionLemmas.{not_there, same_some}
+use Rattle.regex_lite_syntax.proofs.OptionLemmas.{not_there, same_some}
 use Rattle.regex_lite_engine.proofs.laws.search.NoLookLemmas.{free_arrows}
 
 module _ (intervals : Intervals) (none : intervals.looks ≡ false) where

@@ -13,7 +13,7 @@ use Rattle.regex_lite_engine.specs.LazyDfa.Scanning.{LedTo}
 use Rattle.regex_lite_engine.specs.LazyDfa.Spots.{EndsScan, IsTaken, IsTurn}
 use Rattle.regex_lite_engine.specs.LazyDfa.Stored.{known_hit}
 use Rattle.regex_lite_engine.proofs.OffsetLemmas.{boundary_at}
-use Rattle.regex_lite_engine.proofs.OptionLemmas.{same_some}
+use Rattle.regex_lite_syntax.proofs.OptionLemmas.{same_some}
 use Rattle.regex_lite_engine.proofs.PositionLemmas.{position_of}
 use Rattle.regex_lite_engine.proofs.lazy_dfa.ScanLemmas.{IsFirstAfter, scanned_on}
 use Rattle.regex_lite_engine.proofs.lazy_dfa.SpotLemmas.{IsSpotAt, since_led, since_on, spot_edge}

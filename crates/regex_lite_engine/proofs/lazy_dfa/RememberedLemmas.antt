@@ -16,7 +16,7 @@ use Rattle.regex_lite_engine.specs.LazyDfa.Automaton.{hit_of, origin_of}
 use Rattle.regex_lite_engine.specs.LazyDfa.Automaton.{told_if}
 use Rattle.regex_lite_engine.specs.Search.Beginnings.{TellsStart, IsTold}
 use Rattle.regex_lite_engine.specs.Pikevm.Searching.{TurnsAgain}
-use Rattle.regex_lite_engine.proofs.OptionLemmas.{not_there, same_some}
+use Rattle.regex_lite_syntax.proofs.OptionLemmas.{not_there, same_some}
 
 eq_same : (a b : ℕ) → a ≡ b → (a == b) ≡ true
 eq_same a b e = grind (arith, nat_tests)

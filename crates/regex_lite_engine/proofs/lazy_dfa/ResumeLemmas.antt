@@ -2,20 +2,21 @@
 use Rattle.regex_lite_engine.proofs.Common.{◌≡◌, ℕ, zero, suc, ◌<◌, ◌≤◌, Bool, true, false, not}
 use Rattle.regex_lite_engine.proofs.Common.{◌⊎◌, List, [], ◌∷◌, map, length, is_some, IsSome, ◌==◌}
 use Rattle.regex_lite_engine.proofs.Common.{slice_get, Some, None, All, Option, MatchOption, sym}
-use Rattle.regex_lite_engine.proofs.Common.{refl, ap, ◌∙◌, subst, inl, inr, ⊎_elim, true≢false}
-use Rattle.regex_lite_engine.proofs.Common.{arith, nat_tests, length-map, Text, reading_of, Way}
-use Rattle.regex_lite_engine.proofs.Common.{Automaton, told_by, threads_of, ways_of, Suits}
-use Rattle.regex_lite_engine.proofs.Common.{FitsTable, IsFirstStart, IsIn, IsOnItsWay, Stands}
-use Rattle.regex_lite_engine.proofs.Common.{best_told, IsIdleAt, IsScanning, way_in, Thread}
-use Rattle.regex_lite_engine.proofs.Common.{thread_at, ThreadsBelow, IsBetween, best_of, IsComing}
-use Rattle.regex_lite_engine.proofs.Common.{WayTold, ThreadsHold, Told, StepCounts, Best, Node}
-use Rattle.regex_lite_engine.proofs.Common.{Offer, offset, Row, Standing, StoredWay, Cache, Here}
+use Rattle.regex_lite_engine.proofs.Common.{refl, ap, ◌∙◌, subst, inl, inr, ⊎_elim, arith}
+use Rattle.regex_lite_engine.proofs.Common.{nat_tests, length-map, Text, reading_of, Way, Automaton}
+use Rattle.regex_lite_engine.proofs.Common.{told_by, threads_of, ways_of, Suits, FitsTable}
+use Rattle.regex_lite_engine.proofs.Common.{IsFirstStart, IsIn, IsOnItsWay, Stands, best_told}
+use Rattle.regex_lite_engine.proofs.Common.{IsIdleAt, IsScanning, way_in, Thread, thread_at}
+use Rattle.regex_lite_engine.proofs.Common.{ThreadsBelow, IsBetween, best_of, IsComing, WayTold}
+use Rattle.regex_lite_engine.proofs.Common.{ThreadsHold, Told, StepCounts, Best, Node, Offer}
+use Rattle.regex_lite_engine.proofs.Common.{offset, Row, Standing, StoredWay, Cache, Here}
+use Rattle.std.proofs.Common.{true≢false}
 use Rattle.regex_lite_engine.specs.Graph.Places.{Place}
 use Rattle.regex_lite_engine.specs.LazyDfa.Automaton.{began, IsEmptyState, origin_of, told_if}
 use Rattle.regex_lite_engine.specs.LazyDfa.Running.{GoesOnWith, thread_from}
 use Rattle.regex_lite_engine.specs.Search.Beginnings.{IsTold}
 use Rattle.regex_lite_engine.proofs.lazy_dfa.RunLemmas.{maybe_in_empty, moved_on, own_first}
-use Rattle.regex_lite_engine.proofs.OptionLemmas.{not_there}
+use Rattle.regex_lite_syntax.proofs.OptionLemmas.{not_there}
 use Rattle.regex_lite_engine.proofs.count.ReadingCountLemmas.{reads_within}
 
 eq_there : (a b : ℕ) → (a == b) ≡ true → a ≡ b

@@ -17,7 +17,7 @@ use Rattle.regex_lite_engine.specs.LazyDfa.Spots.{EndsScan, IsTaken, IsTurn, Tak
 use Rattle.regex_lite_engine.proofs.PositionLemmas.{position_of, after_at}
 use Rattle.regex_lite_engine.proofs.lazy_dfa.ScanLemmas.{IsFirstAfter, led_step, scan_over}
 use Rattle.regex_lite_engine.proofs.lazy_dfa.ScanLemmas.{scanned_on}
-use Rattle.regex_lite_engine.proofs.OptionLemmas.{same_some}
+use Rattle.regex_lite_syntax.proofs.OptionLemmas.{same_some}
 use Rattle.regex_lite_engine.proofs.OffsetLemmas.{boundary_at}
 use Rattle.regex_lite_engine.proofs.search.here.HereLemmas.{here_next, moved}
 

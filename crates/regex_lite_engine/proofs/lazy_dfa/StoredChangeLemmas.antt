@@ -15,8 +15,8 @@ use Rattle.regex_lite_engine.specs.declared.lazy_dfa.side.Side.{Side}
 use Rattle.regex_lite_engine.specs.LazyDfa.Automaton.{KeptOrigin, State}
 use Rattle.regex_lite_engine.specs.LazyDfa.Extending.{IsState}
 use Rattle.regex_lite_engine.specs.LazyDfa.Stored.{Agrees, AllAgree, HasWays, LieWithin, known_hit}
-use Rattle.regex_lite_engine.proofs.OptionLemmas.{not_there, same_some}
-use Rattle.regex_lite_engine.proofs.LookupLemmas.{still_there, get_last}
+use Rattle.regex_lite_syntax.proofs.OptionLemmas.{not_there, same_some}
+use Rattle.regex_lite_syntax.proofs.LookupLemmas.{still_there, get_last}
 use Rattle.regex_lite_engine.proofs.lazy_dfa.StoredStateLemmas.{seen}
 
 -- what lies in a list lies there when more is added

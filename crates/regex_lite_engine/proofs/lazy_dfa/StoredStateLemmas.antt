@@ -13,9 +13,9 @@ use Rattle.std.proofs.lemmas.List.{get_or-drop, get_or-map}
 use Rattle.regex_lite_engine.specs.Graph.Places.{Place}
 use Rattle.regex_lite_engine.specs.LazyDfa.Automaton.{KeptOrigin, State}
 use Rattle.regex_lite_engine.specs.LazyDfa.Stored.{HasWays, LieWithin}
-use Rattle.regex_lite_engine.proofs.LookupLemmas.{there_is}
+use Rattle.regex_lite_syntax.proofs.LookupLemmas.{there_is}
 use Rattle.regex_lite_engine.proofs.lazy_dfa.ScanLemmas.{TurnsTo}
-use Rattle.regex_lite_engine.proofs.OptionLemmas.{same_some}
+use Rattle.regex_lite_syntax.proofs.OptionLemmas.{same_some}
 
 -- the targets of a state, one for each class
 abbrev pub row : (classes : ℕ) → List Target → (y : ℕ) → List Target

@@ -4,17 +4,17 @@ use Rattle.regex_lite_engine.proofs.Common.{false, nullable, None, Option, Match
 use Rattle.regex_lite_engine.proofs.Common.{inl, inr, arith, cases_eq, slice_get_within, Text, Tree}
 use Rattle.regex_lite_engine.proofs.Common.{Matches, IsRegular, Address, IsRenumbered, IsNumberOf}
 use Rattle.regex_lite_engine.proofs.Common.{side_by_side, start_of, AreEntries, start_address}
-use Rattle.regex_lite_engine.proofs.Common.{written_out, AreHeadsOfTree, NeverBegins, MayBegin}
-use Rattle.regex_lite_engine.proofs.Common.{numbered_step, IsEntry, IsDeadAt, AreListHeadsOf, Heads}
-use Rattle.regex_lite_engine.proofs.Common.{ListHeads, Starts, pattern_table, pattern_layout}
+use Rattle.regex_lite_engine.proofs.Common.{written_out, NeverBegins, MayBegin, numbered_step}
+use Rattle.regex_lite_engine.proofs.Common.{IsEntry, IsDeadAt, AreListHeadsOf, Heads, ListHeads}
+use Rattle.regex_lite_engine.proofs.Common.{Starts, pattern_table, pattern_layout}
 use Rattle.regex_lite_engine.specs.Graph.Places.{Place}
 use Rattle.regex_lite_engine.specs.Graph.SideBySide.{AreRegularPatterns}
 use Rattle.regex_lite_engine.specs.Search.Starts.{AreHeadsOf, NoneBeginsAtEnd}
-use Rattle.regex_lite_engine.specs.Prefilter.Heads.{AreSecondOfTree}
-use Rattle.regex_lite_engine.specs.Prefilter.ListHeads.{AreHeadsOfTrees}
-use Rattle.regex_lite_engine.proofs.prefilter.list_heads.IndexLemmas.{walkable}
-use Rattle.regex_lite_engine.proofs.prefilter.list_heads.ThirdLemmas.{stuck_matches}
-use Rattle.regex_lite_engine.proofs.prefilter.list_heads.TreeLemmas.{left_out_matches, none_matches}
+use Rattle.regex_lite_syntax.specs.Prefilter.Heads.{AreSecondOfTree, AreHeadsOfTree}
+use Rattle.regex_lite_syntax.specs.Prefilter.ListHeads.{AreHeadsOfTrees}
+use Rattle.regex_lite_syntax.proofs.prefilter.list_heads.IndexLemmas.{walkable}
+use Rattle.regex_lite_syntax.proofs.prefilter.list_heads.ThirdLemmas.{stuck_matches}
+use Rattle.regex_lite_syntax.proofs.prefilter.list_heads.TreeLemmas.{left_out_matches, none_matches}
 use Rattle.regex_lite_engine.proofs.laws.several.PartLemmas.{name_in_pattern, InPattern}
 use Rattle.regex_lite_engine.proofs.laws.several.PartLemmas.{part_of_list, entry_of_part}
 use Rattle.regex_lite_engine.proofs.nfa.write.RenumberingLemmas.{whole_names, renumbered}
@@ -24,7 +24,7 @@ use Rattle.regex_lite_engine.proofs.laws.list.ReadingLemmas.{reads}
 use Rattle.regex_lite_engine.proofs.laws.PatternWayLemmas.{walk_match, one_or_two_pairs}
 use Rattle.regex_lite_engine.proofs.laws.search.NumberedWayLemmas.{IsPart, IsPartNumber, whole_part}
 use Rattle.regex_lite_engine.proofs.laws.search.NumberedWayLemmas.{whole_number, in_addresses}
-use Rattle.regex_lite_engine.proofs.LookupLemmas.{there_is}
+use Rattle.regex_lite_syntax.proofs.LookupLemmas.{there_is}
 
 pub dead_without_match : (tree : Tree) (haystack : Text) (table : List (Place ℕ)) (start : ℕ)
     (name : ℕ → Address) (Part : ℕ → Type 0) → IsPart (written_out tree) name table Part

@@ -1,3 +1,2 @@
 -- lemmas that several proofs here share
-pub mod GroupLemmas
 pub mod TableLemmas

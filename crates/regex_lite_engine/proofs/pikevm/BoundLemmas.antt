@@ -1,6 +1,7 @@
 -- What several searches cost together.
-use Rattle.regex_lite_engine.proofs.Common.{ℕ, ◌+◌, ◌*◌, ◌≤◌, min, inl, inr, arith, cases_lt, Text}
+use Rattle.regex_lite_engine.proofs.Common.{ℕ, ◌+◌, ◌*◌, ◌≤◌, inl, inr, arith, cases_lt, Text}
 use Rattle.regex_lite_engine.proofs.Common.{characters_left, IsBoundedBy}
+use Rattle.std.proofs.Common.{min}
 use Rattle.std.proofs.Math.Nat.{add-mul, le-min, min-eq_left, min-le_left, min-le_right}
 
 -- a sum that is cut off at the greatest number is no more than twice one that is

@@ -6,7 +6,7 @@ use Rattle.regex_lite_engine.proofs.Common.{IsComing, ThreadsHold, InStep, IsDea
 use Rattle.regex_lite_engine.proofs.Common.{is_end, IsEntry, StartsOf, Node, Offer, StartsBelow}
 use Rattle.regex_lite_engine.proofs.Common.{IsDeadAt}
 use Rattle.regex_lite_engine.specs.Graph.Places.{Place}
-use Rattle.regex_lite_engine.proofs.OptionLemmas.{not_there}
+use Rattle.regex_lite_syntax.proofs.OptionLemmas.{not_there}
 use Rattle.regex_lite_engine.proofs.pikevm.InStepNextLemmas as deep
 use Rattle.regex_lite_engine.proofs.pikevm.WalkLemmas.{none_held}
 

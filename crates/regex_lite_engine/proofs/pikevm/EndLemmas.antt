@@ -18,7 +18,7 @@ use Rattle.regex_lite_engine.specs.Pikevm.Walking.{BestHolds}
 use Rattle.regex_lite_engine.proofs.laws.several.OverListLemmas.{IsOverOf, list_answer_when_over}
 use Rattle.regex_lite_engine.proofs.search.OneStartLemmas.{only_entry}
 use Rattle.regex_lite_engine.proofs.pikevm.WalkLemmas.{none_held}
-use Rattle.regex_lite_engine.proofs.OptionLemmas.{not_there, same_some}
+use Rattle.regex_lite_syntax.proofs.OptionLemmas.{not_there, same_some}
 use Rattle.regex_lite_engine.proofs.pikevm.InStepNextLemmas as deep
 
 -- an arrow leads to no earlier position, and to none after the haystack

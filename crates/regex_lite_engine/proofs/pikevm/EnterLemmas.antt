@@ -19,7 +19,7 @@ use Rattle.regex_lite_engine.specs.Pikevm.Entering.{Enters}
 use Rattle.regex_lite_engine.specs.Pikevm.Machine.{Frame, explore, restore, State}
 use Rattle.regex_lite_engine.specs.Pikevm.Walking.{FramesHold, IsWalking}
 use Rattle.regex_lite_engine.proofs.search.MarkLemmas.{slots_set, slots_past}
-use Rattle.regex_lite_engine.proofs.OptionLemmas.{not_there, same_some}
+use Rattle.regex_lite_syntax.proofs.OptionLemmas.{not_there, same_some}
 use Rattle.regex_lite_engine.proofs.search.PlaceLemmas.{free_stays, free_marks, hops, no_second}
 use Rattle.regex_lite_engine.proofs.search.PlaceLemmas.{none_offered, one_blocked, open_at, one}
 use Rattle.regex_lite_engine.proofs.search.PlaceLemmas.{wide, offered_by}

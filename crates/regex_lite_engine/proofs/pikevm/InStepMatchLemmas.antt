@@ -7,7 +7,7 @@ use Rattle.regex_lite_engine.specs.Pikevm.InStep as walk
 use Rattle.regex_lite_engine.specs.Search.Offers as offer
 use Rattle.regex_lite_engine.proofs.pikevm.InStepLemmas as deep
 use Rattle.regex_lite_engine.proofs.search.RecordLemmas.{or_dead}
-use Rattle.regex_lite_engine.proofs.OptionLemmas.{not_there, same_some}
+use Rattle.regex_lite_syntax.proofs.OptionLemmas.{not_there, same_some}
 use Rattle.regex_lite_engine.proofs.search.OfferLemmas.{preferred_before}
 use Rattle.regex_lite_engine.proofs.search.RecordLemmas as records
 use Rattle.regex_lite_engine.proofs.laws.search.WayOrderLemmas.{Before-trans, NotAfter-trans}

@@ -5,7 +5,7 @@ use Rattle.regex_lite_engine.proofs.Common.{⊎_elim, arith, cases_lt, IsDead, I
 use Rattle.regex_lite_engine.proofs.Common.{StartsBelow, IsPreferred}
 use Rattle.regex_lite_engine.specs.Pikevm.InStep as walk
 use Rattle.regex_lite_engine.specs.Search.Offers as offer
-use Rattle.regex_lite_engine.proofs.OptionLemmas.{not_there}
+use Rattle.regex_lite_syntax.proofs.OptionLemmas.{not_there}
 use Rattle.regex_lite_engine.proofs.laws.search.Explored.{IsExplored}
 use Rattle.regex_lite_engine.proofs.search.OfferLemmas as order
 use Rattle.regex_lite_engine.proofs.search.OfferLemmas.{preferred_before, below_front, below_up}

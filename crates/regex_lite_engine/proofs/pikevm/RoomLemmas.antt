@@ -17,7 +17,7 @@ use Rattle.regex_lite_engine.specs.Pikevm.Entering.{Enters}
 use Rattle.regex_lite_engine.specs.Pikevm.Machine.{Frame, explore, restore, State}
 use Rattle.regex_lite_engine.specs.Pikevm.Room.{left_of, explores, FramesBelow}
 use Rattle.regex_lite_engine.proofs.pikevm.EnterLemmas.{reads_none}
-use Rattle.regex_lite_engine.proofs.OptionLemmas.{not_there, same_some}
+use Rattle.regex_lite_syntax.proofs.OptionLemmas.{not_there, same_some}
 use Rattle.regex_lite_engine.proofs.pikevm.ThreadLemmas.{at_end, at_front}
 use Rattle.regex_lite_engine.proofs.search.CountLemmas.{test_most}
 

@@ -12,7 +12,7 @@ use Rattle.regex_lite_engine.specs.Graph.Places.{Place}
 use Rattle.regex_lite_engine.specs.Pikevm.Machine.{State}
 use Rattle.regex_lite_engine.specs.Pikevm.Room.{HasRoom}
 use Rattle.regex_lite_engine.specs.Pikevm.Turns.{IsReady}
-use Rattle.regex_lite_engine.proofs.OptionLemmas.{not_there}
+use Rattle.regex_lite_syntax.proofs.OptionLemmas.{not_there}
 use Rattle.regex_lite_engine.proofs.pikevm.RoomLemmas.{left_most}
 use Rattle.regex_lite_engine.proofs.pikevm.StateLemmas.{BeginsRound}
 use Rattle.regex_lite_engine.proofs.pikevm.ThreadLemmas.{Begun, at_front, at_back, begun_at}

@@ -18,7 +18,7 @@ use Rattle.regex_lite_engine.proofs.laws.search.RecordedWayLemmas.{traced, recor
 use Rattle.regex_lite_engine.proofs.pikevm.EndLemmas.{step_onward}
 use Rattle.regex_lite_engine.proofs.search.OneStartLemmas.{only_entry}
 use Rattle.regex_lite_engine.proofs.search.OutcomeLemmas.{IsNumberedEnd}
-use Rattle.regex_lite_engine.proofs.OptionLemmas.{not_there, same_some}
+use Rattle.regex_lite_syntax.proofs.OptionLemmas.{not_there, same_some}
 use Rattle.regex_lite_engine.proofs.PositionLemmas.{same_position}
 
 module _ (table : List (Place ℕ)) (haystack : Text) where

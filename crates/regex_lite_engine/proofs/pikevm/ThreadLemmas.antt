@@ -4,7 +4,7 @@ use Rattle.regex_lite_engine.proofs.Common.{◌++◌, length, replicate, slice_g
 use Rattle.regex_lite_engine.proofs.Common.{refl, ap, ◌∙◌, arith, Thread, thread_at, begun, Told}
 use Rattle.regex_lite_engine.proofs.Common.{Row, Start, Best, IsBlank}
 use Rattle.regex_lite_engine.specs.Pikevm.Machine.{State}
-use Rattle.regex_lite_engine.proofs.OptionLemmas.{not_there, same_some}
+use Rattle.regex_lite_syntax.proofs.OptionLemmas.{not_there, same_some}
 
 pub at_end : (ts : List Thread) (thread : Thread)
     → thread_at (ts ++ thread ∷ []) (length ts) ≡ thread

@@ -13,7 +13,7 @@ use Rattle.regex_lite_engine.specs.Pikevm.Machine.{State}
 use Rattle.regex_lite_engine.specs.Search.Beginnings.{TellsStart}
 use Rattle.regex_lite_engine.specs.Search.Starts.{AreFrom}
 use Rattle.regex_lite_engine.specs.Pikevm.Turns.{FromIs}
-use Rattle.regex_lite_engine.proofs.OptionLemmas.{not_there}
+use Rattle.regex_lite_syntax.proofs.OptionLemmas.{not_there}
 use Rattle.regex_lite_engine.proofs.pikevm.OwnPartLemmas.{recorded_within}
 use Rattle.regex_lite_engine.proofs.pikevm.ThreadLemmas.{Begun}
 use Rattle.regex_lite_engine.proofs.pikevm.InStepNextLemmas as deep

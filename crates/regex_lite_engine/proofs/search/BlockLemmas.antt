@@ -1,8 +1,9 @@
 -- Blocks of bytes, which are parts of the haystack.
 use Rattle.regex_lite_engine.proofs.Common.{◌≡◌, ℕ, ◌+◌, ◌-◌, ◌<◌, ◌≤◌, false, List, take, drop}
-use Rattle.regex_lite_engine.proofs.Common.{slice_index, ap, ◌∙◌, subst, arith, get_or-take, suits}
+use Rattle.regex_lite_engine.proofs.Common.{slice_index, ap, ◌∙◌, subst, arith, get_or-take}
+use Rattle.regex_lite_syntax.specs.Prefilter.Bytes.{suits}
 use Rattle.std.proofs.lemmas.List.{get_or-drop}
-use Rattle.regex_lite_engine.specs.declared.prefilter.Prefilter.{Prefilter}
+use Rattle.regex_lite_syntax.specs.declared.prefilter.Prefilter.{Prefilter}
 
 -- the byte at an offset, in the block that begins at another
 byte_of_block : (bytes : List ℕ) (from len k : ℕ) → from ≤ k → k - from < len

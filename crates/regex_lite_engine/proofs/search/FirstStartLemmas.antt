@@ -10,7 +10,7 @@ use Rattle.regex_lite_engine.specs.LazyDfa.Remembering.{NoneStartsBefore}
 use Rattle.regex_lite_engine.specs.Search.Bounds.{IsBounded}
 use Rattle.regex_lite_engine.specs.Search.NumberedAnswer.{IsNumberedAnswer}
 use Rattle.regex_lite_engine.specs.Search.Starts.{AreDeadFrom}
-use Rattle.regex_lite_engine.proofs.LookupLemmas.{there_is}
+use Rattle.regex_lite_syntax.proofs.LookupLemmas.{there_is}
 use Rattle.regex_lite_engine.proofs.OffsetLemmas.{boundary_at}
 use Rattle.regex_lite_engine.proofs.PositionLemmas.{position_of}
 use Rattle.regex_lite_engine.proofs.search.FirstByteLemmas.{begins_later}

@@ -18,7 +18,7 @@ use Rattle.regex_lite_engine.specs.Search.NumberedOutcomes.{numbered_at, numbere
 use Rattle.regex_lite_engine.specs.Search.NumberedOutcomes.{with_origin_kept}
 use Rattle.regex_lite_engine.proofs.laws.several.NumberedListLemmas.{any_numbered, any_of_numbers}
 use Rattle.regex_lite_engine.proofs.laws.several.NumberedListLemmas.{list_answer_of_numbers}
-use Rattle.regex_lite_engine.proofs.OptionLemmas.{same_some}
+use Rattle.regex_lite_syntax.proofs.OptionLemmas.{same_some}
 use Rattle.regex_lite_engine.proofs.search.OneStartLemmas.{only_entry}
 use Rattle.regex_lite_engine.proofs.search.OutcomeLemmas.{start_inside}
 

@@ -2,13 +2,14 @@
 use Rattle.regex_lite_engine.proofs.Common.{◌≡◌, ℕ, zero, suc, ◌+◌, ◌<◌, ◌≤◌, false, ◌&&◌, ◌||◌}
 use Rattle.regex_lite_engine.proofs.Common.{List, length, slice_get, slice_index, Some, IsUtf8}
 use Rattle.regex_lite_engine.proofs.Common.{chars, sym, ap, ◌∙◌, subst, inl, inr, arith}
-use Rattle.regex_lite_engine.proofs.Common.{slice_get_within, may_start, IsPassedByAll, start_row}
-use Rattle.regex_lite_engine.proofs.Common.{has, MayBegin, offset, IsHere, AreDeadAt, PassesTo}
-use Rattle.regex_lite_engine.proofs.Common.{AreListHeadsOf, ListHeads, Here}
+use Rattle.regex_lite_engine.proofs.Common.{slice_get_within, may_start, IsPassedByAll, MayBegin}
+use Rattle.regex_lite_engine.proofs.Common.{offset, IsHere, AreDeadAt, PassesTo, AreListHeadsOf}
+use Rattle.regex_lite_engine.proofs.Common.{ListHeads, Here}
+use Rattle.regex_lite_syntax.specs.Prefilter.Rows.{start_row, has}
 use Rattle.regex_lite_engine.specs.Graph.Places.{Place}
 use Rattle.regex_lite_engine.proofs.search.FirstByteLemmas.{ascii_there, begins_later, first_byte}
 use Rattle.regex_lite_engine.proofs.search.FirstByteLemmas.{inside, next_at}
-use Rattle.regex_lite_engine.proofs.LookupLemmas.{there_is}
+use Rattle.regex_lite_syntax.proofs.LookupLemmas.{there_is}
 use Rattle.regex_lite_engine.proofs.search.SkipLemmas.{passes_where}
 
 module _ (table : List (Place ℕ)) (entries : List ℕ) (heads : ListHeads)

@@ -8,7 +8,7 @@ use Rattle.regex_lite_engine.proofs.Common.{marked, over, mark_of, marks_along, 
 use Rattle.regex_lite_engine.proofs.Common.{Row, IsBlank}
 use Rattle.regex_lite_engine.specs.Graph.Places.{Place}
 use Rattle.regex_lite_engine.proofs.laws.list.EntryLemmas.{either_assoc}
-use Rattle.regex_lite_engine.proofs.OptionLemmas.{not_there, same_some}
+use Rattle.regex_lite_syntax.proofs.OptionLemmas.{not_there, same_some}
 
 -- an element of a list in which one was set
 got_after_set : {X : Type 0} (row : List X) (s k : ℕ) (y o : X) → slice_get (set row s y) k ≡ Some o

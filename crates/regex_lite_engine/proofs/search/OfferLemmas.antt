@@ -4,7 +4,7 @@ use Rattle.regex_lite_engine.proofs.Common.{◌++◌, Some, None, Option, sym, r
 use Rattle.regex_lite_engine.proofs.Common.{inl, inr, ⊎_elim, append-nil, arith, cases_lt}
 use Rattle.regex_lite_engine.proofs.Common.{cases_order, Before, StartsBelow, IsPreferred}
 use Rattle.regex_lite_engine.specs.Search.Offers as offer
-use Rattle.regex_lite_engine.proofs.OptionLemmas.{not_there}
+use Rattle.regex_lite_syntax.proofs.OptionLemmas.{not_there}
 
 pub preferred_before : (a b : List ℕ) → IsPreferred a b → Before a b
 preferred_before [] b p = absurd p

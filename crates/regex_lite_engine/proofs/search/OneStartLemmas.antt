@@ -5,7 +5,7 @@ use Rattle.regex_lite_engine.proofs.Common.{refl, subst, inl, inr, arith, Text, 
 use Rattle.regex_lite_engine.proofs.Common.{AreDeadAt, AreStartsAt, Start}
 use Rattle.std.specs.List.{All}
 use Rattle.regex_lite_engine.specs.Graph.Places.{Place}
-use Rattle.regex_lite_engine.proofs.OptionLemmas.{same_some}
+use Rattle.regex_lite_syntax.proofs.OptionLemmas.{same_some}
 
 pub one_inside : (n : ℕ) (start : Start) (may : Bool) → start.place < n
     → All (λ start. start.place < n) (if may then start ∷ [] else [])

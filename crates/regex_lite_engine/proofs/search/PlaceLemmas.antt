@@ -1,13 +1,14 @@
 -- The places of a table, and what each offers, by its arrows.
 use Rattle.regex_lite_engine.proofs.Common.{◌≡◌, ℕ, zero, suc, ◌+◌, ◌≤◌, List, [], ◌∷◌, ◌++◌, map}
 use Rattle.regex_lite_engine.proofs.Common.{IsTrue, slice_get, Some, None, Option, sym, refl, ap}
-use Rattle.regex_lite_engine.proofs.Common.{◌∙◌, subst, arith, slice_get_past, Text, Arrow}
-use Rattle.regex_lite_engine.proofs.Common.{complete, with_arrows, go, arrow_taken, step_from}
-use Rattle.regex_lite_engine.proofs.Common.{arrow_count, place_of, mark_of, place_with, is_complete}
-use Rattle.regex_lite_engine.proofs.Common.{numbered_step, is_end, Node, Offer}
+use Rattle.regex_lite_engine.proofs.Common.{◌∙◌, subst, arith, Text, Arrow, complete, with_arrows}
+use Rattle.regex_lite_engine.proofs.Common.{go, arrow_taken, step_from, arrow_count, place_of}
+use Rattle.regex_lite_engine.proofs.Common.{mark_of, place_with, is_complete, numbered_step, is_end}
+use Rattle.regex_lite_engine.proofs.Common.{Node, Offer}
+use Rattle.std.proofs.lemmas.Option.{slice_get_past}
 use Rattle.regex_lite_engine.specs.declared.nfa.place.Place as code
 use Rattle.regex_lite_engine.specs.Graph.Places.{Place}
-use Rattle.regex_lite_engine.proofs.OptionLemmas.{not_there, same_some}
+use Rattle.regex_lite_syntax.proofs.OptionLemmas.{not_there, same_some}
 use Rattle.regex_lite_engine.proofs.search.OfferLemmas as order
 
 -- the place with this number

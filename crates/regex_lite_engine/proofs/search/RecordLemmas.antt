@@ -1,7 +1,7 @@
 -- The ways that a walk has recorded, and one more.
 use Rattle.regex_lite_engine.proofs.Common.{◌≡◌, ℕ, Bool, ◌⊎◌, List, Some, None, Option, sym, refl}
 use Rattle.regex_lite_engine.proofs.Common.{ap, ◌∙◌, subst, inl, inr, cases_eq, IsGrown, Node}
-use Rattle.regex_lite_engine.proofs.OptionLemmas.{not_there, same_some}
+use Rattle.regex_lite_syntax.proofs.OptionLemmas.{not_there, same_some}
 
 -- what is answered otherwise, or dead
 pub or_dead : {A B D : Type 0} → (A → B) → A ⊎ D → B ⊎ D

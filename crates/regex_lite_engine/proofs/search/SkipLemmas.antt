@@ -5,8 +5,8 @@ use Rattle.regex_lite_engine.proofs.Common.{MatchOption, chars, sym, ap, ◌∙�
 use Rattle.regex_lite_engine.proofs.Common.{arith, mul-le-mul_left, cases_eq, cases_lt, Text}
 use Rattle.regex_lite_engine.proofs.Common.{NeverBegins, IsPassed, stops_at, MayBegin, offset}
 use Rattle.regex_lite_engine.proofs.Common.{IsHere, PassesTo, Heads, Starts, Here}
-use Rattle.regex_lite_engine.specs.Prefilter.Heads.{IsCutOff}
-use Rattle.regex_lite_engine.proofs.LookupLemmas.{there_is}
+use Rattle.regex_lite_syntax.specs.Prefilter.Heads.{IsCutOff}
+use Rattle.regex_lite_syntax.proofs.LookupLemmas.{there_is}
 use Rattle.regex_lite_engine.proofs.OffsetLemmas.{offset_less, positions_order}
 use Rattle.regex_lite_engine.proofs.search.FirstByteLemmas.{begins_later, first_byte, second_off}
 use Rattle.regex_lite_engine.proofs.search.FirstByteLemmas.{whole}

@@ -2,15 +2,15 @@
 use Rattle.std.specs.Prelude.{◌≡◌, ◌≤◌, ◌<◌, ◌^◌, ◌⊎◌, ℕ, suc, false, All}
 use Rattle.std.specs.Prelude.{List, [], ◌∷◌, length, slice_index}
 use Rattle.regex_lite_syntax.specs.Text.{Text, after}
-use Rattle.regex_lite_engine.specs.declared.prefilter.heads.Heads.{Heads}
-use Rattle.regex_lite_engine.specs.declared.prefilter.list_heads.ListHeads.{ListHeads}
+use Rattle.regex_lite_syntax.specs.declared.prefilter.heads.Heads.{Heads}
+use Rattle.regex_lite_syntax.specs.declared.prefilter.list_heads.ListHeads.{ListHeads}
 use Rattle.regex_lite_engine.specs.declared.search.here.Here.{Here}
 use Rattle.regex_lite_engine.specs.declared.search.patterns.Start.{Start}
 use Rattle.regex_lite_engine.specs.Graph.Places.{Place}
-use Rattle.regex_lite_engine.specs.Prefilter.Heads.{NeverBegins}
-use Rattle.regex_lite_engine.specs.Prefilter.ListHeads.{may_start_at, IsWalkable}
-use Rattle.regex_lite_engine.specs.Prefilter.Starts.{MayBegin}
-use Rattle.regex_lite_engine.specs.Prefilter.Thirds.{may_go_on}
+use Rattle.regex_lite_syntax.specs.Prefilter.Heads.{NeverBegins}
+use Rattle.regex_lite_syntax.specs.Prefilter.ListHeads.{may_start_at, IsWalkable}
+use Rattle.regex_lite_syntax.specs.Prefilter.Starts.{MayBegin}
+use Rattle.regex_lite_syntax.specs.Prefilter.Thirds.{may_go_on}
 use Rattle.regex_lite_engine.specs.Search.Explored.{IsDead}
 use Rattle.regex_lite_engine.specs.Search.NumberedAnswer.{numbered_step, is_end}
 use Rattle.regex_lite_engine.specs.Search.NumberedList.{IsEntry}

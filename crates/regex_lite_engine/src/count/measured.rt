@@ -4,7 +4,7 @@ ghost use Rattle.regex_lite_syntax.specs.Tree.Views.{tree_of};
 ghost use Rattle.regex_lite_engine.specs.Nfa.Saturation.{AreCountsOf};
 
 use crate::count::Counts;
-use regex_lite_syntax::Hir;
+use regex_lite_syntax::{AsHir, Hir};
 use std::marker::Model;
 
 /// A tree with its counts, so that it needn't be counted again.
@@ -50,5 +50,15 @@ impl Measured {
         ensures { AreCountsOf (tree_of self.now) result.now }
     {
         &self.counts
+    }
+}
+
+impl AsHir for Measured {
+    ghost use Rattle.regex_lite_syntax.specs.Tree.Views.{tree_of};
+
+    ghost tree = { tree_of };
+
+    fn as_hir(&self) -> &Hir {
+        &self.hir
     }
 }

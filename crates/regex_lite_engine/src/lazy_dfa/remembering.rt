@@ -11,7 +11,7 @@ use crate::lazy_dfa::classes::Classes;
 use crate::lazy_dfa::room::Room;
 use crate::nfa::list::GraphList;
 use crate::nfa::table::Table;
-use crate::prefilter::Prefilter;
+use regex_lite_syntax::prefilter::Prefilter;
 use std::alloc::Global;
 
 /// From this number of bytes on it pays to remember turns.

@@ -19,7 +19,7 @@ use crate::count::totals::Totals;
 use crate::nfa::groups::Groups;
 use crate::nfa::table::Table;
 use crate::nfa::write::write_all;
-use crate::prefilter::list_heads::ListHeads;
+use regex_lite_syntax::prefilter::ListHeads;
 use regex_lite_syntax::{Error, Hir};
 use std::alloc::Global;
 use std::marker::Model;

@@ -38,7 +38,7 @@ impl Graph {
         ensures { IsTrue result → AreDeadFrom (table_of self.now) (chars haystack.now)
             self.now.start (position_at haystack.now start) }
     {
-        !self.filter().heads().first.any() && self.first_start(haystack, start).is_none()
+        !self.filter().heads().first.any && self.first_start(haystack, start).is_none()
     }
 
     /// The first such position after this one.
@@ -61,7 +61,7 @@ impl Graph {
         ensures { IsTrue result → (haystack : Text) (i : ℕ) → 0 < i → i ≤ length haystack
             → IsDeadAt (table_of self.now) haystack self.now.start i }
     {
-        self.reads() && !self.filter().heads().first.any()
+        self.reads() && !self.filter().heads().first.any
     }
 
     /// The first such position from here on.

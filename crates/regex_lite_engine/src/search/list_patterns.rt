@@ -5,16 +5,16 @@ ghost use Rattle.std.specs.Prelude.{chars, filter, length, vec_capacity};
 ghost use Rattle.std.specs.List.{range_with_len};
 ghost use Rattle.std.proofs.Props.{props};
 ghost use Rattle.regex_lite_syntax.specs.Text.{after};
-ghost use Rattle.regex_lite_engine.specs.Prefilter.ListHeads.{is_candidate_at, IsWalkable};
-ghost use Rattle.regex_lite_engine.specs.Prefilter.Thirds.{may_go_on};
+ghost use Rattle.regex_lite_syntax.specs.Prefilter.ListHeads.{is_candidate_at, IsWalkable};
+ghost use Rattle.regex_lite_syntax.specs.Prefilter.Thirds.{may_go_on};
 ghost use Rattle.regex_lite_engine.specs.Search.Standing.{IsHere};
 
 use crate::nfa::list::GraphList;
 use crate::nfa::table::Table;
-use crate::prefilter::list_heads::ListHeads;
 use crate::search::here::Here;
 use crate::search::list_skip::pass_over_all;
 use crate::search::patterns::{Patterns, Start};
+use regex_lite_syntax::prefilter::ListHeads;
 use std::alloc::{AllocError, Global};
 
 /// Patterns, and those of them that may start at the position reached last.

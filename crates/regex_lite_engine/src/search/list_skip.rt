@@ -2,16 +2,16 @@
 ghost use Rattle.std.specs.Prelude.{◌≡◌, ◌≤◌, ◌<◌, ◌+◌, ℕ, IsCharBoundary};
 ghost use Rattle.std.specs.Prelude.{IsTrue, chars, false, length, slice_index};
 ghost use Rattle.regex_lite_engine.specs.Graph.StoredList.{table_of_list};
-ghost use Rattle.regex_lite_engine.specs.Prefilter.ListHeads.{IsPassedByAll};
-ghost use Rattle.regex_lite_engine.specs.Prefilter.Starts.{stops_at};
+ghost use Rattle.regex_lite_syntax.specs.Prefilter.ListHeads.{IsPassedByAll};
+ghost use Rattle.regex_lite_syntax.specs.Prefilter.Starts.{stops_at};
+ghost use Rattle.regex_lite_syntax.specs.Prefilter.Pairs.{HasAllPairs};
 ghost use Rattle.regex_lite_engine.specs.Search.Standing.{IsHere};
 ghost use Rattle.regex_lite_engine.specs.Search.Starts.{PassesTo};
 ghost use Rattle.regex_lite_engine.specs.Search.Starts.{AreDeadAt};
 
 use crate::nfa::list::GraphList;
-use crate::prefilter::list_heads::ListHeads;
-use crate::prefilter::starts::Starts;
 use crate::search::here::Here;
+use regex_lite_syntax::prefilter::{ListHeads, Starts};
 
 /// The next position from here on at which a match of any pattern can begin, or the haystack's end.
 pub fn pass_over_all(list: &GraphList, haystack: &str, here: Here) -> Here
@@ -36,7 +36,7 @@ pub fn pass_over_all(list: &GraphList, haystack: &str, here: Here) -> Here
 // Not inlined, since the loop of a search is so large that this one would lose its registers.
 #[inline(never)]
 fn next_offset(heads: &ListHeads, bytes: &[u8], from: usize) -> usize
-    requires pairs { length heads.now.pairs.items ≡ 128 }
+    requires pairs { HasAllPairs heads.now }
     requires from { from ≤ length bytes.now }
     ensures low { from ≤ result }
     ensures passed { (k : ℕ) → from ≤ k → k < result → IsPassedByAll heads.now bytes.now k }

@@ -1,17 +1,14 @@
 //! The positions at which no match can start, which a search passes over.
 ghost use Rattle.std.specs.Prelude.{◌≡◌, ◌≤◌, ◌<◌, ◌+◌, ◌⊎◌, ℕ, IfSome, IsTrue};
 ghost use Rattle.std.specs.Prelude.{false, true, chars, length, slice_index};
-ghost use Rattle.regex_lite_engine.specs.Prefilter.Heads.{IsCutOff, IsPassed, NeverBegins};
-ghost use Rattle.regex_lite_engine.specs.Prefilter.Bytes.{suits, IsPrefilterOf};
-ghost use Rattle.regex_lite_engine.specs.Prefilter.Starts.{may_begin, stops_at};
+ghost use Rattle.regex_lite_syntax.specs.Prefilter.Heads.{IsCutOff, IsPassed, NeverBegins};
+ghost use Rattle.regex_lite_syntax.specs.Prefilter.Bytes.{suits, IsPrefilterOf};
+ghost use Rattle.regex_lite_syntax.specs.Prefilter.Starts.{may_begin, stops_at};
 ghost use Rattle.regex_lite_engine.specs.Search.Standing.{IsHere};
 ghost use Rattle.regex_lite_engine.specs.Search.Starts.{PassesTo};
 
-use crate::prefilter::Prefilter;
-use crate::prefilter::filter::Filter;
-use crate::prefilter::heads::Heads;
-use crate::prefilter::starts::Starts;
 use crate::search::here::Here;
+use regex_lite_syntax::prefilter::{Filter, Heads, Prefilter, Starts};
 
 /// How many bytes a prefilter is asked about at a time.
 const BLOCK: usize = 32;
@@ -70,7 +67,7 @@ fn next_offset(heads: &Heads, prefilter: &Option<Prefilter>, bytes: &[u8], from:
     ensures stops { result < length bytes.now
         → stops_at heads.now.first (slice_index bytes.now result) ≡ true }
 {
-    if !heads.first.any() {
+    if !heads.first.any {
         return bytes.len();
     }
     let mut at = from;
@@ -136,7 +133,7 @@ fn next_stop(starts: &Starts, bytes: &[u8], from: usize, end: usize) -> usize
         → stops_at starts.now (slice_index bytes.now k) ≡ false }
     ensures stops { result < end → stops_at starts.now (slice_index bytes.now result) ≡ true }
 {
-    if !starts.any() {
+    if !starts.any {
         return end;
     }
     let mut at = from;

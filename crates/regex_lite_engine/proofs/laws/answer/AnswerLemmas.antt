@@ -13,7 +13,7 @@ use Rattle.regex_lite_engine.proofs.laws.answer.OrderLemmas.{one_best}
 use Rattle.regex_lite_engine.proofs.laws.answer.LeastLemmas.{Least}
 use Rattle.regex_lite_engine.proofs.laws.answer.ReachLemmas.{walks, Way}
 use Rattle.regex_lite_engine.proofs.laws.answer.BestWayLemmas.{best_way}
-use Rattle.regex_lite_engine.proofs.OptionLemmas.{same_some}
+use Rattle.regex_lite_syntax.proofs.OptionLemmas.{same_some}
 
 module _ (tree : Tree) (haystack : Text) where
   abbrev Answered : ℕ → Type 0

@@ -5,7 +5,7 @@ use Rattle.regex_lite_engine.proofs.Common.{inl, inr, arith, ⊎_elim, Leads, No
 use Rattle.regex_lite_syntax.proofs.ListLemmas.{same_head, same_tail}
 use Rattle.regex_lite_engine.proofs.InLemmas.{In}
 use Rattle.regex_lite_engine.proofs.laws.LeadsLemmas.{leads_after}
-use Rattle.regex_lite_engine.proofs.OptionLemmas.{same_some}
+use Rattle.regex_lite_syntax.proofs.OptionLemmas.{same_some}
 
 -- with the item in front unless the test says no
 abbrev unless : {N P : Type 0} → P ⊎ (P → ⊥) → N → List N → List N

@@ -6,7 +6,7 @@ use Rattle.regex_lite_engine.proofs.Common.{Leads, start_address, place_of_patte
 use Rattle.regex_lite_engine.proofs.Common.{IsPreferred}
 use Rattle.regex_lite_engine.specs.Graph.Places.{Place}
 use Rattle.regex_lite_engine.specs.SearchLaws.{IsEarlier}
-use Rattle.regex_lite_engine.proofs.OptionLemmas.{same_some}
+use Rattle.regex_lite_syntax.proofs.OptionLemmas.{same_some}
 
 -- not each before the other
 pub not_both : (a b : List ℕ) → IsPreferred a b → IsPreferred b a → ⊥

@@ -14,7 +14,7 @@ use Rattle.regex_lite_engine.proofs.InLemmas.{In, in_left, in_right}
 use Rattle.regex_lite_engine.proofs.laws.LeadsLemmas.{leads_split, leads_to_one}
 use Rattle.regex_lite_engine.proofs.laws.list.ReadingLemmas.{is_inside}
 use Rattle.regex_lite_engine.proofs.graph.ListedAddressLemmas.{whole_addresses, listed_whole}
-use Rattle.regex_lite_engine.proofs.OptionLemmas.{same_some}
+use Rattle.regex_lite_syntax.proofs.OptionLemmas.{same_some}
 
 -- the pairs of an address and a position up to n
 abbrev pub at_positions : Address → ℕ → List (Address × ℕ)

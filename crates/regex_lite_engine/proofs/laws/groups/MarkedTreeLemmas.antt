@@ -22,7 +22,7 @@ use Rattle.regex_lite_engine.proofs.laws.groups.MarkedWalkLemmas.{by_mark, by_ar
 use Rattle.regex_lite_engine.proofs.laws.groups.MarkedPassLemmas.{Over, plain, together}
 use Rattle.regex_lite_engine.proofs.laws.groups.MarkedPassLemmas.{in_repetition}
 use Rattle.regex_lite_engine.proofs.laws.WalkLemmas.{if_test, was_read}
-use Rattle.regex_lite_engine.proofs.OptionLemmas.{same_some}
+use Rattle.regex_lite_syntax.proofs.OptionLemmas.{same_some}
 
 module _ {A : Type 0} {haystack : Text} {place : A → Place A} {end : A}
     (final : place end ≡ complete) where

@@ -8,7 +8,7 @@ use Rattle.regex_lite_engine.proofs.Common.{step_from, step, Leads, Marks, marke
 use Rattle.regex_lite_engine.proofs.Common.{mark_of_arrow, mark_of, marks_along}
 use Rattle.regex_lite_engine.specs.Graph.Places.{Place}
 use Rattle.regex_lite_engine.proofs.laws.list.EntryLemmas.{over_unmarked}
-use Rattle.regex_lite_engine.proofs.OptionLemmas.{same_some}
+use Rattle.regex_lite_syntax.proofs.OptionLemmas.{same_some}
 
 -- each walk of fewer than n arrows from the place to the end has these marks and this end
 pub record Each {A : Type 0} (haystack : Text) (place : A → Place A) (end : A) (n : ℕ) (a : A)

@@ -14,7 +14,7 @@ use Rattle.regex_lite_engine.proofs.laws.groups.MarkingLemmas.{Marking, MarkingC
 use Rattle.regex_lite_engine.proofs.laws.groups.MarkingLemmas.{MarkedPasses, around}
 use Rattle.regex_lite_engine.proofs.laws.groups.MarkedTreeLemmas.{marked_found}
 use Rattle.regex_lite_engine.proofs.laws.list.EntryLemmas.{either_none}
-use Rattle.regex_lite_engine.proofs.OptionLemmas.{same_some}
+use Rattle.regex_lite_syntax.proofs.OptionLemmas.{same_some}
 
 -- two slots hold nothing, or positions in order between i and j
 abbrev Ordered : (i j : ℕ) → Option ℕ → Option ℕ → Type 0

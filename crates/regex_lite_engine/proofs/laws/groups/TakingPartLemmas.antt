@@ -17,7 +17,7 @@ use Rattle.regex_lite_engine.proofs.laws.groups.TakingCountLemmas.{one_if, earli
 use Rattle.regex_lite_engine.proofs.laws.groups.TakingCountLemmas.{two_rows, of_more, own_part}
 use Rattle.regex_lite_engine.proofs.laws.groups.MarkedTreeLemmas.{marked_found}
 use Rattle.regex_lite_engine.proofs.laws.WalkLemmas.{if_test}
-use Rattle.regex_lite_engine.proofs.OptionLemmas.{same_some}
+use Rattle.regex_lite_syntax.proofs.OptionLemmas.{same_some}
 
 sum_is : (a b : Option ℕ) (n : ℕ) → sum a b ≡ Some n
     → (k : ℕ) × (l : ℕ) × (a ≡ Some k) × (b ≡ Some l) × (n ≡ k + l)

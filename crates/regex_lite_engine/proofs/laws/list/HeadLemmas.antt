@@ -9,7 +9,7 @@ use Rattle.regex_lite_engine.proofs.laws.LeadsLemmas.{leads_to_one}
 use Rattle.regex_lite_engine.specs.SearchLaws.{AreRanked}
 use Rattle.regex_lite_engine.proofs.laws.answer.OrderLemmas.{one_best}
 use Rattle.regex_lite_engine.proofs.laws.list.RankedWalkLemmas.{all_ranked}
-use Rattle.regex_lite_engine.proofs.OptionLemmas.{same_some}
+use Rattle.regex_lite_syntax.proofs.OptionLemmas.{same_some}
 
 same_entry : (e : Entry) (j : ℕ) (marks : Marks) (rest : List Entry) → e.0 ≡ j → e.1 ≡ marks
     → e ∷ rest ≡ (j, marks) ∷ rest

@@ -17,7 +17,7 @@ use Rattle.regex_lite_engine.proofs.InLemmas.{In, in_left, in_right, in_map, num
 use Rattle.regex_lite_engine.proofs.laws.list.RankLemmas.{Rank, Ranking, AllBefore}
 use Rattle.regex_lite_engine.proofs.laws.list.RankLemmas.{rank_both, rank_map, same_list}
 use Rattle.regex_lite_engine.proofs.laws.list.RankLemmas.{greater, greater_keeps}
-use Rattle.regex_lite_engine.proofs.OptionLemmas.{same_some}
+use Rattle.regex_lite_syntax.proofs.OptionLemmas.{same_some}
 
 module _ {A : Type 0} (haystack : Text) (place : A → Place A) (end : A) where
   -- the arrows lead to where a match is complete, at position j

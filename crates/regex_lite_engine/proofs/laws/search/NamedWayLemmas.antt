@@ -1,7 +1,7 @@
 -- Two graphs whose nodes differ in their names alone have the same ways.
 use Rattle.regex_lite_engine.proofs.Common.{◌≡◌, ℕ, List, [], ◌∷◌, Some, None, Option, option_map}
 use Rattle.regex_lite_engine.proofs.Common.{sym, refl, ap, ◌∙◌, subst, Leads, NoneTwice, IsWay}
-use Rattle.regex_lite_engine.proofs.OptionLemmas.{same_some}
+use Rattle.regex_lite_syntax.proofs.OptionLemmas.{same_some}
 
 pub mapped_back : {A B : Type 0} (f : A → B) (o : Option A) (y : B) → option_map f o ≡ Some y
     → (x : A) × (o ≡ Some x) × (f x ≡ y)

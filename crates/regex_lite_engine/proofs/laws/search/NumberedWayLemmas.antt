@@ -15,7 +15,7 @@ use Rattle.regex_lite_engine.specs.Graph.Places.{Place}
 use Rattle.regex_lite_engine.proofs.laws.search.NamedWayLemmas.{known_on, unnamed_walk}
 use Rattle.regex_lite_engine.proofs.laws.search.NamedWayLemmas.{named_way, unnamed_way}
 use Rattle.regex_lite_engine.proofs.laws.search.OneEndLemmas.{one_end}
-use Rattle.regex_lite_engine.proofs.OptionLemmas.{same_some}
+use Rattle.regex_lite_syntax.proofs.OptionLemmas.{same_some}
 
 place_within : {X : Type 0} (list : List X) (q : ℕ) (other : X) → q < length list
     → slice_get list q ≡ Some (unwrap_or (slice_get list q) other)

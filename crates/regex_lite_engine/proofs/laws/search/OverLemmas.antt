@@ -12,7 +12,7 @@ use Rattle.regex_lite_engine.proofs.laws.LeadsLemmas.{leads_to_one}
 use Rattle.regex_lite_engine.proofs.laws.search.Explored.{StartsDiffer, IsWhole, IsFirst}
 use Rattle.regex_lite_engine.proofs.laws.search.Explored.{IsExplored}
 use Rattle.regex_lite_engine.proofs.laws.search.SearchLawLemmas.{search_law}
-use Rattle.regex_lite_engine.proofs.OptionLemmas.{same_some}
+use Rattle.regex_lite_syntax.proofs.OptionLemmas.{same_some}
 
 -- starts at different positions differ in them
 pub starts_differ : {N : Type 0} (step : N → ℕ → Option N) (is_end : N → Bool) (start : ℕ → N)

@@ -7,7 +7,7 @@ use Rattle.regex_lite_engine.proofs.laws.LeadsLemmas.{leads_append, leads_to_one
 use Rattle.regex_lite_engine.proofs.laws.search.CutLemmas.{rest_of, same_rest, no_rest}
 use Rattle.regex_lite_engine.proofs.laws.search.CutLemmas.{both_empty, cut_snoc}
 use Rattle.regex_lite_engine.proofs.laws.search.Explored.{StartsDiffer}
-use Rattle.regex_lite_engine.proofs.OptionLemmas.{same_some}
+use Rattle.regex_lite_syntax.proofs.OptionLemmas.{same_some}
 
 module _ (N : Type 0) (step : N → ℕ → Option N) (is_end : N → Bool)
     (IsStart : (front : List ℕ) → N → Type 0) (recorded : N → Option (List ℕ))

@@ -10,7 +10,7 @@ use Rattle.regex_lite_engine.proofs.laws.search.Explored.{IsExplored}
 use Rattle.regex_lite_engine.proofs.laws.search.RecordedWayLemmas.{Traced, traced, recorded_once}
 use Rattle.regex_lite_engine.proofs.laws.search.WayOrderLemmas.{NotAfter-trans, NotAfter-append}
 use Rattle.regex_lite_engine.proofs.laws.search.WayOrderLemmas.{GoesOn, NotAfter-snoc}
-use Rattle.regex_lite_engine.proofs.OptionLemmas.{same_some}
+use Rattle.regex_lite_syntax.proofs.OptionLemmas.{same_some}
 
 module _ {N : Type 0} {step : N → ℕ → Option N} {is_end : N → Bool}
     {IsStart : (front : List ℕ) → N → Type 0} {recorded : N → Option (List ℕ)}

@@ -12,7 +12,7 @@ use Rattle.regex_lite_engine.proofs.Common.{IsFound, marked, over, mark_of, mark
 use Rattle.std.proofs.Common.{le_trans}
 use Rattle.regex_lite_engine.specs.Graph.Places.{Place}
 use Rattle.regex_lite_engine.specs.Graph.NoLooks.{IsNoLook, RequireNoLook}
-use Rattle.regex_lite_engine.proofs.OptionLemmas.{same_some}
+use Rattle.regex_lite_syntax.proofs.OptionLemmas.{same_some}
 use Rattle.regex_lite_engine.proofs.laws.LeadsLemmas.{leads_split, leads_to_one}
 use Rattle.regex_lite_engine.proofs.laws.PatternWayLemmas.{match_way, walk_match}
 use Rattle.regex_lite_engine.proofs.laws.WalkLemmas.{was_read}

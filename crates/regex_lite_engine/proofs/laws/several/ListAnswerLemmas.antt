@@ -8,7 +8,7 @@ use Rattle.std.proofs.Common.{le_antisymm}
 use Rattle.regex_lite_engine.specs.Search.AnswerOfList.{IsFoundInList}
 use Rattle.regex_lite_engine.specs.ListSearchLaws.{by_itself}
 use Rattle.regex_lite_engine.proofs.laws.answer.AnswerLemmas.{has_answer, found_match, one_answer}
-use Rattle.regex_lite_engine.proofs.OptionLemmas.{not_there, same_some}
+use Rattle.regex_lite_syntax.proofs.OptionLemmas.{not_there, same_some}
 
 -- an answer is one from where it starts
 pub from_its_start : (tree : Tree) (haystack : Text) (s : ℕ) (found : Found)

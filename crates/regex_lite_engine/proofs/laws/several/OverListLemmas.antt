@@ -12,7 +12,7 @@ use Rattle.regex_lite_engine.proofs.laws.search.Explored.{StartsDiffer, IsWhole,
 use Rattle.regex_lite_engine.proofs.laws.search.Explored.{IsExplored}
 use Rattle.regex_lite_engine.proofs.laws.search.OverLemmas.{along_whole, before_preferred}
 use Rattle.regex_lite_engine.proofs.laws.search.SearchLawLemmas.{search_law}
-use Rattle.regex_lite_engine.proofs.OptionLemmas.{same_some}
+use Rattle.regex_lite_syntax.proofs.OptionLemmas.{same_some}
 
 -- a way after two starts that look alike
 abbrev Later : (i k j l : ℕ) → (a b : List ℕ) → Type 0

@@ -22,7 +22,7 @@ use Rattle.regex_lite_engine.proofs.nfa.write.ApartAddressLemmas.{InPart, each_i
 use Rattle.regex_lite_engine.proofs.nfa.write.ApartAddressLemmas.{apart_addresses}
 use Rattle.regex_lite_engine.proofs.graph.ListedAddressLemmas.{whole_addresses, listed_whole}
 use Rattle.regex_lite_engine.proofs.graph.AmongLemmas.{address_number}
-use Rattle.regex_lite_engine.proofs.OptionLemmas.{not_there}
+use Rattle.regex_lite_syntax.proofs.OptionLemmas.{not_there}
 
 -- numbers from the base on stand for the addresses of a list in its order
 abbrev pub numbering_of : (base : ℕ) → List Address → Numbering

@@ -2,7 +2,8 @@
 use Rattle.regex_lite_engine.proofs.Common.{◌≡◌, ℕ, zero, suc, ◌+◌, ◌-◌, ◌*◌, ◌<◌, ◌≤◌, Bool, List}
 use Rattle.regex_lite_engine.proofs.Common.{[], ◌∷◌, map, length, get_or, drop, Option, None, ap}
 use Rattle.regex_lite_engine.proofs.Common.{arith, rules, trees, greatest_index, greatest_index_in}
-use Rattle.regex_lite_engine.proofs.Common.{tree_of, Hir, copies, own_places, places, places_in}
+use Rattle.regex_lite_engine.proofs.Common.{tree_of, copies, own_places, places, places_in}
+use Rattle.regex_lite_syntax.specs.declared.hir.Hir.{Hir}
 
 pub part_places : (parts : List Hir) (i : ℕ) (part : Hir) → i < length parts
     → part ≡ get_or parts i part

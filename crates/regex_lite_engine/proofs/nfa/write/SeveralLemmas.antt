@@ -21,7 +21,7 @@ use Rattle.regex_lite_engine.proofs.nfa.write.RenumberingLemmas.{apart_whole, pa
 use Rattle.regex_lite_engine.proofs.nfa.write.RenumberingLemmas.{pattern_is}
 use Rattle.regex_lite_engine.proofs.graph.ListedAddressLemmas.{whole_addresses, listed_whole}
 use Rattle.regex_lite_engine.proofs.graph.AmongLemmas.{address_number}
-use Rattle.regex_lite_engine.proofs.OptionLemmas.{not_there, same_some}
+use Rattle.regex_lite_syntax.proofs.OptionLemmas.{not_there, same_some}
 use Rattle.regex_lite_engine.proofs.nfa.write.SeveralNameLemmas as names
 use Rattle.regex_lite_engine.proofs.nfa.write.SeveralRowLemmas.{before, total, placed, entered}
 use Rattle.regex_lite_engine.proofs.nfa.write.SeveralRowLemmas.{fits_in, Located, located, row_is}

@@ -15,7 +15,7 @@ use Rattle.regex_lite_engine.proofs.nfa.write.NumberingLemmas.{IsAt, as_many}
 use Rattle.regex_lite_engine.proofs.nfa.write.RenumberingLemmas.{numbering_of, is_at_number}
 use Rattle.regex_lite_engine.proofs.nfa.write.RenumberingLemmas.{pattern_is, leads_below}
 use Rattle.regex_lite_engine.proofs.graph.ListedAddressLemmas.{whole_addresses}
-use Rattle.regex_lite_engine.proofs.OptionLemmas.{not_there, same_some}
+use Rattle.regex_lite_syntax.proofs.OptionLemmas.{not_there, same_some}
 use Rattle.regex_lite_engine.proofs.nfa.write.SeveralRowLemmas.{before, total, length_table, placed}
 use Rattle.regex_lite_engine.proofs.nfa.write.SeveralRowLemmas.{fits_in}
 

@@ -11,8 +11,8 @@ use Rattle.std.proofs.Math.Seq.{drop-append-add}
 use Rattle.std.proofs.lemmas.List.Sums.{sum_by-append}
 use Rattle.regex_lite_engine.proofs.count.ArrowCountLemmas.{arrows_pattern}
 use Rattle.regex_lite_engine.proofs.count.PlaceCountLemmas.{length_pattern}
-use Rattle.regex_lite_engine.proofs.LookupLemmas.{get_left, get_right}
-use Rattle.regex_lite_engine.proofs.OptionLemmas.{not_there, same_some}
+use Rattle.regex_lite_syntax.proofs.LookupLemmas.{get_left, get_right}
+use Rattle.regex_lite_syntax.proofs.OptionLemmas.{not_there, same_some}
 
 -- how many places lie before the pattern with this number
 abbrev pub before : List Tree → ℕ → ℕ

@@ -13,7 +13,7 @@ use Rattle.std.proofs.lemmas.Str.{chars-append, IsCharBoundary-at_seam, IsUtf8-e
 use Rattle.std.proofs.lemmas.Str.{chars_past_char}
 use Rattle.regex_lite_syntax.specs.Text.{before}
 use Rattle.regex_lite_engine.proofs.OffsetLemmas.{offset_less, offset_most, offset_next}
-use Rattle.regex_lite_engine.proofs.OptionLemmas.{not_there}
+use Rattle.regex_lite_syntax.proofs.OptionLemmas.{not_there}
 use Rattle.regex_lite_engine.proofs.PositionLemmas.{after_at, chars_cut, position_is, same_position}
 
 pub none_before : (bs : List ℕ) (p at : ℕ) → at ≤ length bs → IsOffset (chars bs) p at

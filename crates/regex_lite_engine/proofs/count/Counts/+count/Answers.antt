@@ -1,7 +1,7 @@
 use Rattle.regex_lite_engine.proofs.Common.{◌≡◌, ◌+◌, ◌-◌, drop, sym, ap, ◌∙◌, subst, arith, Tree}
 use Rattle.regex_lite_engine.proofs.Common.{concat, alternation, Trees, none, more, tree_of}
-use Rattle.regex_lite_engine.proofs.LeafLemmas.{tree_is-Class, tree_is-Repetition, tree_is-Concat}
-use Rattle.regex_lite_engine.proofs.LeafLemmas.{tree_is-Alternation}
+use Rattle.regex_lite_syntax.proofs.LeafLemmas.{tree_is-Class, tree_is-Repetition, tree_is-Concat}
+use Rattle.regex_lite_syntax.proofs.LeafLemmas.{tree_is-Alternation}
 use Rattle.std.proofs.lemmas.List.{drop_all}
 use Rattle.regex_lite_engine.specs.Nfa.Saturation.{AreCountsOf}
 use Rattle.regex_lite_syntax.proofs.TreeLemmas.{trees_of, trees_more}

@@ -1,4 +1,5 @@
-use Rattle.regex_lite_engine.proofs.Common.{option_map, arith, text_of_name}
+use Rattle.regex_lite_engine.proofs.Common.{option_map, arith}
+use Rattle.regex_lite_syntax.specs.Tree.Views.{text_of_name}
 use Rattle.regex_lite_engine.proofs.count.Counts.captured.Goals as goal
 
 pub returns : goal.returns

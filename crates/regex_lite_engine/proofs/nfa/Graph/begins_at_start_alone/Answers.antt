@@ -10,8 +10,8 @@ returns-then-reads c = λ untrue haystack i low high.
     let start = c.args.self.now.start in
     let heads = c.filter.result.now in
     let none : heads.first.any ≡ false
-    = sym (c.any.ensures ∙ ap (λ (h : Heads). h.first.any) c.heads.ensures)
-    ∙ not-true c.any.result untrue in
+    = sym (ap (λ (h : Heads). h.first.any) c.heads.ensures)
+    ∙ not-true c.heads.result.now.first.any untrue in
     let by_order : (i < length haystack) ⊎ (length haystack ≤ i)
     → IsDeadAt table haystack start i = λ order. elim order [
       | inl before ↦

@@ -4,8 +4,8 @@ use Rattle.regex_lite_engine.proofs.Common.{sum_by-cons, tree_of, reading_places
 use Rattle.regex_lite_engine.proofs.Common.{whole_arrows, places_of_all, arrows_of_all}
 use Rattle.regex_lite_engine.proofs.Common.{TellGroupsOf, reading_of_all}
 use Rattle.regex_lite_engine.specs.Graph.StoredList.{StoredGroups, TellsGroupsOf}
-use Rattle.regex_lite_engine.proofs.count.TotalLemmas.{tree_there, trees_left}
-use Rattle.regex_lite_engine.proofs.nfa.list.GroupLemmas.{told_more}
+use Rattle.regex_lite_engine.proofs.count.TotalLemmas.{trees_left}
+use Rattle.regex_lite_syntax.proofs.LookupLemmas.{mapped_there, told_more}
 use Rattle.std.proofs.lemmas.Grind.{common_steps}
 use Rattle.regex_lite_engine.proofs.nfa.list.totals_and_groups.Goals as goal
 
@@ -15,7 +15,7 @@ with-requires-clause-counted c =
     let hir = c.hir-item.result in (
       tree_of hir,
       c.requires k (tree_of hir)
-          (tree_there c.args.hirs.now k hir c.loop-hir-test.true c.hir-item.is),
+          (mapped_there tree_of c.args.hirs.now k hir c.loop-hir-test.true c.hir-item.is),
       c.counts-counts.ensures,
     )
 
@@ -24,7 +24,7 @@ of-requires-clause-few c =
     let k = c.loop-hir.hir-index in
     let hir = c.hir-item.result in
     let regular = c.requires k (tree_of hir)
-    (tree_there c.args.hirs.now k hir c.loop-hir-test.true c.hir-item.is) in
+    (mapped_there tree_of c.args.hirs.now k hir c.loop-hir-test.true c.hir-item.is) in
     let more = c.in_ok-totals.ensures.ok (tree_of hir) regular c.counts-counts.ensures in
     rw (c.hir.ensures) (omega (arith, more.places))
 
@@ -37,7 +37,7 @@ loop-hir-preserved c =
     let tree = tree_of hir in
     let rest = map tree_of (drop (k + 1) hirs) in
     let v = c.loop-hir.invariant in
-    let there = tree_there hirs k hir c.loop-hir-test.true c.hir-item.is in
+    let there = mapped_there tree_of hirs k hir c.loop-hir-test.true c.hir-item.is in
     let more = c.in_ok-totals.ensures.ok tree (c.requires k tree there) c.counts-counts.ensures in
     let left = trees_left hirs k hir c.loop-hir-test.true c.hir-item.is in
     let before = c.loop-hir.groups.items in

@@ -1,7 +1,8 @@
 use Rattle.regex_lite_engine.proofs.Common.{◌≡◌, ℕ, suc, ◌+◌, Bool, List, [], ◌∷◌, length, None}
-use Rattle.regex_lite_engine.proofs.Common.{filter, chars, sym, refl, ap, ◌∙◌, arith, rules, after}
+use Rattle.regex_lite_engine.proofs.Common.{chars, sym, refl, ap, ◌∙◌, arith, rules, after}
 use Rattle.regex_lite_engine.proofs.Common.{may_go_on}
-use Rattle.regex_lite_engine.proofs.prefilter.list_heads.ThirdLemmas.{all_go_on, none_later}
+use Rattle.std.proofs.Common.{filter}
+use Rattle.regex_lite_syntax.proofs.prefilter.list_heads.ThirdLemmas.{all_go_on, none_later}
 use Rattle.regex_lite_engine.proofs.search.list_patterns.keep_by_third.Goals as goal
 use Rattle.regex_lite_engine.proofs.search.list_patterns.keep_by_third.Goals.{
   then-is_empty-via-then-is_empty,

@@ -1,10 +1,11 @@
 use Rattle.regex_lite_engine.proofs.Common.{◌≡◌, ℕ, suc, ◌+◌, ◌&&◌, List, Some, Option, chars, sym}
 use Rattle.regex_lite_engine.proofs.Common.{ap, ◌∙◌, arith, range_with_len, after, may_start}
-use Rattle.regex_lite_engine.proofs.Common.{may_start_at, is_candidate_at, may_go_on}
+use Rattle.regex_lite_engine.proofs.Common.{is_candidate_at, may_go_on}
+use Rattle.regex_lite_syntax.specs.Prefilter.ListHeads.{may_start_at}
 use Rattle.std.specs.List.{filter}
 use Rattle.regex_lite_syntax.specs.Text.{before}
-use Rattle.regex_lite_engine.proofs.prefilter.list_heads.NumberLemmas.{filter_all}
-use Rattle.regex_lite_engine.proofs.prefilter.list_heads.ThirdLemmas.{filter_twice, none_later}
+use Rattle.regex_lite_syntax.proofs.prefilter.list_heads.NumberLemmas.{filter_all}
+use Rattle.regex_lite_syntax.proofs.prefilter.list_heads.ThirdLemmas.{filter_twice, none_later}
 use Rattle.regex_lite_engine.proofs.search.list_patterns.list_starts.Goals as goal
 
 pub returns-in-None-clause-listed : goal.returns-in-None-clause-listed

@@ -1,5 +1,5 @@
 use Rattle.regex_lite_engine.proofs.Common.{◌≡◌, ℕ, ◌+◌, ◌-◌, ◌<◌, ◌≤◌, false, length, slice_index}
-use Rattle.regex_lite_engine.proofs.Common.{suits}
+use Rattle.regex_lite_syntax.specs.Prefilter.Bytes.{suits}
 use Rattle.regex_lite_engine.proofs.search.skip.next_block.Given as goal
 
 abbrev pub invariant-all : goal.invariant-all

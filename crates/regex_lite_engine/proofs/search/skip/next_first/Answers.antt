@@ -1,5 +1,5 @@
 use Rattle.regex_lite_engine.proofs.Common.{◌+◌, IfSome, subst, inl, inr, arith, cases_lt}
-use Rattle.regex_lite_engine.specs.Prefilter.Bytes.{IsPrefilterOf}
+use Rattle.regex_lite_syntax.specs.Prefilter.Bytes.{IsPrefilterOf}
 use Rattle.regex_lite_engine.proofs.search.skip.next_first.Goals as goal
 
 pub returns-clause-passed : goal.returns-clause-passed

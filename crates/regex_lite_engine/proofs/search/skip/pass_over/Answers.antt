@@ -1,8 +1,9 @@
 use Rattle.regex_lite_engine.proofs.Common.{◌≡◌, ◌<◌, ◌≤◌, true, length, IfSome, slice_index, chars}
 use Rattle.regex_lite_engine.proofs.Common.{sym, subst, inl, inr, arith, NeverBegins, IsPassed}
-use Rattle.regex_lite_engine.proofs.Common.{stops_at, may_begin, position_at, PassesTo, Heads}
-use Rattle.regex_lite_engine.specs.Prefilter.Bytes.{IsPrefilterOf}
-use Rattle.regex_lite_engine.specs.Prefilter.Heads.{IsCutOff}
+use Rattle.regex_lite_engine.proofs.Common.{stops_at, position_at, PassesTo, Heads}
+use Rattle.regex_lite_syntax.specs.Prefilter.Starts.{may_begin}
+use Rattle.regex_lite_syntax.specs.Prefilter.Bytes.{IsPrefilterOf}
+use Rattle.regex_lite_syntax.specs.Prefilter.Heads.{IsCutOff}
 use Rattle.regex_lite_engine.proofs.search.here.HereLemmas.{at_most}
 use Rattle.regex_lite_engine.proofs.search.FirstByteLemmas.{never_at, stopped}
 use Rattle.regex_lite_engine.proofs.search.SkipLemmas.{cut_off_here, passes_between, stays}

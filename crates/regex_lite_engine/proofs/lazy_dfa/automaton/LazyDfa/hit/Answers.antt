@@ -1,7 +1,7 @@
 use Rattle.regex_lite_engine.proofs.Common.{sym, ap, ◌∙◌}
 use Rattle.regex_lite_engine.specs.LazyDfa.Automaton.{State}
 use Rattle.regex_lite_engine.proofs.lazy_dfa.StoredStateLemmas.{is_stored}
-use Rattle.regex_lite_engine.proofs.OptionLemmas.{same_some}
+use Rattle.regex_lite_syntax.proofs.OptionLemmas.{same_some}
 use Rattle.regex_lite_engine.proofs.lazy_dfa.automaton.LazyDfa.hit.Goals as goal
 
 pub returns : goal.returns

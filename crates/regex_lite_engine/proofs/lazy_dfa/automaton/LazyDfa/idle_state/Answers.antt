@@ -1,6 +1,6 @@
 use Rattle.regex_lite_engine.proofs.Common.{sym, subst, arith}
 use Rattle.regex_lite_engine.specs.LazyDfa.Automaton.{FitsTable}
-use Rattle.regex_lite_engine.proofs.OptionLemmas.{not_there}
+use Rattle.regex_lite_syntax.proofs.OptionLemmas.{not_there}
 use Rattle.regex_lite_engine.proofs.lazy_dfa.RememberedLemmas.{still_remembers}
 use Rattle.regex_lite_engine.proofs.lazy_dfa.automaton.LazyDfa.idle_state.Goals as goal
 

@@ -1,5 +1,5 @@
-use Rattle.regex_lite_engine.proofs.Common.{◌≡◌, List, sym, ap, ◌∙◌, true≢false, Way, Automaton}
-use Rattle.regex_lite_engine.proofs.Common.{StoredWay}
+use Rattle.regex_lite_engine.proofs.Common.{◌≡◌, List, sym, ap, ◌∙◌, Way, Automaton, StoredWay}
+use Rattle.std.proofs.Common.{true≢false}
 use Rattle.regex_lite_engine.proofs.lazy_dfa.StoredChangeLemmas.{seen_pushed}
 use Rattle.regex_lite_engine.proofs.lazy_dfa.StoredStateLemmas.{seen}
 use Rattle.regex_lite_engine.proofs.lazy_dfa.automaton.LazyDfa.push_way.Goals as goal

@@ -1,7 +1,7 @@
 use Rattle.regex_lite_engine.proofs.Common.{sym, ap, ◌∙◌, hit_in, searching_after}
 use Rattle.regex_lite_engine.specs.LazyDfa.Automaton.{State}
 use Rattle.regex_lite_engine.proofs.lazy_dfa.StoredStateLemmas.{is_stored}
-use Rattle.regex_lite_engine.proofs.OptionLemmas.{same_some}
+use Rattle.regex_lite_syntax.proofs.OptionLemmas.{same_some}
 use Rattle.regex_lite_engine.proofs.lazy_dfa.automaton.LazyDfa.searching_after.Goals as goal
 
 pub returns-in-Nowhere : goal.returns-in-Nowhere

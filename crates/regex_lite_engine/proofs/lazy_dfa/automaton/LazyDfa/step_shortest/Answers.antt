@@ -5,7 +5,7 @@ use Rattle.regex_lite_engine.specs.declared.lazy_dfa.state.Hit.{Hit}
 use Rattle.regex_lite_engine.specs.declared.lazy_dfa.state.Hit.TheVariants as stored
 use Rattle.regex_lite_engine.proofs.lazy_dfa.StoredStateLemmas.{turn_led, turn_stored}
 use Rattle.regex_lite_engine.proofs.lazy_dfa.ScanLemmas.{TurnsTo, end_led, led_step}
-use Rattle.regex_lite_engine.proofs.OptionLemmas.{not_there}
+use Rattle.regex_lite_syntax.proofs.OptionLemmas.{not_there}
 use Rattle.regex_lite_engine.proofs.lazy_dfa.automaton.LazyDfa.step_shortest.Given as given
 use Rattle.regex_lite_engine.proofs.lazy_dfa.automaton.LazyDfa.step_shortest.Goals as goal
 use Rattle.regex_lite_engine.proofs.lazy_dfa.automaton.LazyDfa.step_shortest.Goals.{After-index}

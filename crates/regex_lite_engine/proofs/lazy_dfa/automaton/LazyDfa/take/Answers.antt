@@ -1,7 +1,7 @@
 use Rattle.regex_lite_engine.proofs.Common.{◌≡◌, Some, None, true, false, sym, refl, ap, ◌∙◌, inr}
 use Rattle.regex_lite_engine.proofs.Common.{Standing, best_left, best_told}
 use Rattle.regex_lite_engine.specs.LazyDfa.Stored.{hit_by, known_hit}
-use Rattle.regex_lite_engine.proofs.OptionLemmas.{not_there}
+use Rattle.regex_lite_syntax.proofs.OptionLemmas.{not_there}
 use Rattle.regex_lite_engine.proofs.lazy_dfa.automaton.LazyDfa.take.Goals as goal
 use Rattle.regex_lite_engine.proofs.lazy_dfa.automaton.LazyDfa.take.Goals.{After-complete}
 

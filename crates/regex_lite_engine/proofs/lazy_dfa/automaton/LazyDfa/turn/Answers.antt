@@ -2,7 +2,7 @@ use Rattle.regex_lite_engine.proofs.Common.{◌≡◌, [], sym, ◌∙◌, subst
 use Rattle.regex_lite_engine.specs.LazyDfa.Automaton.{State}
 use Rattle.regex_lite_engine.specs.LazyDfa.Intervals.{IsAhead}
 use Rattle.regex_lite_engine.proofs.lazy_dfa.StoredStateLemmas.{known_turn}
-use Rattle.regex_lite_engine.proofs.OptionLemmas.{same_some}
+use Rattle.regex_lite_syntax.proofs.OptionLemmas.{same_some}
 use Rattle.regex_lite_engine.proofs.lazy_dfa.automaton.LazyDfa.turn.Goals as goal
 
 pub returns-clause-turn : goal.returns-clause-turn

@@ -2,7 +2,7 @@ use Rattle.regex_lite_engine.proofs.Common.{◌≡◌, ◌+◌, ◌-◌, ◌≤�
 use Rattle.regex_lite_engine.proofs.Common.{◌∙◌, subst, arith, rules, StoredState, way_in}
 use Rattle.regex_lite_engine.specs.LazyDfa.Automaton.{State}
 use Rattle.regex_lite_engine.proofs.lazy_dfa.StoredStateLemmas.{is_stored, stored_within}
-use Rattle.regex_lite_engine.proofs.OptionLemmas.{same_some}
+use Rattle.regex_lite_syntax.proofs.OptionLemmas.{same_some}
 use Rattle.regex_lite_engine.proofs.lazy_dfa.automaton.LazyDfa.ways.Goals as goal
 use Rattle.regex_lite_engine.proofs.lazy_dfa.automaton.LazyDfa.ways.Goals.{After-index}
 

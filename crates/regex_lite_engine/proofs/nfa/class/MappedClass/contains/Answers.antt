@@ -1,4 +1,5 @@
-use Rattle.regex_lite_engine.proofs.Common.{◌<◌, arith, nat_tests, shr_and_one}
+use Rattle.regex_lite_engine.proofs.Common.{◌<◌, arith, nat_tests}
+use Rattle.std.proofs.lemmas.Nat.Bits.{shr_and_one}
 use Rattle.regex_lite_engine.proofs.nfa.class.MappedClass.contains.Goals as goal
 
 pub returns-then-is_ascii : goal.returns-then-is_ascii

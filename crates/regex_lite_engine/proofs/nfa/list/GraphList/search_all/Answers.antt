@@ -1,11 +1,12 @@
-use Rattle.regex_lite_engine.proofs.Common.{◌≡◌, ℕ, zero, suc, ◌+◌, ◌-◌, ◌^◌, ◌<◌, ◌≤◌, min, Bool}
-use Rattle.regex_lite_engine.proofs.Common.{false, ◌↔◌, List, [], ◌∷◌, length, get_or, take, IsTrue}
+use Rattle.regex_lite_engine.proofs.Common.{◌≡◌, ℕ, zero, suc, ◌+◌, ◌-◌, ◌^◌, ◌<◌, ◌≤◌, Bool, false}
+use Rattle.regex_lite_engine.proofs.Common.{◌↔◌, List, [], ◌∷◌, length, get_or, take, IsTrue}
 use Rattle.regex_lite_engine.proofs.Common.{slice_get, slice_index_or, slice_set, chars, sym, refl}
 use Rattle.regex_lite_engine.proofs.Common.{ap, ◌∙◌, subst, inl, inr, arith, cases_lt}
 use Rattle.regex_lite_engine.proofs.Common.{get_or-set_other, get_or-set_same, slice_get-get_or}
 use Rattle.regex_lite_engine.proofs.Common.{slice_get_within, empty, whole_places, whole_arrows}
 use Rattle.regex_lite_engine.proofs.Common.{HasTree, places_of_all, tries_of_all, HasMatchFrom}
 use Rattle.regex_lite_engine.proofs.Common.{IsBoundedBy, position_at}
+use Rattle.std.proofs.Common.{min}
 use Rattle.std.proofs.Math.Nat.{le-min}
 use Rattle.std.proofs.Math.Seq.{take-length}
 use Rattle.std.proofs.lemmas.List.{length-set}

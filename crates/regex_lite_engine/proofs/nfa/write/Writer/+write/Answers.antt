@@ -15,9 +15,9 @@ use Rattle.std.proofs.Common.{Result, Ok, Err, IfOk}
 use Rattle.std.proofs.lemmas.Grind.{common_steps}
 use Rattle.regex_lite_engine.proofs.nfa.write.RoomLemmas.{endless_room, star_room}
 use Rattle.regex_lite_engine.proofs.nfa.write.WrittenOverLemmas.{loop_written}
-use Rattle.regex_lite_engine.proofs.LeafLemmas.{tree_is-Empty, tree_is-Char, tree_is-Class}
-use Rattle.regex_lite_engine.proofs.LeafLemmas.{tree_is-Look, tree_is-Capture, tree_is-Repetition}
-use Rattle.regex_lite_engine.proofs.LeafLemmas.{tree_is-Concat, tree_is-Alternation}
+use Rattle.regex_lite_syntax.proofs.LeafLemmas.{tree_is-Empty, tree_is-Char, tree_is-Class}
+use Rattle.regex_lite_syntax.proofs.LeafLemmas.{tree_is-Look, tree_is-Capture, tree_is-Repetition}
+use Rattle.regex_lite_syntax.proofs.LeafLemmas.{tree_is-Concat, tree_is-Alternation}
 use Rattle.regex_lite_engine.proofs.nfa.write.OnePlaceLemmas.{one_written, written_same}
 use Rattle.regex_lite_engine.proofs.nfa.write.Writer.+write.Goals as goal
 

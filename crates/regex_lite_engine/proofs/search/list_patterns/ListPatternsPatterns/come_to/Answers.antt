@@ -2,7 +2,7 @@ use Rattle.regex_lite_engine.proofs.Common.{◌<◌, length, chars, sym, ap, ◌
 use Rattle.regex_lite_engine.proofs.Common.{length-map, range_with_len, table_of_list}
 use Rattle.regex_lite_engine.proofs.Common.{is_candidate_at, start_numbered}
 use Rattle.std.specs.List.{All, filter}
-use Rattle.regex_lite_engine.proofs.prefilter.list_heads.WalkLemmas.{filter_at_most}
+use Rattle.regex_lite_syntax.proofs.prefilter.list_heads.WalkLemmas.{filter_at_most}
 use Rattle.regex_lite_engine.proofs.search.list_patterns.ListStartLemmas.{all_below, listed_start}
 use Rattle.regex_lite_engine.proofs.search.list_patterns.ListStartLemmas.{places_inside}
 use Rattle.regex_lite_engine.proofs.search.list_patterns.ListPatternsPatterns.come_to.Goals as goal

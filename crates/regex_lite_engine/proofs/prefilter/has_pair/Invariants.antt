@@ -1,8 +1,0 @@
-use Rattle.regex_lite_engine.proofs.Common.{◌≡◌, ℕ, ◌<◌, false, [], ◌∷◌, slice_index, suits}
-use Rattle.regex_lite_engine.specs.declared.prefilter.Prefilter.TheVariants.{Pair}
-use Rattle.regex_lite_engine.proofs.prefilter.has_pair.Given as goal
-
-abbrev pub invariant-loop-k : goal.invariant-loop-k
-invariant-loop-k l = l.is_there ≡ false → (k : ℕ) → k < l.k
-    → suits (Pair (l.first ∷ (l.or_first ∷ [])) (l.second ∷ (l.or_second ∷ [])))
-    (slice_index l.block k) (slice_index l.next k) ≡ false

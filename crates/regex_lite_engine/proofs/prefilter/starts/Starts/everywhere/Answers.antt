@@ -1,9 +1,0 @@
-use Rattle.regex_lite_engine.proofs.Common.{true, replicate, refl}
-use Rattle.regex_lite_engine.proofs.prefilter.starts.StartLemmas.{everywhere_begins}
-use Rattle.regex_lite_engine.proofs.prefilter.starts.Starts.everywhere.Goals as goal
-
-pub returns : goal.returns
-returns c =
-    everywhere_begins
-    (record { any = true; ascii = replicate 128 true; others = true; at_start = true })
-    refl refl refl

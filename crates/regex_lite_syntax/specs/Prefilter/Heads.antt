@@ -1,0 +1,49 @@
+-- With which two characters a match can begin.
+use Rattle.std.specs.Prelude.{◌≡◌, ◌⊎◌, ◌+◌, ◌<◌, ℕ, suc, List, false}
+use Rattle.std.specs.Prelude.{MatchOption, IfSome, length, slice_index}
+use Rattle.regex_lite_syntax.specs.Text.{Text}
+use Rattle.regex_lite_syntax.specs.Tree.{Tree}
+use Rattle.regex_lite_syntax.specs.Tree.Matches.{Matches}
+use Rattle.regex_lite_syntax.specs.declared.prefilter.heads.Head.{Head}
+use Rattle.regex_lite_syntax.specs.declared.prefilter.heads.Head.TheVariants.{Nothing, One, More}
+use Rattle.regex_lite_syntax.specs.declared.prefilter.heads.Heads.{Heads}
+use Rattle.regex_lite_syntax.specs.declared.prefilter.starts.Starts.{Starts}
+use Rattle.regex_lite_syntax.specs.Prefilter.Starts.{AreStartsOfTree, MayBegin, stops_at}
+
+-- what is read between two positions: nothing, one character, or more, of which the second is one
+-- of these. What reads one may also read more
+abbrev pub Reads : Starts → Text → (i j : ℕ) → Head → Type 0
+Reads second haystack i j Nothing = i ≡ j
+Reads second haystack i j One = (j ≡ suc i) ⊎ MayBegin second haystack (suc i)
+Reads second haystack i j More = MayBegin second haystack (suc i)
+
+-- each match of the tree reads this
+abbrev pub ReadsEach : Tree → Starts → Head → Type 0
+ReadsEach tree second head =
+    (haystack : Text) (i j : ℕ) → Matches haystack tree i j → Reads second haystack i j head
+
+-- each match of the tree reads one of these after its first character
+abbrev pub AreSecondOfTree : Tree → Starts → Type 0
+AreSecondOfTree tree second =
+    (haystack : Text) (i j : ℕ) → Matches haystack tree i j → MayBegin second haystack (suc i)
+
+pub record AreHeadsOfTree (tree : Tree) (heads : Heads) : Type 0 where
+  pub first : AreStartsOfTree tree heads.first
+  pub second : IfSome heads.second (AreSecondOfTree tree)
+
+-- none can begin at the position: with its first character, or with the one after it
+abbrev pub NeverBegins : Heads → Text → ℕ → Type 0
+NeverBegins heads haystack i =
+    (¬ (MayBegin heads.first haystack i))
+    ⊎ MatchOption heads.second ⊥ (λ second. ¬ (MayBegin second haystack (suc i)))
+
+-- after the ASCII character at this offset stands a byte with which no second one begins
+abbrev pub IsCutOff : Heads → (bytes : List ℕ) → (at : ℕ) → Type 0
+IsCutOff heads bytes at =
+    MatchOption heads.second ⊥ (λ second. (at + 1 < length bytes) × (slice_index bytes at < 128)
+    × (stops_at second (slice_index bytes (at + 1)) ≡ false))
+
+-- the byte at this offset, or the one after it, shows that none begins there
+abbrev pub IsPassed : Heads → (bytes : List ℕ) → (at : ℕ) → Type 0
+IsPassed heads bytes at =
+    (stops_at heads.first (slice_index bytes at) ≡ false) ⊎ IsCutOff heads bytes at

@@ -1,0 +1,55 @@
+-- The pairs of ASCII characters with which a match of some pattern can begin.
+use Rattle.std.specs.Prelude.{◌≡◌, ◌==◌, ◌+◌, ◌<◌, ℕ, Bool, false, ◌&&◌, ◌||◌}
+use Rattle.std.specs.Prelude.{count_ones, filter, length, nat_le, slice_get, slice_index}
+use Rattle.std.specs.Prelude.{Option, Some, None}
+use Rattle.regex_lite_syntax.specs.AsciiMaps.{bit_of_words}
+use Rattle.regex_lite_syntax.specs.declared.prefilter.heads.Heads.{Heads}
+use Rattle.regex_lite_syntax.specs.declared.prefilter.list_heads.ListHeads.{ListHeads}
+use Rattle.regex_lite_syntax.specs.declared.prefilter.list_heads.ascii_set.AsciiSet.{AsciiSet}
+use Rattle.regex_lite_syntax.specs.Prefilter.Rows.{goes_on_with}
+use Rattle.regex_lite_syntax.specs.Prefilter.Starts.{begins_with}
+
+-- the ASCII character with this code is in the set
+abbrev pub in_set : AsciiSet → (code : ℕ) → Bool
+in_set set code = bit_of_words set.words code == 1
+
+-- how many are in it
+abbrev pub set_len : AsciiSet → ℕ
+set_len set = count_ones (slice_index set.words 0) + count_ones (slice_index set.words 1)
+
+-- there are at least as many as letters
+abbrev pub is_wide : AsciiSet → Bool
+is_wide set = nat_le 26 (set_len set)
+
+abbrev pub in_some_set : Option AsciiSet → (code : ℕ) → Bool
+in_some_set None code = false
+in_some_set (Some set) code = in_set set code
+
+-- there is a set of second characters for each first one
+abbrev pub HasAllPairs : ListHeads → Type 0
+HasAllPairs heads = length heads.pairs.items ≡ 128
+
+-- a match of some pattern can begin with these two ASCII characters, by the index
+abbrev pub has_pair : ListHeads → (first second : ℕ) → Bool
+has_pair heads first second = in_some_set (slice_get heads.pairs.items first) second
+
+-- at least as many characters as letters can come first before at least as many second ones
+abbrev pub begin_often : ListHeads → Bool
+begin_often heads = nat_le 26 (length (filter is_wide heads.pairs.items))
+
+-- one that begins like this can begin with these two characters
+abbrev pub begins_with_pair : (first second : ℕ) → Heads → Bool
+begins_with_pair first second heads =
+    begins_with heads.first first && goes_on_with heads.second second
+
+-- the pairs of a pattern that begins like this are added
+pub record ArePairsWith (part : Heads) (before after : ListHeads) : Type 0 where
+  pub all : length after.pairs.items ≡ length before.pairs.items
+  pub each : (first second : ℕ) → first < 128 → second < 128 → has_pair after first second
+      ≡ (has_pair before first second || begins_with_pair first second part)
+
+-- both are ASCII characters with which none begins
+abbrev pub NeverBeginsWith : ListHeads → (first : ℕ) → (second : Option ℕ) → Type 0
+NeverBeginsWith heads first None = ⊥
+NeverBeginsWith heads first (Some second) =
+    (first < 128) × (second < 128) × (has_pair heads first second ≡ false)

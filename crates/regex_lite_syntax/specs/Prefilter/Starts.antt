@@ -1,0 +1,61 @@
+-- Where a match can begin, by the characters beside a position.
+use Rattle.std.specs.Prelude.{◌≡◌, ◌⊎◌, ℕ, Bool, true, false, ◌&&◌, ◌||◌, Option, Some, None}
+use Rattle.std.specs.Prelude.{is_none, IsTrue, if◌then◌else◌, nat_lt, slice_index_or, List}
+use Rattle.std.specs.List.{list_any}
+use Rattle.regex_lite_syntax.specs.Text.{Text, before, after}
+use Rattle.regex_lite_syntax.specs.Sets.{Set}
+use Rattle.regex_lite_syntax.specs.Tree.{Tree}
+use Rattle.regex_lite_syntax.specs.Tree.Matches.{Matches}
+use Rattle.regex_lite_syntax.specs.declared.prefilter.starts.Starts.{Starts}
+
+-- the characters with which a match can begin
+abbrev pub begins_with : Starts → Set
+begins_with starts c =
+    starts.any && (if nat_lt c 128 then slice_index_or starts.ascii c true else starts.others)
+
+-- the bytes with which such a character may begin in UTF-8. One that is not ASCII begins with 0xC0
+-- or more, and a byte in between is inside a character
+abbrev pub stops_at : Starts → ℕ → Bool
+stops_at starts byte =
+    starts.any
+    && (if nat_lt byte 128 then slice_index_or starts.ascii byte true
+    else (if nat_lt byte 192 then false else starts.others))
+
+-- a match can begin between these neighbours
+abbrev pub may_begin : Starts → (before after : Option ℕ) → Bool
+may_begin starts b None = true
+may_begin starts b (Some c) = begins_with starts c || (starts.at_start && is_none b)
+
+-- one can begin at the position
+abbrev pub MayBegin : Starts → Text → ℕ → Type 0
+MayBegin starts haystack i = IsTrue (may_begin starts (before haystack i) (after haystack i))
+
+-- the tree matches from no other position
+abbrev pub AreStartsOfTree : Tree → Starts → Type 0
+AreStartsOfTree tree starts =
+    (haystack : Text) (i j : ℕ) → Matches haystack tree i j → MayBegin starts haystack i
+
+-- a match can begin wherever one could before
+pub record IsWider (before after : Starts) : Type 0 where
+  pub with : (c : ℕ) → begins_with before c ≡ true → begins_with after c ≡ true
+  pub at_start : before.at_start ≡ true → after.at_start ≡ true
+
+-- a match can begin with each character of the set
+abbrev pub HasAll : Starts → Set → Type 0
+HasAll starts set = (c : ℕ) → set c ≡ true → begins_with starts c ≡ true
+
+-- the tree matches from no other position unless it is passable there: it then reads nothing
+abbrev pub BeginsOrPasses : Tree → Starts → (passable : Bool) → Type 0
+BeginsOrPasses tree starts passable =
+    (haystack : Text) (i j : ℕ) → Matches haystack tree i j
+    → MayBegin starts haystack i ⊎ (IsTrue passable × (i ≡ j))
+
+-- a match can begin with what it could begin with before, or with what the other lets it
+pub record IsUnion (before other after : Starts) : Type 0 where
+  pub with : (c : ℕ) → begins_with after c ≡ (begins_with before c || begins_with other c)
+  pub at_start : after.at_start ≡ (before.at_start || other.at_start)
+
+-- a match can begin with what one of these lets it begin with, and with nothing else
+pub record IsUnionOf (parts : List Starts) (starts : Starts) : Type 0 where
+  pub with : (c : ℕ) → begins_with starts c ≡ list_any (λ part. begins_with part c) parts
+  pub at_start : starts.at_start ≡ list_any (λ part. part.at_start) parts

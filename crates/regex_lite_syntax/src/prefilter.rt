@@ -1,0 +1,231 @@
+//! Where matches of trees can begin, which is known by the trees alone.
+//!
+//! [`Heads`] are the characters with which a match of a tree begins. A [`Filter`] has them with a
+//! [`Prefilter`]: the bytes that begin them, where they are few, so that a block of the haystack
+//! is compared with all of them at once. [`ListHeads`] says which of several trees may match from
+//! a position.
+ghost use Rattle.std.specs.Prelude.{◌≡◌, ◌≤◌, ◌<◌, ◌+◌, ◌*◌, ℕ, IfSome};
+ghost use Rattle.std.specs.Prelude.{IsTrue, false, true, length, slice_index};
+ghost use Rattle.regex_lite_syntax.specs.declared.prefilter.Prefilter.TheVariants.{
+  Pair,
+  Four,
+  Eight,
+  Range,
+};
+ghost use Rattle.regex_lite_syntax.specs.Prefilter.Bytes.{is_among, suits, AreAllBytes};
+ghost use Rattle.regex_lite_syntax.specs.Prefilter.Bytes.{IsPrefilterOf, StandsBelow};
+ghost use Rattle.regex_lite_syntax.specs.Prefilter.Starts.{stops_at};
+
+mod filter;
+mod heads;
+pub mod list_heads;
+mod starts;
+
+pub use filter::Filter;
+pub use heads::Heads;
+pub use list_heads::ListHeads;
+pub use starts::Starts;
+
+/// The bytes with which a match begins. If there is room for more, one of them is repeated.
+#[derive(Clone, Copy)]
+pub enum Prefilter {
+    /// One of these bytes, and after it one of those.
+    Pair([u8; 2], [u8; 2]),
+    /// One of these bytes.
+    Four([u8; 4]),
+    /// One of these bytes, of which there are more.
+    Eight([u8; 8]),
+    /// A byte from the first to the second.
+    Range(u8, u8),
+}
+
+impl Prefilter {
+    /// The prefilter for these heads, if few bytes show that a match may begin.
+    pub(crate) fn of(heads: &Heads) -> Option<Prefilter>
+        ensures { IfSome result (IsPrefilterOf heads.now) }
+    {
+        let Some(second) = &heads.second else {
+            return Prefilter::of_first(&heads.first);
+        };
+        if heads.first.len() <= 2 {
+            let (mut firsts, mut seconds) = ([0; 2], [0; 2]);
+            if fill(&mut firsts, &heads.first) && fill(&mut seconds, second) {
+                return Some(Prefilter::Pair(firsts, seconds));
+            }
+        }
+        Prefilter::of_first(&heads.first)
+    }
+
+    /// The prefilter for these first characters.
+    fn of_first(first: &Starts) -> Option<Prefilter>
+        ensures { IfSome result (λ filter. (byte after : ℕ) → suits filter byte after ≡ false
+            → stops_at first.now byte ≡ false) }
+    {
+        let len = first.len();
+        if len <= 4 {
+            let mut bytes = [0; 4];
+            return fill(&mut bytes, first).then_some(Prefilter::Four(bytes));
+        }
+        if len <= 8 {
+            let mut bytes = [0; 8];
+            return fill(&mut bytes, first).then_some(Prefilter::Eight(bytes));
+        }
+        Prefilter::range_of(first, len)
+    }
+
+    /// The prefilter for `len` consecutive first characters.
+    fn range_of(first: &Starts, len: u8) -> Option<Prefilter>
+        ensures { IfSome result (λ filter. (byte after : ℕ) → suits filter byte after ≡ false
+            → stops_at first.now byte ≡ false) }
+    {
+        // With more characters, one of them is seldom far away.
+        let mut bytes = [0; 16];
+        if len > 16 || !fill(&mut bytes, first) {
+            return None;
+        }
+        let (low, high) = bounds(&bytes);
+        (high.saturating_sub(low) < len).then_some(Prefilter::Range(low, high))
+    }
+
+    /// Whether a match may begin in a block of bytes, given the byte after each of them.
+    ///
+    /// Conditions: there are as many bytes after as in the block.
+    // Inlined, so that the length of a block is known, and no byte of it takes a branch.
+    #[inline(always)]
+    pub fn may_begin_in(&self, block: &[u8], next: &[u8]) -> bool
+        requires { length next.now ≡ length block.now }
+        ensures { result ≡ false → (k : ℕ) → k < length block.now
+            → suits self.now (slice_index block.now k) (slice_index next.now k) ≡ false }
+    {
+        match self {
+            Prefilter::Pair(firsts, seconds) => has_pair(block, next, *firsts, *seconds),
+            Prefilter::Four(bytes) => has_one_of_four(block, *bytes),
+            Prefilter::Eight(bytes) => has_one_of_eight(block, *bytes),
+            Prefilter::Range(low, high) => has_between(block, *low, *high),
+        }
+    }
+}
+
+/// Whether one of these bytes, and after it one of those, is in the block.
+#[inline(always)]
+fn has_pair(block: &[u8], next: &[u8], firsts: [u8; 2], seconds: [u8; 2]) -> bool
+    requires { length next.now ≡ length block.now }
+    ensures { result ≡ false → (k : ℕ) → k < length block.now
+        → suits (Pair firsts seconds) (slice_index block.now k) (slice_index next.now k) ≡ false }
+{
+    let [first, or_first] = firsts;
+    let [second, or_second] = seconds;
+    let mut is_there = false;
+    for k in 0..block.len() {
+        let (byte, after) = (block[k], next[k]);
+        is_there |= ((byte == first) | (byte == or_first))
+            & ((after == second) | (after == or_second));
+    }
+    is_there
+}
+
+/// Whether one of these bytes is in the block.
+#[inline(always)]
+fn has_one_of_four(block: &[u8], bytes: [u8; 4]) -> bool
+    ensures { result ≡ false → (k : ℕ) → k < length block.now
+        → is_among bytes (slice_index block.now k) ≡ false }
+{
+    let [a, b, c, d] = bytes;
+    let mut is_there = false;
+    for k in 0..block.len() {
+        let byte = block[k];
+        is_there |= (byte == a) | (byte == b) | (byte == c) | (byte == d);
+    }
+    is_there
+}
+
+/// Whether one of these bytes is in the block.
+#[inline(always)]
+fn has_one_of_eight(block: &[u8], bytes: [u8; 8]) -> bool
+    ensures { result ≡ false → (k : ℕ) → k < length block.now
+        → is_among bytes (slice_index block.now k) ≡ false }
+{
+    let [a, b, c, d, e, f, g, h] = bytes;
+    let mut is_there = false;
+    for k in 0..block.len() {
+        let byte = block[k];
+        is_there |= (byte == a) | (byte == b) | (byte == c) | (byte == d);
+        is_there |= (byte == e) | (byte == f) | (byte == g) | (byte == h);
+    }
+    is_there
+}
+
+/// Whether a byte from one to the other is in the block.
+#[inline(always)]
+fn has_between(block: &[u8], low: u8, high: u8) -> bool
+    ensures { result ≡ false → (k : ℕ) → k < length block.now
+        → suits (Range low high) (slice_index block.now k) 0 ≡ false }
+{
+    let mut is_there = false;
+    for k in 0..block.len() {
+        let byte = block[k];
+        is_there |= (low <= byte) & (byte <= high);
+    }
+    is_there
+}
+
+/// Lists the bytes with which a match can begin, and repeats the first if there is room for more.
+/// Returns whether all of them are listed.
+fn fill(bytes: &mut [u8], starts: &Starts) -> bool
+    ensures length { length bytes.new ≡ length bytes.old }
+    ensures all { result ≡ true → AreAllBytes starts.now bytes.new }
+{
+    if starts.begins_in(128) {
+        return false;
+    }
+    let mut len = 0;
+    for row in 0..8 {
+        if starts.begins_in_row(row) {
+            let Some(more) = fill_row(bytes, len, starts, row) else {
+                return false;
+            };
+            len = more;
+        }
+    }
+    for k in len..bytes.len() {
+        bytes[k] = bytes[0];
+    }
+    true
+}
+
+/// Adds those of the sixteen characters of this row, and returns how many there are then, if there
+/// is room for all.
+fn fill_row(bytes: &mut [u8], len: usize, starts: &Starts, row: u8) -> Option<usize>
+    requires len { len ≤ length bytes.old }
+    requires row { row < 8 }
+    requires written { (byte : ℕ) → byte < 16 * row → stops_at starts.now byte ≡ true
+        → StandsBelow bytes.old len byte }
+    ensures length { length bytes.new ≡ length bytes.old }
+    ensures room { IfSome result (λ more. more ≤ length bytes.new) }
+    ensures written { IfSome result (λ more. (byte : ℕ) → byte < 16 * row + 16
+        → stops_at starts.now byte ≡ true → StandsBelow bytes.new more byte) }
+{
+    let mut len = len;
+    for code in 16 * row..16 * row + 16 {
+        if starts.stops_at(code) {
+            if len == bytes.len() {
+                return None;
+            }
+            bytes[len] = code;
+            len += 1;
+        }
+    }
+    Some(len)
+}
+
+/// The least and the greatest of these bytes.
+fn bounds(bytes: &[u8]) -> (u8, u8)
+    ensures { (byte : ℕ) → is_among bytes.now byte ≡ true → (result.0 ≤ byte) × (byte ≤ result.1) }
+{
+    let (mut low, mut high) = (u8::MAX, 0);
+    for k in 0..bytes.len() {
+        low = low.min(bytes[k]);
+        high = high.max(bytes[k]);
+    }
+    (low, high)
+}
