@@ -9,8 +9,8 @@ pub mod SearchLaws
 pub mod ListSearchLaws
 pub mod Interpolation
 pub mod TemplateLaws
--- What the functions of nfa, and those of the searches, promise one another. No
--- public contract rests on it.
+-- What the functions of nfa, and those of the searches, promise one another. No public contract
+-- rests on it.
 pub mod Nfa
 pub mod Pikevm
 pub mod LazyDfa

@@ -1,4 +1,4 @@
-//! What a pattern says: its errors, its tree and its grammar.
+//! What a pattern says: its errors, its tree and its grammar, and where a match can begin.
 //!
 //! [`Hir::parse`] reads a pattern's characters under the [`Flags`] of a [`Config`] and gives its
 //! tree, [`Hir`], or an [`Error`]. The module `parse` has a reader for each construct and keeps the

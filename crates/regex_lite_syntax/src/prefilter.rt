@@ -1,9 +1,9 @@
-//! Where matches of trees can begin, which is known by the trees alone.
+//! Where matches of trees can begin, as far as the trees alone tell.
 //!
-//! [`Heads`] are the characters with which a match of a tree begins. A [`Filter`] has them with a
-//! [`Prefilter`]: the bytes that begin them, where they are few, so that a block of the haystack
-//! is compared with all of them at once. [`ListHeads`] says which of several trees may match from
-//! a position.
+//! [`Starts`] are the possible first characters, and [`Heads`] also the second ones. A [`Filter`]
+//! has them with a [`Prefilter`], if few bytes begin a match: it compares a block of the haystack
+//! with all of them at once. [`ListHeads`] is an index of several trees: which of them may match
+//! from a position.
 ghost use Rattle.std.specs.Prelude.{◌≡◌, ◌≤◌, ◌<◌, ◌+◌, ◌*◌, ℕ, IfSome};
 ghost use Rattle.std.specs.Prelude.{IsTrue, false, true, length, slice_index};
 ghost use Rattle.regex_lite_syntax.specs.declared.prefilter.Prefilter.TheVariants.{
@@ -29,13 +29,13 @@ pub use starts::Starts;
 /// The bytes with which a match begins. If there is room for more, one of them is repeated.
 #[derive(Clone, Copy)]
 pub enum Prefilter {
-    /// One of these bytes, and after it one of those.
+    /// One of up to two bytes, and after it one of up to two others.
     Pair([u8; 2], [u8; 2]),
-    /// One of these bytes.
+    /// One of up to four bytes.
     Four([u8; 4]),
-    /// One of these bytes, of which there are more.
+    /// One of up to eight bytes.
     Eight([u8; 8]),
-    /// A byte from the first to the second.
+    /// A byte from the first to the second, both included.
     Range(u8, u8),
 }
 
@@ -87,9 +87,10 @@ impl Prefilter {
         (high.saturating_sub(low) < len).then_some(Prefilter::Range(low, high))
     }
 
-    /// Whether a match may begin in a block of bytes, given the byte after each of them.
+    /// Whether a match may begin in a block of bytes, given the byte after each of them. If false,
+    /// the heads rule out each byte of the block.
     ///
-    /// Conditions: there are as many bytes after as in the block.
+    /// Conditions: `next` is as long as `block`.
     // Inlined, so that the length of a block is known, and no byte of it takes a branch.
     #[inline(always)]
     pub fn may_begin_in(&self, block: &[u8], next: &[u8]) -> bool

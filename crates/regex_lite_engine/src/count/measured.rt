@@ -59,6 +59,6 @@ impl AsHir for Measured {
     ghost tree = { tree_of };
 
     fn as_hir(&self) -> &Hir {
-        &self.hir
+        self.hir()
     }
 }

@@ -30,7 +30,7 @@ pub record AreAllBytes (starts : Starts) (bytes : List ℕ) : Type 0 where
   pub ascii : (byte : ℕ) → stops_at starts byte ≡ true → byte < 128
   pub among : (byte : ℕ) → stops_at starts byte ≡ true → is_among bytes byte ≡ true
 
--- a match begins at no byte that doesn't suit, unless that is the last one
+-- the heads rule out each byte that doesn't suit, unless it is the last one
 abbrev pub IsPrefilterOf : Heads → Prefilter → Type 0
 IsPrefilterOf heads filter =
     (bytes : List ℕ) (k : ℕ) → k + 1 < length bytes

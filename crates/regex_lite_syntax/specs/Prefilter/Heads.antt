@@ -4,25 +4,26 @@ use Rattle.std.specs.Prelude.{MatchOption, IfSome, length, slice_index}
 use Rattle.regex_lite_syntax.specs.Text.{Text}
 use Rattle.regex_lite_syntax.specs.Tree.{Tree}
 use Rattle.regex_lite_syntax.specs.Tree.Matches.{Matches}
-use Rattle.regex_lite_syntax.specs.declared.prefilter.heads.Head.{Head}
-use Rattle.regex_lite_syntax.specs.declared.prefilter.heads.Head.TheVariants.{Nothing, One, More}
+use Rattle.regex_lite_syntax.specs.declared.prefilter.heads.HeadLen.{HeadLen}
+use Rattle.regex_lite_syntax.specs.declared.prefilter.heads.HeadLen.TheVariants.{Nothing, One, More}
 use Rattle.regex_lite_syntax.specs.declared.prefilter.heads.Heads.{Heads}
 use Rattle.regex_lite_syntax.specs.declared.prefilter.starts.Starts.{Starts}
 use Rattle.regex_lite_syntax.specs.Prefilter.Starts.{AreStartsOfTree, MayBegin, stops_at}
 
--- what is read between two positions: nothing, one character, or more, of which the second is one
--- of these. What reads one may also read more
-abbrev pub Reads : Starts → Text → (i j : ℕ) → Head → Type 0
+-- what is read between two positions. Nothing: they are the same. One: they are a character apart,
+-- or one of these comes after the first character. More: one of these does. At the haystack's end
+-- any may come
+abbrev pub Reads : Starts → Text → (i j : ℕ) → HeadLen → Type 0
 Reads second haystack i j Nothing = i ≡ j
 Reads second haystack i j One = (j ≡ suc i) ⊎ MayBegin second haystack (suc i)
 Reads second haystack i j More = MayBegin second haystack (suc i)
 
 -- each match of the tree reads this
-abbrev pub ReadsEach : Tree → Starts → Head → Type 0
+abbrev pub ReadsEach : Tree → Starts → HeadLen → Type 0
 ReadsEach tree second head =
     (haystack : Text) (i j : ℕ) → Matches haystack tree i j → Reads second haystack i j head
 
--- each match of the tree reads one of these after its first character
+-- where the tree matches, one of these comes after the first character, or nothing
 abbrev pub AreSecondOfTree : Tree → Starts → Type 0
 AreSecondOfTree tree second =
     (haystack : Text) (i j : ℕ) → Matches haystack tree i j → MayBegin second haystack (suc i)
@@ -31,7 +32,7 @@ pub record AreHeadsOfTree (tree : Tree) (heads : Heads) : Type 0 where
   pub first : AreStartsOfTree tree heads.first
   pub second : IfSome heads.second (AreSecondOfTree tree)
 
--- none can begin at the position: with its first character, or with the one after it
+-- none can begin at the position, judging by the character there or by the one after it
 abbrev pub NeverBegins : Heads → Text → ℕ → Type 0
 NeverBegins heads haystack i =
     (¬ (MayBegin heads.first haystack i))
@@ -43,7 +44,8 @@ IsCutOff heads bytes at =
     MatchOption heads.second ⊥ (λ second. (at + 1 < length bytes) × (slice_index bytes at < 128)
     × (stops_at second (slice_index bytes (at + 1)) ≡ false))
 
--- the byte at this offset, or the one after it, shows that none begins there
+-- the byte at this offset, or the one after it, shows that none begins with the character there. At
+-- the haystack's start one may begin all the same
 abbrev pub IsPassed : Heads → (bytes : List ℕ) → (at : ℕ) → Type 0
 IsPassed heads bytes at =
     (stops_at heads.first (slice_index bytes at) ≡ false) ⊎ IsCutOff heads bytes at

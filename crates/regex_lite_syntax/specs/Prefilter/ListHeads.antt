@@ -35,8 +35,9 @@ is_candidate_at heads haystack p = λ number.
     may_start_at heads haystack p number
     && may_go_on heads.thirds (after haystack (suc (suc p))) number
 
--- The byte at this offset shows that no match begins there, or it and the one after it are two
--- ASCII characters with which none begins
+-- The byte at this offset shows that no match begins with the character there, or it and the one
+-- after it are two ASCII characters with which none begins. At the haystack's start one may begin
+-- all the same
 abbrev pub IsPassedByAll : ListHeads → (bytes : List ℕ) → (at : ℕ) → Type 0
 IsPassedByAll heads bytes at =
     (stops_at heads.any (slice_index bytes at) ≡ false)
@@ -69,8 +70,8 @@ pub record AreHeadsOfTrees (trees : List Tree) (heads : ListHeads) : Type 0 wher
   pub index : IsIndexOf parts heads
   pub thirds : AreMasksOf trees heads.thirds.masks.items
 
--- What the walk over the rows counts on: they have room for each pattern, and no bit of another.
--- None is in the rows of two ASCII characters with which no match begins
+-- What the walk over the rows relies on: they have room for each pattern, and no bit of another. No
+-- pattern is in both rows of two ASCII characters with which no match begins
 pub record IsWalkable (heads : ListHeads) : Type 0 where
   pub sized : IsSized heads.rows heads.count
   pub none_beyond : (row number : ℕ) → row < row_count → heads.count ≤ number

@@ -17,7 +17,7 @@ in_set set code = bit_of_words set.words code == 1
 abbrev pub set_len : AsciiSet → ℕ
 set_len set = count_ones (slice_index set.words 0) + count_ones (slice_index set.words 1)
 
--- there are at least as many as letters
+-- at least 26 are
 abbrev pub is_wide : AsciiSet → Bool
 is_wide set = nat_le 26 (set_len set)
 
@@ -25,7 +25,7 @@ abbrev pub in_some_set : Option AsciiSet → (code : ℕ) → Bool
 in_some_set None code = false
 in_some_set (Some set) code = in_set set code
 
--- there is a set of second characters for each first one
+-- there is a set of second characters for each ASCII first one
 abbrev pub HasAllPairs : ListHeads → Type 0
 HasAllPairs heads = length heads.pairs.items ≡ 128
 
@@ -33,7 +33,7 @@ HasAllPairs heads = length heads.pairs.items ≡ 128
 abbrev pub has_pair : ListHeads → (first second : ℕ) → Bool
 has_pair heads first second = in_some_set (slice_get heads.pairs.items first) second
 
--- at least as many characters as letters can come first before at least as many second ones
+-- at least 26 characters can come first, each before at least 26 second ones
 abbrev pub begin_often : ListHeads → Bool
 begin_often heads = nat_le 26 (length (filter is_wide heads.pairs.items))
 

@@ -59,7 +59,7 @@ pub record IsSized (rows : Rows) (count : ℕ) : Type 0 where
   pub enough : count ≤ 64 * rows.width
   pub few : 64 * rows.width < count + 64
 
--- the bits of a word that are set, the lowest of which has this number
+-- the numbers of the bits that are set in a word, whose bit 0 has this number
 unfoldable pub set_from : (lowest word : ℕ) → List ℕ
 set_from lowest word =
     filter (λ number. bit_at word (number - lowest) == 1) (range_with_len lowest 64)

@@ -11,7 +11,8 @@ use Rattle.regex_lite_syntax.specs.declared.prefilter.list_heads.thirds.Thirds.{
 abbrev pub in_mask : (mask c : ℕ) → Bool
 in_mask mask c = bit_at mask (c % 32) == 1
 
--- each match of the tree that reads this character first has it in the mask
+-- where the tree matches, even if it reads nothing, the next character is in the mask, or there is
+-- none
 abbrev pub BeginsInMask : Tree → (mask : ℕ) → Type 0
 BeginsInMask tree mask =
     (haystack : Text) (i j c : ℕ) → Matches haystack tree i j → after haystack i ≡ Some c

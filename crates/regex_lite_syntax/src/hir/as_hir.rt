@@ -1,16 +1,16 @@
-//! What has a tree beside other things.
+//! Types that carry a tree.
 ghost use Rattle.std.specs.Prelude.{◌≡◌};
 ghost use Rattle.regex_lite_syntax.specs.Tree.{Tree};
 ghost use Rattle.regex_lite_syntax.specs.Tree.Views.{tree_of};
 
 use crate::hir::Hir;
 
-/// What has a tree.
+/// A type that carries a tree, such as one that keeps counts with it.
 pub trait AsHir {
-    /// The tree that it has.
+    /// The tree that a value carries, in the definitions.
     ghost tree: { Self → Tree };
 
-    /// The tree.
+    /// The tree that it carries.
     fn as_hir(&self) -> &Hir
         ensures { tree_of result.now ≡ tree self.now };
 }

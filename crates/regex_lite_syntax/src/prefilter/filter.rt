@@ -9,11 +9,11 @@ use crate::prefilter::Prefilter;
 use crate::prefilter::heads::Heads;
 use std::marker::Model;
 
-/// Where a match of a pattern can begin.
+/// The heads of a tree, and the prefilter for them, if there is one.
 #[derive(Drop)]
 pub struct Filter {
     heads: Heads,
-    /// What blocks of bytes are compared with before these.
+    /// What rules out whole blocks of bytes; `None` if too many bytes can begin a match.
     prefilter: Option<Prefilter>,
 }
 
@@ -30,7 +30,7 @@ impl Model for Filter {
 }
 
 impl Filter {
-    /// Where a match of the tree can begin.
+    /// That of the tree.
     pub fn of(hir: &Hir) -> Filter
         ensures { AreHeadsOfTree (tree_of hir.now) result }
     {
@@ -39,14 +39,14 @@ impl Filter {
         Filter { heads, prefilter }
     }
 
-    /// The two characters with which a match can begin.
+    /// The characters that can come first and second.
     pub fn heads(&self) -> &Heads
         ensures { result.now ≡ self.now }
     {
         &self.heads
     }
 
-    /// What blocks of bytes are compared with before these.
+    /// What rules out whole blocks of bytes; `None` if too many bytes can begin a match.
     pub fn prefilter(&self) -> &Option<Prefilter>
         ensures { IfSome result.now (IsPrefilterOf self.now) }
     {

@@ -4,7 +4,7 @@ ghost use Rattle.regex_lite_syntax.specs.Text.{Text};
 ghost use Rattle.regex_lite_syntax.specs.Tree.{repetition, concat, alternation, trees};
 ghost use Rattle.regex_lite_syntax.specs.Tree.Matches.{Matches};
 ghost use Rattle.regex_lite_syntax.specs.Tree.Views.{tree_of};
-ghost use Rattle.regex_lite_syntax.specs.declared.prefilter.heads.Head.TheVariants.{One};
+ghost use Rattle.regex_lite_syntax.specs.declared.prefilter.heads.HeadLen.TheVariants.{One};
 ghost use Rattle.regex_lite_syntax.specs.Prefilter.Heads.{AreHeadsOfTree, AreSecondOfTree};
 ghost use Rattle.regex_lite_syntax.specs.Prefilter.Heads.{IsCutOff, Reads, ReadsEach};
 ghost use Rattle.regex_lite_syntax.specs.Prefilter.Starts.{IsWider};
@@ -15,6 +15,7 @@ use crate::prefilter::starts::Starts;
 /// Where a match can begin, by the next two characters. No match begins anywhere else.
 #[derive(Drop)]
 pub struct Heads {
+    /// The possible first characters.
     pub first: Starts,
     /// The possible second characters; `None` if a match may be shorter, or if one walk over the
     /// tree doesn't find them.
@@ -24,9 +25,9 @@ pub struct Heads {
 /// The greatest number of ASCII second characters. With more, most text would have one of them.
 const MOST: u8 = 16;
 
-/// What a part of a pattern reads at its beginning.
+/// How much a part of a pattern reads at its beginning.
 #[derive(Clone, Copy)]
-pub(crate) enum Head {
+pub(crate) enum HeadLen {
     /// Nothing at all.
     Nothing,
     /// One character, or several of which the second is known.
@@ -47,7 +48,7 @@ impl Heads {
     }
 
     /// Whether a match that begins with the character at this offset can go on, judging by the next
-    /// byte.
+    /// byte. If false, none begins with it.
     ///
     /// Conditions: the offset is at most the length.
     pub fn may_go_on(&self, bytes: &[u8], at: usize) -> bool
@@ -78,7 +79,7 @@ impl Starts {
         }
         let mut second = Starts::nowhere();
         match second.add_second(hir)? {
-            Head::More if second.len() <= MOST => Some(second),
+            HeadLen::More if second.len() <= MOST => Some(second),
             _ => None,
         }
     }
@@ -86,13 +87,13 @@ impl Starts {
     /// Adds the second characters of the matches of the tree, and returns what a match reads at its
     /// beginning; `None` if the matches differ too much for that.
     #[cycle(add_second)]
-    fn add_second(&mut self, hir: &Hir) -> Option<Head>
+    fn add_second(&mut self, hir: &Hir) -> Option<HeadLen>
         ensures grown { IsWider self.old self.new }
         ensures reads { IfSome result (ReadsEach (tree_of hir.now) self.new) }
     {
         match hir {
-            Hir::Empty | Hir::Look(_) => Some(Head::Nothing),
-            Hir::Char(_) | Hir::Class(_) => Some(Head::One),
+            Hir::Empty | Hir::Look(_) => Some(HeadLen::Nothing),
+            Hir::Char(_) | Hir::Class(_) => Some(HeadLen::One),
             Hir::Repetition { least, body, .. } => {
                 if *least == 0 {
                     return None;
@@ -108,71 +109,71 @@ impl Starts {
 
     /// Adds the characters with which a pass over this body after the first one begins, and returns
     /// what all passes read together.
-    fn add_passes(&mut self, head: Head, body: &Hir) -> Option<Head>
+    fn add_passes(&mut self, head: HeadLen, body: &Hir) -> Option<HeadLen>
         ensures grown { IsWider self.old self.new }
         ensures reads { (least : ℕ) (most : Option ℕ) (greedy : Bool) → 0 < least
             → ReadsEach (tree_of body.now) self.old head
             → IfSome result (ReadsEach (repetition least most greedy (tree_of body.now)) self.new) }
     {
         match head {
-            Head::Nothing => None,
-            Head::One => {
+            HeadLen::Nothing => None,
+            HeadLen::One => {
                 // A longer body isn't walked again: nested loops would be walked once more at each
                 // level.
                 let (Hir::Char(_) | Hir::Class(_)) = body else {
                     return None;
                 };
                 self.add(body);
-                Some(Head::One)
+                Some(HeadLen::One)
             }
-            Head::More => Some(Head::More),
+            HeadLen::More => Some(HeadLen::More),
         }
     }
 
     /// Adds the second characters of these parts in a row, up to the first part that reads one.
     #[cycle(add_second)]
-    fn add_second_of_parts(&mut self, parts: &[Hir]) -> Option<Head>
+    fn add_second_of_parts(&mut self, parts: &[Hir]) -> Option<HeadLen>
         ensures grown { IsWider self.old self.new }
         ensures reads { IfSome result
             (ReadsEach (concat (trees (map tree_of parts.now))) self.new) }
     {
-        let mut head = Head::Nothing;
+        let mut head = HeadLen::Nothing;
         for part in parts {
             head = match head {
-                Head::Nothing => self.add_second(part)?,
-                Head::One => self.add_after_one(part),
-                Head::More => return Some(head),
+                HeadLen::Nothing => self.add_second(part)?,
+                HeadLen::One => self.add_after_one(part),
+                HeadLen::More => return Some(head),
             };
         }
         Some(head)
     }
 
     /// Adds those of a part that follows one character, and returns what both read together.
-    fn add_after_one(&mut self, part: &Hir) -> Head
+    fn add_after_one(&mut self, part: &Hir) -> HeadLen
         ensures grown { IsWider self.old self.new }
         ensures reads { (haystack : Text) (i k j : ℕ) → Reads self.old haystack i k One
             → Matches haystack (tree_of part.now) k j → Reads self.new haystack i j result }
     {
         if self.add(part) {
-            Head::One
+            HeadLen::One
         } else {
-            Head::More
+            HeadLen::More
         }
     }
 
     /// Adds the second characters of these branches.
     #[cycle(add_second)]
-    fn add_second_of_branches(&mut self, branches: &[Hir]) -> Option<Head>
+    fn add_second_of_branches(&mut self, branches: &[Hir]) -> Option<HeadLen>
         ensures grown { IsWider self.old self.new }
         ensures reads { IfSome result
             (ReadsEach (alternation (trees (map tree_of branches.now))) self.new) }
     {
-        let mut head = Head::More;
+        let mut head = HeadLen::More;
         for branch in branches {
             match self.add_second(branch)? {
-                Head::Nothing => return None,
-                Head::One => head = Head::One,
-                Head::More => {}
+                HeadLen::Nothing => return None,
+                HeadLen::One => head = HeadLen::One,
+                HeadLen::More => {}
             }
         }
         Some(head)

@@ -28,26 +28,26 @@ use rows::{AT_START, Rows, SECOND};
 use std::alloc::{AllocError, Global};
 pub use thirds::Thirds;
 
-/// How many small letters there are.
+/// How many lower-case ASCII letters there are.
 const LETTERS: usize = 26;
 
-/// Which patterns may start at a position.
+/// An index of several trees: which of them may match from a position. A tree's number is its index
+/// in the list.
 #[derive(Drop)]
 pub struct ListHeads {
     /// Where a match of any of them can begin.
     pub any: Starts,
-    /// How many patterns there are.
+    /// How many trees there are.
     pub count: usize,
     pub(crate) rows: Rows,
-    /// For each ASCII character with which a match of any of them can begin, those that can come
-    /// second.
+    /// For each ASCII character, those that can come second in a match that begins with it.
     pub(crate) pairs: Vec<AsciiSet>,
     /// The characters that can come third in matches of each.
     pub thirds: Thirds,
 }
 
 impl ListHeads {
-    /// Where matches of these trees can begin. Each has its index as its number.
+    /// The index of these trees.
     ///
     /// # Errors
     ///
@@ -64,8 +64,8 @@ impl ListHeads {
         Ok(ListHeads { thirds, ..heads })
     }
 
-    /// Whether at least as many characters as there are letters can come first before at least as
-    /// many second ones. Then a pattern may begin at most positions in most texts.
+    /// Whether at least 26 ASCII characters can come first, each before at least 26 second ones.
+    /// Then some pattern may start at most positions of most texts.
     pub fn begin_often(&self) -> bool
         ensures { result ≡ begin_often self.now }
     {

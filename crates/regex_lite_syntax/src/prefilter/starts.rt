@@ -16,15 +16,16 @@ use crate::hir::look::Look;
 /// Where a match can begin, by the next character. No match begins anywhere else.
 #[derive(Drop)]
 pub struct Starts {
-    /// Whether a match can begin with any character at all.
+    /// Whether there is a character with which a match can begin. If not, `ascii` and `others`
+    /// count for nothing.
     pub any: bool,
     /// Whether it can begin with the ASCII character that has this code.
-    pub ascii: [bool; 128],
+    pub(crate) ascii: [bool; 128],
     /// Whether a match can begin with a character that is not ASCII.
-    pub others: bool,
+    pub(crate) others: bool,
     /// Whether a match can begin at the haystack's start, whatever comes next. This is separate,
     /// since a search has to begin there once and not at each character.
-    pub at_start: bool,
+    pub(crate) at_start: bool,
 }
 
 impl Starts {
@@ -249,7 +250,8 @@ impl Starts {
         len
     }
 
-    /// Whether the byte may be the first byte of a character with which a match can begin.
+    /// Whether the byte may be the first byte of a character with which a match can begin. What can
+    /// begin at the haystack's start alone is left out.
     pub fn stops_at(&self, byte: u8) -> bool
         ensures { result ≡ stops_at self.now byte }
     {
@@ -262,7 +264,8 @@ impl Starts {
         byte >= 0xC0 && self.others
     }
 
-    /// Whether all of these bytes are ASCII, and a match can begin with none of them.
+    /// Whether it is known at once that a match can begin with none of these four bytes: all are
+    /// ASCII, and none is a character that can come first. False says nothing.
     pub fn passes(&self, a: u8, b: u8, c: u8, d: u8) -> bool
         ensures { IsTrue result → (k : ℕ) → k < 4
             → stops_at self.now (slice_index (a ∷ (b ∷ (c ∷ (d ∷ [])))) k) ≡ false }

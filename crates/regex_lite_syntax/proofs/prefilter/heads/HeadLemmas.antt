@@ -4,11 +4,11 @@ use Rattle.regex_lite_syntax.proofs.Common.{subst, inl, inr, arith, Text, Tree, 
 use Rattle.regex_lite_syntax.proofs.Common.{more, Matches, Chain, SomeBranch, Reads, ReadsEach}
 use Rattle.regex_lite_syntax.proofs.Common.{MayBegin, IsWider, BeginsOrPasses, Starts}
 use Rattle.regex_lite_syntax.specs.Tree.Matches.{Passes}
-use Rattle.regex_lite_syntax.specs.declared.prefilter.heads.Head.{Head}
-use Rattle.regex_lite_syntax.specs.declared.prefilter.heads.Head.TheVariants.{Nothing, One, More}
+use Rattle.regex_lite_syntax.specs.declared.prefilter.heads.HeadLen.{HeadLen}
+use Rattle.regex_lite_syntax.specs.declared.prefilter.heads.HeadLen.TheVariants.{Nothing, One, More}
 use Rattle.regex_lite_syntax.proofs.prefilter.starts.StartLemmas.{may_grown, passes_begin}
 
-pub reads_grown : (s t : Starts) (h : Text) (i j : ℕ) (head : Head) → IsWider s t
+pub reads_grown : (s t : Starts) (h : Text) (i j : ℕ) (head : HeadLen) → IsWider s t
     → Reads s h i j head → Reads t h i j head
 reads_grown s t h i j Nothing grown same = same
 reads_grown s t h i j One grown (inl one) = inl one
@@ -34,25 +34,25 @@ passes_read least most greedy body s t passable some grown first each h i j (n, 
     ]
 
 -- one that isn't nothing
-pub as_one : (s : Starts) (h : Text) (i j : ℕ) (head : Head) → (head ≡ One) ⊎ (head ≡ More)
+pub as_one : (s : Starts) (h : Text) (i j : ℕ) (head : HeadLen) → (head ≡ One) ⊎ (head ≡ More)
     → Reads s h i j head → Reads s h i j One
 as_one s h i j head (inl is) read = subst (Reads s h i j) is read
 as_one s h i j head (inr is) read = inr (subst (Reads s h i j) is read)
 
-pub of_more : (s : Starts) (h : Text) (i j : ℕ) (head : Head) → (head ≡ One) ⊎ (head ≡ More)
+pub of_more : (s : Starts) (h : Text) (i j : ℕ) (head : HeadLen) → (head ≡ One) ⊎ (head ≡ More)
     → MayBegin s h (suc i) → Reads s h i j head
 of_more s h i j head (inl is) second = subst (Reads s h i j) (sym is) (inr second)
 of_more s h i j head (inr is) second = subst (Reads s h i j) (sym is) second
 
 -- after one part more
-pub part_read : (a : Tree) (rest : Trees) (s t : Starts) (before after : Head) (h : Text) (i j : ℕ)
-    → ((k m : ℕ) → Reads s h i k before → Matches h a k m → Reads t h i m after)
+pub part_read : (a : Tree) (rest : Trees) (s t : Starts) (before after : HeadLen) (h : Text)
+    (i j : ℕ) → ((k m : ℕ) → Reads s h i k before → Matches h a k m → Reads t h i m after)
     → (k : ℕ) × Reads s h i k before × Chain h (more a rest) k j
     → (k : ℕ) × Reads t h i k after × Chain h rest k j
 part_read a rest s t before after h i j step (k, read, (m, here, on)) = (m, step k m read here, on)
 
 -- with one branch more
-pub branch_read : (a : Tree) (rest : Trees) (s t : Starts) (before after : Head) (h : Text)
+pub branch_read : (a : Tree) (rest : Trees) (s t : Starts) (before after : HeadLen) (h : Text)
     (i j : ℕ)
     → (Reads s h i j before → Reads t h i j after)
     → (Matches h a i j → Reads t h i j after)

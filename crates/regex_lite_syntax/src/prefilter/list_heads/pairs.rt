@@ -7,7 +7,8 @@ use crate::prefilter::list_heads::ListHeads;
 
 impl ListHeads {
     /// Whether a match of any pattern can begin with the character at this offset, judging by its
-    /// first byte and the byte after that; not at a byte inside a character.
+    /// first byte and the byte after that; false inside a character. What can begin at the
+    /// haystack's start alone is left out.
     ///
     /// Conditions: [`ListHeads::of`] made the index, and the offset is below the length.
     pub fn may_begin_at(&self, bytes: &[u8], at: usize) -> bool

@@ -8,7 +8,8 @@ ghost use Rattle.regex_lite_syntax.specs.Prefilter.Starts.{begins_with};
 use crate::prefilter::starts::Starts;
 use std::alloc::{AllocError, Global};
 
-/// A row for each ASCII character, and one for all others.
+/// How many rows there are for the first character, and as many for the second: one for each ASCII
+/// character, and one for all others.
 const COLUMNS: usize = 129;
 
 /// The first row of those for the second character.

@@ -18,7 +18,7 @@ use std::alloc::{AllocError, Global};
 /// The mask of all characters.
 const ALL: u32 = u32::MAX;
 
-/// The third characters of several patterns.
+/// The characters that can come third in matches of several patterns.
 #[derive(Drop)]
 pub struct Thirds {
     /// A mask for each pattern, by its number.

@@ -12,11 +12,11 @@ use crate::prefilter::list_heads::ListHeads;
 use crate::prefilter::list_heads::rows::{AT_START, first_row, second_row};
 
 impl ListHeads {
-    /// Lists the patterns that may start between these characters, in the order of their numbers.
-    /// What was listed before goes.
+    /// Lists the numbers of the patterns that may start at a position, in ascending order, by the
+    /// character before it and the two after it. What was listed before is dropped.
     ///
-    /// Conditions: [`ListHeads::of`] made the index, of fewer than 2^32 patterns, and the list has
-    /// room for all of them.
+    /// Conditions: [`ListHeads::of`] made the index, of fewer than 2^32 patterns, and the capacity
+    /// of the list is at least their number.
     pub fn list(
         &self,
         before: Option<char>,
@@ -44,10 +44,11 @@ impl ListHeads {
         }
     }
 
-    /// Lists all patterns, as at the end of the haystack, where any of them may match. What was
-    /// listed before goes.
+    /// Lists the numbers of all patterns, as at the end of the haystack, where any of them may
+    /// match. What was listed before is dropped.
     ///
-    /// Conditions: there are fewer than 2^32 patterns, and the list has room for all of them.
+    /// Conditions: there are fewer than 2^32 patterns, and the capacity of the list is at least
+    /// their number.
     pub fn list_all(&self, numbers: &mut Vec<u32>)
         requires few { self.now.count < 2 ^ 32 }
         requires room { self.now.count ≤ vec_capacity numbers.old }
@@ -60,7 +61,8 @@ impl ListHeads {
         }
     }
 
-    /// Whether the pattern with this number may start between these characters.
+    /// Whether the pattern with this number may start at a position, by the character before it and
+    /// the two after it.
     ///
     /// Conditions: [`ListHeads::of`] made the index, and there is such a pattern.
     pub fn may_start(
@@ -111,7 +113,7 @@ fn row_after(first: usize, second: Option<char>) -> usize
     }
 }
 
-/// Adds the numbers of the bits that are set, the lowest of which has this number.
+/// Adds the numbers of the bits that are set. Bit 0 has the number `lowest`.
 fn add_set(word: u64, lowest: usize, numbers: &mut Vec<u32>)
     requires few { lowest + 64 ≤ 2 ^ 32 }
     requires room { length numbers.old.items + length (set_from lowest word)

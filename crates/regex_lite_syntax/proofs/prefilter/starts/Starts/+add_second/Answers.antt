@@ -3,8 +3,8 @@ use Rattle.regex_lite_syntax.proofs.Common.{Trees, Chain, SomeBranch, tree_of, R
 use Rattle.regex_lite_syntax.proofs.Common.{IsWider, Starts, arith, Tree}
 use Rattle.std.proofs.Common.{IfSome}
 use Rattle.regex_lite_syntax.proofs.TreeLemmas.{trees_of, trees_more}
-use Rattle.regex_lite_syntax.specs.declared.prefilter.heads.Head.TheVariants.{One, More}
-use Rattle.regex_lite_syntax.specs.declared.prefilter.heads.Head.{Head}
+use Rattle.regex_lite_syntax.specs.declared.prefilter.heads.HeadLen.TheVariants.{One, More}
+use Rattle.regex_lite_syntax.specs.declared.prefilter.heads.HeadLen.{HeadLen}
 use Rattle.regex_lite_syntax.proofs.prefilter.starts.StartLemmas.{grown_on}
 use Rattle.regex_lite_syntax.proofs.prefilter.heads.HeadLemmas.{as_one, branch_read, of_more}
 use Rattle.regex_lite_syntax.proofs.prefilter.heads.HeadLemmas.{part_read, reads_grown}
@@ -59,8 +59,8 @@ add_second_of_parts-loop-part-preserved t c =
           }
     ]
   where
-    chained : {these those : Trees} (s : Starts) (h : Text) (i j : ℕ) (head : Head) → these ≡ those
-        → (k : ℕ) × Reads s h i k head × Chain h these k j
+    chained : {these those : Trees} (s : Starts) (h : Text) (i j : ℕ) (head : HeadLen)
+        → these ≡ those → (k : ℕ) × Reads s h i k head × Chain h these k j
         → (k : ℕ) × Reads s h i k head × Chain h those k j
     chained s h i j head same (k, read, on) = (k, read, subst (λ z. Chain h z k j) same on)
 

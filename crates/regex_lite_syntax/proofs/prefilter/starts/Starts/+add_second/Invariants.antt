@@ -1,6 +1,6 @@
 use Rattle.regex_lite_syntax.proofs.Common.{◌≡◌, ℕ, ◌⊎◌, map, drop, Text, trees, Chain, SomeBranch}
 use Rattle.regex_lite_syntax.proofs.Common.{tree_of, Reads, IsWider}
-use Rattle.regex_lite_syntax.specs.declared.prefilter.heads.Head.TheVariants.{One, More}
+use Rattle.regex_lite_syntax.specs.declared.prefilter.heads.HeadLen.TheVariants.{One, More}
 use Rattle.regex_lite_syntax.proofs.prefilter.starts.Starts.+add_second.Given as goal
 
 -- the parts before read what is given
