@@ -10,7 +10,7 @@ use Prim.Native.Nat.{ℕ}
 use mathlib.Core.List.{List, [], ◌∷◌, ◌++◌}
 use lib.Dec.{T}
 use seplogic.Ra.Ura.{Ura}
-use mir.Syntax.{Local, impl, tnil}
+use mir.Syntax.{impl, tnil}
 use mir.Val.{has_ty, WT}
 use mir.Raw.{raw as bare}
 use types.Kit.{drop}
@@ -26,11 +26,6 @@ use Rattle.std.proofs.alloc.Calls.{Al}
 use Rattle.std.proofs.cell.Inside.{Good}
 use Rattle.std.proofs.ResultValues.{and_tt}
 use Rattle.regex_lite.specs.contracts.owner.unboxed.Unboxed as unboxed
-
--- a function's locals after its result
-abbrev pub others : List Local → List Local
-others [] = []
-others (l ∷ ls) = ls
 
 -- the machine's value: the pointer beside the allocator
 abbrev pub both : (ptr alloc : Val) → Val

@@ -3,15 +3,17 @@ use Rattle.regex_lite_c.proofs.Common.{Some, None, Option, refl, word, layout, R
 use Rattle.regex_lite_c.proofs.Common.{block_ptr, null_ptr, Sym, Val, vcons, vnil, vptr, move, raw}
 use Rattle.regex_lite_c.proofs.Common.{use0, ‵, ◌$◌, live}
 use mathlib.Core.Path.{◌≡◌}
-use Prim.Native.Nat.{ℕ}
+use Prim.Native.Nat.{ℕ, suc}
 use mathlib.Core.List.{List, [], ◌∷◌}
 use seplogic.Ra.Ura.{Ura}
 use mir.Raw.{raw as bare}
+use mir.Syntax.{Local, Ty, local, ty_ptr}
 use base.Logic.{ent, emp, via, snd∗, guard, guard_i}
 use base.Fml.{Fml}
 use base.Fraction.{full_share}
 use types.Logic.{Logic, sem}
-use types.Kit.{Item, Goal, Seq, Step, step, given, drop, use1, learn, fpick}
+use types.Kit.{Item, Goal, Seq, Step, step, given, drop, use1, learn, fpick, params'}
+use types.ByLocal.{env}
 use contract.Monad.{fact, fact_i, fact_use}
 use denote.Memory.{lone}
 use denote.RawPtr.{Testable, lies_at}
@@ -31,6 +33,23 @@ use Rattle.regex_lite_c.specs.Handles.{holds_of}
 -- the type of the allocator
 abbrev pub Z : RattleType
 Z = Heap.the_row
+
+-- the local of a function's result
+abbrev pub result_local : List Local → (ℕ → ℕ) → Ty × ℕ
+result_local [] l = (ty_ptr, l 0)
+result_local (local τ h ∷ ls) l = (τ, l 0)
+
+-- its other locals
+abbrev pub other_locals : List Local → (ℕ → ℕ) → List (Ty × ℕ)
+other_locals [] l = []
+other_locals (x ∷ ls) l = env ls (λ i. l (suc i))
+
+-- a step that stores arguments in locals, which are named and not written out
+abbrev pub stores_in : {M : Type 1} {𝓤 : Ura M} {𝓛 : Logic 𝓤} {K : Type 0} {Γ' Γ : List (Item 𝓤)}
+    {G : Goal 𝓤 𝓛.H} {vs : List Val} (ls : List Local) (l : ℕ → ℕ)
+    → Step K 𝓛 Γ' G Γ (params' (result_local ls l ∷ other_locals ls l) vs G)
+    → Step K 𝓛 Γ' G Γ (params' (result_local ls l ∷ other_locals ls l) vs G)
+stores_in ls l stored = stored
 
 -- what is held is of the type with this row
 module _ (R : RattleType) where

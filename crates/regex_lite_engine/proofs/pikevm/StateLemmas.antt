@@ -2,6 +2,7 @@
 use Rattle.regex_lite_engine.proofs.Common.{◌≡◌, ℕ, ◌+◌, ◌≤◌, [], length, slice_set, ap, ◌∙◌, arith}
 use Rattle.regex_lite_engine.proofs.Common.{length-set}
 use Rattle.regex_lite_engine.specs.Pikevm.Machine.{State}
+use Rattle.regex_lite_engine.specs.Pikevm.Room.{KeepsPosition}
 
 -- a round begins
 pub record BeginsRound (old new : State) : Type 0 where
@@ -74,3 +75,34 @@ later_same q old new later added same =
     same
     ∙ ap (λ (z : State). record z { row = later.row; frames = later.frames; next = later.next })
     added
+
+-- so the position is kept where the row stays as long
+pub keeps_position : (q : ℕ) (old new later : State)
+    → new ≡ record old { rounds = slice_set old.rounds q old.now }
+    → later ≡ record new { row = later.row; frames = later.frames; next = later.next }
+    → length later.row ≡ length new.row → KeepsPosition old later
+keeps_position q old new later added same wide =
+    let is = later_same q old new later added same in record {
+      round = ap (λ (z : State). z.now) is;
+      threads = ap (λ (z : State). z.threads) is;
+      room = ap (λ (z : State). z.room) is;
+      row = wide ∙ ap (λ (z : State). length z.row) added;
+    }
+
+-- and so is whether there is a cell for each place
+pub keeps_ready : (q : ℕ) (old new later : State)
+    → new ≡ record old { rounds = slice_set old.rounds q old.now }
+    → later ≡ record new { row = later.row; frames = later.frames; next = later.next }
+    → later.ready ≡ old.ready
+keeps_ready q old new later added same =
+    ap (λ (z : State). z.ready) (later_same q old new later added same)
+
+-- the position is still kept when all frames are dropped
+pub keeps_dropped : (old later dropped : State) → dropped ≡ record later { frames = [] }
+    → KeepsPosition old later → KeepsPosition old dropped
+keeps_dropped old later dropped is kept = record {
+  round = ap (λ (z : State). z.now) is ∙ kept.round;
+  threads = ap (λ (z : State). z.threads) is ∙ kept.threads;
+  room = ap (λ (z : State). z.room) is ∙ kept.room;
+  row = ap (λ (z : State). length z.row) is ∙ kept.row;
+}

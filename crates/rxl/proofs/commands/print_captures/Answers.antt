@@ -1,5 +1,6 @@
 use Rattle.std.proofs.Common.{◌++◌, [], None, false, ap, sym, subst, ◌∙◌}
 use Rattle.regex_lite.specs.Ahead.{ahead_of, whole}
+use Rattle.regex_lite.proofs.ReplacementLemmas.{haystack_kept, sought_kept}
 use Rattle.rxl.specs.Printed.{groups_line}
 use Rattle.rxl.proofs.ListLemmas.{GroupsLeadOn, groups_end, groups_more, groups_start}
 use Rattle.rxl.proofs.OutputLemmas.{puts_more, puts_nothing}
@@ -25,6 +26,7 @@ loop-item-preserved g c =
     let inv = c.loop-item.invariant in
     let step = rw c.in_ok-caps.was at c.in-Some.ensures.steps in
     let caps = c.in_ok-caps.caps in
+    let start = whole c.args.regex.now c.args.haystack.now None in
     let old = ahead_of c.loop-item.item-iterator in
     let new = ahead_of c.next.new.self in
     record {
@@ -35,12 +37,10 @@ loop-item-preserved g c =
           (g.W.Write.contents c.args.out.now) (g.W.Write.contents c.loop-item.out)
           (g.W.Write.contents c.print_groups.new.out) inv.printed (groups_line caps.spans) inv.puts
           c.print_groups.ensures;
-      so_far = groups_more (whole c.args.regex.now c.args.haystack.now None)
-          old new c.loop-item.has_match inv.printed step.0 caps inv.so_far step.4 inv.regex
-          inv.haystack
-          step.1;
-      regex = ap (λ a. a.sought) step.4.passed ∙ inv.regex;
-      haystack = ap (λ a. a.haystack) step.4.passed ∙ inv.haystack;
+      so_far = groups_more start old new c.loop-item.has_match inv.printed step.0 caps inv.so_far
+          step.4 inv.regex inv.haystack step.1;
+      regex = sought_kept start {old = old} {found = step.0} step.4 inv.regex;
+      haystack = haystack_kept start {old = old} {found = step.0} step.4 inv.haystack;
     }
 
 pub returns-in_err-caps-clause-kept : goal.returns-in_err-caps-clause-kept

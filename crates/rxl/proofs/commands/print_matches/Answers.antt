@@ -2,6 +2,7 @@ use Rattle.std.proofs.Common.{◌++◌, [], None, false, chars, codes, ap, sym, 
 use Rattle.regex_lite.specs.Ahead.{ahead_of, whole}
 use Rattle.regex_lite.specs.MatchViews.{span_of_match}
 use Rattle.regex_lite.specs.Pieces.{found_span}
+use Rattle.regex_lite.proofs.ReplacementLemmas.{haystack_kept}
 use Rattle.rxl.specs.Printed.{span_line, span_text}
 use Rattle.rxl.proofs.ListLemmas.{LeadsOn, leads_end, leads_more, leads_start}
 use Rattle.rxl.proofs.OutputLemmas.{puts_more, puts_nothing}
@@ -25,6 +26,9 @@ pub loop-found-preserved : goal.loop-found-preserved
 loop-found-preserved g c =
     let inv = c.loop-found.invariant in
     let step = c.in-Some.ensures.steps in
+    let start = whole c.args.regex.now c.args.haystack.now None in
+    let old = ahead_of c.loop-found.found-iterator in
+    let new = ahead_of c.next.new.self in
     let span = span_of_match c.in-Some.found in
     let holds = g.W.Write.contents c.loop-found.out in
     let done = g.W.Write.contents c.text.new.out in
@@ -38,10 +42,9 @@ loop-found-preserved g c =
           (puts_more c.loop-found.output c.print_span.new.output c.text.new.self holds
           (g.W.Write.contents c.print_span.new.out) done (span_text span) (codes "\n")
           c.print_span.ensures c.text.ensures);
-      so_far = leads_more (whole c.args.regex.now c.args.haystack.now None)
-          (ahead_of c.loop-found.found-iterator) (ahead_of c.next.new.self) c.loop-found.has_match
-          inv.printed step.0 (span_line span) inv.so_far step.4 (ap span_line is);
-      haystack = ap (λ a. a.haystack) step.4.passed ∙ inv.haystack;
+      so_far = leads_more start old new c.loop-found.has_match inv.printed step.0 (span_line span)
+          inv.so_far step.4 (ap span_line is);
+      haystack = haystack_kept start {old = old} {found = step.0} step.4 inv.haystack;
     }
 
 pub returns-clause-ok : goal.returns-clause-ok

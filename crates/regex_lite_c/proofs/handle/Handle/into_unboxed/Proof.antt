@@ -8,6 +8,7 @@ use Rattle.regex_lite_c.proofs.Common.{get_in, look_at, pass_all, sets, by, !, f
 use Rattle.regex_lite_c.proofs.Common.{move, qed, raw, split, suffices, use0, ‵, ◌$◌, ◌∵◌, ◌⊛◌}
 use Rattle.regex_lite_c.proofs.Common.{live, agg, sub, whole, and_then, enter, fld, lit, no_more}
 use Rattle.regex_lite_c.proofs.Common.{of_opd, returns, stop}
+use mir.Syntax.{tcons, tnil, ty_ptr}
 use types.Kit.{at_ret, drop}
 use types.Run.{bin, first, branches, skips, exec, returns_within}
 use types.ByLocal.{is, env}
@@ -20,6 +21,7 @@ use Rattle.std.proofs.alloc.Global.TheLaws as HeapLaws
 use Rattle.regex_lite.proofs.PointerLemmas.{run_with}
 use Rattle.regex_lite.proofs.UnboxedLemmas.{both, both_good}
 use Rattle.regex_lite_c.proofs.handle.HandleLemmas.{Out, Z, either, had, handed_out, stated}
+use Rattle.regex_lite_c.proofs.handle.HandleLemmas.{stores_in}
 use Rattle.regex_lite.specs.contracts.string.regex.Regex as stored
 use Rattle.regex_lite_c.specs.contracts.handle.Handle as handle
 use Rattle.regex_lite_c.specs.contracts.handle.Handle.into_unboxed as f
@@ -49,6 +51,7 @@ into_unboxed_spec 𝓤 𝓛 𝓜 𝓡 wired =
     let us = z.0.4.0 in
     let vs = z.0.4.1.0 in
     let Post : Val → SProp 𝓤 = (walk_of 𝓛 En hs cl).post z in
+    let fields = tcons ty_ptr tnil in
     let Run : List Val → SProp 𝓤 = λ ws. WpFn 𝓤 H 𝓣.C 𝓣.Λ fn ws Post in
     qed 𝓛 ((‵ ftrue ⊛ ‵ (owns (types_at En.signature.params z.0.0) z.0.3 z.0.4))
     ∷ raw ((cl z.0.0 z.0.3).requires z.1) ∷ []) ∵
@@ -58,12 +61,12 @@ into_unboxed_spec 𝓤 𝓛 𝓜 𝓡 wired =
     had R ! ν c v a us vs (λ h eu ev fits.
     -- [what is held; the allocator; nothing; nothing]
     suffices ! (Run (word c ∷ h ∷ [])) (run_with 𝓤 Run eu ev) $
+    enter ! 𝓣.C 𝓣.Λ fn (word c ∷ h ∷ []) Post $
+    alloc_all ! (λ l. stores_in fn.locals l (pass_all ! refl (word-Good ν c, (fits, tt))) $
     either R ! a c v
-    (λ e n. enter ! 𝓣.C 𝓣.Λ fn (word c ∷ h ∷ []) Post $
-    alloc_all ! (λ l. pass_all ! refl (word-Good ν c, (fits, tt)) $
-    sets !
-    (is ! (of_opd ! (get_in ! (fld ! refl (stop !)) (sub ! 0 refl (whole !)))) (ap ptr_val e)) refl
-    (tt, record { fits = lit< tt }) $
+    (λ e n. sets !
+    (is ! (of_opd ! (get_in ! (fld ! refl (stop !)) (sub ! {τs = fields} 0 refl (whole !))))
+    (ap ptr_val e)) refl (tt, record { fits = lit< tt }) $
     sets ! (bin ! (get ! refl) (lit ! tt) tt) refl (tt, tt) $ first ! $ branches ! (get ! refl)
     (λ _.
     sets ! (agg ! (and_then ! (lit ! tt) (no_more !))) refl (tt, (record { fits = lit< tt }, tt)) $
@@ -72,16 +75,15 @@ into_unboxed_spec 𝓤 𝓛 𝓜 𝓡 wired =
     nothing ! $ nothing ! $ fjoin ! $ nothing ! $ fjoin ! $
     returns_within ! Post refl (look_at ! 0 refl) $ free_all ! refl $ keep ! (5 ∷ 0 ∷ 1 ∷ 2 ∷ []) $
     by ! (leaves 𝓛 En hs cl z (live 0 vnil) None (tt, (tt, tt)) (tt, (tt, tt))))
-    (λ wrong. absurd wrong)))
-    (λ b o x e s can. enter ! 𝓣.C 𝓣.Λ fn (word c ∷ h ∷ []) Post $
-    alloc_all ! (λ l. pass_all ! refl (word-Good ν c, (fits, tt)) $
+    (λ wrong. absurd wrong))
+    (λ b o x e s can.
     let Ev = env fn.locals l in
     let made : Val = both (vptr b o) h in
     let typed = both_good R Z HeapLaws.the_row_laws HeapImpl.ghosts b o h fits in
     let out : (Out R).Denot = record { ptr = block_ptr b o; alloc = a; value = x } in
     sets !
-    (is ! (of_opd ! (get_in ! (fld ! refl (stop !)) (sub ! 0 refl (whole !)))) (ap ptr_val e)) refl
-    (tt, tt) $
+    (is ! (of_opd ! (get_in ! (fld ! refl (stop !)) (sub ! {τs = fields} 0 refl (whole !))))
+    (ap ptr_val e)) refl (tt, tt) $
     sets ! (bin ! (get ! refl) (lit ! tt) (tests_null (block_ptr b o) can)) refl (tt, tt) $
     first ! $ branches ! (get ! refl)
     (λ wrong. absurd wrong)

@@ -13,13 +13,20 @@ use Rattle.regex_lite.proofs.Common.{no_more, of_opd, returns, stop}
 use mathlib.Core.Path.{◌≡◌}
 use mathlib.Core.Bool.{true}
 use Prim.Native.Nat.{ℕ, ◌-◌, ◌<◌, ◌^◌}
-use prog.Wp.{Wp, after_block, after_seq, at_return}
+use seplogic.Ra.Ura.{Ura}
+use mir.Syntax.{Fn}
+use prog.Model.{Model}
+use prog.Wp.{Calls, Loops, Wp, after_block, after_seq, at_return}
+use contract.Running.{Running}
+use types.Logic.{Logic}
 use types.Kit.{any_q}
 use types.Run.{look, store, load, lit, neg_lit, bin, assigns, skips, branches, returns_within}
 use types.Part.{whole}
 use types.Match.{live}
 use types.ByLocal.{is}
 use denote.Steps.{nothing}
+use denote.Triple.Clauses.{Clauses}
+use denote.Triple.Statement.{Contract}
 use mathlib.Core.List.{List, [], ◌∷◌}
 use Rattle.std.specs.contracts.option.Option as Opt
 use types.RcWeak.{part, part_in}
@@ -43,6 +50,31 @@ use Rattle.regex_lite.proofs.owner.counted.Counted.release.Statement as stated
 use Rattle.regex_lite.proofs.owner.counted.Counted.release.Code as code
 use Rattle.regex_lite.proofs.owner.counted.Counted.release.Code.{code}
 
+-- What each step of the proof names. As definitions they stay names there, where a `let` would be
+-- written out.
+abbrev kept : (T : RattleType) → Stays (F.ended T).signature.params (F.ended T).kept
+kept T = (
+  stay_dropped (plain (λ _. C.the_row (param 0 T))) no,
+  (stay_dropped (plain (λ _. Heap.the_row)) yes, tt),
+)
+
+abbrev function : RattleType → Fn
+function T = inst_fn (layouts (a_type ∷ []) (T, tt)) code.function
+
+module _ {M : Type 1} {𝓤 : Ura M} (𝓛 : Logic 𝓤) (𝓜 : Model 𝓤 𝓛.H) (𝓡 : Running 𝓤 𝓛.H 𝓜)
+    (T : RattleType) where
+  abbrev clauses : Clauses 𝓤 (F.ended T)
+  clauses = F.clauses T 𝓛 𝓜.mem 𝓡.returns
+
+  abbrev calls : Calls 𝓤 𝓛.H
+  calls = (inner 𝓛 (F.ended T) (kept T) clauses 𝓜 𝓡).C
+
+  abbrev loops : Loops 𝓤 𝓛.H
+  loops = (inner 𝓛 (F.ended T) (kept T) clauses 𝓜 𝓡).Λ
+
+  abbrev walk : Contract 𝓤
+  walk = walk_of 𝓛 (F.ended T) (kept T) (held 𝓛 (F.ended T) (kept T) clauses)
+
 pub release_spec : {M : Type 1} → stated.statement M
 unfolding code
 release_spec 𝓤 𝓛 𝓜 𝓡 wired T L =
@@ -54,12 +86,12 @@ release_spec 𝓤 𝓛 𝓜 𝓡 wired T L =
     let Out : RattleType = Unboxed B Z HeapLaws.the_row_laws HeapImpl.ghosts in
     let ν : Sym = (C.the_type R).name in
     let En = F.ended T in
-    let cl = F.clauses T 𝓛 𝓜.mem 𝓡.returns in
+    let cl = clauses 𝓛 𝓜 𝓡 T in
     let inst = layouts (a_type ∷ []) (T, tt) in
-    let fn = inst_fn inst code.function in
-    let hs : Stays En.signature.params En.kept =
-    (stay_dropped (plain (λ _. C.the_row R)) no, (stay_dropped (plain (λ _. Z)) yes, tt)) in
-    let 𝓣 = inner 𝓛 En hs cl 𝓜 𝓡 in
+    let fn = function T in
+    let hs = kept T in
+    let 𝓒 = calls 𝓛 𝓜 𝓡 T in
+    let Λ = loops 𝓛 𝓜 𝓡 T in
     handed_at 𝓛 En hs cl 𝓜 𝓡 (
       Goes-dropped 𝓛 1 (plain (λ _. C.the_row R)) no (λ κs x f. refl),
       (Goes-dropped 𝓛 1 (plain (λ _. Z)) yes (λ κs x f. refl), tt),
@@ -68,15 +100,15 @@ release_spec 𝓤 𝓛 𝓜 𝓡 wired T L =
     let x = z.0.3.0.value in
     let us = z.0.4.0 in
     let vs = z.0.4.1.0 in
-    let Post : Val → SProp 𝓤 = (walk_of 𝓛 En hs (held 𝓛 En hs cl)).post z in
-    let Run : List Val → SProp 𝓤 = λ ws. WpFn 𝓤 H 𝓣.C 𝓣.Λ fn ws Post in
+    let Post : Val → SProp 𝓤 = (walk 𝓛 𝓜 𝓡 T).post z in
+    let Run : List Val → SProp 𝓤 = λ ws. WpFn 𝓤 H 𝓒 Λ fn ws Post in
     qed 𝓛 (((‵ (flft z.0.0.0 z.0.1.0) ⊛ ‵ ftrue)
     ⊛ ‵ (owns (types_at En.signature.params z.0.0) z.0.3 z.0.4))
     ∷ ‵ (ftok every) ∷ raw (fact 𝓤 (z.0.0.0 ⊑ T.lives)) ∷ ‵ ftrue ∷ []) ∵
     split ! $ move ! (1 ∷ []) $ fsplit ! $ handle_had R c x ! ν us (λ a s one eu. move ! (3 ∷ []) $
     fsplit ! $ handle_tells al ! z.0.3.1.0 vs (λ h ev fits. keep ! (2 ∷ 3 ∷ 6 ∷ 0 ∷ 5 ∷ []) $
     suffices ! (Run (word c ∷ h ∷ [])) (run_with 𝓤 Run eu ev) $
-    enter ! 𝓣.C 𝓣.Λ fn (word c ∷ h ∷ []) Post $
+    enter ! 𝓒 Λ fn (word c ∷ h ∷ []) Post $
     alloc_all ! (λ l. pass_all ! refl (word-Good ν c, (fits, tt)) $
     let Ev : Env 𝓤 H = env fn.locals l in
     move ! (1 ∷ 0 ∷ 2 ∷ []) $ opens R c x a ! tt s (λ n w cb co e fw some_n.
@@ -99,9 +131,9 @@ release_spec 𝓤 𝓛 𝓜 𝓡 wired T L =
     (ends_at 𝓛 En hs (held 𝓛 En hs cl) z (live 0 vnil) None (tt, (tt, tt)) (tt, (tt, tt))) $
     nothing ! $ nothing ! $ fjoin ! $ nothing ! $ fjoin ! $ join ! $ move ! (1 ∷ 0 ∷ []) $
     join ! $ frame ! $ says ! tt $ done !) (λ below. skips ! $
-    exec ! 𝓣.C 𝓣.Λ Ev (after 3 (inside (head (after 2 fn.body))))
+    exec ! 𝓒 Λ Ev (after 3 (inside (head (after 2 fn.body))))
     (any_q (after_block 𝓤 H (after_seq 𝓤 H
-    (Wp 𝓤 H 𝓣.C 𝓣.Λ Ev (after 3 fn.body) (at_return 𝓤 H Ev Post)) (at_return 𝓤 H Ev Post)))) $
+    (Wp 𝓤 H 𝓒 Λ Ev (after 3 fn.body) (at_return 𝓤 H Ev Post)) (at_return 𝓤 H Ev Post)))) $
     let low : w < 2 ^ 64 - 1 = omega (arith, is_not w (2 ^ 64 - 1) below) in
     move ! (1 ∷ []) $ counted R c x a ! n w low (λ wn _.
     -- [the word; the value; the weaks; the part; what shuts; the allocator; the tokens]
@@ -123,7 +155,7 @@ release_spec 𝓤 𝓛 𝓜 𝓡 wired T L =
     (ends_at 𝓛 En hs (held 𝓛 En hs cl) z (live 0 vnil) None (tt, (tt, tt)) (tt, (tt, tt))) $
     nothing ! $ nothing ! $ fjoin ! $ nothing ! $ fjoin ! $ join ! $ move ! (1 ∷ 0 ∷ []) $
     join ! $ frame ! $ says ! tt $ done !)
-    (λ last. skips ! $ exec ! 𝓣.C 𝓣.Λ Ev (after 3 fn.body) (at_ret Ev Post) $
+    (λ last. skips ! $ exec ! 𝓒 Λ Ev (after 3 fn.body) (at_ret Ev Post) $
     let w1 : w ≡ 1 = is_so w 1 last in let n1 : n ≡ 1 = sym wn ∙ w1 in
     let block : B.Denot = record { count = 1; value = x } in
     let made : Out.Denot = record { ptr = block_ptr cb co; alloc = z.0.3.1.0; value = block } in

@@ -1,5 +1,5 @@
 -- `into_box` makes the box again.
-use Rattle.regex_lite.proofs.Common.{◌≡◌, suc, List, [], ◌∷◌, sym, refl, ap, subst, Goes-blank}
+use Rattle.regex_lite.proofs.Common.{◌≡◌, List, [], ◌∷◌, sym, refl, ap, subst, Goes-blank}
 use Rattle.regex_lite.proofs.Common.{leaves, proved_at, flft, ftrue, SProp, ent, id⊢, ◌⊑◌, fact}
 use Rattle.regex_lite.proofs.Common.{tables, no, layout, param, param_laws, RattleType, owns}
 use Rattle.regex_lite.proofs.Common.{block_ptr, plain, types_at, triple_of, Stays, stay_dropped}
@@ -27,7 +27,7 @@ use Rattle.std.proofs.BoxSteps.Steps.{box_out, box_in}
 use Rattle.std.specs.contracts.boxed.Box.from_raw as callee
 use Rattle.std.proofs.boxed.Box.from_raw.Met.{met}
 use Rattle.regex_lite.proofs.PointerLemmas.{run_with_one}
-use Rattle.regex_lite.proofs.UnboxedLemmas.{Unboxed, both, both_good, others, unboxed_had}
+use Rattle.regex_lite.proofs.UnboxedLemmas.{Unboxed, both, both_good, unboxed_had}
 use Rattle.regex_lite.specs.contracts.owner.unboxed.Unboxed.into_box.{ended, clauses}
 use Rattle.regex_lite.specs.contracts.owner.unboxed.Unboxed.into_box.Key.{name as #self}
 use Rattle.regex_lite.proofs.owner.unboxed.Unboxed.into_box.Statement.{statement}
@@ -101,8 +101,7 @@ into_box_spec 𝓤 𝓛 𝓜 𝓡 wired T A L LA g d dx dd allocator glue glued 
     alloc_all ! (λ l.
     let Ev = env fn.locals l in
     let held = holding 𝓛 Ev ((5, h) ∷ (3, h) ∷ (2, vptr b o) ∷ (1, w) ∷ []) in
-    pass_all ! {E = env (others fn.locals) (λ i. l (suc i))} refl
-    (both_good R Z LZ g b o h fits, tt) $
+    pass_all ! refl (both_good R Z LZ g b o h fits, tt) $
     sets ! (of_opd ! (get_in ! (fld ! refl (stop !)) (sub ! 0 refl (whole !)))) refl (tt, tt) $
     sets ! (of_opd ! (get_in ! (fld ! refl (stop !)) (sub ! 1 refl (whole !)))) refl fits $
     first ! $ blocks ! $ sets ! (of_opd ! (get ! refl)) refl fits $

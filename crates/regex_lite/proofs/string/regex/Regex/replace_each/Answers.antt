@@ -13,7 +13,7 @@ use Rattle.regex_lite.proofs.string.regex.Regex.replace_each.Goals as goal
 pub take_back-requires : goal.take_back-requires
 take_back-requires g c =
     let step = rw c.in_ok-caps.was at c.in-Some.ensures.steps in
-    of_passed c.in_ok-caps.caps step.5 step.2
+    of_passed {found = step.0} c.in_ok-caps.caps step.5 step.2
 
 pub returns-in_err-replace_with-clause-refused : goal.returns-in_err-replace_with-clause-refused
 returns-in_err-replace_with-clause-refused g c =
@@ -27,7 +27,8 @@ returns-in_err-replace_with-clause-refused g c =
       | inl out ↦ inl (same ∙ out)
       | inr asked ↦
           inr (subst (IsRefused g.R.Replacer.fixed g.R.Replacer.appends c.args.rep start) (sym same)
-          (in_turn_refused g.R.Replacer.fixed g.R.Replacer.appends inv.so_far step.5 are asked.1))
+          (in_turn_refused g.R.Replacer.fixed g.R.Replacer.appends {found = step.0} inv.so_far
+          step.5 are asked.1))
     ])
 
 pub items-preserved : goal.items-preserved
@@ -49,13 +50,13 @@ items-preserved g c =
     asked.2 ∙ ap (λ bytes. (made ++ slice_range bytes from (whole_span caps).0) ++ asked.0) same in
     record {
       can_append = c.replace_with.ensures.again;
-      so_far = in_turn_passed g.R.Replacer.fixed g.R.Replacer.appends inv.so_far passes are asked.1
-          (ap (λ at. unwrap_or at 0) done.ended) written;
+      so_far = in_turn_passed g.R.Replacer.fixed g.R.Replacer.appends {found = step.0} inv.so_far
+          passes are asked.1 (ap (λ at. unwrap_or at 0) done.ended) written;
       begun = begun_on start old _ made _ _ _ (whole_span caps).1 step.0
           (ap (option_map (position_at start.haystack)) c.requires.begins) inv.begun passes
           done.ended;
-      regex = sought_kept start passes inv.regex;
-      haystack = haystack_kept start passes inv.haystack;
+      regex = sought_kept start {found = step.0} passes inv.regex;
+      haystack = haystack_kept start {found = step.0} passes inv.haystack;
       ended = done.ended
           ∙ sym (ap (λ (own : Scanning RegexSearching). own.ended) c.take_back.ensures ∙ step.4);
       same = c.replace_with.ensures.haystack ∙ inv.same;

@@ -2,11 +2,12 @@
 use Rattle.regex_lite_c.proofs.Common.{◌≡◌, List, [], ◌∷◌, Some, Option, refl, word, word-Good}
 use Rattle.regex_lite_c.proofs.Common.{leaves, proved_at, ftrue, SProp, tables, yes, RattleType}
 use Rattle.regex_lite_c.proofs.Common.{owns, Ptr, block_ptr, plain, types_at, nothing, Goes-dropped}
-use Rattle.regex_lite_c.proofs.Common.{Stays, stay_dropped, walk_of, Sym, Val, vptr, WpFn}
+use Rattle.regex_lite_c.proofs.Common.{Stays, layout, stay_dropped, walk_of, Sym, Val, vptr, WpFn}
 use Rattle.regex_lite_c.proofs.Common.{alloc_all, free_all, get, get_in, look_at, pass_all, sets}
 use Rattle.regex_lite_c.proofs.Common.{by, !, fjoin, fsplit, keep, move, qed, raw, split, suffices}
 use Rattle.regex_lite_c.proofs.Common.{‵, ◌$◌, ◌∵◌, ◌⊛◌, agg, sub, whole, and_then, enter, fld}
 use Rattle.regex_lite_c.proofs.Common.{no_more, of_opd, returns, stop}
+use mir.Syntax.{tcons, tnil, ty_ptr}
 use types.Kit.{drop, fpack}
 use Rattle.std.specs.contracts.impls.GlobalAllocator.TheImpl as HeapImpl
 use Rattle.std.proofs.alloc.Global.TheLaws as HeapLaws
@@ -48,13 +49,14 @@ of_spec 𝓤 𝓛 𝓜 𝓡 wired =
     let w : Val = both (vptr b o) h in
     let typed = both_good R Z LZ g b o h fits in
     let c : Ptr = block_ptr b o in
+    let fields = tcons ty_ptr (tcons (layout Z) tnil) in
     let held : Option R.Denot = Some v.value in
     fpack ! Z.Denot (λ a. boxed R a c v.value) v.alloc $
     -- [the box; the allocator; nothing; nothing]
     suffices ! (Run (w ∷ [])) (run_with_one 𝓤 Run ws) $
     enter ! 𝓣.C 𝓣.Λ fn (w ∷ []) Post $ alloc_all ! (λ l. pass_all ! refl (typed, tt) $
-    sets ! (of_opd ! (get_in ! (fld ! refl (stop !)) (sub ! 0 refl (whole !)))) refl (tt, tt) $
-    sets ! (of_opd ! (get ! refl)) refl (tt, tt) $
+    sets ! (of_opd ! (get_in ! (fld ! refl (stop !)) (sub ! {τs = fields} 0 refl (whole !)))) refl
+    (tt, tt) $ sets ! (of_opd ! (get ! refl)) refl (tt, tt) $
     sets ! (agg ! (and_then ! (get ! refl) (no_more !))) refl (word-Good ν c) $
     word_made [] ν c ! $ fjoin ! $
     stated R {P = held ≡ held} refl $ nothing ! $ nothing ! $ fjoin ! $

@@ -21,6 +21,10 @@ has_row : (best : Best) (i : Told) (at : ℕ) (row row' : Row) → best ≡ Some
     → best ≡ Some (i, at, row')
 has_row best i at row row' is same = cc
 
+-- where a row is taken up, there are cells for all places just as before
+still_ready : (old new : State) → new ≡ record old { row = new.row } → new.ready ≡ old.ready
+still_ready old new same = ap (λ (m : State). m.ready) same
+
 -- the k-th of the ways is taken up
 module _ (starts : List Start) (told : ℕ → Told) (best : Best) (m w : State) (k : ℕ)
     (kept : KeepsPosition m w) where
@@ -81,8 +85,8 @@ explore-requires-clause-room g c =
 
 pub explore-requires-clause-ready : goal.explore-requires-clause-ready
 explore-requires-clause-ready g c = λ all.
-    ap (λ (m : State). m.ready) c.take_up-place.ensures.memory ∙ c.ways.invariant.ready
-    ∙ c.requires.ready all
+    still_ready c.ways.self.walk.memory c.take_up-place.new.self.memory
+    c.take_up-place.ensures.memory ∙ c.ways.invariant.ready ∙ c.requires.ready all
 
 pub ways-init : goal.ways-init
 ways-init g c = record {
@@ -112,7 +116,7 @@ went g c =
     let starts = g.P.Patterns.starts a.patterns.now in let told = g.S.Beginning.told_of a.here.at in
     let lt : c.ways.k < length (ways_at starts told a.self.now) =
     (let t = c.ways-test.true in let e = c.ways-k-end.ensures told in omega (arith, t, e)) in
-    follows_on v.followed
+    follows_on {ways = ways_at starts told a.self.now} v.followed
     (taken_first starts told (best_of a.self.now.best) i.memory c.ways.self.walk.memory c.ways.k
     v.followed.kept lt (
       c.take_up-place.result.0,
@@ -143,7 +147,9 @@ ways-preserved g c =
       best = v.best;
       counts = still_counted v.counts
           (subst (λ s. StaysCounted s y.steps) up.steps more.counts);
-      ready = more.ready ∙ ap (λ (m : State). m.ready) up.memory ∙ v.ready;
+      ready = more.ready
+          ∙ still_ready c.ways.self.walk.memory c.take_up-place.new.self.memory up.memory
+          ∙ v.ready;
     }
 
 -- it comes to a match, and nothing is left

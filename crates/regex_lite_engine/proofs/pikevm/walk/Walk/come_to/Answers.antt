@@ -10,6 +10,7 @@ use Rattle.regex_lite_engine.specs.Pikevm.Room.{TakesFrame}
 use Rattle.regex_lite_engine.proofs.search.CountLemmas.{counted_all, entered_once, tried_once}
 use Rattle.regex_lite_engine.proofs.pikevm.RoomLemmas.{left_room}
 use Rattle.regex_lite_engine.proofs.pikevm.StateLemmas.{later_same, still_fits}
+use Rattle.regex_lite_engine.proofs.pikevm.StateLemmas.{keeps_dropped, keeps_position, keeps_ready}
 use Rattle.regex_lite_engine.proofs.pikevm.WalkLemmas.{marked_in}
 use Rattle.regex_lite_engine.proofs.pikevm.WentLemmas.{goes_on, was_met, went_entered, went_seen}
 use Rattle.regex_lite_engine.proofs.search.PlaceLemmas.{got_place}
@@ -125,17 +126,9 @@ pub returns-in_default-clause-kept : goal.returns-in_default-clause-kept
 returns-in_default-clause-kept g c =
     let a = c.args in let w = a.self.now.memory in let n = c.insert.new.self in
     let o = c.enter-onward.result in let e = c.enter-onward.new.memory in
-    let same =
-    later_same a.place w n e c.insert.ensures.added c.enter-onward.ensures.same in record {
-      round = ap (λ (z : State). z.now) same;
-      threads = ap (λ (z : State). z.threads) same;
-      room = ap (λ (z : State). z.room) same;
-      row =
-          enters_width a.here (g.S.Beginning.told a.start) n
-          (record e { frames = onto o e.frames }) (completes o) c.look-found.result.now
-          c.enter-onward.ensures.entered
-          ∙ ap (λ (z : State). length z.row) c.insert.ensures.added;
-    }
+    keeps_position a.place w n e c.insert.ensures.added c.enter-onward.ensures.same
+    (enters_width a.here (g.S.Beginning.told a.start) n (record e { frames = onto o e.frames })
+    (completes o) c.look-found.result.now c.enter-onward.ensures.entered)
 
 pub insert-requires-clause-place : goal.insert-requires-clause-place
 insert-requires-clause-place g c =
@@ -143,15 +136,13 @@ insert-requires-clause-place g c =
 
 pub returns-then-not-insert-clause-kept : goal.returns-then-not-insert-clause-kept
 returns-then-not-insert-clause-kept g c =
-    let same = c.insert.ensures.added in record {
-      round = ap (λ (z : State). z.now) same;
-      threads = ap (λ (z : State). z.threads) same;
-      room = ap (λ (z : State). z.room) same;
-      row = ap (λ (z : State). length z.row) same;
-    }
+    let n = c.insert.new.self in
+    keeps_position c.args.place c.args.self.now.memory n n c.insert.ensures.added refl refl
 
 pub returns-then-not-insert-clause-ready : goal.returns-then-not-insert-clause-ready
-returns-then-not-insert-clause-ready g c = ap (λ (z : State). z.ready) c.insert.ensures.added
+returns-then-not-insert-clause-ready g c =
+    let n = c.insert.new.self in
+    keeps_ready c.args.place c.args.self.now.memory n n c.insert.ensures.added refl
 
 pub returns-then-not-insert-clause-tries : goal.returns-then-not-insert-clause-tries
 returns-then-not-insert-clause-tries g c =
@@ -165,25 +156,16 @@ pub returns-in-Complete-clause-kept : goal.returns-in-Complete-clause-kept
 returns-in-Complete-clause-kept g c =
     let a = c.args in let w = a.self.now.memory in let n = c.insert.new.self in
     let o = c.enter-onward.result in let e = c.enter-onward.new.memory in
-    let dropped = c.drop_frames.ensures in
-    let same =
-    later_same a.place w n e c.insert.ensures.added c.enter-onward.ensures.same in record {
-      round = ap (λ (z : State). z.now) dropped ∙ ap (λ (z : State). z.now) same;
-      threads = ap (λ (z : State). z.threads) dropped ∙ ap (λ (z : State). z.threads) same;
-      room = ap (λ (z : State). z.room) dropped ∙ ap (λ (z : State). z.room) same;
-      row =
-          ap (λ (z : State). length z.row) dropped
-          ∙ enters_width a.here (g.S.Beginning.told a.start) n
-          (record e { frames = onto o e.frames }) (completes o) c.look-found.result.now
-          c.enter-onward.ensures.entered
-          ∙ ap (λ (z : State). length z.row) c.insert.ensures.added;
-    }
+    keeps_dropped w e c.drop_frames.new.self c.drop_frames.ensures
+    (keeps_position a.place w n e c.insert.ensures.added c.enter-onward.ensures.same
+    (enters_width a.here (g.S.Beginning.told a.start) n (record e { frames = onto o e.frames })
+    (completes o) c.look-found.result.now c.enter-onward.ensures.entered))
 
 pub returns-in-Complete-clause-ready : goal.returns-in-Complete-clause-ready
 returns-in-Complete-clause-ready g c =
     ap (λ (z : State). z.ready) c.drop_frames.ensures
-    ∙ ap (λ (z : State). z.ready) (later_same c.args.place c.args.self.now.memory c.insert.new.self
-    c.enter-onward.new.memory c.insert.ensures.added c.enter-onward.ensures.same)
+    ∙ keeps_ready c.args.place c.args.self.now.memory c.insert.new.self c.enter-onward.new.memory
+    c.insert.ensures.added c.enter-onward.ensures.same
 
 pub returns-in-Complete-clause-tries : goal.returns-in-Complete-clause-tries
 returns-in-Complete-clause-tries g c =
@@ -202,8 +184,8 @@ returns-in-Complete-clause-entry g c = λ done.
 
 pub returns-in_default-clause-ready : goal.returns-in_default-clause-ready
 returns-in_default-clause-ready g c =
-    ap (λ (z : State). z.ready) (later_same c.args.place c.args.self.now.memory c.insert.new.self
-    c.enter-onward.new.memory c.insert.ensures.added c.enter-onward.ensures.same)
+    keeps_ready c.args.place c.args.self.now.memory c.insert.new.self c.enter-onward.new.memory
+    c.insert.ensures.added c.enter-onward.ensures.same
 
 pub returns-in_default-clause-tries : goal.returns-in_default-clause-tries
 returns-in_default-clause-tries g c =

@@ -73,7 +73,7 @@ returns-in-Complete-clause-explored g c =
     let here = with_frames w (explore c.places.place ∷ w.memory.frames) in
     let went = c.in-Complete.ensures.taken in
     subst (λ (fs : List Frame). GoesOn table a.here told first (with_frames x fs) true)
-    (went.cleared refl)
+    {x = x.memory.frames} (went.cleared refl)
     (goes_further table a.here told first here x true c.places.invariant.on went.on)
 
 pub places-preserved-in-To : goal.places-preserved-in-To
@@ -105,7 +105,7 @@ pub returns-in-Complete-clause-room : goal.returns-in-Complete-clause-room
 returns-in-Complete-clause-room g c =
     let a = c.args in let x = c.come_to.new.self in let went = c.in-Complete.ensures.taken in
     subst (λ (fs : List Frame). IsFit (places_of a.table.now) (with_frames x fs))
-    (went.cleared refl) went.fit
+    {x = x.memory.frames} (went.cleared refl) went.fit
 
 pub returns-in-Complete-clause-counts : goal.returns-in-Complete-clause-counts
 returns-in-Complete-clause-counts g c =

@@ -13,19 +13,20 @@ loop-hir-preserved g c =
     let before = c.loop-hir.masks.items in
     let mask = c.third_of.result in
     let next : slice_get trees (length before) ≡ Some (g.T.AsHir.tree hir)
-    = ap (slice_get trees) c.loop-hir.invariant.all
+    = ap (slice_get trees) {x = length before} c.loop-hir.invariant.all
     ∙ mapped_there g.T.AsHir.tree hirs c.loop-hir.hir-index hir c.loop-hir-test.true
     c.hir-item.is in
+    let longer = c.push.new.self.items in
     let pushed = c.in_ok-push.ensures.items in
     record {
       all = omega (
         arith,
-        ap length {y = before ++ mask ∷ []} pushed,
+        ap length {x = longer} {y = before ++ mask ∷ []} pushed,
         length-append before (mask ∷ []),
         c.loop-hir.invariant.all,
       );
-      each = subst (λ masks. AreMasksOf trees masks) {x = before ++ mask ∷ []}
-          (sym {A = List ℕ} {b = before ++ mask ∷ []} pushed)
+      each = subst (λ masks. AreMasksOf trees masks) {x = before ++ mask ∷ []} {y = longer}
+          (sym {A = List ℕ} {a = longer} {b = before ++ mask ∷ []} pushed)
           (told_more IsThirdOfTree trees before (g.T.AsHir.tree hir) mask next
           (rw (← c.as_hir.ensures) c.third_of.ensures)
           c.loop-hir.invariant.each);
