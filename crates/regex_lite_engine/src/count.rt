@@ -82,6 +82,13 @@ const READING: Counts = Counts {
     ..NONE
 };
 
+/// What the place of the empty tree or of a look takes.
+const EMPTY: Counts = Counts {
+    places: 1,
+    arrows: 1,
+    ..NONE
+};
+
 impl Counts {
     /// What the tree takes.
     #[cycle(count)]
@@ -89,11 +96,7 @@ impl Counts {
         ensures { AreCountsOf (tree_of hir.now) result }
     {
         match hir {
-            Hir::Empty | Hir::Look(_) => Counts {
-                reading: 0,
-                properties: NONE.properties,
-                ..READING
-            },
+            Hir::Empty | Hir::Look(_) => EMPTY,
             Hir::Char(_) => READING,
             Hir::Class(set) => Counts::of_class(set),
             Hir::Repetition {

@@ -59,10 +59,10 @@ impl Graph {
         ensures width { IfOk result (λ walk. length walk.stack.row ≡ slots) }
         ensures countable { IfOk result (λ _. IsCountable (table_of self.now)) }
     {
-        let visited = Visited::none(alloc, self.places(), start, haystack.len())?;
         let offsets = (haystack.len() - start).checked_add(1).ok_or(AllocError)?;
         let kept_back = self.kept_back(slots);
         let room = kept_back.checked_mul(offsets).ok_or(AllocError)?;
+        let visited = Visited::none(alloc, self.places(), start, haystack.len())?;
         let stack = Stack::blank(alloc, room, slots)?;
         Ok(Walk {
             visited,

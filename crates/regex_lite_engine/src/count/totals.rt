@@ -1,13 +1,16 @@
 //! What the patterns of a list take together.
-ghost use Rattle.std.specs.Prelude.{◌≡◌, ◌^◌, ◌*◌, ◌+◌, ◌≤◌, IfOk, IfErr};
+ghost use Rattle.std.specs.Prelude.{◌≡◌, ◌^◌, ◌*◌, ◌+◌, ◌≤◌, IfOk, IfErr, map};
 ghost use Rattle.regex_lite_syntax.specs.declared.error.LimitFault.TheVariants.{Places};
 ghost use Rattle.regex_lite_syntax.specs.Tree.{Tree};
 ghost use Rattle.regex_lite_syntax.specs.Tree.Regular.{IsRegular};
+ghost use Rattle.regex_lite_syntax.specs.Tree.Views.{tree_of};
 ghost use Rattle.regex_lite_engine.specs.Graph.PlaceCounts.{whole_places};
+ghost use Rattle.regex_lite_engine.specs.Graph.SideBySide.{AreRegularPatterns, places_of_all};
 ghost use Rattle.regex_lite_engine.specs.Nfa.Saturation.{AreCountsOf};
-ghost use Rattle.regex_lite_engine.specs.Nfa.Totals.{AreTotalsWith};
+ghost use Rattle.regex_lite_engine.specs.Nfa.Totals.{AreTotalsOf, AreTotalsWith};
 
 use crate::count::Counts;
+use crate::count::measured::Measured;
 use regex_lite_syntax::LimitFault;
 
 /// What whole patterns take together, where their places can be numbered.
@@ -27,12 +30,30 @@ impl Totals {
         reading: 0,
     };
 
+    /// What the patterns of these trees take together.
+    ///
+    /// # Errors
+    ///
+    /// `Places` where they have more places than can be numbered.
+    pub(crate) fn of(hirs: &[Measured]) -> Result<Totals, LimitFault>
+        requires { AreRegularPatterns (map tree_of hirs.now) }
+        ensures ok { IfOk result (λ totals. AreTotalsOf (map tree_of hirs.now) totals) }
+        ensures refused { IfErr result (λ fault. (fault ≡ Places)
+            × (2 ^ 32 ≤ places_of_all (map tree_of hirs.now))) }
+    {
+        let mut totals = Totals::NONE;
+        for hir in hirs {
+            totals = totals.with(hir.counts())?;
+        }
+        Ok(totals)
+    }
+
     /// What these patterns take with one more, which has these counts.
     ///
     /// # Errors
     ///
     /// `Places` where they have more places than can be numbered.
-    pub(crate) fn with(self, counts: &Counts) -> Result<Totals, LimitFault>
+    fn with(self, counts: &Counts) -> Result<Totals, LimitFault>
         requires counted { (tree : Tree) × IsRegular tree × AreCountsOf tree counts.now }
         requires few_arrows { self.arrows ≤ 2 * self.places }
         requires few_reading { self.reading ≤ self.places }

@@ -43,9 +43,7 @@ impl ListSpanSearcher {
             return None;
         }
         let dfa = LazyDfa::for_list(alloc, list)?;
-        let Ok(cache) = cache_for(alloc, list.table(), 0) else {
-            return None;
-        };
+        let cache = cache_for(alloc, list.table(), 0).ok()?;
         let searcher = ListSpanSearcher { dfa, cache };
         Box::new(alloc, searcher).ok()
     }

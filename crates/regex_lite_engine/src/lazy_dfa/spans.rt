@@ -52,13 +52,11 @@ impl SpanSearcher {
         ensures { IfSome result (λ boxed. FindsSpansIn graph.now slots boxed.value) }
     {
         let dfa = LazyDfa::for_graph(alloc, graph)?;
-        let Ok(cache) = cache_for(alloc, graph.table(), 0) else {
-            return None;
-        };
         let short = short_for(alloc, graph, slots, &dfa);
         if short.is_none() && begins_rarely(graph) {
             return None;
         }
+        let cache = cache_for(alloc, graph.table(), 0).ok()?;
         let searcher = SpanSearcher {
             dfa,
             cache,

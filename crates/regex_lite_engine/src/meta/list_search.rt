@@ -47,8 +47,8 @@ impl GraphList {
         if start > haystack.len() || self.len() == 0 {
             return Ok((None, Steps::none()));
         }
-        let mut cache = cache_for::<Origin>(alloc, self.table(), slots)?;
         let mut patterns = ListPatterns::new(alloc, self)?;
+        let mut cache = cache_for::<Origin>(alloc, self.table(), slots)?;
         run(&mut cache, &mut patterns, haystack, start);
         let Cache { walk, best, .. } = cache;
         Ok((best.into_numbered(), walk.steps))
@@ -79,8 +79,8 @@ impl GraphList {
         if start > haystack.len() || self.len() == 0 {
             return Ok((false, Steps::none()));
         }
-        let mut cache = cache_for::<Unkept>(alloc, self.table(), 0)?;
         let mut patterns = ListPatterns::new(alloc, self)?;
+        let mut cache = cache_for::<Unkept>(alloc, self.table(), 0)?;
         run_shortest(&mut cache, &mut patterns, haystack, start);
         let Cache { walk, best, .. } = cache;
         Ok((best.end().is_some(), walk.steps))

@@ -82,8 +82,8 @@ impl<'g> ListSearcher<'g> {
         ensures graph { IfOk result (λ searcher. searcher.graph ≡ graph.now) }
         ensures slots { IfOk result (λ searcher. length searcher.slots ≡ slots) }
     {
-        let cache = list_cache(alloc, graph, slots)?;
         let patterns = ListPatterns::new(alloc, graph)?;
+        let cache = list_cache(alloc, graph, slots)?;
         let dfa = if slots == 0 && pays_for_list(graph, bytes) {
             automaton_for(alloc, graph)
         } else {
@@ -149,13 +149,12 @@ fn list_cache(alloc: Global, graph: &GraphList, slots: usize) -> Result<Cache<Or
     if graph.len() > 0 {
         return cache_for(alloc, graph.table(), slots);
     }
-    Ok(Cache {
-        walk: Walk {
-            memory: Memory::blank(alloc, 0, 0, 0)?,
-            steps: Steps::none(),
-        },
-        best: Best::with_width(alloc, slots)?,
-    })
+    let best = Best::with_width(alloc, slots)?;
+    let walk = Walk {
+        memory: Memory::blank(alloc, 0, 0, 0)?,
+        steps: Steps::none(),
+    };
+    Ok(Cache { walk, best })
 }
 
 /// An automaton of this graph that remembers nothing yet, on the heap.

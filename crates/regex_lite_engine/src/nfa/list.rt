@@ -5,12 +5,12 @@ ghost use Rattle.regex_lite_syntax.specs.declared.error.ErrorKind.TheVariants.{P
 ghost use Rattle.regex_lite_syntax.specs.Errors.{kind_of, out_of_memory};
 ghost use Rattle.regex_lite_syntax.specs.Tree.Regular.{IsRegular};
 ghost use Rattle.regex_lite_syntax.specs.Tree.Views.{tree_of};
+ghost use Rattle.regex_lite_engine.specs.Graph.PlaceCounts.{whole_places};
 ghost use Rattle.regex_lite_engine.specs.Graph.Renumbered.{arrows_of};
 ghost use Rattle.regex_lite_engine.specs.Graph.SideBySide.{AreRegularPatterns, places_of_all};
 ghost use Rattle.regex_lite_engine.specs.Graph.Size.{Fits, IsDueToTree};
 ghost use Rattle.regex_lite_engine.specs.Graph.StoredList.{HasGroupsOfList, IsGraphOfList};
 ghost use Rattle.regex_lite_engine.specs.Graph.StoredList.{TellGroupsOf, table_of_list};
-ghost use Rattle.regex_lite_engine.specs.Nfa.Totals.{AreTotalsOf};
 ghost use Rattle.regex_lite_engine.specs.Search.Starts.{AreListHeadsOf};
 
 use crate::count::Counts;
@@ -21,7 +21,7 @@ use crate::nfa::table::Table;
 use crate::nfa::write::write_all;
 use regex_lite_syntax::prefilter::ListHeads;
 use regex_lite_syntax::{Error, Hir};
-use std::alloc::Global;
+use std::alloc::{AllocError, Global};
 use std::marker::Model;
 
 /// Several patterns that are written out as one graph. Each has places of its own, is entered at
@@ -95,7 +95,8 @@ impl GraphList {
         ensures refused { IfErr result (λ error. (error ≡ out_of_memory)
             ⊎ ((kind_of error ≡ Places) × (2 ^ 32 ≤ places_of_all (map tree_of hirs.now)))) }
     {
-        let (totals, groups) = totals_and_groups(alloc, hirs)?;
+        let totals = Totals::of(hirs)?;
+        let groups = groups_of(alloc, hirs)?;
         let (places, entries) = write_all(alloc, hirs, totals.places)?;
         let table = Table::new(places, totals.arrows, totals.reading);
         let heads = ListHeads::of(alloc, hirs)?;
@@ -168,26 +169,19 @@ impl GraphList {
     }
 }
 
-/// What the patterns of these trees take together, and the groups of each, in their order.
+/// The groups of each of these trees, in their order.
 ///
 /// # Errors
 ///
-/// `Places` where they have more places together than can be numbered, and `Memory` if memory runs
-/// out, or a name has as many owners as can be counted.
-fn totals_and_groups(alloc: Global, hirs: &[Measured]) -> Result<(Totals, Vec<Groups>), Error>
-    requires { AreRegularPatterns (map tree_of hirs.now) }
-    ensures totals { IfOk result (λ told. AreTotalsOf (map tree_of hirs.now) told.0) }
-    ensures all { IfOk result (λ told. length told.1.items ≡ length hirs.now) }
-    ensures each { IfOk result (λ told. TellGroupsOf (map tree_of hirs.now) told.1.items) }
-    ensures refused { IfErr result (λ error. (error ≡ out_of_memory)
-        ⊎ ((kind_of error ≡ Places) × (2 ^ 32 ≤ places_of_all (map tree_of hirs.now)))) }
+/// If memory runs out, or a name has as many owners as can be counted.
+fn groups_of(alloc: Global, hirs: &[Measured]) -> Result<Vec<Groups>, AllocError>
+    requires { All (λ tree. whole_places tree < 2 ^ 32) (map tree_of hirs.now) }
+    ensures all { IfOk result (λ groups. length groups.items ≡ length hirs.now) }
+    ensures each { IfOk result (λ groups. TellGroupsOf (map tree_of hirs.now) groups.items) }
 {
-    let mut totals = Totals::NONE;
     let mut groups = Vec::with_capacity(alloc, hirs.len())?;
     for hir in hirs {
-        let counts = hir.counts();
-        totals = totals.with(counts)?;
-        groups.push(Groups::of(alloc, hir.hir(), counts)?)?;
+        groups.push(Groups::of(alloc, hir.hir(), hir.counts())?)?;
     }
-    Ok((totals, groups))
+    Ok(groups)
 }

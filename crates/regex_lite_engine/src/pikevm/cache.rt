@@ -34,13 +34,12 @@ pub(crate) fn cache_for<S: Beginning>(
     let places = table.places();
     // A thread comes from a place that reads, or is the position's own start.
     let room = table.reading() + 1;
-    Ok(Cache {
-        walk: Walk {
-            memory: Memory::blank(alloc, places, room, slots)?,
-            steps: Steps::none(),
-        },
-        best: Best::with_width(alloc, slots)?,
-    })
+    let best = Best::with_width(alloc, slots)?;
+    let walk = Walk {
+        memory: Memory::blank(alloc, places, room, slots)?,
+        steps: Steps::none(),
+    };
+    Ok(Cache { walk, best })
 }
 
 /// Makes ready for another search: what the last one left is forgotten.

@@ -30,12 +30,12 @@ returns-clause-fresh g c =
         none_next = blank.next;
         stack_room = omega (arith, kept, places, count);
         stack_empty = blank.frames;
-        best_width = c.in_ok-with_width.ensures.width ∙ sym blank.width;
+        best_width = c.in_ok-best.ensures.width ∙ sym blank.width;
         entered_tried = omega (arith, tried, entered);
         looked_entered = omega (arith, entered, c.none.ensures.looked);
-        match_entered = λ some. absurd (some c.in_ok-with_width.ensures.none);
+        match_entered = λ some. absurd (some c.in_ok-best.ensures.none);
       };
-      none = c.in_ok-with_width.ensures.none;
+      none = c.in_ok-best.ensures.none;
       no_threads = blank.threads;
       few_rounds = omega (arith, now);
       no_tries = tried;

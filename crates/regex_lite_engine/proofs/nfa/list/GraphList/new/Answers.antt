@@ -8,13 +8,16 @@ use Rattle.regex_lite_engine.proofs.nfa.WayLemmas.{listed_heads}
 use Rattle.regex_lite_engine.proofs.nfa.write.SeveralRowLemmas.{arrows_add_up}
 use Rattle.regex_lite_engine.proofs.nfa.list.GraphList.new.Goals as goal
 
+pub groups_of-requires : goal.groups_of-requires
+groups_of-requires c = λ k d less. (c.requires.fit k d less).1.places_fit
+
 pub write_all-requires-clause-slots : goal.write_all-requires-clause-slots
 write_all-requires-clause-slots c = λ k d less. (c.requires.fit k d less).1.slots_fit
 
 pub new-table-requires-clause-closed : goal.new-table-requires-clause-closed
 new-table-requires-clause-closed c =
     let trees = map tree_of c.args.hirs.now in
-    let totals = c.in_ok-totals.ensures.totals in
+    let totals = c.in_ok-totals.ensures.ok in
     let few : places_of_all trees < 2 ^ 32 = omega (arith, totals.places) in
     closed trees c.requires.regular c.in_ok-places.places.items c.in_ok-places.ensures.written
     c.in_ok-totals.totals.arrows c.in_ok-totals.totals.reading few totals.arrows totals.reading
@@ -22,7 +25,7 @@ new-table-requires-clause-closed c =
 pub new-table-requires-clause-each_arrow : goal.new-table-requires-clause-each_arrow
 new-table-requires-clause-each_arrow c =
     ap arrows_of c.in_ok-places.ensures.written
-    ∙ arrows_add_up (map tree_of c.args.hirs.now) 0 ∙ sym c.in_ok-totals.ensures.totals.arrows
+    ∙ arrows_add_up (map tree_of c.args.hirs.now) 0 ∙ sym c.in_ok-totals.ensures.ok.arrows
 
 pub invariant_of-result : goal.invariant_of-result
 invariant_of-result c =
@@ -37,7 +40,7 @@ invariant_of-result c =
       omega (
         arith,
         few_entries trees regular places table_is entries entries_are,
-        c.in_ok-totals.ensures.totals.places,
+        c.in_ok-totals.ensures.ok.places,
       ),
       listed_heads trees regular (name trees regular places table_is)
           (places_of c.new-table.result) entries (written trees regular places table_is)
@@ -64,12 +67,12 @@ returns-clause-ok c =
       places = ap (λ (t : StoredTable). length t.places) c.new-table.ensures
           ∙ c.in_ok-places.ensures.length;
       arrows = ap (λ (t : StoredTable). t.arrows) c.new-table.ensures
-          ∙ c.in_ok-totals.ensures.totals.arrows;
+          ∙ c.in_ok-totals.ensures.ok.arrows;
       each_arrow = ap arrows_of table_is ∙ arrows_add_up trees 0;
     }
 
 pub returns-clause-groups : goal.returns-clause-groups
 returns-clause-groups c = record {
-  all = c.in_ok-totals.ensures.all ∙ sym (length-map c.args.hirs.now tree_of);
-  each = c.in_ok-totals.ensures.each;
+  all = c.in_ok-groups.ensures.all ∙ sym (length-map c.args.hirs.now tree_of);
+  each = c.in_ok-groups.ensures.each;
 }

@@ -1,7 +1,6 @@
-use Rattle.regex_lite_engine.proofs.Common.{◌≡◌, ◌+◌, ◌*◌, ◌≤◌, map, length, drop, tree_of}
-use Rattle.regex_lite_engine.proofs.Common.{places_of_all, arrows_of_all, TellGroupsOf}
-use Rattle.regex_lite_engine.proofs.Common.{reading_of_all}
-use Rattle.regex_lite_engine.proofs.nfa.list.totals_and_groups.Given as goal
+use Rattle.regex_lite_engine.proofs.Common.{◌≡◌, ◌+◌, ◌*◌, ◌≤◌, map, drop, tree_of}
+use Rattle.regex_lite_engine.proofs.Common.{places_of_all, arrows_of_all, reading_of_all}
+use Rattle.regex_lite_engine.proofs.count.totals.Totals.of.Given as goal
 
 -- with the patterns that are left these are the totals of all
 abbrev pub invariant-loop-hir : goal.invariant-loop-hir
@@ -13,6 +12,4 @@ invariant-loop-hir l =
       reading : l.totals.reading + reading_of_all left ≡ reading_of_all trees;
       few_arrows : l.totals.arrows ≤ 2 * l.totals.places;
       few_reading : l.totals.reading ≤ l.totals.places;
-      all : length l.groups.items ≡ l.hir-index;
-      each : TellGroupsOf trees l.groups.items;
     }
