@@ -15,7 +15,7 @@ from typing import NamedTuple, Union
 Change = tuple[str, str, str]
 
 TOP = Path(__file__).resolve().parent.parent
-LIBRARIES = ('regex_lite_syntax', 'regex_lite_engine', 'regex_lite')
+LIBRARIES = ('regex_lite_syntax', 'regex_lite_engine', 'regex_lite_meta', 'regex_lite')
 PARTS = ('src', 'specs', 'proofs')
 CALLER = 'caller'
 ENDING = '.txt'  # the gate refuses files of the language outside the crates

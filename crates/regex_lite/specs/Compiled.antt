@@ -8,7 +8,7 @@ use Rattle.regex_lite_syntax.specs.Tree.Regular.{IsRegular}
 use Rattle.regex_lite_engine.specs.Graph.Renumbered.{IsGraphOf, HasGroupsOf}
 use Rattle.regex_lite_engine.specs.Graph.Size.{Fits}
 use Rattle.regex_lite_engine.specs.Graph.StoredList.{StoredGroups}
-use Rattle.regex_lite_engine.specs.Search.Searching.{Searching}
+use Rattle.regex_lite_meta.specs.Searching.{Searching}
 use Rattle.regex_lite.specs.Expression.{AreNames, Expression, OfTree}
 use Rattle.regex_lite.specs.Groups.{Groups, spans_of}
 use Rattle.regex_lite.specs.declared.string.compiled.Compiled.{Compiled}

@@ -1,7 +1,7 @@
 -- What the searchers that callers keep hold.
 use Rattle.std.specs.Prelude.{◌≡◌, ◌*◌, Option, Some, None, length}
 use Rattle.regex_lite_syntax.specs.Tree.Properties.{captures_len}
-use Rattle.regex_lite_engine.specs.Search.Searching.{Searching}
+use Rattle.regex_lite_meta.specs.Searching.{Searching}
 use Rattle.regex_lite.specs.Compiled.{SearchesFor}
 use Rattle.regex_lite.specs.Expression.{Expression, OfTree}
 use Rattle.regex_lite.specs.Scanning.{AreSlotsForAllGroups, ListSearching}

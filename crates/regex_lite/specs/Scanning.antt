@@ -6,7 +6,7 @@ use Rattle.regex_lite_engine.specs.Graph.SideBySide.{AreRegularPatterns}
 use Rattle.regex_lite_engine.specs.Graph.StoredList.{IsGraphOfList}
 use Rattle.regex_lite_engine.specs.Search.Answer.{Found}
 use Rattle.regex_lite_engine.specs.Search.Offsets.{HasSlots, search_start}
-use Rattle.regex_lite_engine.specs.Search.Searching as engine
+use Rattle.regex_lite_meta.specs.Searching as engine
 use Rattle.regex_lite.specs.declared.string.iter.cursor.Cursor.{Cursor}
 use Rattle.regex_lite.specs.declared.string.matches.Match.{Match}
 use Rattle.regex_lite.specs.Answers.{IsEmptyAnswerFrom, TellsOfAnswer}

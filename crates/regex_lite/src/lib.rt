@@ -23,8 +23,8 @@
 //! A [`RegexList`] holds several patterns, which are searched for at once: it finds which of them
 //! matches first, and where.
 //!
-//! A [`RegexBuilder`] has the pattern read and written out by the two crates below; what it builds
-//! is shared by the clones of a [`Regex`] and by the [`Captures`] that it finds. A
+//! A [`RegexBuilder`] has the pattern read and written out by the crates below; what it builds is
+//! shared by the clones of a [`Regex`] and by the [`Captures`] that it finds. A
 //! [`RegexListBuilder`] does the same for a [`RegexList`]. `string` holds these types and the
 //! searches, and `owner` what they share by; `laws` holds what is true of the definitions alone.
 #![tactic(auto)]

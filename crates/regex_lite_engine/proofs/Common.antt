@@ -1,27 +1,25 @@
 -- The definitions that most proofs cite, passed on from one place. Declares nothing.
 pub use Rattle.std.proofs.Common.{◌≡◌, ℕ, zero, suc, ◌+◌, ◌-◌, ◌*◌, ◌^◌, ◌<◌, ◌≤◌, Bool, true}
-pub use Rattle.std.proofs.Common.{false, not, ◌&&◌, ◌||◌, ◌≢◌, ◌⊎◌, ◌↔◌, List, [], ◌∷◌, ◌++◌, map}
-pub use Rattle.std.proofs.Common.{reverse, length, get_or, take, drop, set, replicate, is_some}
-pub use Rattle.std.proofs.Common.{IfSome, if◌then◌else◌, IsSome, IsTrue, nat_lt, ◌==◌, slice_get}
-pub use Rattle.std.proofs.Common.{slice_index, slice_index_or, slice_set, Some, None, vec_capacity}
-pub use Rattle.std.proofs.Common.{IsUtf8, All, sum_by, Option, MatchOption, option_map, chars}
-pub use Rattle.std.proofs.Common.{IsCharBoundary, unwrap_or, sym, refl, ap, ◌∙◌, subst, inl, inr}
-pub use Rattle.std.proofs.Common.{⊎_elim, append_assoc, append-nil, arith, length-append}
-pub use Rattle.std.proofs.Common.{length-drop, length-set, rules}
-pub use Rattle.std.proofs.Math.Nat.{mul-le-mul_left, mul-le-mul_right, mul-suc, suc-mul}
-pub use Rattle.std.proofs.Math.Seq.{drop-cons, get_or-append_seam, take-append_seam}
+pub use Rattle.std.proofs.Common.{false, ◌&&◌, ◌≢◌, ◌⊎◌, ◌↔◌, List, [], ◌∷◌, ◌++◌, map, reverse}
+pub use Rattle.std.proofs.Common.{length, get_or, take, drop, set, replicate, is_some, IfSome}
+pub use Rattle.std.proofs.Common.{if◌then◌else◌, IsTrue, nat_lt, ◌==◌, slice_get, slice_index}
+pub use Rattle.std.proofs.Common.{slice_index_or, slice_set, Some, None, vec_capacity, IsUtf8}
+pub use Rattle.std.proofs.Common.{sum_by, Option, option_map, chars, IsCharBoundary, unwrap_or, sym}
+pub use Rattle.std.proofs.Common.{refl, ap, ◌∙◌, subst, inl, inr, ⊎_elim, append_assoc, append-nil}
+pub use Rattle.std.proofs.Common.{arith, length-append, length-drop, length-set, rules}
+pub use Rattle.std.proofs.Math.Nat.{mul-le-mul_left, mul-le-mul_right, suc-mul}
+pub use Rattle.std.proofs.Math.Seq.{drop-cons, take-append_seam}
 pub use Rattle.std.proofs.lemmas.Bool.{cases_eq, cases_lt, cases_order}
 pub use Rattle.std.proofs.lemmas.Bool.Decides.{nat_tests}
-pub use Rattle.std.proofs.lemmas.List.{drop-append-le, get_or-replicate, get_or-set_other}
-pub use Rattle.std.proofs.lemmas.List.{get_or-set_same, get_or-take, get_or_default, get_or_past}
-pub use Rattle.std.proofs.lemmas.List.{length-map, length-replicate, length-take, length-take-le}
-pub use Rattle.std.proofs.lemmas.List.{map-append, map-set, nil_from_length, set-get_or}
-pub use Rattle.std.proofs.lemmas.List.{take-append-drop, take-append-le, take-take, take_all}
+pub use Rattle.std.proofs.lemmas.List.{get_or-replicate, get_or-set_other, get_or-set_same}
+pub use Rattle.std.proofs.lemmas.List.{get_or-take, get_or_past, length-map, length-replicate}
+pub use Rattle.std.proofs.lemmas.List.{length-take, length-take-le, map-append, map-set}
+pub use Rattle.std.proofs.lemmas.List.{nil_from_length, set-get_or, take-append-drop, take-take}
+pub use Rattle.std.proofs.lemmas.List.{take_all}
 pub use Rattle.std.proofs.lemmas.List.FromFn.{get_or-map-range_with_len, length-map-range_with_len}
 pub use Rattle.std.proofs.lemmas.List.Sums.{sum_by-cons}
-pub use Rattle.std.proofs.lemmas.Option.{get_or_from_slice_get, slice_get-get_or, slice_get-map}
-pub use Rattle.std.proofs.lemmas.Option.{slice_get_within}
-pub use Rattle.std.proofs.lemmas.Str.{IsUtf8-take, encodes-chars}
+pub use Rattle.std.proofs.lemmas.Option.{slice_get-get_or, slice_get-map, slice_get_within}
+pub use Rattle.std.proofs.lemmas.Str.{encodes-chars}
 pub use Rattle.std.proofs.lemmas.Str.Pattern.{strip_prefix_char}
 pub use Rattle.std.specs.Char.{len_utf8}
 pub use Rattle.std.specs.List.{range_with_len}
@@ -39,14 +37,12 @@ pub use Rattle.regex_lite_syntax.specs.Tree.Properties.{sum}
 pub use Rattle.regex_lite_syntax.specs.Tree.Regular.{IsRegular}
 pub use Rattle.regex_lite_syntax.specs.Tree.Views.{tree_of}
 pub use Rattle.regex_lite_syntax.specs.declared.class.ClassRange.{ClassRange}
-pub use Rattle.regex_lite_syntax.specs.declared.hir.look.Look.{Look}
 pub use Rattle.regex_lite_engine.specs.Backtrack.Bits.{bits_of}
 pub use Rattle.regex_lite_engine.specs.Backtrack.Machine.{Pairs, pair_number, was_entered, Held}
 pub use Rattle.regex_lite_engine.specs.Backtrack.Room.{searching}
 pub use Rattle.regex_lite_engine.specs.Backtrack.Searching.{Unwinds}
 pub use Rattle.regex_lite_engine.specs.Backtrack.Walking.{WayHolds, SearchFrom}
 pub use Rattle.regex_lite_engine.specs.Graph.Addresses.{Address, part, own, entry, branch_entries}
-pub use Rattle.regex_lite_engine.specs.Graph.NoLooks.{RequiresNoLook, HasNoLooks}
 pub use Rattle.regex_lite_engine.specs.Graph.Parts.{IsWithin, row_of, IsOwnPart}
 pub use Rattle.regex_lite_engine.specs.Graph.PlaceCounts.{copies, own_places, class_arrows, places}
 pub use Rattle.regex_lite_engine.specs.Graph.PlaceCounts.{places_in, arrows, count, reading_places}
@@ -66,11 +62,9 @@ pub use Rattle.regex_lite_engine.specs.Graph.Repetitions.{between_row, bounded_r
 pub use Rattle.regex_lite_engine.specs.Graph.SideBySide.{in_pattern, side_by_side, HasTree}
 pub use Rattle.regex_lite_engine.specs.Graph.SideBySide.{start_of, places_of_all, arrows_of_all}
 pub use Rattle.regex_lite_engine.specs.Graph.SideBySide.{tries_of_all, AreEntries}
-pub use Rattle.regex_lite_engine.specs.Graph.Stored.{StoredTable, StoredGraph, place_of, places_of}
-pub use Rattle.regex_lite_engine.specs.Graph.Stored.{table_of, LeadBelow, LeadsBelow, LeadInto}
-pub use Rattle.regex_lite_engine.specs.Graph.Stored.{LeadsInto}
-pub use Rattle.regex_lite_engine.specs.Graph.StoredList.{StoredList, table_of_list, IsGraphOfList}
-pub use Rattle.regex_lite_engine.specs.Graph.StoredList.{TellGroupsOf}
+pub use Rattle.regex_lite_engine.specs.Graph.Stored.{place_of, places_of, table_of, LeadBelow}
+pub use Rattle.regex_lite_engine.specs.Graph.Stored.{LeadsBelow, LeadInto, LeadsInto}
+pub use Rattle.regex_lite_engine.specs.Graph.StoredList.{StoredList, table_of_list}
 pub use Rattle.regex_lite_engine.specs.Graph.Ways.{Leads, NoneTwice, IsWay}
 pub use Rattle.regex_lite_engine.specs.Graph.WrittenOut.{place_at, place_in_chain, place_in_branch}
 pub use Rattle.regex_lite_engine.specs.Graph.WrittenOut.{whole, end_address, start_address}
@@ -78,82 +72,53 @@ pub use Rattle.regex_lite_engine.specs.Graph.WrittenOut.{written_out, place_of_p
 pub use Rattle.regex_lite_engine.specs.Graph.WrittenOut.{IsWayThrough}
 pub use Rattle.regex_lite_engine.specs.Interpolation.{plain, is_name_character, BeginsWith}
 pub use Rattle.regex_lite_engine.specs.Interpolation.{no_dollar, reference, one_dollar}
-pub use Rattle.regex_lite_engine.specs.LazyDfa.Automaton.{Way, Automaton, unknown, told_by}
-pub use Rattle.regex_lite_engine.specs.LazyDfa.Automaton.{threads_of, ways_of, best_left}
-pub use Rattle.regex_lite_engine.specs.LazyDfa.Automaton.{searching_after, Suits, LeadsOn}
-pub use Rattle.regex_lite_engine.specs.LazyDfa.Automaton.{FitsTable, Remembers}
-pub use Rattle.regex_lite_engine.specs.LazyDfa.Boundaries.{Grows}
-pub use Rattle.regex_lite_engine.specs.LazyDfa.Extending.{Extends}
-pub use Rattle.regex_lite_engine.specs.LazyDfa.Intervals.{Intervals, interval_of, class_of}
-pub use Rattle.regex_lite_engine.specs.LazyDfa.Intervals.{IsBoundary, AreBounded, IsBoundedPlace}
-pub use Rattle.regex_lite_engine.specs.LazyDfa.Intervals.{character_bounds, look_bounds}
-pub use Rattle.regex_lite_engine.specs.LazyDfa.Intervals.{AreIntervalsOf, classes_in, side_of}
-pub use Rattle.regex_lite_engine.specs.LazyDfa.Learning.{IsFirstStart, IsIn}
-pub use Rattle.regex_lite_engine.specs.LazyDfa.Running.{IsOnItsWay, Stands}
-pub use Rattle.regex_lite_engine.specs.LazyDfa.Scanning.{best_told, span_told, end_told, IsIdleAt}
-pub use Rattle.regex_lite_engine.specs.LazyDfa.Scanning.{IsSince, IsScanning}
-pub use Rattle.regex_lite_engine.specs.LazyDfa.Stored.{way_in, hit_in, state_in, states_in}
 pub use Rattle.regex_lite_engine.specs.Nfa.Fragments.{Fragment}
 pub use Rattle.regex_lite_engine.specs.Nfa.Layout.{IsAdded, layout, chain_layout, branches_layout}
 pub use Rattle.regex_lite_engine.specs.Nfa.Layout.{pattern_layout, pattern_table, patterns_table}
 pub use Rattle.regex_lite_engine.specs.Nfa.Layout.{patterns_entries}
 pub use Rattle.regex_lite_engine.specs.Nfa.Repetitions.{copies_layout, choices_layout, star_layout}
 pub use Rattle.regex_lite_engine.specs.Nfa.Totals.{reading_of_all}
-pub use Rattle.regex_lite_engine.specs.Pikevm.Again.{AreAlike, retold, all_retold, state_retold}
-pub use Rattle.regex_lite_engine.specs.Pikevm.Again.{best_again}
-pub use Rattle.regex_lite_engine.specs.Pikevm.Cells.{padded, nth_row, frame_in, round_in, other}
-pub use Rattle.regex_lite_engine.specs.Pikevm.Cells.{place_on, start_on, row_on, start_told}
-pub use Rattle.regex_lite_engine.specs.Pikevm.Cells.{threads_on, without_round}
+pub use Rattle.regex_lite_engine.specs.Pikevm.Again.{all_retold, state_retold, best_again}
+pub use Rattle.regex_lite_engine.specs.Pikevm.Cells.{nth_row, frame_in, round_in, other, place_on}
+pub use Rattle.regex_lite_engine.specs.Pikevm.Cells.{start_on, row_on, threads_on, without_round}
 pub use Rattle.regex_lite_engine.specs.Pikevm.Entering.{reads, pushing, reading_on}
-pub use Rattle.regex_lite_engine.specs.Pikevm.Machine.{Thread, thread_at, BestState}
+pub use Rattle.regex_lite_engine.specs.Pikevm.Machine.{Thread, thread_at}
 pub use Rattle.regex_lite_engine.specs.Pikevm.Room.{ThreadsBelow, KeepsPosition}
-pub use Rattle.regex_lite_engine.specs.Pikevm.Searching.{IsBetween}
-pub use Rattle.regex_lite_engine.specs.Pikevm.Turns.{best_of, Between, StepsTo, IsComing, begun}
-pub use Rattle.regex_lite_engine.specs.Pikevm.Turns.{with_starts}
+pub use Rattle.regex_lite_engine.specs.Pikevm.Turns.{best_of, StepsTo, IsComing, begun, with_starts}
 pub use Rattle.regex_lite_engine.specs.Pikevm.Walking.{WayTold, ThreadsHold, InStep, SearchAt}
 pub use Rattle.regex_lite_syntax.specs.Prefilter.Heads.{NeverBegins, IsPassed}
 pub use Rattle.regex_lite_syntax.specs.Prefilter.ListHeads.{may_start, is_candidate_at}
 pub use Rattle.regex_lite_syntax.specs.Prefilter.ListHeads.{IsPassedByAll}
 pub use Rattle.regex_lite_syntax.specs.Prefilter.Starts.{stops_at, MayBegin}
-pub use Rattle.regex_lite_syntax.specs.Prefilter.Thirds.{may_go_on, AreMasksOf}
+pub use Rattle.regex_lite_syntax.specs.Prefilter.Thirds.{may_go_on}
 pub use Rattle.regex_lite_engine.specs.Search.Answer.{IsMatchFrom, HasMatchFrom, Found, IsFound}
 pub use Rattle.regex_lite_engine.specs.Search.Answer.{IsAnswer}
 pub use Rattle.regex_lite_engine.specs.Search.AnswerOfList.{AnyMatchesFrom, IsAnswerOfList}
 pub use Rattle.regex_lite_engine.specs.Search.Beginnings.{Told, untold}
 pub use Rattle.regex_lite_engine.specs.Search.Bounds.{StepCounts, StaysCounted, characters_left}
 pub use Rattle.regex_lite_engine.specs.Search.Bounds.{IsBoundedBy}
-pub use Rattle.regex_lite_engine.specs.Search.Counting.{lone, IsCountable, CanCount}
+pub use Rattle.regex_lite_engine.specs.Search.Counting.{lone, CanCount}
 pub use Rattle.regex_lite_engine.specs.Search.Explored.{Before, NotAfter, IsDead, IsAnswered}
 pub use Rattle.regex_lite_engine.specs.Search.Explored.{IsGrown, StartsAt}
 pub use Rattle.regex_lite_engine.specs.Search.Marks.{Marks, no_marks, marked, over, mark_of_arrow}
 pub use Rattle.regex_lite_engine.specs.Search.Marks.{mark_of, marks_along, marks_of_way}
 pub use Rattle.regex_lite_engine.specs.Search.NumberedAnswer.{place_with, is_complete}
 pub use Rattle.regex_lite_engine.specs.Search.NumberedAnswer.{numbered_step, is_end, IsNumberedWay}
-pub use Rattle.regex_lite_engine.specs.Search.NumberedAnswer.{IsNumberedMatch, IsNumberedFound}
+pub use Rattle.regex_lite_engine.specs.Search.NumberedAnswer.{IsNumberedMatch}
 pub use Rattle.regex_lite_engine.specs.Search.NumberedList.{IsEntry, StartsOf, IsMatchOfAny}
 pub use Rattle.regex_lite_engine.specs.Search.NumberedList.{IsNumberedAnswerOf}
-pub use Rattle.regex_lite_engine.specs.Search.NumberedOutcomes.{Best, best_at, with_start_kept}
-pub use Rattle.regex_lite_engine.specs.Search.NumberedOutcomes.{best_kept, span_of, IsBestOutcome}
-pub use Rattle.regex_lite_engine.specs.Search.NumberedOutcomes.{IsBestOutcomeOf, IsNumberedOutcome}
-pub use Rattle.regex_lite_engine.specs.Search.NumberedOutcomes.{IsNumberedEndOf}
+pub use Rattle.regex_lite_engine.specs.Search.NumberedOutcomes.{Best, IsNumberedOutcome}
 pub use Rattle.regex_lite_engine.specs.Search.Offers.{Node, Offer, StartsBelow}
 pub use Rattle.regex_lite_engine.specs.Search.Offsets.{offset, IsOffset, position_at, search_start}
 pub use Rattle.regex_lite_engine.specs.Search.Offsets.{HasSlots}
-pub use Rattle.regex_lite_engine.specs.Search.Outcomes.{IsEndOutcome}
 pub use Rattle.regex_lite_engine.specs.Search.Preference.{IsPreferred}
 pub use Rattle.regex_lite_engine.specs.Search.PreferenceList.{Entry, after_marks, onward, stop}
 pub use Rattle.regex_lite_engine.specs.Search.PreferenceList.{preference_list, HasReadingLoops}
 pub use Rattle.regex_lite_engine.specs.Search.Rows.{Row, IsBlank}
 pub use Rattle.regex_lite_engine.specs.Search.Standing.{IsHere}
-pub use Rattle.regex_lite_engine.specs.Search.Starts.{IsDeadAt, AreDeadAt, IsAmong, AreStartsAt}
-pub use Rattle.regex_lite_engine.specs.Search.Starts.{PassesTo, AreListHeadsOf, start_numbered}
+pub use Rattle.regex_lite_engine.specs.Search.Starts.{IsDeadAt, AreDeadAt, AreStartsAt, PassesTo}
+pub use Rattle.regex_lite_engine.specs.Search.Starts.{AreListHeadsOf, start_numbered}
 pub use Rattle.regex_lite_engine.specs.SearchLaws.{IsBefore}
-pub use Rattle.regex_lite_engine.specs.declared.lazy_dfa.scan.Standing.{Standing}
-pub use Rattle.regex_lite_engine.specs.declared.lazy_dfa.state.StoredState.{StoredState}
-pub use Rattle.regex_lite_engine.specs.declared.lazy_dfa.state.StoredWay.{StoredWay}
-pub use Rattle.regex_lite_engine.specs.declared.lazy_dfa.state.Target.{Target}
-pub use Rattle.regex_lite_engine.specs.declared.pikevm.beginning.Origin.{Origin}
-pub use Rattle.regex_lite_engine.specs.declared.pikevm.cache.Cache.{Cache}
 pub use Rattle.regex_lite_engine.specs.declared.pikevm.cell.Cell.{Cell}
 pub use Rattle.regex_lite_syntax.specs.declared.prefilter.heads.Heads.{Heads}
 pub use Rattle.regex_lite_syntax.specs.declared.prefilter.list_heads.ListHeads.{ListHeads}

@@ -7,3 +7,5 @@ pub mod OffsetLemmas
 pub mod PositionLemmas
 -- lemmas about the written-out pattern of a tree
 pub mod graph
+-- lemmas that crates above use
+pub use Rattle.regex_lite_engine.proofs.count.ReadingCountLemmas

@@ -4,12 +4,12 @@ use Rattle.regex_lite_engine.proofs.Common.{◌++◌, length, take, drop, slice_
 use Rattle.regex_lite_engine.proofs.Common.{sum_by, chars, IsCharBoundary, sym, refl, ap, ◌∙◌}
 use Rattle.regex_lite_engine.proofs.Common.{subst, inl, inr, arith, length-append, cases_order}
 use Rattle.regex_lite_engine.proofs.Common.{length-take-le, take-append-drop, slice_get_within}
-use Rattle.regex_lite_engine.proofs.Common.{IsUtf8-take, encodes-chars, len_utf8, after, offset}
-use Rattle.regex_lite_engine.proofs.Common.{IsOffset, position_at, search_start}
+use Rattle.regex_lite_engine.proofs.Common.{encodes-chars, len_utf8, after, offset, IsOffset}
+use Rattle.regex_lite_engine.proofs.Common.{position_at, search_start}
+use Rattle.std.proofs.lemmas.Str.{IsUtf8-take, chars-append, IsUtf8-drop, chars-nil}
+use Rattle.std.proofs.lemmas.Str.{chars_from_encodes, chars_past_char}
 use lib.Utf8.{encode, encodes}
 use Rattle.std.proofs.Math.Seq.{take-append_seam}
-use Rattle.std.proofs.lemmas.Str.{chars-append, IsUtf8-drop, chars-nil}
-use Rattle.std.proofs.lemmas.Str.{chars_from_encodes, chars_past_char}
 use Rattle.regex_lite_engine.proofs.OffsetLemmas.{boundary_at, length_encodes, offset_less}
 use Rattle.regex_lite_engine.proofs.OffsetLemmas.{offset_next, rest_at, utf8_rest}
 

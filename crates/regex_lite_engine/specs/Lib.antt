@@ -13,5 +13,4 @@ pub mod TemplateLaws
 -- rests on it.
 pub mod Nfa
 pub mod Pikevm
-pub mod LazyDfa
 pub mod Backtrack

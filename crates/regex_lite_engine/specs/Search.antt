@@ -6,7 +6,6 @@ pub mod AnswerOfList
 pub mod PreferenceList
 pub mod Offsets
 pub mod Outcomes
-pub mod Searching
 pub mod Bounds
 pub mod Explored
 pub mod NumberedAnswer

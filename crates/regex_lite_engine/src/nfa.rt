@@ -10,12 +10,12 @@ ghost use Rattle.regex_lite_engine.specs.Graph.Places.{kept_back_of, kept_back_w
 ghost use Rattle.regex_lite_engine.specs.Graph.Stored.{LeadsBelow, place_of, table_of};
 ghost use Rattle.regex_lite_engine.specs.Search.Starts.{AreHeadsOf, NoneBeginsAtEnd};
 
-pub(crate) mod class;
-pub(crate) mod groups;
+pub mod class;
+pub mod groups;
 pub(crate) mod kept_back;
-pub(crate) mod list;
-pub(crate) mod place;
-pub(crate) mod table;
+pub mod list;
+pub mod place;
+pub mod table;
 mod write;
 
 use crate::count::Counts;
@@ -112,7 +112,7 @@ impl Graph {
     }
 
     /// Its places by number.
-    pub(crate) fn table(&self) -> &Table
+    pub fn table(&self) -> &Table
         ensures some { 0 < length result.now.places }
         ensures same { result.now ≡ record {
           places = self.now.places;
@@ -123,7 +123,7 @@ impl Graph {
     }
 
     /// Where a search starts.
-    pub(crate) fn start(&self) -> u32
+    pub fn start(&self) -> u32
         ensures same { result ≡ self.now.start }
         ensures inside { result < length self.now.places }
     {
@@ -131,7 +131,7 @@ impl Graph {
     }
 
     /// Where a match can begin.
-    pub(crate) fn filter(&self) -> &Filter
+    pub fn filter(&self) -> &Filter
         ensures all { AreHeadsOf (table_of self.now) self.now.start result.now }
         ensures inside { self.now.start < length self.now.places }
     {
@@ -165,7 +165,7 @@ impl Graph {
     }
 
     /// How many places read a character. A search relies on there being few arrows too.
-    pub(crate) fn reading(&self) -> usize
+    pub fn reading(&self) -> usize
         ensures each { result ≡ reading_of (table_of self.now) }
         ensures few { result < length self.now.places }
         ensures few_arrows { arrows_of (table_of self.now) < 2 ^ 34 }

@@ -1,21 +1,23 @@
 //! The search by ordered sets: it goes over a haystack once, and keeps at each position the places
 //! that it can stand at, the most preferred first.
 
-pub(crate) mod beginning;
-pub(crate) mod best;
-pub(crate) mod cache;
-pub(crate) mod cell;
+pub mod beginning;
+pub mod best;
+pub mod cache;
+pub mod cell;
 mod enter;
-pub(crate) mod memory;
+mod list_matches;
+mod list_search;
+pub mod memory;
 mod pass;
 mod ready;
-pub(crate) mod rows;
-pub(crate) mod run;
-pub(crate) mod search;
+pub mod rows;
+pub mod run;
+pub mod search;
 mod seen;
-pub(crate) mod shortest;
-pub(crate) mod slot;
+pub mod shortest;
+pub mod slot;
 mod stack;
 mod threads;
-pub(crate) mod turn;
-pub(crate) mod walk;
+pub mod turn;
+pub mod walk;

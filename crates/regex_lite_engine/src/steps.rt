@@ -30,19 +30,6 @@ impl Model for Steps {
 }
 
 impl Steps {
-    /// Nothing was done yet.
-    pub(crate) fn none() -> Steps
-        ensures tried { result.tried ≡ 0 }
-        ensures entered { result.entered ≡ 0 }
-        ensures looked { result.looked ≡ 0 }
-    {
-        Steps {
-            tried: 0,
-            entered: 0,
-            looked: 0,
-        }
-    }
-
     /// What two searches did together. A sum that is too large to be stored saturates.
     pub(crate) fn plus(&self, other: &Steps) -> Steps
         ensures tried { result.tried ≡ min (self.now.tried + other.now.tried) (2 ^ 128 - 1) }
@@ -100,5 +87,18 @@ impl Steps {
         ensures { result ≡ self.now.looked }
     {
         self.looked
+    }
+}
+
+/// Of a search that has done nothing yet. It is no call of [`Steps`], which users see.
+pub fn no_steps() -> Steps
+    ensures tried { result.tried ≡ 0 }
+    ensures entered { result.entered ≡ 0 }
+    ensures looked { result.looked ≡ 0 }
+{
+    Steps {
+        tried: 0,
+        entered: 0,
+        looked: 0,
     }
 }

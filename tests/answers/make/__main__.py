@@ -45,7 +45,7 @@ LISTS: dict[str, tuple[Callable[[Dice], Iterator[Row]], Sequence[str]]] = {
 }
 
 CRATES = ANSWERS / '../../crates'
-WALKS = CRATES / 'regex_lite_engine/tests/meta/tests/cases.rt.txt'
+WALKS = CRATES / 'regex_lite_engine/tests/search/tests/cases.rt.txt'
 
 
 def picked_cases(files: Sequence[str]) -> list[tuple[tuple[str, str], Optional[str]]]:

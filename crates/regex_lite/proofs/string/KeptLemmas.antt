@@ -6,7 +6,7 @@ use Rattle.regex_lite.proofs.Common.{search_start, HasSlots, IsSpanOutcome, IsWi
 use Rattle.regex_lite.proofs.Common.{OfTree, spans_of, IsAnswerOf, span_of_match, spans_from}
 use Rattle.regex_lite.proofs.Common.{IsMatchOf, TellsMatch, TellsLocations, all_slots, Match}
 use Rattle.std.proofs.Common.{◌/◌}
-use Rattle.regex_lite_engine.specs.Search.Searching.{Searching}
+use Rattle.regex_lite_meta.specs.Searching.{Searching}
 use Rattle.regex_lite_engine.proofs.PositionLemmas.{position_of}
 use Rattle.regex_lite_syntax.proofs.OptionLemmas.{not_there, same_some}
 use Rattle.regex_lite.specs.Keeping.{SearchesForGroups}

@@ -10,7 +10,7 @@ use Rattle.regex_lite_engine.specs.Graph.StoredList.{StoredList}
 use Rattle.regex_lite_engine.specs.Search.Answer.{IsAnswer}
 use Rattle.regex_lite_engine.specs.Search.AnswerOfList.{AnyMatchesFrom}
 use Rattle.regex_lite_engine.specs.Search.Outcomes.{IsSpanOutcomeOfList}
-use Rattle.regex_lite_engine.specs.Search.Searching.{ListSearching}
+use Rattle.regex_lite_meta.specs.Searching.{ListSearching}
 use Rattle.regex_lite_engine.proofs.laws.several.ListAnswerLemmas.{list_answers}
 use Rattle.regex_lite_syntax.proofs.OptionLemmas.{same_some}
 use Rattle.regex_lite.specs.CompiledList.{IsBuiltList}

@@ -11,7 +11,7 @@ use Rattle.regex_lite.proofs.Common.{Match}
 use Rattle.regex_lite_syntax.specs.Tree.Regular.{IsRegular}
 use Rattle.regex_lite_engine.specs.Graph.Stored.{StoredGraph}
 use Rattle.regex_lite_engine.specs.Search.Outcomes.{IsOutcome}
-use Rattle.regex_lite_engine.specs.Search.Searching.{Searching}
+use Rattle.regex_lite_meta.specs.Searching.{Searching}
 use Rattle.regex_lite_syntax.proofs.OptionLemmas.{not_there, same_some}
 use Rattle.regex_lite.specs.Compiled.{SearchesFor}
 use Rattle.regex_lite.specs.Scanning.{TellsSpan}

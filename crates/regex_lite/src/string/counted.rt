@@ -10,6 +10,7 @@ use crate::string::regex::Regex;
 use crate::string::slots::{slots_with, whole_slots};
 use crate::string::source::Source;
 use regex_lite_engine::{Outcome, Steps};
+use regex_lite_meta::{search, search_shortest};
 use regex_lite_syntax::Error;
 
 /// The number of places of the written-out pattern that a search tries is at most one more than its
@@ -56,7 +57,7 @@ impl Regex {
         ensures refused { IfErr result (λ error. error ≡ out_of_memory) }
     {
         let graph = &self.compiled.graph;
-        let (outcome, steps) = graph.search(self.alloc, haystack, start, 0)?;
+        let (outcome, steps) = search(graph, self.alloc, haystack, start, 0)?;
         let Some(outcome) = outcome else {
             return Ok((None, steps));
         };
@@ -86,7 +87,7 @@ impl Regex {
         let count = self.kept_slots();
         let whole = whole_slots(self.alloc, count)?;
         let graph = &self.compiled.graph;
-        let (outcome, steps) = graph.search(self.alloc, haystack, start, count)?;
+        let (outcome, steps) = search(graph, self.alloc, haystack, start, count)?;
         let Some(Outcome { start, end, slots }) = outcome else {
             return Ok((None, steps));
         };
@@ -115,7 +116,7 @@ impl Regex {
         ensures refused { IfErr result (λ error. error ≡ out_of_memory) }
     {
         let graph = &self.compiled.graph;
-        let told = graph.search_shortest(self.alloc, haystack, start)?;
+        let told = search_shortest(graph, self.alloc, haystack, start)?;
         Ok(told)
     }
 }

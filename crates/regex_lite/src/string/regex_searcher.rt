@@ -15,7 +15,7 @@ ghost use Rattle.regex_lite.specs.Searches.{TellsLocations, TellsMatch};
 use crate::string::locations::CaptureLocations;
 use crate::string::matches::Match;
 use crate::string::regex::Regex;
-use regex_lite_engine::Searcher;
+use regex_lite_meta::Searcher;
 use regex_lite_syntax::Error;
 use std::fmt;
 use std::marker::Model;

@@ -3,12 +3,12 @@ use Rattle.regex_lite_engine.proofs.Common.{◌≡◌, ℕ, zero, suc, ◌+◌, 
 use Rattle.regex_lite_engine.proofs.Common.{false, ◌⊎◌, List, [], ◌∷◌, length, set, replicate}
 use Rattle.regex_lite_engine.proofs.Common.{if◌then◌else◌, slice_get, slice_index_or, slice_set}
 use Rattle.regex_lite_engine.proofs.Common.{Some, IsUtf8, sum_by, chars, IsCharBoundary, sym, refl}
-use Rattle.regex_lite_engine.proofs.Common.{ap, ◌∙◌, inl, inr, arith, mul-le-mul_left, mul-suc}
-use Rattle.regex_lite_engine.proofs.Common.{cases_lt, get_or-replicate, get_or-set_other}
-use Rattle.regex_lite_engine.proofs.Common.{get_or-set_same, get_or_past, length-replicate}
-use Rattle.regex_lite_engine.proofs.Common.{sum_by-cons, slice_get_within, Pairs, pair_number}
-use Rattle.regex_lite_engine.proofs.Common.{was_entered, characters_left, lone, offset, position_at}
-use Rattle.std.proofs.Math.Nat.{mul_comm}
+use Rattle.regex_lite_engine.proofs.Common.{ap, ◌∙◌, inl, inr, arith, mul-le-mul_left, cases_lt}
+use Rattle.regex_lite_engine.proofs.Common.{get_or-replicate, get_or-set_other, get_or-set_same}
+use Rattle.regex_lite_engine.proofs.Common.{get_or_past, length-replicate, sum_by-cons}
+use Rattle.regex_lite_engine.proofs.Common.{slice_get_within, Pairs, pair_number, was_entered}
+use Rattle.regex_lite_engine.proofs.Common.{characters_left, lone, offset, position_at}
+use Rattle.std.proofs.Math.Nat.{mul-suc, mul_comm}
 use Rattle.regex_lite_engine.specs.Backtrack.Room.{AreAll, left_in, left_from, left_of}
 use Rattle.regex_lite_engine.specs.Graph.Places.{Place}
 use Rattle.regex_lite_engine.proofs.OffsetLemmas.{offset_less, positions_order}

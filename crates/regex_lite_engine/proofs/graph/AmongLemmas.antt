@@ -1,7 +1,7 @@
 -- That an address is in a list of addresses.
 use Rattle.regex_lite_engine.proofs.Common.{◌≡◌, ℕ, suc, ◌+◌, ◌<◌, List, [], ◌∷◌, length, get_or}
-use Rattle.regex_lite_engine.proofs.Common.{subst, inr, arith, get_or_from_slice_get}
-use Rattle.regex_lite_engine.proofs.Common.{slice_get_within, Address}
+use Rattle.regex_lite_engine.proofs.Common.{subst, inr, arith, slice_get_within, Address}
+use Rattle.std.proofs.lemmas.Option.{get_or_from_slice_get}
 use Rattle.regex_lite_engine.proofs.graph.AddressLemmas.{own_place, framed}
 use Rattle.regex_lite_engine.proofs.InLemmas.{In, in_left, number_of}
 

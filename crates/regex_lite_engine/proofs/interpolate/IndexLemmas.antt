@@ -1,9 +1,9 @@
 -- The number that digits write.
 use Rattle.regex_lite_engine.proofs.Common.{◌≡◌, ℕ, suc, ◌+◌, ◌-◌, ◌*◌, ◌^◌, ◌<◌, ◌≤◌, Bool, true}
-use Rattle.regex_lite_engine.proofs.Common.{false, not, ◌&&◌, List, [], ◌∷◌, length, get_or, take}
-use Rattle.regex_lite_engine.proofs.Common.{drop, Some, None, sym, refl, ap, ◌∙◌, subst, arith}
-use Rattle.regex_lite_engine.proofs.Common.{nat_tests, take-append-drop, is_digit, number_of}
-use Rattle.std.proofs.Common.{eqb, ltb, fold, cond}
+use Rattle.regex_lite_engine.proofs.Common.{false, ◌&&◌, List, [], ◌∷◌, length, get_or, take, drop}
+use Rattle.regex_lite_engine.proofs.Common.{Some, None, sym, refl, ap, ◌∙◌, subst, arith, nat_tests}
+use Rattle.regex_lite_engine.proofs.Common.{take-append-drop, is_digit, number_of}
+use Rattle.std.proofs.Common.{not, eqb, ltb, fold, cond}
 use Rattle.std.specs.List.{list_all}
 use Rattle.std.proofs.lemmas.List.Sums.{fold-append, fold_more}
 use Rattle.regex_lite_syntax.specs.Characters.{is_lower, digit_value}

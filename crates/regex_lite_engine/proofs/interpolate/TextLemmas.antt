@@ -1,9 +1,10 @@
 -- Where a name and a text without a `$` end.
 use Rattle.regex_lite_engine.proofs.Common.{◌≡◌, ℕ, zero, suc, ◌+◌, ◌<◌, ◌≤◌, true, ◌≢◌, List, []}
 use Rattle.regex_lite_engine.proofs.Common.{◌∷◌, ◌++◌, length, get_or, take, drop, sym, refl, ap}
-use Rattle.regex_lite_engine.proofs.Common.{◌∙◌, subst, arith, nat_tests, get_or-take}
-use Rattle.regex_lite_engine.proofs.Common.{get_or_default, length-take, take-append-drop, plain}
-use Rattle.regex_lite_engine.proofs.Common.{is_name_character, BeginsWith, no_dollar}
+use Rattle.regex_lite_engine.proofs.Common.{◌∙◌, subst, arith, nat_tests, get_or-take, length-take}
+use Rattle.regex_lite_engine.proofs.Common.{take-append-drop, plain, is_name_character, BeginsWith}
+use Rattle.regex_lite_engine.proofs.Common.{no_dollar}
+use Rattle.std.proofs.lemmas.List.{get_or_default}
 use Rattle.std.proofs.Common.{Contains}
 use Rattle.std.specs.List.{prefix_len}
 use Rattle.std.specs.Str.{IsUtf8, IsCharBoundary}

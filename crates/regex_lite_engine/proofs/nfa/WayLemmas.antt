@@ -1,12 +1,13 @@
 -- Where the tree of a graph does not match, no arrows of the graph lead to a complete match.
 use Rattle.regex_lite_engine.proofs.Common.{◌≡◌, ℕ, suc, ◌<◌, List, length, IfSome, slice_get, Some}
-use Rattle.regex_lite_engine.proofs.Common.{false, nullable, None, Option, MatchOption, sym, ◌∙◌}
-use Rattle.regex_lite_engine.proofs.Common.{inl, inr, arith, cases_eq, slice_get_within, Text, Tree}
-use Rattle.regex_lite_engine.proofs.Common.{Matches, IsRegular, Address, IsRenumbered, IsNumberOf}
+use Rattle.regex_lite_engine.proofs.Common.{false, nullable, None, Option, sym, ◌∙◌, inl, inr}
+use Rattle.regex_lite_engine.proofs.Common.{arith, cases_eq, slice_get_within, Text, Tree, Matches}
+use Rattle.regex_lite_engine.proofs.Common.{IsRegular, Address, IsRenumbered, IsNumberOf}
 use Rattle.regex_lite_engine.proofs.Common.{side_by_side, start_of, AreEntries, start_address}
 use Rattle.regex_lite_engine.proofs.Common.{written_out, NeverBegins, MayBegin, numbered_step}
 use Rattle.regex_lite_engine.proofs.Common.{IsEntry, IsDeadAt, AreListHeadsOf, Heads, ListHeads}
 use Rattle.regex_lite_engine.proofs.Common.{Starts, pattern_table, pattern_layout}
+use Rattle.std.proofs.Common.{MatchOption}
 use Rattle.regex_lite_engine.specs.Graph.Places.{Place}
 use Rattle.regex_lite_engine.specs.Graph.SideBySide.{AreRegularPatterns}
 use Rattle.regex_lite_engine.specs.Search.Starts.{AreHeadsOf, NoneBeginsAtEnd}

@@ -4,16 +4,15 @@ use Rattle.regex_lite_engine.proofs.Common.{◌++◌, length, replicate, if◌th
 use Rattle.regex_lite_engine.proofs.Common.{slice_index, slice_index_or, Some, None, Option}
 use Rattle.regex_lite_engine.proofs.Common.{unwrap_or, sym, refl, ap, ◌∙◌, subst, inl, inr, arith}
 use Rattle.regex_lite_engine.proofs.Common.{map-append, in_ranges, just, holds_between, ClassRange}
-use Rattle.regex_lite_engine.proofs.Common.{with_arrows, place_of, retold, all_retold, state_retold}
+use Rattle.regex_lite_engine.proofs.Common.{with_arrows, place_of, all_retold, state_retold}
 use Rattle.regex_lite_engine.proofs.Common.{best_again, reads, pushing, reading_on, Thread, begun}
 use Rattle.regex_lite_engine.proofs.Common.{with_starts, SearchAt, Told, Best, Row, Here, Start}
+use Rattle.regex_lite_engine.specs.Pikevm.Again.{retold, FitsAlike}
 use Rattle.regex_lite_engine.specs.declared.nfa.place.Place as code
 use Rattle.regex_lite_engine.specs.declared.nfa.place.Place.TheVariants as stored
 use Rattle.regex_lite_engine.specs.Graph.Places.{Place}
-use Rattle.regex_lite_engine.specs.Pikevm.Again.{FitsAlike}
 use Rattle.regex_lite_engine.specs.Pikevm.Entering.{Enters}
-use Rattle.regex_lite_engine.specs.Pikevm.Machine.{Frame, explore, restore}
-use Rattle.regex_lite_engine.specs.Pikevm.Machine.{State}
+use Rattle.regex_lite_engine.specs.Pikevm.Machine.{Frame, explore, restore, State}
 use Rattle.regex_lite_engine.specs.Pikevm.Room.{WalksTo}
 use Rattle.regex_lite_engine.specs.Pikevm.Walking.{IsWalking}
 use Rattle.regex_lite_engine.proofs.pikevm.EnterLemmas.{reads_none, walk_enters}

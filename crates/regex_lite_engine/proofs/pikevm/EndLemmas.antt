@@ -2,14 +2,16 @@
 use Rattle.regex_lite_engine.proofs.Common.{◌≡◌, ℕ, suc, ◌+◌, ◌-◌, ◌*◌, ◌<◌, ◌≤◌, Bool, true, false}
 use Rattle.regex_lite_engine.proofs.Common.{◌⊎◌, List, [], ◌∷◌, length, if◌then◌else◌, IsTrue}
 use Rattle.regex_lite_engine.proofs.Common.{slice_get, Some, None, Option, sym, refl, ap, ◌∙◌}
-use Rattle.regex_lite_engine.proofs.Common.{subst, inl, inr, arith, mul-suc, nil_from_length}
+use Rattle.regex_lite_engine.proofs.Common.{subst, inl, inr, arith, nil_from_length}
 use Rattle.regex_lite_engine.proofs.Common.{slice_get_within, Text, after, holds_between, Condition}
 use Rattle.regex_lite_engine.proofs.Common.{free, holding, reading, Arrow, complete, with_arrows}
 use Rattle.regex_lite_engine.proofs.Common.{read_past, taken, arrived, arrow_taken, step_from}
 use Rattle.regex_lite_engine.proofs.Common.{Thread, IsComing, ThreadsHold, InStep, Found, IsGrown}
 use Rattle.regex_lite_engine.proofs.Common.{marks_along, place_with, numbered_step, is_end}
-use Rattle.regex_lite_engine.proofs.Common.{IsNumberedFound, StartsOf, Best, IsBestOutcome}
-use Rattle.regex_lite_engine.proofs.Common.{IsBestOutcomeOf, Node, Offer, StartsBelow}
+use Rattle.regex_lite_engine.proofs.Common.{StartsOf, Best, Node, Offer, StartsBelow}
+use Rattle.std.proofs.Math.Nat.{mul-suc}
+use Rattle.regex_lite_engine.specs.Search.NumberedAnswer.{IsNumberedFound}
+use Rattle.regex_lite_engine.specs.Search.NumberedOutcomes.{IsBestOutcome, IsBestOutcomeOf}
 use Rattle.std.specs.Option.{IsSome}
 use Rattle.regex_lite_syntax.specs.Text.{before}
 use Rattle.regex_lite_engine.specs.Graph.Places.{Place}

@@ -4,12 +4,12 @@ use Rattle.regex_lite_engine.proofs.Common.{◌++◌, length, replicate, slice_i
 use Rattle.regex_lite_engine.proofs.Common.{Some, None, sum_by, sym, refl, ap, ◌∙◌, subst, inl, inr}
 use Rattle.regex_lite_engine.proofs.Common.{arith, length-append, cases_lt, sum_by-cons}
 use Rattle.regex_lite_engine.proofs.Common.{slice_get-get_or, reading_count, kept_back, arrow_count}
-use Rattle.regex_lite_engine.proofs.Common.{arrows_of, Thread, thread_at, BestState, ThreadsBelow}
-use Rattle.regex_lite_engine.proofs.Common.{begun, with_starts, Told, lone, Best, Start}
+use Rattle.regex_lite_engine.proofs.Common.{arrows_of, Thread, thread_at, ThreadsBelow, begun}
+use Rattle.regex_lite_engine.proofs.Common.{with_starts, Told, lone, Best, Start}
+use Rattle.regex_lite_engine.specs.Pikevm.Machine.{BestState, State}
 use Rattle.std.specs.List.{All}
 use Rattle.regex_lite_engine.specs.declared.pikevm.walk.Walk.{Walk}
 use Rattle.regex_lite_engine.specs.Graph.Places.{Place}
-use Rattle.regex_lite_engine.specs.Pikevm.Machine.{State}
 use Rattle.regex_lite_engine.specs.Pikevm.Room.{HasRoom}
 use Rattle.regex_lite_engine.specs.Pikevm.Turns.{IsReady}
 use Rattle.regex_lite_syntax.proofs.OptionLemmas.{not_there}

@@ -5,8 +5,8 @@ use Rattle.regex_lite_engine.proofs.Common.{sym, refl, ap, ◌∙◌, subst, inl
 use Rattle.regex_lite_engine.proofs.Common.{Text, after, Leads, NoneTwice, Thread, IsComing, InStep}
 use Rattle.regex_lite_engine.proofs.Common.{Told, IsDead, IsAnswered, place_with, numbered_step}
 use Rattle.regex_lite_engine.proofs.Common.{is_end, IsNumberedMatch, IsEntry, StartsOf}
-use Rattle.regex_lite_engine.proofs.Common.{IsMatchOfAny, Best, IsNumberedEndOf, Node, Offer}
-use Rattle.regex_lite_engine.proofs.Common.{offset, Row}
+use Rattle.regex_lite_engine.proofs.Common.{IsMatchOfAny, Best, Node, Offer, offset, Row}
+use Rattle.regex_lite_engine.specs.Search.NumberedOutcomes.{IsNumberedEndOf}
 use Rattle.regex_lite_syntax.specs.Text.{before}
 use Rattle.regex_lite_syntax.proofs.ListLemmas.{same_head, same_tail}
 use Rattle.regex_lite_engine.specs.Graph.Places.{Place}

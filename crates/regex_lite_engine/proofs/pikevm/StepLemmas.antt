@@ -1,10 +1,12 @@
 -- From thread to thread of a position.
 use Rattle.regex_lite_engine.proofs.Common.{◌≡◌, ℕ, ◌+◌, ◌^◌, ◌<◌, ◌≤◌, Bool, false, List, [], ◌∷◌}
 use Rattle.regex_lite_engine.proofs.Common.{◌++◌, length, drop, if◌then◌else◌, Some, sym, refl, ap}
-use Rattle.regex_lite_engine.proofs.Common.{◌∙◌, subst, arith, kept_back, kept_back_of, AreAlike}
-use Rattle.regex_lite_engine.proofs.Common.{retold, all_retold, state_retold, KeepsPosition, Thread}
-use Rattle.regex_lite_engine.proofs.Common.{Between, StepsTo, WayTold, ThreadsHold, InStep}
-use Rattle.regex_lite_engine.proofs.Common.{SearchAt, Told, untold, Best, Node, Offer, Here}
+use Rattle.regex_lite_engine.proofs.Common.{◌∙◌, subst, arith, kept_back, kept_back_of, all_retold}
+use Rattle.regex_lite_engine.proofs.Common.{state_retold, KeepsPosition, Thread, StepsTo, WayTold}
+use Rattle.regex_lite_engine.proofs.Common.{ThreadsHold, InStep, SearchAt, Told, untold, Best, Node}
+use Rattle.regex_lite_engine.proofs.Common.{Offer, Here}
+use Rattle.regex_lite_engine.specs.Pikevm.Again.{AreAlike, retold}
+use Rattle.regex_lite_engine.specs.Pikevm.Turns.{Between}
 use Rattle.regex_lite_engine.specs.declared.pikevm.walk.Walk.{Walk}
 use Rattle.regex_lite_engine.specs.Graph.Places.{Place}
 use Rattle.regex_lite_engine.specs.Pikevm.Machine.{explore, State}

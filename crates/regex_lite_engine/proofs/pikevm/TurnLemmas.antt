@@ -2,17 +2,17 @@
 use Rattle.regex_lite_engine.proofs.Common.{◌≡◌, ℕ, suc, ◌+◌, ◌<◌, ◌≤◌, ◌⊎◌, List, [], ◌∷◌, ◌++◌}
 use Rattle.regex_lite_engine.proofs.Common.{length, slice_index, Some, None, Option, sym, refl, ap}
 use Rattle.regex_lite_engine.proofs.Common.{◌∙◌, subst, inl, inr, arith, cases_lt, IsWithin}
-use Rattle.regex_lite_engine.proofs.Common.{IsOwnPart, Thread, Between, StepsTo, IsComing, begun}
+use Rattle.regex_lite_engine.proofs.Common.{IsOwnPart, Thread, StepsTo, IsComing, begun}
 use Rattle.regex_lite_engine.proofs.Common.{ThreadsHold, SearchAt, Told, IsDead, numbered_step}
 use Rattle.regex_lite_engine.proofs.Common.{is_end, StartsOf, Best, Node, Offer, StartsBelow}
-use Rattle.regex_lite_engine.proofs.Common.{IsPreferred, Row, IsBlank, IsHere, IsDeadAt, IsAmong}
+use Rattle.regex_lite_engine.proofs.Common.{IsPreferred, Row, IsBlank, IsHere, IsDeadAt}
 use Rattle.regex_lite_engine.proofs.Common.{AreStartsAt, Here, Start}
+use Rattle.regex_lite_engine.specs.Pikevm.Turns.{Between, FromIs}
+use Rattle.regex_lite_engine.specs.Search.Starts.{IsAmong, AreFrom}
 use Rattle.regex_lite_engine.specs.Graph.Places.{Place}
 use Rattle.regex_lite_engine.specs.Search.Offers as offer
 use Rattle.regex_lite_engine.specs.Pikevm.Machine.{State}
 use Rattle.regex_lite_engine.specs.Search.Beginnings.{TellsStart}
-use Rattle.regex_lite_engine.specs.Search.Starts.{AreFrom}
-use Rattle.regex_lite_engine.specs.Pikevm.Turns.{FromIs}
 use Rattle.regex_lite_syntax.proofs.OptionLemmas.{not_there}
 use Rattle.regex_lite_engine.proofs.pikevm.OwnPartLemmas.{recorded_within}
 use Rattle.regex_lite_engine.proofs.pikevm.ThreadLemmas.{Begun}

@@ -1,14 +1,13 @@
 -- What the bytes at a character say of matches that begin there, or at the next one.
 use Rattle.regex_lite_engine.proofs.Common.{◌≡◌, ℕ, zero, suc, ◌+◌, ◌<◌, ◌≤◌, Bool, true, false}
-use Rattle.regex_lite_engine.proofs.Common.{◌&&◌, ◌||◌, ◌⊎◌, List, [], ◌∷◌, ◌++◌, length, take}
-use Rattle.regex_lite_engine.proofs.Common.{drop, if◌then◌else◌, IsTrue, nat_lt, slice_get}
-use Rattle.regex_lite_engine.proofs.Common.{slice_index, slice_index_or, Some, None, IsUtf8, sum_by}
-use Rattle.regex_lite_engine.proofs.Common.{Option, chars, IsCharBoundary, sym, refl, ap, ◌∙◌}
-use Rattle.regex_lite_engine.proofs.Common.{subst, inl, inr, arith, length-drop, cases_lt}
-use Rattle.regex_lite_engine.proofs.Common.{nat_tests, take_all, slice_get_within, encodes-chars}
-use Rattle.regex_lite_engine.proofs.Common.{len_utf8, Text, after, stops_at, MayBegin, offset}
-use Rattle.regex_lite_engine.proofs.Common.{IsHere, Starts, Here}
-use Rattle.std.proofs.Common.{is_none}
+use Rattle.regex_lite_engine.proofs.Common.{◌&&◌, ◌⊎◌, List, [], ◌∷◌, ◌++◌, length, take, drop}
+use Rattle.regex_lite_engine.proofs.Common.{if◌then◌else◌, IsTrue, nat_lt, slice_get, slice_index}
+use Rattle.regex_lite_engine.proofs.Common.{slice_index_or, Some, None, IsUtf8, sum_by, Option}
+use Rattle.regex_lite_engine.proofs.Common.{chars, IsCharBoundary, sym, refl, ap, ◌∙◌, subst, inl}
+use Rattle.regex_lite_engine.proofs.Common.{inr, arith, length-drop, cases_lt, nat_tests, take_all}
+use Rattle.regex_lite_engine.proofs.Common.{slice_get_within, encodes-chars, len_utf8, Text, after}
+use Rattle.regex_lite_engine.proofs.Common.{stops_at, MayBegin, offset, IsHere, Starts, Here}
+use Rattle.std.proofs.Common.{◌||◌, is_none}
 use Rattle.regex_lite_syntax.specs.Prefilter.Starts.{begins_with, may_begin}
 use lib.Utf8.{encode, encodes}
 use Rattle.std.proofs.lemmas.Str.{char_from_byte, byte_from_char}

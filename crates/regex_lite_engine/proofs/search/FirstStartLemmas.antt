@@ -1,14 +1,14 @@
 -- A search that begins at the first position at which a match may begin.
-use Rattle.regex_lite_engine.proofs.Common.{◌≡◌, ℕ, ◌+◌, ◌*◌, ◌<◌, ◌≤◌, ◌⊎◌, List, None, IsUtf8}
-use Rattle.regex_lite_engine.proofs.Common.{sym, subst, inl, inr, arith, cases_lt, mul-le-mul_left}
-use Rattle.regex_lite_engine.proofs.Common.{zero, suc, true, false, ◌&&◌, ap, if◌then◌else◌, nat_lt}
-use Rattle.regex_lite_engine.proofs.Common.{length, slice_index_or, MayBegin, Starts, chars}
-use Rattle.regex_lite_engine.proofs.Common.{IsCharBoundary, Text, characters_left, IsDeadAt}
-use Rattle.regex_lite_engine.proofs.Common.{position_at, IsHere, PassesTo, Here}
+use Rattle.regex_lite_engine.proofs.Common.{◌≡◌, ℕ, ◌+◌, ◌*◌, ◌<◌, ◌≤◌, ◌⊎◌, List, None, Some, Best}
+use Rattle.regex_lite_engine.proofs.Common.{IsUtf8, sym, subst, inl, inr, arith, cases_lt}
+use Rattle.regex_lite_engine.proofs.Common.{mul-le-mul_left, zero, suc, true, false, ◌&&◌, ap}
+use Rattle.regex_lite_engine.proofs.Common.{if◌then◌else◌, nat_lt, length, slice_index_or, MayBegin}
+use Rattle.regex_lite_engine.proofs.Common.{Starts, chars, IsCharBoundary, Text, characters_left}
+use Rattle.regex_lite_engine.proofs.Common.{IsDeadAt, position_at, IsHere, PassesTo, Here}
+use Rattle.regex_lite_engine.specs.Search.NumberedOutcomes.{IsBestOutcome}
 use Rattle.regex_lite_engine.specs.Graph.Places.{Place}
-use Rattle.regex_lite_engine.specs.LazyDfa.Remembering.{NoneStartsBefore}
+use Rattle.regex_lite_engine.specs.Search.NumberedAnswer.{NoneStartsBefore, IsNumberedAnswer}
 use Rattle.regex_lite_engine.specs.Search.Bounds.{IsBounded}
-use Rattle.regex_lite_engine.specs.Search.NumberedAnswer.{IsNumberedAnswer}
 use Rattle.regex_lite_engine.specs.Search.Starts.{AreDeadFrom}
 use Rattle.regex_lite_syntax.proofs.LookupLemmas.{there_is}
 use Rattle.regex_lite_engine.proofs.OffsetLemmas.{boundary_at}
@@ -20,6 +20,33 @@ pub none_from : (table : List (Place ℕ)) (haystack : Text) (start s : ℕ)
     → AreDeadFrom table haystack start s → IsNumberedAnswer table haystack start s None
 none_from table haystack start s dead = λ i q j way is.
     dead i is.from is.inside way (q, j) is.leads.ends is.leads.is_way.0
+
+-- the answer from a later start, before which no match starts, is the answer from here
+pub answer_from : (table : List (Place ℕ)) (haystack : Text) (start s m : ℕ)
+    → NoneStartsBefore table haystack start s m → (best : Best)
+    → IsBestOutcome table haystack start m best → IsBestOutcome table haystack start s best
+answer_from table haystack start s m before None none = λ i q j way is.
+    let from = before.least i q j way is in
+    none i q j way (record { from = from; inside = is.inside; leads = is.leads })
+answer_from table haystack start s m before (Some best) (found, answer, from, to, held) =
+    let low = before.from in
+    let high = answer.from in (
+      found,
+      record {
+        from = omega (arith, low, high);
+        inside = answer.inside;
+        least = λ i q j way is. answer.least i q j way
+            (record { from = before.least i q j way is; inside = is.inside; leads = is.leads });
+        way = answer.way;
+        last = answer.last;
+        is_way = answer.is_way;
+        preferred = answer.preferred;
+        marks = answer.marks;
+      },
+      from,
+      to,
+      held,
+    )
 
 -- a search that begins nowhere tries nothing
 pub none_tried : (places arrows : ℕ) (haystack : Text) (s tried entered looked : ℕ) → tried ≡ 0

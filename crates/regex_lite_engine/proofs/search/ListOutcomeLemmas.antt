@@ -1,21 +1,23 @@
 -- What a search for several patterns returns: the answer of the list, by offsets.
 use Rattle.regex_lite_engine.proofs.Common.{◌≡◌, ℕ, ◌+◌, ◌<◌, ◌≤◌, ◌↔◌, List, [], ◌∷◌, length}
-use Rattle.regex_lite_engine.proofs.Common.{is_some, IsTrue, slice_index, Some, None, All, Option}
+use Rattle.regex_lite_engine.proofs.Common.{is_some, IsTrue, slice_index, Some, None, Option}
 use Rattle.regex_lite_engine.proofs.Common.{option_map, chars, sym, refl, ap, ◌∙◌, subst, arith}
 use Rattle.regex_lite_engine.proofs.Common.{length-map, sum_by-cons, slice_get-get_or, Tree}
 use Rattle.regex_lite_engine.proofs.Common.{whole_arrows, arrows_of, HasTree, places_of_all}
 use Rattle.regex_lite_engine.proofs.Common.{arrows_of_all, tries_of_all, place_of, StoredList}
-use Rattle.regex_lite_engine.proofs.Common.{table_of_list, IsGraphOfList, IsMatchFrom, HasMatchFrom}
-use Rattle.regex_lite_engine.proofs.Common.{Found, AnyMatchesFrom, IsAnswerOfList, StepCounts}
-use Rattle.regex_lite_engine.proofs.Common.{IsBoundedBy, IsEntry, IsMatchOfAny, IsNumberedAnswerOf}
-use Rattle.regex_lite_engine.proofs.Common.{Best, IsBestOutcomeOf, IsNumberedEndOf, position_at}
-use Rattle.regex_lite_engine.proofs.Common.{search_start}
+use Rattle.regex_lite_engine.proofs.Common.{table_of_list, IsMatchFrom, HasMatchFrom, Found}
+use Rattle.regex_lite_engine.proofs.Common.{AnyMatchesFrom, IsAnswerOfList, StepCounts, IsBoundedBy}
+use Rattle.regex_lite_engine.proofs.Common.{IsEntry, IsMatchOfAny, IsNumberedAnswerOf, Best}
+use Rattle.regex_lite_engine.proofs.Common.{position_at, search_start}
+use Rattle.std.proofs.Common.{All}
+use Rattle.regex_lite_engine.specs.Graph.StoredList.{IsGraphOfList}
+use Rattle.regex_lite_engine.specs.Search.NumberedOutcomes.{IsBestOutcomeOf, IsNumberedEndOf}
+use Rattle.regex_lite_engine.specs.Search.NumberedOutcomes.{numbered_at, numbered_told}
+use Rattle.regex_lite_engine.specs.Search.NumberedOutcomes.{with_origin_kept}
 use Rattle.regex_lite_engine.specs.declared.search.outcome.Outcome.{Outcome}
 use Rattle.regex_lite_engine.specs.Graph.SideBySide.{AreRegularPatterns}
 use Rattle.regex_lite_engine.specs.Search.Outcomes.{HasCostOfList, IsOutcomeOfList}
 use Rattle.regex_lite_engine.specs.Search.Outcomes.{IsSpanOutcomeOfList}
-use Rattle.regex_lite_engine.specs.Search.NumberedOutcomes.{numbered_at, numbered_told}
-use Rattle.regex_lite_engine.specs.Search.NumberedOutcomes.{with_origin_kept}
 use Rattle.regex_lite_engine.proofs.laws.several.NumberedListLemmas.{any_numbered, any_of_numbers}
 use Rattle.regex_lite_engine.proofs.laws.several.NumberedListLemmas.{list_answer_of_numbers}
 use Rattle.regex_lite_syntax.proofs.OptionLemmas.{same_some}

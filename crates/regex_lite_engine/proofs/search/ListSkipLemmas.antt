@@ -1,10 +1,10 @@
 -- Positions at which no match of several patterns can begin, and the bytes of their characters.
-use Rattle.regex_lite_engine.proofs.Common.{◌≡◌, ℕ, zero, suc, ◌+◌, ◌<◌, ◌≤◌, false, ◌&&◌, ◌||◌}
-use Rattle.regex_lite_engine.proofs.Common.{List, length, slice_get, slice_index, Some, IsUtf8}
-use Rattle.regex_lite_engine.proofs.Common.{chars, sym, ap, ◌∙◌, subst, inl, inr, arith}
-use Rattle.regex_lite_engine.proofs.Common.{slice_get_within, may_start, IsPassedByAll, MayBegin}
-use Rattle.regex_lite_engine.proofs.Common.{offset, IsHere, AreDeadAt, PassesTo, AreListHeadsOf}
-use Rattle.regex_lite_engine.proofs.Common.{ListHeads, Here}
+use Rattle.regex_lite_engine.proofs.Common.{◌≡◌, ℕ, zero, suc, ◌+◌, ◌<◌, ◌≤◌, false, ◌&&◌, List}
+use Rattle.regex_lite_engine.proofs.Common.{length, slice_get, slice_index, Some, IsUtf8, chars}
+use Rattle.regex_lite_engine.proofs.Common.{sym, ap, ◌∙◌, subst, inl, inr, arith, slice_get_within}
+use Rattle.regex_lite_engine.proofs.Common.{may_start, IsPassedByAll, MayBegin, offset, IsHere}
+use Rattle.regex_lite_engine.proofs.Common.{AreDeadAt, PassesTo, AreListHeadsOf, ListHeads, Here}
+use Rattle.std.proofs.Common.{◌||◌}
 use Rattle.regex_lite_syntax.specs.Prefilter.Rows.{start_row, has}
 use Rattle.regex_lite_engine.specs.Graph.Places.{Place}
 use Rattle.regex_lite_engine.proofs.search.FirstByteLemmas.{ascii_there, begins_later, first_byte}

@@ -3,18 +3,20 @@ use Rattle.regex_lite_engine.proofs.Common.{◌≡◌, ℕ, ◌+◌, ◌*◌, �
 use Rattle.regex_lite_engine.proofs.Common.{None, IsUtf8, Option, option_map, chars, sym, ◌∙◌}
 use Rattle.regex_lite_engine.proofs.Common.{subst, arith, mul-le-mul_left, mul-le-mul_right}
 use Rattle.regex_lite_engine.proofs.Common.{length-map, encodes-chars, Tree, IsRegular}
-use Rattle.regex_lite_engine.proofs.Common.{whole_places, whole_arrows, arrows_of, StoredGraph}
-use Rattle.regex_lite_engine.proofs.Common.{place_of, table_of, IsAnswer, characters_left}
-use Rattle.regex_lite_engine.proofs.Common.{IsCountable, CanCount, Best, best_at, IsNumberedOutcome}
-use Rattle.regex_lite_engine.proofs.Common.{position_at, search_start, IsEndOutcome, Text, offset}
+use Rattle.regex_lite_engine.proofs.Common.{whole_places, whole_arrows, arrows_of, place_of}
+use Rattle.regex_lite_engine.proofs.Common.{table_of, IsAnswer, characters_left, CanCount, Best}
+use Rattle.regex_lite_engine.proofs.Common.{IsNumberedOutcome, position_at, search_start, Text}
+use Rattle.regex_lite_engine.proofs.Common.{offset}
+use Rattle.regex_lite_engine.specs.Graph.Stored.{StoredGraph}
+use Rattle.regex_lite_engine.specs.Search.Counting.{IsCountable}
+use Rattle.regex_lite_engine.specs.Search.NumberedOutcomes.{best_at, match_told}
+use Rattle.regex_lite_engine.specs.Search.Outcomes.{IsEndOutcome, IsSpanOutcome, IsOutcome}
 use Rattle.std.proofs.lemmas.Str.{length-le-encodes}
 use Rattle.regex_lite_engine.specs.declared.search.outcome.Outcome.{Outcome}
 use Rattle.regex_lite_engine.specs.Graph.Places.{Place}
 use Rattle.regex_lite_engine.specs.Graph.Renumbered.{IsGraphOf}
 use Rattle.regex_lite_engine.specs.Search.Bounds.{IsBounded}
 use Rattle.regex_lite_engine.specs.Search.Answer.{IsShortest}
-use Rattle.regex_lite_engine.specs.Search.Outcomes.{IsSpanOutcome, IsOutcome}
-use Rattle.regex_lite_engine.specs.Search.NumberedOutcomes.{match_told}
 use Rattle.regex_lite_engine.proofs.laws.search.NumberedAnswerLemmas.{
   IsNumberedShortest,
   answer_of_numbers,

@@ -1,10 +1,11 @@
 -- Positions that are passed over, since no match can begin there.
 use Rattle.regex_lite_engine.proofs.Common.{◌≡◌, ℕ, zero, suc, ◌+◌, ◌-◌, ◌*◌, ◌<◌, ◌≤◌, false, ◌⊎◌}
 use Rattle.regex_lite_engine.proofs.Common.{List, length, slice_index, Some, None, IsUtf8, Option}
-use Rattle.regex_lite_engine.proofs.Common.{MatchOption, chars, sym, ap, ◌∙◌, subst, inl, inr}
-use Rattle.regex_lite_engine.proofs.Common.{arith, mul-le-mul_left, cases_eq, cases_lt, Text}
-use Rattle.regex_lite_engine.proofs.Common.{NeverBegins, IsPassed, stops_at, MayBegin, offset}
-use Rattle.regex_lite_engine.proofs.Common.{IsHere, PassesTo, Heads, Starts, Here}
+use Rattle.regex_lite_engine.proofs.Common.{chars, sym, ap, ◌∙◌, subst, inl, inr, arith}
+use Rattle.regex_lite_engine.proofs.Common.{mul-le-mul_left, cases_eq, cases_lt, Text, NeverBegins}
+use Rattle.regex_lite_engine.proofs.Common.{IsPassed, stops_at, MayBegin, offset, IsHere, PassesTo}
+use Rattle.regex_lite_engine.proofs.Common.{Heads, Starts, Here}
+use Rattle.std.proofs.Common.{MatchOption}
 use Rattle.regex_lite_syntax.specs.Prefilter.Heads.{IsCutOff}
 use Rattle.regex_lite_syntax.proofs.LookupLemmas.{there_is}
 use Rattle.regex_lite_engine.proofs.OffsetLemmas.{offset_less, positions_order}

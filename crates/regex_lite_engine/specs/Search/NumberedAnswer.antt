@@ -55,3 +55,8 @@ module _ (table : List (Place ℕ)) (haystack : Text) where
     IsNumberedAnswer s None =
         (i q j : ℕ) (way : List ℕ) → IsNumberedMatch s i way q j → ⊥
     IsNumberedAnswer s (Some found) = IsNumberedFound s found
+
+  -- position m is s or a later one, and no match from s on starts before it
+  pub record NoneStartsBefore (start s m : ℕ) : Type 0 where
+    pub from : s ≤ m
+    pub least : (i q j : ℕ) (way : List ℕ) → IsNumberedMatch start s i way q j → m ≤ i

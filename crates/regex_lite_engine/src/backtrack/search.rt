@@ -1,5 +1,6 @@
 //! A depth-first search, from its working memory to its outcome.
-ghost use Rattle.std.specs.Prelude.{◌≡◌, ◌<◌, IfOk, IfSome, IsCharBoundary, length};
+ghost use Rattle.std.specs.Prelude.{◌≡◌, ◌+◌, ◌-◌, ◌*◌, ◌≤◌, ◌<◌, ◌↔◌};
+ghost use Rattle.std.specs.Prelude.{IfOk, IfSome, IsCharBoundary, IsTrue, length};
 ghost use Rattle.regex_lite_syntax.specs.Tree.{Tree};
 ghost use Rattle.regex_lite_syntax.specs.Tree.Regular.{IsRegular};
 ghost use Rattle.regex_lite_engine.specs.Backtrack.Searching.{IsFresh};
@@ -10,17 +11,25 @@ ghost use Rattle.regex_lite_engine.specs.Search.Counting.{IsCountable};
 ghost use Rattle.regex_lite_engine.specs.Search.NumberedOutcomes.{match_told, best_at};
 
 use crate::Graph;
+use crate::backtrack::MOST_PAIRS;
 use crate::backtrack::run::run;
 use crate::backtrack::stack::Stack;
 use crate::backtrack::visited::Visited;
 use crate::backtrack::walk::Walk;
 use crate::search::outcome::Outcome;
-use crate::steps::Steps;
+use crate::steps::{Steps, no_steps};
 use std::alloc::{AllocError, Global};
 
 impl Graph {
-    /// What [`Graph::search`] returns, found depth first.
-    pub(crate) fn search_depth_first(
+    /// The most preferred match from the least start at or after this offset, with this number of
+    /// slots, and what the search did. It goes depth first.
+    ///
+    /// Condition: the start is on a character boundary.
+    ///
+    /// # Errors
+    ///
+    /// If memory runs out, which can happen only before the first step.
+    pub fn search_depth_first(
         &self,
         alloc: Global,
         haystack: &str,
@@ -37,12 +46,24 @@ impl Graph {
         ensures entered { IfOk result (λ told. IfSome told.0 (λ _. 0 < told.1.entered)) }
     {
         let Some(first) = self.first_start(haystack, start) else {
-            return Ok((None, Steps::none()));
+            return Ok((None, no_steps()));
         };
         let mut walk = self.walk_for(alloc, haystack, first.at, slots)?;
         let found = run(&mut walk, self, haystack, first);
         let Walk { stack, steps, .. } = walk;
         Ok((outcome_of(found, stack), steps))
+    }
+
+    /// Whether the pairs of a place and an offset from this one on are few enough to keep a bit for
+    /// each.
+    pub fn has_few_pairs(&self, haystack: &str, start: usize) -> bool
+        requires { IsCharBoundary haystack.now start }
+        ensures { IsTrue result
+            ↔ (length self.now.places * ((length haystack.now - start) + 1) ≤ 262144) }
+    {
+        let left = haystack.len() - start;
+        // Not by characters: each search in a loop over a long haystack would count them anew.
+        left < MOST_PAIRS / self.places()
     }
 
     /// All the memory of a search from this offset that keeps this number of slots, asked for
@@ -67,7 +88,7 @@ impl Graph {
         Ok(Walk {
             visited,
             stack,
-            steps: Steps::none(),
+            steps: no_steps(),
         })
     }
 }

@@ -14,7 +14,7 @@ use crate::backtrack::stack::Stack;
 use crate::backtrack::visited::Visited;
 use crate::backtrack::walk::Walk;
 use crate::search::here::Here;
-use crate::steps::Steps;
+use crate::steps::{Steps, no_steps};
 use std::alloc::{AllocError, Global};
 
 /// A haystack is short if a search of it has at most this number of pairs of a place and an offset.
@@ -22,7 +22,7 @@ const MOST_SHORT: usize = 2048;
 
 /// Searches depth first in short haystacks, one after another, in the same memory.
 #[derive(Drop)]
-pub(crate) struct ShortSearcher {
+pub struct ShortSearcher {
     walk: Walk,
     /// A search goes over at most this number of offsets, including the end's.
     offsets: usize,
@@ -31,7 +31,7 @@ pub(crate) struct ShortSearcher {
 impl ShortSearcher {
     /// One for this graph, whose matches have this number of slots. All its memory is asked for
     /// here. None if the graph has too many places.
-    pub(crate) fn new(
+    pub fn new(
         alloc: Global,
         graph: &Graph,
         slots: usize,
@@ -52,13 +52,13 @@ impl ShortSearcher {
         let walk = Walk {
             visited: Visited::few(graph.places(), 0, 0),
             stack: Stack::blank(alloc, room, slots)?,
-            steps: Steps::none(),
+            steps: no_steps(),
         };
         Ok(Some(ShortSearcher { walk, offsets }))
     }
 
     /// Whether a search over this many bytes is short enough.
-    pub(crate) fn suits(&self, bytes: usize) -> bool
+    pub fn suits(&self, bytes: usize) -> bool
         ensures { IsTrue result ↔ (bytes < self.now.offsets) }
     {
         bytes < self.offsets
@@ -66,12 +66,7 @@ impl ShortSearcher {
 
     /// Returns the start and the end of the match that a search by itself finds from this offset
     /// on. Its slots are in the row.
-    pub(crate) fn search(
-        &mut self,
-        graph: &Graph,
-        haystack: &str,
-        start: usize,
-    ) -> Option<(usize, usize)>
+    pub fn search(&mut self, graph: &Graph, haystack: &str, start: usize) -> Option<(usize, usize)>
         requires boundary { IsCharBoundary haystack.now start }
         requires short { length haystack.now - start < self.old.offsets }
         requires searches { SearchesShort graph.now self.old }
@@ -87,19 +82,19 @@ impl ShortSearcher {
     {
         self.walk.visited = Visited::few(graph.places(), start, haystack.len());
         self.walk.stack.clear();
-        self.walk.steps = Steps::none();
+        self.walk.steps = no_steps();
         run(&mut self.walk, graph, haystack, Here::at(haystack, start))
     }
 
     /// What the slots hold after a match was found.
-    pub(crate) fn row(&self) -> &[Option<usize>]
+    pub fn row(&self) -> &[Option<usize>]
         ensures { result.now ≡ self.now.walk.stack.row }
     {
         self.walk.stack.row()
     }
 
     /// What the last search did.
-    pub(crate) fn steps(&self) -> Steps
+    pub fn steps(&self) -> Steps
         ensures { result ≡ self.now.walk.steps }
     {
         self.walk.steps

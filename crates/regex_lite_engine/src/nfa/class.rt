@@ -10,7 +10,7 @@ use std::rc::Rc;
 /// A set of characters with a map of its ASCII characters, so that one of those is looked up in one
 /// step. All places of the set share it.
 #[derive(Drop)]
-pub(crate) struct MappedClass {
+pub struct MappedClass {
     // Two words, since a `u128` would be aligned to 16 bytes and make each place of a graph longer.
     ascii: [u64; 2],
     class: Rc<Class>,
@@ -31,7 +31,7 @@ impl Model for MappedClass {
 
 impl MappedClass {
     /// The set of the class, which it shares.
-    pub(crate) fn new(class: &Rc<Class>) -> Result<MappedClass, AllocError>
+    pub fn new(class: &Rc<Class>) -> Result<MappedClass, AllocError>
         ensures { IfOk result (λ set. set ≡ class.now.value) }
     {
         Ok(MappedClass {
@@ -43,7 +43,7 @@ impl MappedClass {
     /// Whether the set holds the character.
     // Inlined, so that the loop of a search needn't save its registers for an ASCII one.
     #[inline(always)]
-    pub(crate) fn contains(&self, c: char) -> bool
+    pub fn contains(&self, c: char) -> bool
         ensures { result ≡ in_ranges self.now c }
     {
         if c.is_ascii() {
@@ -55,7 +55,7 @@ impl MappedClass {
     }
 
     /// The maximal runs of the set, in order.
-    pub(crate) fn ranges(&self) -> &[ClassRange]
+    pub fn ranges(&self) -> &[ClassRange]
         ensures same { result.now ≡ self.now }
         ensures runs { AreRuns 0 result.now }
     {

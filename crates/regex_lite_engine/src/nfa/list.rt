@@ -109,7 +109,7 @@ impl GraphList {
     }
 
     /// Its places by number.
-    pub(crate) fn table(&self) -> &Table
+    pub fn table(&self) -> &Table
         ensures same { result.now ≡ record {
           places = self.now.places;
           arrows = self.now.arrows;
@@ -119,7 +119,7 @@ impl GraphList {
     }
 
     /// Where each pattern is entered, by its number.
-    pub(crate) fn entries(&self) -> &[u32]
+    pub fn entries(&self) -> &[u32]
         ensures same { result.now ≡ self.now.entries }
         ensures inside { All (λ entry. entry < length (table_of_list self.now)) result.now }
         ensures few { length result.now < 2 ^ 32 }
@@ -128,7 +128,7 @@ impl GraphList {
     }
 
     /// Which patterns may start at a position.
-    pub(crate) fn heads(&self) -> &ListHeads
+    pub fn heads(&self) -> &ListHeads
         ensures { AreListHeadsOf (table_of_list self.now) self.now.entries result.now }
     {
         &self.heads

@@ -9,7 +9,7 @@ use std::mem::size_of;
 
 /// A place of a graph, with the numbers of the places that its arrows lead to.
 #[derive(Drop)]
-pub(crate) enum Place {
+pub enum Place {
     /// Goes on at once.
     Empty { to: u32 },
     /// Reads this character.
@@ -33,7 +33,7 @@ const _: () = prove!(size_of::<Place>() == 32);
 
 impl Place {
     /// How many arrows it has after the first.
-    pub(crate) fn other_arrows(&self) -> usize
+    pub fn other_arrows(&self) -> usize
         ensures { result ≡ kept_back_with 0 (place_of self.now) }
     {
         match self {
@@ -44,7 +44,7 @@ impl Place {
     }
 
     /// How much a search that keeps slots keeps back here.
-    pub(crate) fn kept_back(&self) -> usize
+    pub fn kept_back(&self) -> usize
         ensures { result ≡ kept_back (place_of self.now) }
     {
         match self {

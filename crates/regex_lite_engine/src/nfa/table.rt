@@ -12,7 +12,7 @@ use std::marker::Model;
 
 /// The places of a graph by number. Their arrows lead to places of the table.
 #[derive(Drop)]
-pub(crate) struct Table {
+pub struct Table {
     places: Vec<Place>,
     arrows: usize,
     /// How many of its places read a character.
@@ -43,7 +43,7 @@ impl Model for Table {
 impl Table {
     /// The table of these places, which have `arrows` arrows, and of which `reading` read a
     /// character.
-    pub(crate) fn new(places: Vec<Place>, arrows: usize, reading: usize) -> Table
+    pub fn new(places: Vec<Place>, arrows: usize, reading: usize) -> Table
         requires closed { IsClosed places.items arrows reading }
         requires each_arrow { arrows_of (map place_of places.items) ≡ arrows }
         ensures { result ≡ record {
@@ -61,7 +61,7 @@ impl Table {
     }
 
     /// What stands at a place, for a search: each call is counted.
-    pub(crate) fn look(&self, place: u32, steps: &mut Steps) -> &Place
+    pub fn look(&self, place: u32, steps: &mut Steps) -> &Place
         requires inside { place < length self.now.places }
         requires room { steps.old.looked + 1 < 2 ^ 128 }
         ensures found { slice_get self.now.places place ≡ Some result.now }
@@ -73,14 +73,14 @@ impl Table {
     }
 
     /// All places, for what is found out before a search begins: no such reading is counted.
-    pub(crate) fn all(&self) -> &[Place]
+    pub fn all(&self) -> &[Place]
         ensures { result.now ≡ self.now.places }
     {
         &self.places
     }
 
     /// How many places there are.
-    pub(crate) fn places(&self) -> usize
+    pub fn places(&self) -> usize
         ensures same { result ≡ length self.now.places }
         ensures few { result < 2 ^ 32 }
         ensures kept_back { 0 < result → kept_back_of (places_of self.now) < result }
@@ -90,7 +90,7 @@ impl Table {
     }
 
     /// How many arrows there are.
-    pub(crate) fn arrows(&self) -> usize
+    pub fn arrows(&self) -> usize
         ensures same { result ≡ self.now.arrows }
         ensures all { result ≡ arrows_of (places_of self.now) }
         ensures few { result < 2 ^ 34 }
@@ -99,7 +99,7 @@ impl Table {
     }
 
     /// How many places read a character. A search relies on there being few arrows too.
-    pub(crate) fn reading(&self) -> usize
+    pub fn reading(&self) -> usize
         ensures each { result ≡ reading_of (places_of self.now) }
         ensures few { 0 < length self.now.places → result < length self.now.places }
         ensures few_arrows { arrows_of (places_of self.now) < 2 ^ 34 }
@@ -108,7 +108,7 @@ impl Table {
     }
 
     /// How much a search with this number of slots keeps back if it enters each place once.
-    pub(crate) fn kept_back(&self, slots: usize) -> usize
+    pub fn kept_back(&self, slots: usize) -> usize
         ensures { result ≡ sum_by (kept_back_with slots) (places_of self.now) }
     {
         if slots == 0 {

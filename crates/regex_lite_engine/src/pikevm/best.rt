@@ -150,7 +150,7 @@ impl Best<Origin> {
     }
 
     /// Makes this match the best, or forgets the match if there is none. No slots are kept.
-    pub(crate) fn keep(&mut self, found: Option<(Origin, usize)>)
+    pub fn keep(&mut self, found: Option<(Origin, usize)>)
         requires { length self.old.row ≡ 0 }
         ensures best { best_of self.new ≡ best_kept found [] }
         ensures row { self.new.row ≡ self.old.row }
@@ -160,7 +160,7 @@ impl Best<Origin> {
 }
 
 /// Where the match starts and where it ends.
-pub(crate) fn span_of(found: Option<(Origin, usize)>) -> Option<(usize, usize)>
+pub fn span_of(found: Option<(Origin, usize)>) -> Option<(usize, usize)>
     ensures { result ≡ span_of found }
 {
     let (origin, end) = found?;
@@ -168,7 +168,7 @@ pub(crate) fn span_of(found: Option<(Origin, usize)>) -> Option<(usize, usize)>
 }
 
 /// The number of the match's pattern, and where it starts and where it ends.
-pub(crate) fn numbered(found: Option<(Origin, usize)>) -> Option<(usize, (usize, usize))>
+pub fn numbered(found: Option<(Origin, usize)>) -> Option<(usize, (usize, usize))>
     ensures { (row : Row) → best_kept found row ≡ with_origin_kept (numbered_at result row) }
 {
     let (origin, end) = found?;

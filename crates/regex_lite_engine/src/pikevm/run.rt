@@ -49,7 +49,7 @@ pub fn run<S: Beginning, P: Patterns>(
 }
 
 /// Whether nothing is left to do after the position.
-pub(crate) fn is_over<S: Beginning>(here: Here, memory: &Memory<S>, best: &Best<S>) -> bool
+pub fn is_over<S: Beginning>(here: Here, memory: &Memory<S>, best: &Best<S>) -> bool
     ensures over { IsTrue result → (here.after ≡ None)
         ⊎ (¬ (best_of best.now ≡ None) × (length memory.now.threads ≡ 0)) }
     ensures at_end { here.after ≡ None → IsTrue result }

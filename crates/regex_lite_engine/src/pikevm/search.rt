@@ -14,8 +14,15 @@ use crate::steps::Steps;
 use std::alloc::{AllocError, Global};
 
 impl Graph {
-    /// What [`Graph::search`] returns, found position by position.
-    pub(crate) fn search_in_step(
+    /// The most preferred match from the least start at or after this offset, with this number of
+    /// slots, and what the search did. It goes position by position.
+    ///
+    /// Condition: the start is on a character boundary.
+    ///
+    /// # Errors
+    ///
+    /// If memory runs out, which can happen only before the first step.
+    pub fn search_in_step(
         &self,
         alloc: Global,
         haystack: &str,

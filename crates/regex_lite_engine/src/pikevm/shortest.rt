@@ -53,7 +53,7 @@ pub fn run_shortest<P: Patterns>(
 }
 
 /// Whether there is a match, or no position is left.
-pub(crate) fn is_known<S: Beginning>(here: Here, best: &Best<S>) -> bool
+pub fn is_known<S: Beginning>(here: Here, best: &Best<S>) -> bool
     ensures known { IsTrue result → (here.after ≡ None) ⊎ ¬ (best_of best.now ≡ None) }
     ensures at_end { here.after ≡ None → IsTrue result }
     ensures none_yet { ¬ IsTrue result → best_of best.now ≡ None }

@@ -12,7 +12,7 @@ use crate::search::patterns::{Patterns, Start};
 /// The patterns of a list. All of them start at each position, so that a turn holds wherever it
 /// looks the same.
 #[derive(Clone, Copy)]
-pub(crate) struct AllOfList<'g> {
+pub struct AllOfList<'g> {
     pub list: &'g GraphList,
 }
 

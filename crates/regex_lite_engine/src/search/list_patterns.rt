@@ -19,8 +19,8 @@ use std::alloc::{AllocError, Global};
 
 /// Patterns, and those of them that may start at the position reached last.
 #[derive(Drop)]
-pub(crate) struct ListPatterns<'g> {
-    list: &'g GraphList,
+pub struct ListPatterns<'g> {
+    pub list: &'g GraphList,
     /// The numbers of those that may start there. There is room for all patterns.
     numbers: Vec<u32>,
     pub ghost room: { length list.now.entries ≤ vec_capacity numbers },

@@ -12,10 +12,10 @@ use crate::search::patterns::{Patterns, Start};
 
 /// A pattern of a list, and whether it may start at the position reached last.
 #[derive(Drop)]
-pub(crate) struct OneOfList<'g> {
-    list: &'g GraphList,
+pub struct OneOfList<'g> {
+    pub list: &'g GraphList,
     /// Its number in the list.
-    number: usize,
+    pub number: usize,
     may_start: bool,
     pub ghost known: { number < length list.now.entries },
 }

@@ -8,7 +8,7 @@ use crate::search::skip::pass_over;
 
 /// A pattern, and whether it may start at the position reached last.
 #[derive(Drop)]
-pub(crate) struct OnePattern<'g> {
+pub struct OnePattern<'g> {
     pub graph: &'g Graph,
     /// At first it may start nowhere.
     pub may_start: bool,

@@ -1,11 +1,11 @@
 -- A search has one answer, and it is a match.
-use Rattle.regex_lite_engine.proofs.Common.{◌≡◌, ℕ, zero, suc, ◌+◌, ◌<◌, ◌≤◌, ◌↔◌, length, IsSome}
-use Rattle.regex_lite_engine.proofs.Common.{Some, None, Option, sym, refl, ap, ◌∙◌, subst, inl, inr}
+use Rattle.regex_lite_engine.proofs.Common.{◌≡◌, ℕ, zero, suc, ◌+◌, ◌<◌, ◌≤◌, ◌↔◌, length, Some}
+use Rattle.regex_lite_engine.proofs.Common.{None, Option, sym, refl, ap, ◌∙◌, subst, inl, inr}
 use Rattle.regex_lite_engine.proofs.Common.{arith, cases_eq, cases_lt, Text, Tree, Matches}
 use Rattle.regex_lite_engine.proofs.Common.{IsRegular, Address, end_address, start_address}
 use Rattle.regex_lite_engine.proofs.Common.{IsWayThrough, IsMatchFrom, HasMatchFrom, Found, IsFound}
 use Rattle.regex_lite_engine.proofs.Common.{IsAnswer, marks_of_way}
-use Rattle.std.proofs.Common.{le_antisymm}
+use Rattle.std.proofs.Common.{IsSome, le_antisymm}
 use Rattle.regex_lite_syntax.specs.Tree.Matches.{IsPosition}
 use Rattle.regex_lite_engine.proofs.laws.LeadsLemmas.{leads_to_one}
 use Rattle.regex_lite_engine.proofs.laws.PatternWayLemmas.{match_way, walk_match}

@@ -2,9 +2,10 @@
 use Rattle.regex_lite_engine.proofs.Common.{◌≡◌, ℕ, suc, Bool, true, false, List, [], ◌∷◌, ◌++◌}
 use Rattle.regex_lite_engine.proofs.Common.{map, if◌then◌else◌, Some, None, Option, sym, refl, ap}
 use Rattle.regex_lite_engine.proofs.Common.{◌∙◌, subst, append-nil, Set, Text, after, holds_between}
-use Rattle.regex_lite_engine.proofs.Common.{Look, Arrow, complete, with_arrows, read_past, taken}
-use Rattle.regex_lite_engine.proofs.Common.{go, go_marking, go_holding, go_reading, choice, marked}
+use Rattle.regex_lite_engine.proofs.Common.{Arrow, complete, with_arrows, read_past, taken, go}
+use Rattle.regex_lite_engine.proofs.Common.{go_marking, go_holding, go_reading, choice, marked}
 use Rattle.regex_lite_engine.proofs.Common.{Entry, after_marks, onward, stop}
+use Rattle.regex_lite_syntax.specs.declared.hir.look.Look.{Look}
 use Rattle.regex_lite_syntax.specs.Text.{before}
 use Rattle.regex_lite_engine.specs.Graph.Places.{Place}
 use Rattle.regex_lite_engine.specs.Search.PreferenceList.{read}

@@ -3,15 +3,16 @@ use Rattle.regex_lite_engine.proofs.Common.{ℕ, zero, suc, ◌+◌, ◌-◌, �
 use Rattle.regex_lite_engine.proofs.Common.{[], ◌∷◌, map, Some, None, Option, in_ranges, Set, just}
 use Rattle.regex_lite_engine.proofs.Common.{Tree, empty, character, class, look, repetition}
 use Rattle.regex_lite_engine.proofs.Common.{capture, concat, alternation, Trees, none, more}
-use Rattle.regex_lite_engine.proofs.Common.{nullable, ClassRange, Look, Address, part, own, entry}
+use Rattle.regex_lite_engine.proofs.Common.{nullable, ClassRange, Address, part, own, entry}
 use Rattle.regex_lite_engine.proofs.Common.{branch_entries, with_arrows, go, go_marking, go_holding}
 use Rattle.regex_lite_engine.proofs.Common.{go_reading, choice, one_of, Content, in_copies}
 use Rattle.regex_lite_engine.proofs.Common.{no_place, exactly_row, choice_at, in_choices}
 use Rattle.regex_lite_engine.proofs.Common.{between_row, bounded_row, repetition_row, place_at}
 use Rattle.regex_lite_engine.proofs.Common.{place_in_chain, place_in_branch}
+use Rattle.regex_lite_syntax.specs.declared.hir.look.Look.{Look}
 use Rattle.regex_lite_engine.specs.Graph.Places.{Place}
-use Rattle.regex_lite_engine.specs.Graph.Repetitions.{optional_row, star_row}
-use Rattle.regex_lite_engine.specs.Graph.Repetitions.{nullable_star_row, at_least_row}
+use Rattle.regex_lite_engine.specs.Graph.Repetitions.{optional_row, star_row, nullable_star_row}
+use Rattle.regex_lite_engine.specs.Graph.Repetitions.{at_least_row}
 use Rattle.regex_lite_engine.specs.Graph.WrittenOut.{capture_row}
 use Rattle.regex_lite_engine.specs.SearchLaws.{HasNoLook, HaveNoLook}
 

@@ -1,8 +1,8 @@
 -- A tree without looks is written out as places whose arrows require none.
 use Rattle.regex_lite_engine.proofs.Common.{zero, suc, List, [], ◌∷◌, map, Some, None, unwrap_or}
-use Rattle.regex_lite_engine.proofs.Common.{Tree, Address, RequiresNoLook, with_arrows, go, Content}
-use Rattle.regex_lite_engine.proofs.Common.{place_at, whole, end_address, place_of_pattern}
-use Rattle.regex_lite_engine.specs.Graph.NoLooks.{RequireNoLook}
+use Rattle.regex_lite_engine.proofs.Common.{Tree, Address, with_arrows, go, Content, place_at}
+use Rattle.regex_lite_engine.proofs.Common.{whole, end_address, place_of_pattern}
+use Rattle.regex_lite_engine.specs.Graph.NoLooks.{RequiresNoLook, RequireNoLook}
 use Rattle.regex_lite_engine.specs.SearchLaws.{HasNoLook}
 use Rattle.regex_lite_engine.proofs.laws.search.EachPlaceLemmas.{OfPlace, places_fit}
 

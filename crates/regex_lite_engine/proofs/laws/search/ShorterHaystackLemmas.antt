@@ -3,15 +3,15 @@
 use Rattle.regex_lite_engine.proofs.Common.{◌≡◌, ℕ, zero, suc, ◌<◌, ◌≤◌, List, [], ◌∷◌, ◌++◌}
 use Rattle.regex_lite_engine.proofs.Common.{length, take, Some, None, Option, sym, refl, ap, ◌∙◌}
 use Rattle.regex_lite_engine.proofs.Common.{subst, arith, length-take-le, Text, after, Tree}
-use Rattle.regex_lite_engine.proofs.Common.{IsRegular, Address, RequiresNoLook, Condition, free}
-use Rattle.regex_lite_engine.proofs.Common.{holding, reading, Arrow, complete, with_arrows}
-use Rattle.regex_lite_engine.proofs.Common.{read_past, taken, arrived, arrow_taken, step_from, step}
-use Rattle.regex_lite_engine.proofs.Common.{Leads, NoneTwice, IsWay, end_address, start_address}
-use Rattle.regex_lite_engine.proofs.Common.{place_of_pattern, IsWayThrough, IsMatchFrom, Found}
-use Rattle.regex_lite_engine.proofs.Common.{IsFound, marked, over, mark_of, marks_along}
+use Rattle.regex_lite_engine.proofs.Common.{IsRegular, Address, Condition, free, holding, reading}
+use Rattle.regex_lite_engine.proofs.Common.{Arrow, complete, with_arrows, read_past, taken, arrived}
+use Rattle.regex_lite_engine.proofs.Common.{arrow_taken, step_from, step, Leads, NoneTwice, IsWay}
+use Rattle.regex_lite_engine.proofs.Common.{end_address, start_address, place_of_pattern}
+use Rattle.regex_lite_engine.proofs.Common.{IsWayThrough, IsMatchFrom, Found, IsFound, marked, over}
+use Rattle.regex_lite_engine.proofs.Common.{mark_of, marks_along}
+use Rattle.regex_lite_engine.specs.Graph.NoLooks.{RequiresNoLook, IsNoLook, RequireNoLook}
 use Rattle.std.proofs.Common.{le_trans}
 use Rattle.regex_lite_engine.specs.Graph.Places.{Place}
-use Rattle.regex_lite_engine.specs.Graph.NoLooks.{IsNoLook, RequireNoLook}
 use Rattle.regex_lite_syntax.proofs.OptionLemmas.{same_some}
 use Rattle.regex_lite_engine.proofs.laws.LeadsLemmas.{leads_split, leads_to_one}
 use Rattle.regex_lite_engine.proofs.laws.PatternWayLemmas.{match_way, walk_match}

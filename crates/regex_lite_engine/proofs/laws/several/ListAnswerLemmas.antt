@@ -1,10 +1,10 @@
 -- A search for several patterns has one answer.
-use Rattle.regex_lite_engine.proofs.Common.{◌≡◌, ℕ, zero, suc, ◌<◌, ◌≤◌, ◌↔◌, List, [], ◌∷◌, IsSome}
+use Rattle.regex_lite_engine.proofs.Common.{◌≡◌, ℕ, zero, suc, ◌<◌, ◌≤◌, ◌↔◌, List, [], ◌∷◌}
 use Rattle.regex_lite_engine.proofs.Common.{slice_get, Some, None, Option, sym, refl, ap, ◌∙◌}
 use Rattle.regex_lite_engine.proofs.Common.{subst, inl, inr, arith, cases_lt, Text, Tree, Matches}
 use Rattle.regex_lite_engine.proofs.Common.{IsRegular, HasTree, IsMatchFrom, HasMatchFrom, Found}
 use Rattle.regex_lite_engine.proofs.Common.{IsFound, IsAnswer, AnyMatchesFrom, IsAnswerOfList}
-use Rattle.std.proofs.Common.{le_antisymm}
+use Rattle.std.proofs.Common.{IsSome, le_antisymm}
 use Rattle.regex_lite_engine.specs.Search.AnswerOfList.{IsFoundInList}
 use Rattle.regex_lite_engine.specs.ListSearchLaws.{by_itself}
 use Rattle.regex_lite_engine.proofs.laws.answer.AnswerLemmas.{has_answer, found_match, one_answer}

@@ -3,9 +3,9 @@ use Rattle.regex_lite_engine.proofs.Common.{◌≡◌, ℕ, ◌<◌, ◌≤◌, 
 use Rattle.regex_lite_engine.proofs.Common.{slice_get, Some, None, Option, sym, refl, ap, ◌∙◌}
 use Rattle.regex_lite_engine.proofs.Common.{subst, inl, inr, arith, Text, Leads, Found, NotAfter}
 use Rattle.regex_lite_engine.proofs.Common.{marks_along, place_with, numbered_step, is_end}
-use Rattle.regex_lite_engine.proofs.Common.{IsNumberedWay, IsNumberedMatch, IsNumberedFound}
-use Rattle.regex_lite_engine.proofs.Common.{IsEntry, StartsOf, IsMatchOfAny, IsNumberedAnswerOf}
-use Rattle.regex_lite_engine.proofs.Common.{IsPreferred}
+use Rattle.regex_lite_engine.proofs.Common.{IsNumberedWay, IsNumberedMatch, IsEntry, StartsOf}
+use Rattle.regex_lite_engine.proofs.Common.{IsMatchOfAny, IsNumberedAnswerOf, IsPreferred}
+use Rattle.regex_lite_engine.specs.Search.NumberedAnswer.{IsNumberedFound}
 use Rattle.regex_lite_syntax.proofs.ListLemmas.{same_head, same_tail}
 use Rattle.regex_lite_engine.specs.Graph.Places.{Place}
 use Rattle.regex_lite_engine.proofs.laws.search.Explored.{StartsDiffer, IsWhole, IsFirst}

@@ -1,14 +1,15 @@
 -- The table of several patterns: its arrows lead to its own places, and each pattern is entered at
 -- one of them.
 use Rattle.regex_lite_engine.proofs.Common.{◌≡◌, ℕ, suc, ◌+◌, ◌^◌, ◌<◌, ◌≤◌, List, [], ◌∷◌, map}
-use Rattle.regex_lite_engine.proofs.Common.{length, get_or, All, option_map, sym, refl, ap, ◌∙◌}
-use Rattle.regex_lite_engine.proofs.Common.{subst, arith, length-map, sum_by-cons, slice_get-get_or}
+use Rattle.regex_lite_engine.proofs.Common.{length, get_or, option_map, sym, refl, ap, ◌∙◌, subst}
+use Rattle.regex_lite_engine.proofs.Common.{arith, length-map, sum_by-cons, slice_get-get_or}
 use Rattle.regex_lite_engine.proofs.Common.{slice_get-map, Tree, Address, reading_places}
 use Rattle.regex_lite_engine.proofs.Common.{whole_places, reading_count, reading_of, kept_back}
 use Rattle.regex_lite_engine.proofs.Common.{kept_back_of, IsRenumbered, side_by_side, places_of_all}
 use Rattle.regex_lite_engine.proofs.Common.{arrows_of_all, AreEntries, place_of, LeadsBelow}
 use Rattle.regex_lite_engine.proofs.Common.{pattern_table, patterns_table, patterns_entries}
 use Rattle.regex_lite_engine.proofs.Common.{reading_of_all}
+use Rattle.std.proofs.Common.{All}
 use Rattle.std.proofs.lemmas.List.Sums.{sum_by-append}
 use Rattle.regex_lite_engine.specs.Graph.Parts.{HaveOwnParts}
 use Rattle.regex_lite_engine.specs.Graph.SideBySide.{AreRegularPatterns}

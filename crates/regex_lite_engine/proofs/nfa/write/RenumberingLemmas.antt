@@ -2,13 +2,13 @@
 use Rattle.regex_lite_engine.proofs.Common.{◌≡◌, ℕ, zero, suc, ◌+◌, ◌-◌, ◌^◌, ◌<◌, ◌≤◌, List, []}
 use Rattle.regex_lite_engine.proofs.Common.{◌∷◌, ◌++◌, map, length, get_or, slice_get, Some, None}
 use Rattle.regex_lite_engine.proofs.Common.{option_map, sym, refl, ap, ◌∙◌, subst, append_assoc}
-use Rattle.regex_lite_engine.proofs.Common.{arith, length-append, get_or-append_seam, length-map}
-use Rattle.regex_lite_engine.proofs.Common.{slice_get-map, Tree, IsRegular, Address, entry, Arrow}
-use Rattle.regex_lite_engine.proofs.Common.{complete, with_arrows, reading_of, kept_back_of}
-use Rattle.regex_lite_engine.proofs.Common.{IsRenumbered, IsNumberOf, Content, place_of, LeadBelow}
-use Rattle.regex_lite_engine.proofs.Common.{LeadsBelow, LeadInto, LeadsInto, place_at, whole}
-use Rattle.regex_lite_engine.proofs.Common.{end_address, start_address, written_out, pattern_layout}
-use Rattle.regex_lite_engine.proofs.Common.{pattern_table}
+use Rattle.regex_lite_engine.proofs.Common.{arith, length-append, length-map, slice_get-map, Tree}
+use Rattle.regex_lite_engine.proofs.Common.{IsRegular, Address, entry, Arrow, complete, with_arrows}
+use Rattle.regex_lite_engine.proofs.Common.{reading_of, kept_back_of, IsRenumbered, IsNumberOf}
+use Rattle.regex_lite_engine.proofs.Common.{Content, place_of, LeadBelow, LeadsBelow, LeadInto}
+use Rattle.regex_lite_engine.proofs.Common.{LeadsInto, place_at, whole, end_address, start_address}
+use Rattle.regex_lite_engine.proofs.Common.{written_out, pattern_layout, pattern_table}
+use Rattle.std.proofs.Math.Seq.{get_or-append_seam}
 use Rattle.regex_lite_engine.specs.Graph.Places.{Place}
 use Rattle.regex_lite_engine.specs.Graph.Stored.{IsClosed}
 use Rattle.regex_lite_engine.specs.declared.nfa.place.Place as code
@@ -16,8 +16,8 @@ use Rattle.regex_lite_engine.proofs.graph.AddressLemmas.{in_part, addresses}
 use Rattle.regex_lite_engine.proofs.nfa.write.NumberingLemmas.{Numbering, Stands, InRow, IsAt}
 use Rattle.regex_lite_engine.proofs.nfa.write.NumberingLemmas.{AreAt, Fits, as_many, part_at}
 use Rattle.regex_lite_engine.proofs.nfa.write.NumberedTreeLemmas.{fits_capture, fits_tree}
-use Rattle.regex_lite_engine.proofs.nfa.write.ApartLemmas.{Apart, apart_first}
-use Rattle.regex_lite_engine.proofs.nfa.write.ApartLemmas.{apart_part, apart_get}
+use Rattle.regex_lite_engine.proofs.nfa.write.ApartLemmas.{Apart, apart_first, apart_part}
+use Rattle.regex_lite_engine.proofs.nfa.write.ApartLemmas.{apart_get}
 use Rattle.regex_lite_engine.proofs.nfa.write.ApartAddressLemmas.{InPart, each_in_part}
 use Rattle.regex_lite_engine.proofs.nfa.write.ApartAddressLemmas.{apart_addresses}
 use Rattle.regex_lite_engine.proofs.graph.ListedAddressLemmas.{whole_addresses, listed_whole}

@@ -4,11 +4,11 @@ use Rattle.regex_lite_engine.proofs.Common.{length, set, slice_index, slice_inde
 use Rattle.regex_lite_engine.proofs.Common.{arith, get_or-set_other, get_or-set_same, length-map}
 use Rattle.regex_lite_engine.proofs.Common.{map-set, get_or-map-range_with_len}
 use Rattle.regex_lite_engine.proofs.Common.{length-map-range_with_len, nth_row, frame_in, round_in}
-use Rattle.regex_lite_engine.proofs.Common.{other, place_on, start_on, row_on, start_told}
-use Rattle.regex_lite_engine.proofs.Common.{threads_on, Thread, thread_at, Told, untold, Row, Cell}
+use Rattle.regex_lite_engine.proofs.Common.{other, place_on, start_on, row_on, threads_on, Thread}
+use Rattle.regex_lite_engine.proofs.Common.{thread_at, Told, untold, Row, Cell}
+use Rattle.regex_lite_engine.specs.Pikevm.Cells.{start_told, with_thread, thread_on}
 use Rattle.std.proofs.lemmas.List.FromFn.{map-range_with_len_more}
 use Rattle.regex_lite_engine.specs.declared.pikevm.cell.Side.{Side}
-use Rattle.regex_lite_engine.specs.Pikevm.Cells.{with_thread, thread_on}
 use Rattle.regex_lite_engine.proofs.pikevm.memory.CellLemmas.{own_place, own_start, other_place}
 use Rattle.regex_lite_engine.proofs.pikevm.memory.CellLemmas.{other_start, row_apart, row_other}
 use Rattle.regex_lite_engine.proofs.pikevm.memory.CellLemmas.{row_fits, row_after_first, not_told}

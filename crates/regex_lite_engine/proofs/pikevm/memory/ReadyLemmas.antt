@@ -4,14 +4,13 @@ use Rattle.regex_lite_engine.proofs.Common.{◌∷◌, ◌++◌, map, reverse, l
 use Rattle.regex_lite_engine.proofs.Common.{slice_index, slice_index_or, sym, refl, ap, ◌∙◌, arith}
 use Rattle.regex_lite_engine.proofs.Common.{length-append, length-set, get_or-take, length-map}
 use Rattle.regex_lite_engine.proofs.Common.{length-replicate, length-take, map-set, take-take}
-use Rattle.regex_lite_engine.proofs.Common.{frame_in, round_in, place_on, start_on}
-use Rattle.regex_lite_engine.proofs.Common.{start_told, threads_on, without_round}
-use Rattle.regex_lite_engine.proofs.Common.{Told, untold, Row, Cell}
+use Rattle.regex_lite_engine.proofs.Common.{frame_in, round_in, place_on, start_on, threads_on}
+use Rattle.regex_lite_engine.proofs.Common.{without_round, Told, untold, Row, Cell}
+use Rattle.regex_lite_engine.specs.Pikevm.Cells.{start_told, frames_in, thread_on, rounds_in}
+use Rattle.regex_lite_engine.specs.Pikevm.Cells.{HoldTogether, MakesReady}
 use Rattle.std.proofs.lemmas.List.{get_or-append_right, set-append_right}
 use Rattle.regex_lite_engine.specs.declared.pikevm.cell.Side.{Side}
 use Rattle.regex_lite_engine.specs.declared.pikevm.cell.Side.TheVariants.{First, Second}
-use Rattle.regex_lite_engine.specs.Pikevm.Cells.{frames_in, thread_on, rounds_in}
-use Rattle.regex_lite_engine.specs.Pikevm.Cells.{HoldTogether, MakesReady}
 use Rattle.regex_lite_engine.proofs.pikevm.memory.CellLemmas.{told_at}
 use Rattle.regex_lite_engine.proofs.pikevm.rows.RowLemmas.{listed_alike}
 

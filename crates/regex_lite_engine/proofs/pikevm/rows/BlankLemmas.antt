@@ -2,11 +2,11 @@
 use Rattle.regex_lite_engine.proofs.Common.{◌≡◌, ℕ, ◌+◌, ◌-◌, ◌*◌, ◌<◌, ◌≤◌, List, [], ◌++◌, length}
 use Rattle.regex_lite_engine.proofs.Common.{take, drop, set, replicate, slice_index_or, None}
 use Rattle.regex_lite_engine.proofs.Common.{Option, sym, ap, ◌∙◌, arith, length-append, length-drop}
-use Rattle.regex_lite_engine.proofs.Common.{length-set, append-nil, drop-append-le}
-use Rattle.regex_lite_engine.proofs.Common.{length-replicate, length-take-le, take-append-le}
-use Rattle.regex_lite_engine.proofs.Common.{padded, Row}
-use Rattle.std.proofs.lemmas.List.{append_assoc, replicate-append-replicate, set-append_left}
-use Rattle.regex_lite_engine.specs.Pikevm.Cells.{rows_in, AreRows}
+use Rattle.regex_lite_engine.proofs.Common.{length-set, append-nil, length-replicate}
+use Rattle.regex_lite_engine.proofs.Common.{length-take-le, Row}
+use Rattle.std.proofs.lemmas.List.{drop-append-le, take-append-le, append_assoc}
+use Rattle.std.proofs.lemmas.List.{replicate-append-replicate, set-append_left}
+use Rattle.regex_lite_engine.specs.Pikevm.Cells.{padded, rows_in, AreRows}
 use Rattle.regex_lite_engine.proofs.pikevm.rows.RowLemmas.{inside_slots, row_of_view}
 use Rattle.regex_lite_engine.proofs.pikevm.rows.RowLemmas.{row_of_view_long, view_over, view_put}
 use Rattle.regex_lite_engine.proofs.pikevm.rows.RowLemmas.{row_first, row_is, row_long, row_inside}

@@ -3,11 +3,10 @@ use Rattle.regex_lite_engine.proofs.Common.{◌≡◌, ℕ, zero, suc, ◌+◌, 
 use Rattle.regex_lite_engine.proofs.Common.{[], ◌∷◌, ◌++◌, map, length, take, drop, set}
 use Rattle.regex_lite_engine.proofs.Common.{slice_index_or, Option, sym, refl, ap, ◌∙◌, subst, inl}
 use Rattle.regex_lite_engine.proofs.Common.{inr, arith, length-drop, mul-le-mul_right, suc-mul}
-use Rattle.regex_lite_engine.proofs.Common.{take-append_seam, cases_eq, cases_lt, drop-append-le}
-use Rattle.regex_lite_engine.proofs.Common.{length-take-le, take-append-le, take-take}
-use Rattle.regex_lite_engine.proofs.Common.{get_or-map-range_with_len, length-map-range_with_len}
-use Rattle.regex_lite_engine.proofs.Common.{range_with_len, Row}
-use Rattle.std.proofs.lemmas.List.{drop-take, drop-set-lt}
+use Rattle.regex_lite_engine.proofs.Common.{take-append_seam, cases_eq, cases_lt, length-take-le}
+use Rattle.regex_lite_engine.proofs.Common.{take-take, get_or-map-range_with_len}
+use Rattle.regex_lite_engine.proofs.Common.{length-map-range_with_len, range_with_len, Row}
+use Rattle.std.proofs.lemmas.List.{drop-append-le, take-append-le, drop-take, drop-set-lt}
 use Rattle.std.proofs.Math.Seq.{take-set-lt, drop-append-add}
 use Rattle.regex_lite_engine.specs.Pikevm.Cells.{row_at, rows_in}
 

@@ -3,14 +3,14 @@ use Rattle.regex_lite_engine.proofs.Common.{◌≡◌, ℕ, zero, suc, ◌+◌, 
 use Rattle.regex_lite_engine.proofs.Common.{◌∷◌, ◌++◌, length, take, drop, slice_get, Some, None}
 use Rattle.regex_lite_engine.proofs.Common.{IsUtf8, chars, IsCharBoundary, sym, refl, ap, ◌∙◌}
 use Rattle.regex_lite_engine.proofs.Common.{subst, inl, inr, append-nil, arith, length-append}
-use Rattle.regex_lite_engine.proofs.Common.{cases_lt, length-take-le, slice_get_within, IsUtf8-take}
+use Rattle.regex_lite_engine.proofs.Common.{cases_lt, length-take-le, slice_get_within}
 use Rattle.regex_lite_engine.proofs.Common.{encodes-chars, len_utf8, Text, offset, IsOffset}
 use Rattle.regex_lite_engine.proofs.Common.{position_at, IsHere, Here}
+use Rattle.std.proofs.lemmas.Str.{IsUtf8-take, chars-append, IsCharBoundary-at_seam, IsUtf8-encode}
+use Rattle.std.proofs.lemmas.Str.{chars-nil, chars_past_char}
 use Rattle.std.specs.Char.{IsScalar}
 use lib.Utf8.{encode}
 use Rattle.std.proofs.Math.Seq.{take-append_seam}
-use Rattle.std.proofs.lemmas.Str.{chars-append, IsCharBoundary-at_seam, IsUtf8-encode, chars-nil}
-use Rattle.std.proofs.lemmas.Str.{chars_past_char}
 use Rattle.regex_lite_syntax.specs.Text.{before}
 use Rattle.regex_lite_engine.proofs.OffsetLemmas.{offset_less, offset_most, offset_next}
 use Rattle.regex_lite_syntax.proofs.OptionLemmas.{not_there}

@@ -2,18 +2,20 @@
 use Rattle.regex_lite_engine.proofs.Common.{◌≡◌, ℕ, zero, suc, ◌+◌, ◌^◌, ◌<◌, ◌≤◌, Bool, true}
 use Rattle.regex_lite_engine.proofs.Common.{false, ◌&&◌, ◌⊎◌, List, [], ◌∷◌, map, length, get_or}
 use Rattle.regex_lite_engine.proofs.Common.{slice_index, sym, refl, ap, ◌∙◌, subst, inl, inr, arith}
-use Rattle.regex_lite_engine.proofs.Common.{cases_eq, cases_lt, get_or_default, length-map}
-use Rattle.regex_lite_engine.proofs.Common.{length-map-range_with_len, get_or_from_slice_get}
-use Rattle.regex_lite_engine.proofs.Common.{slice_get-get_or, slice_get_within, range_with_len}
-use Rattle.regex_lite_engine.proofs.Common.{Text, after, StoredList, table_of_list, is_candidate_at}
-use Rattle.regex_lite_engine.proofs.Common.{may_go_on, IsEntry, IsDeadAt, IsAmong, AreStartsAt}
-use Rattle.regex_lite_engine.proofs.Common.{AreListHeadsOf, start_numbered, ListHeads, Start}
+use Rattle.regex_lite_engine.proofs.Common.{cases_eq, cases_lt, length-map}
+use Rattle.regex_lite_engine.proofs.Common.{length-map-range_with_len, slice_get-get_or}
+use Rattle.regex_lite_engine.proofs.Common.{slice_get_within, range_with_len, Text, after}
+use Rattle.regex_lite_engine.proofs.Common.{StoredList, table_of_list, is_candidate_at, may_go_on}
+use Rattle.regex_lite_engine.proofs.Common.{IsEntry, IsDeadAt, AreStartsAt, AreListHeadsOf}
+use Rattle.regex_lite_engine.proofs.Common.{start_numbered, ListHeads, Start}
+use Rattle.std.proofs.lemmas.List.{get_or_default}
+use Rattle.std.proofs.lemmas.Option.{get_or_from_slice_get}
+use Rattle.regex_lite_engine.specs.Search.Starts.{IsAmong, AreAllStarts, AreFrom}
 use Rattle.std.proofs.Common.{cond}
 use Rattle.regex_lite_syntax.specs.Prefilter.ListHeads.{may_start_at}
 use Rattle.std.specs.List.{All, filter}
 use Rattle.std.proofs.Math.ListN.{get_or-map}
 use Rattle.regex_lite_engine.specs.Graph.Places.{Place}
-use Rattle.regex_lite_engine.specs.Search.Starts.{AreAllStarts, AreFrom}
 
 from_lower : (entries : List ℕ) (a : ℕ) (starts : List Start) → AreFrom entries (a + 1) starts
     → AreFrom entries a starts

@@ -1,11 +1,12 @@
 use Rattle.regex_lite_engine.proofs.Common.{◌≡◌, ℕ, List, length, sym, ap, ◌∙◌, subst, arith}
 use Rattle.regex_lite_engine.proofs.Common.{tree_of, Address, arrows_of, IsRenumbered, IsNumberOf}
-use Rattle.regex_lite_engine.proofs.Common.{StoredTable, places_of, start_address, written_out}
-use Rattle.regex_lite_engine.proofs.Common.{pattern_table, pattern_layout}
+use Rattle.regex_lite_engine.proofs.Common.{places_of, start_address, written_out, pattern_table}
+use Rattle.regex_lite_engine.proofs.Common.{pattern_layout}
+use Rattle.regex_lite_engine.specs.Graph.Stored.{StoredTable}
 use Rattle.std.proofs.lemmas.Bool.{not-true}
 use Rattle.regex_lite_engine.specs.Graph.Places.{Place}
-use Rattle.regex_lite_engine.proofs.nfa.write.RenumberingLemmas.{whole_names, renumbered}
-use Rattle.regex_lite_engine.proofs.nfa.write.RenumberingLemmas.{starts, closed, start_inside}
+use Rattle.regex_lite_engine.proofs.nfa.write.RenumberingLemmas.{whole_names, renumbered, starts}
+use Rattle.regex_lite_engine.proofs.nfa.write.RenumberingLemmas.{closed, start_inside}
 use Rattle.regex_lite_engine.proofs.count.ArrowCountLemmas.{arrows_pattern}
 use Rattle.regex_lite_engine.proofs.count.ReadingCountLemmas.{reading_few, reading_pattern}
 use Rattle.regex_lite_engine.proofs.count.KeptBackLemmas.{kept_back_pattern}

@@ -1,9 +1,10 @@
 use Rattle.regex_lite_engine.proofs.Common.{◌^◌, ◌<◌, None, length, chars, arith, rules, arrows_of}
-use Rattle.regex_lite_engine.proofs.Common.{best_at, table_of, position_at, with_start_kept}
-use Rattle.regex_lite_engine.proofs.lazy_dfa.PassedLemmas.{answer_from}
-use Rattle.regex_lite_engine.proofs.search.FirstStartLemmas.{bounded_from, first_boundary}
-use Rattle.regex_lite_engine.proofs.search.FirstStartLemmas.{first_here, none_before_first}
-use Rattle.regex_lite_engine.proofs.search.FirstStartLemmas.{none_from, none_tried}
+use Rattle.regex_lite_engine.proofs.Common.{table_of, position_at}
+use Rattle.regex_lite_engine.specs.Search.NumberedOutcomes.{best_at, with_start_kept}
+use Rattle.regex_lite_engine.proofs.search.FirstStartLemmas.{answer_from, bounded_from}
+use Rattle.regex_lite_engine.proofs.search.FirstStartLemmas.{first_boundary, first_here}
+use Rattle.regex_lite_engine.proofs.search.FirstStartLemmas.{none_before_first, none_from}
+use Rattle.regex_lite_engine.proofs.search.FirstStartLemmas.{none_tried}
 use Rattle.regex_lite_engine.proofs.search.OutcomeLemmas.{answer_told, can_count, cost_told}
 use Rattle.regex_lite_engine.proofs.nfa.Graph.search_depth_first.Goals as goal
 
@@ -35,12 +36,12 @@ returns-in_default-clause-found c = λ tree regular is.
 pub returns-in_default-clause-cost : goal.returns-in_default-clause-cost
 returns-in_default-clause-cost c = λ tree is.
     let graph = c.args.self.now in
-    let steps = c.none.result in
+    let steps = c.no_steps.result in
     cost_told tree graph is c.args.haystack.now c.args.start c.requires.0 steps.tried
     steps.entered steps.looked
     (none_tried (length (table_of graph)) (arrows_of (table_of graph)) (chars c.args.haystack.now)
     (position_at c.args.haystack.now c.args.start) steps.tried steps.entered steps.looked
-    c.none.ensures.tried c.none.ensures.entered c.none.ensures.looked)
+    c.no_steps.ensures.tried c.no_steps.ensures.entered c.no_steps.ensures.looked)
 
 pub returns-clause-found : goal.returns-clause-found
 returns-clause-found c = λ tree regular is.

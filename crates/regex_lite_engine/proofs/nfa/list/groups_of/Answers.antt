@@ -1,8 +1,8 @@
 use Rattle.regex_lite_engine.proofs.Common.{◌≡◌, ◌^◌, ◌<◌, List, [], ◌∷◌, map, length, get_or}
 use Rattle.regex_lite_engine.proofs.Common.{slice_get, Some, sym, ap, ◌∙◌, subst, arith, length-map}
-use Rattle.regex_lite_engine.proofs.Common.{length-append, tree_of, whole_places, TellGroupsOf}
+use Rattle.regex_lite_engine.proofs.Common.{length-append, tree_of, whole_places}
+use Rattle.regex_lite_engine.specs.Graph.StoredList.{TellGroupsOf, StoredGroups, TellsGroupsOf}
 use Rattle.std.proofs.Math.ListN.{get_or-map}
-use Rattle.regex_lite_engine.specs.Graph.StoredList.{StoredGroups, TellsGroupsOf}
 use Rattle.regex_lite_syntax.proofs.LookupLemmas.{mapped_there, told_more}
 use Rattle.regex_lite_engine.proofs.nfa.list.groups_of.Goals as goal
 

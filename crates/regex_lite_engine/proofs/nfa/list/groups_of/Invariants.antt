@@ -1,4 +1,5 @@
-use Rattle.regex_lite_engine.proofs.Common.{◌≡◌, map, length, tree_of, TellGroupsOf}
+use Rattle.regex_lite_engine.proofs.Common.{◌≡◌, map, length, tree_of}
+use Rattle.regex_lite_engine.specs.Graph.StoredList.{TellGroupsOf}
 use Rattle.regex_lite_engine.proofs.nfa.list.groups_of.Given as goal
 
 -- those of the patterns so far

@@ -18,7 +18,7 @@ returns-clause-fresh g c =
     c.places-places.ensures.same in
     let kept = c.places-places.ensures.kept_back (subst (λ n. 0 < n) (sym places) c.requires) in
     let blank = c.in_ok-blank.ensures in
-    let tried = c.none.ensures.tried in let entered = c.none.ensures.entered in
+    let tried = c.no_steps.ensures.tried in let entered = c.no_steps.ensures.entered in
     let rounds = blank.rounds in let now = blank.now in let room = blank.room in
     record {
       between = record {
@@ -32,7 +32,7 @@ returns-clause-fresh g c =
         stack_empty = blank.frames;
         best_width = c.in_ok-best.ensures.width ∙ sym blank.width;
         entered_tried = omega (arith, tried, entered);
-        looked_entered = omega (arith, entered, c.none.ensures.looked);
+        looked_entered = omega (arith, entered, c.no_steps.ensures.looked);
         match_entered = λ some. absurd (some c.in_ok-best.ensures.none);
       };
       none = c.in_ok-best.ensures.none;

@@ -36,7 +36,7 @@ run-requires-clause-fresh c =
     let fits : kept * offsets ≤ kept * a.self.now.offsets
     = mul-le-mul_left kept (omega (arith, c.requires.short)) in
     let walk : Walk
-    = record { visited = c.few.result; stack = c.clear.new.self; steps = c.none-self.result } in
+    = record { visited = c.few.result; stack = c.clear.new.self; steps = c.no_steps-self.result } in
     subst (λ (z : ℕ). IsFresh (table_of c.args.graph.now) a.haystack.now z walk)
     (sym c.at.ensures.at)
     (record {
@@ -55,9 +55,9 @@ run-requires-clause-fresh c =
       room = subst (λ (z : ℕ). sum_by (kept_back_with z) (table_of a.graph.now) * offsets
           ≤ c.clear.new.self.room) (sym width)
           (omega (arith, room, fits, c.requires.searches.room));
-      tried = c.none-self.ensures.tried;
-      entered = c.none-self.ensures.entered;
-      looked = c.none-self.ensures.looked;
+      tried = c.no_steps-self.ensures.tried;
+      entered = c.no_steps-self.ensures.entered;
+      looked = c.no_steps-self.ensures.looked;
     })
 
 pub returns-clause-searches : goal.returns-clause-searches

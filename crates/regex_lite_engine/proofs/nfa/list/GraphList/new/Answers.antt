@@ -1,9 +1,10 @@
 use Rattle.regex_lite_engine.proofs.Common.{◌≡◌, ◌^◌, ◌<◌, map, length, sym, ap, ◌∙◌, arith}
-use Rattle.regex_lite_engine.proofs.Common.{tree_of, arrows_of, places_of_all, StoredTable}
-use Rattle.regex_lite_engine.proofs.Common.{places_of, patterns_table, length-map}
+use Rattle.regex_lite_engine.proofs.Common.{tree_of, arrows_of, places_of_all, places_of}
+use Rattle.regex_lite_engine.proofs.Common.{patterns_table, length-map}
+use Rattle.regex_lite_engine.specs.Graph.Stored.{StoredTable}
 use Rattle.regex_lite_engine.proofs.nfa.list.TableLemmas.{closed, name, written, entered}
-use Rattle.regex_lite_engine.proofs.nfa.list.TableLemmas.{entries_inside, parted}
-use Rattle.regex_lite_engine.proofs.nfa.list.TableLemmas.{entry_for_each, few_entries}
+use Rattle.regex_lite_engine.proofs.nfa.list.TableLemmas.{entries_inside, parted, entry_for_each}
+use Rattle.regex_lite_engine.proofs.nfa.list.TableLemmas.{few_entries}
 use Rattle.regex_lite_engine.proofs.nfa.WayLemmas.{listed_heads}
 use Rattle.regex_lite_engine.proofs.nfa.write.SeveralRowLemmas.{arrows_add_up}
 use Rattle.regex_lite_engine.proofs.nfa.list.GraphList.new.Goals as goal

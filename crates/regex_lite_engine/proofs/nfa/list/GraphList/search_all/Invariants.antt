@@ -1,8 +1,9 @@
 use Rattle.regex_lite_engine.proofs.Common.{◌≡◌, ℕ, ◌<◌, ◌≤◌, false, ◌↔◌, List, length, take}
 use Rattle.regex_lite_engine.proofs.Common.{IsTrue, slice_index_or, chars, Tree, HasTree}
 use Rattle.regex_lite_engine.proofs.Common.{places_of_all, tries_of_all, table_of_list}
-use Rattle.regex_lite_engine.proofs.Common.{IsGraphOfList, IsBetween, HasMatchFrom, IsBoundedBy}
-use Rattle.regex_lite_engine.proofs.Common.{position_at}
+use Rattle.regex_lite_engine.proofs.Common.{HasMatchFrom, IsBoundedBy, position_at}
+use Rattle.regex_lite_engine.specs.Graph.StoredList.{IsGraphOfList}
+use Rattle.regex_lite_engine.specs.Pikevm.Searching.{IsBetween}
 use Rattle.regex_lite_engine.specs.Graph.SideBySide.{AreRegularPatterns}
 use Rattle.regex_lite_engine.proofs.nfa.list.GraphList.search_all.Given as goal
 

@@ -1,11 +1,11 @@
 use Rattle.regex_lite_engine.proofs.Common.{◌≡◌, ℕ, suc, ◌+◌, ◌<◌, ◌≤◌, true, List, [], ◌∷◌, ◌++◌}
 use Rattle.regex_lite_engine.proofs.Common.{length, drop, replicate, Some, None, sym, refl, ap, ◌∙◌}
 use Rattle.regex_lite_engine.proofs.Common.{subst, arith, drop-cons, state_retold, best_again}
-use Rattle.regex_lite_engine.proofs.Common.{Thread, thread_at, BestState, KeepsPosition, best_of}
-use Rattle.regex_lite_engine.proofs.Common.{StepsTo, begun, with_starts, Told, untold, StaysCounted}
-use Rattle.regex_lite_engine.proofs.Common.{Best, Row, Start, all_retold, inl, inr}
+use Rattle.regex_lite_engine.proofs.Common.{Thread, thread_at, KeepsPosition, best_of, StepsTo}
+use Rattle.regex_lite_engine.proofs.Common.{begun, with_starts, Told, untold, StaysCounted, Best}
+use Rattle.regex_lite_engine.proofs.Common.{Row, Start, all_retold, inl, inr}
+use Rattle.regex_lite_engine.specs.Pikevm.Machine.{BestState, State}
 use Rattle.std.proofs.Math.ListN.{drop_of_length-le}
-use Rattle.regex_lite_engine.specs.Pikevm.Machine.{State}
 use Rattle.regex_lite_engine.specs.Pikevm.Room.{explores}
 use Rattle.regex_lite_engine.specs.Pikevm.Searching.{ways_at}
 use Rattle.regex_lite_engine.proofs.search.CountLemmas.{counted_at_first, still_counted}

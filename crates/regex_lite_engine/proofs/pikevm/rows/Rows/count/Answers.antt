@@ -1,4 +1,5 @@
-use Rattle.regex_lite_engine.proofs.Common.{◌*◌, length, sym, ap, ◌∙◌, padded}
+use Rattle.regex_lite_engine.proofs.Common.{◌*◌, length, sym, ap, ◌∙◌}
+use Rattle.regex_lite_engine.specs.Pikevm.Cells.{padded}
 use Rattle.regex_lite_engine.proofs.pikevm.rows.RowLemmas.{count_is}
 use Rattle.regex_lite_engine.proofs.pikevm.rows.Rows.count.Goals as goal
 

@@ -1,8 +1,0 @@
-use Rattle.regex_lite_engine.proofs.Common.{None, ap}
-use Rattle.regex_lite_engine.specs.LazyDfa.Stored.{hit_by}
-use Rattle.regex_lite_engine.proofs.lazy_dfa.automaton.LazyDfa.is_hit.Goals as goal
-
-pub returns-then-turn : goal.returns-then-turn
-returns-then-turn c = λ state at told.
-    (c.requires.effect None (ap (λ is. hit_by is c.args.turn.effect.completes) c.if-turn.true) state
-    at).1

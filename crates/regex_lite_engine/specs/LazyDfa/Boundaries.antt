@@ -1,8 +1,0 @@
--- How the boundaries of intervals are gathered.
-use Rattle.std.specs.Prelude.{◌≡◌, ℕ, true}
-use Rattle.regex_lite_engine.specs.LazyDfa.Intervals.{Intervals, IsBoundary}
-
--- all that were there still are, and maybe more
-pub record Grows (before after : Intervals) : Type 0 where
-  pub boundaries : (b : ℕ) → IsBoundary before.boundaries b → IsBoundary after.boundaries b
-  pub looks : before.looks ≡ true → after.looks ≡ true

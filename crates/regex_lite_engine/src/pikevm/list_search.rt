@@ -1,0 +1,88 @@
+//! Searches for several patterns at once.
+ghost use Rattle.std.specs.Prelude.{◌≡◌, ◌<◌, ◌⊎◌, ◌↔◌, List, IfOk, IfSome};
+ghost use Rattle.std.specs.Prelude.{IsTrue, IsCharBoundary, chars, length};
+ghost use Rattle.regex_lite_syntax.specs.Tree.{Tree};
+ghost use Rattle.regex_lite_engine.specs.Graph.SideBySide.{AreRegularPatterns};
+ghost use Rattle.regex_lite_engine.specs.Graph.StoredList.{IsGraphOfList};
+ghost use Rattle.regex_lite_engine.specs.Search.AnswerOfList.{AnyMatchesFrom};
+ghost use Rattle.regex_lite_engine.specs.Search.Offsets.{search_start};
+ghost use Rattle.regex_lite_engine.specs.Search.Outcomes.{IsOutcomeOfList, HasCostOfList};
+
+use crate::nfa::list::GraphList;
+use crate::pikevm::beginning::{Origin, Unkept};
+use crate::pikevm::cache::{Cache, cache_for};
+use crate::pikevm::run::run;
+use crate::pikevm::shortest::run_shortest;
+use crate::search::list_patterns::ListPatterns;
+use crate::search::outcome::Outcome;
+use crate::steps::{Steps, no_steps};
+use std::alloc::{AllocError, Global};
+
+impl GraphList {
+    /// The match that starts first at or after this offset, of the pattern with the lowest number
+    /// that matches there: that number, the most preferred match of the pattern, and what the
+    /// search did. The match has this number of slots.
+    ///
+    /// Condition: the start is above the haystack's length or on a character boundary.
+    ///
+    /// # Errors
+    ///
+    /// If memory runs out, which can happen only before the first step.
+    pub fn search(
+        &self,
+        alloc: Global,
+        haystack: &str,
+        start: usize,
+        slots: usize,
+    ) -> Result<(Option<(usize, Outcome)>, Steps), AllocError>
+        requires { (length haystack.now < start) ⊎ IsCharBoundary haystack.now start }
+        ensures found { IfOk result (λ told. (trees : List Tree) → AreRegularPatterns trees
+            → IsGraphOfList trees self.now → IsOutcomeOfList trees haystack.now start told.0) }
+        ensures slots { IfOk result (λ told. IfSome told.0
+            (λ found. length found.1.slots.items ≡ slots)) }
+        ensures cost { IfOk result (λ told. (trees : List Tree) → IsGraphOfList trees self.now
+            → HasCostOfList trees haystack.now start told.1) }
+        ensures entered { IfOk result (λ told. IfSome told.0 (λ _. 0 < told.1.entered)) }
+    {
+        if start > haystack.len() || self.len() == 0 {
+            return Ok((None, no_steps()));
+        }
+        let mut patterns = ListPatterns::new(alloc, self)?;
+        let mut cache = cache_for::<Origin>(alloc, self.table(), slots)?;
+        run(&mut cache, &mut patterns, haystack, start);
+        let Cache { walk, best, .. } = cache;
+        Ok((best.into_numbered(), walk.steps))
+    }
+
+    /// Whether any pattern matches from a position at or after this offset, and what the search
+    /// did. It stops at the first match that it comes to.
+    ///
+    /// Condition: the start is above the haystack's length or on a character boundary.
+    ///
+    /// # Errors
+    ///
+    /// If memory runs out, which can happen only before the first step.
+    pub fn search_any(
+        &self,
+        alloc: Global,
+        haystack: &str,
+        start: usize,
+    ) -> Result<(bool, Steps), AllocError>
+        requires { (length haystack.now < start) ⊎ IsCharBoundary haystack.now start }
+        ensures found { IfOk result (λ told. (trees : List Tree) → AreRegularPatterns trees
+            → IsGraphOfList trees self.now → (IsTrue told.0
+            ↔ AnyMatchesFrom trees (chars haystack.now) (search_start haystack.now start))) }
+        ensures cost { IfOk result (λ told. (trees : List Tree) → IsGraphOfList trees self.now
+            → HasCostOfList trees haystack.now start told.1) }
+        ensures entered { IfOk result (λ told. IsTrue told.0 → 0 < told.1.entered) }
+    {
+        if start > haystack.len() || self.len() == 0 {
+            return Ok((false, no_steps()));
+        }
+        let mut patterns = ListPatterns::new(alloc, self)?;
+        let mut cache = cache_for::<Unkept>(alloc, self.table(), 0)?;
+        run_shortest(&mut cache, &mut patterns, haystack, start);
+        let Cache { walk, best, .. } = cache;
+        Ok((best.end().is_some(), walk.steps))
+    }
+}

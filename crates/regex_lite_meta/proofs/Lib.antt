@@ -1,0 +1,2 @@
+-- the definitions that most proofs cite
+pub mod Common

@@ -1,0 +1,154 @@
+-- Positions that no place of a graph distinguishes.
+use Rattle.regex_lite_meta.proofs.Common.{◌≡◌, ℕ, zero, suc, Bool, true, false, not, List, [], ◌∷◌}
+use Rattle.regex_lite_meta.proofs.Common.{map, ◌==◌, slice_get, Some, None, All, Option, sym, refl}
+use Rattle.regex_lite_meta.proofs.Common.{ap, ◌∙◌, subst, arith, place_of, AreAlike, Here}
+use Rattle.regex_lite_meta.proofs.Common.{Intervals, interval_of, class_of, IsBoundary}
+use Rattle.regex_lite_meta.proofs.Common.{IsBoundedPlace, character_bounds, look_bounds}
+use Rattle.regex_lite_meta.proofs.Common.{AreIntervalsOf, side_of}
+use Rattle.regex_lite_engine.specs.Graph.Places.{Place, go}
+use Rattle.regex_lite_meta.specs.declared.lazy_dfa.side.Side.{Side}
+use Rattle.std.proofs.Common.{◌&&◌, ◌||◌}
+use Rattle.regex_lite_syntax.specs.Ranges.{in_ranges}
+use Rattle.regex_lite_syntax.specs.Sets.{Set, just}
+use Rattle.regex_lite_syntax.specs.declared.hir.look.Look.{Look}
+use Rattle.regex_lite_engine.specs.Pikevm.Entering.{reads}
+use Rattle.regex_lite_syntax.specs.declared.hir.look.Look.TheVariants.{Start, End, StartLF, EndLF}
+use Rattle.regex_lite_syntax.specs.declared.hir.look.Look.TheVariants.{StartCRLF, EndCRLF, Word}
+use Rattle.regex_lite_syntax.specs.declared.hir.look.Look.TheVariants.{WordNegate, WordStart}
+use Rattle.regex_lite_syntax.specs.declared.hir.look.Look.TheVariants.{WordEnd, WordStartHalf}
+use Rattle.regex_lite_syntax.specs.declared.hir.look.Look.TheVariants.{WordEndHalf}
+use Rattle.regex_lite_syntax.specs.Characters.{is_between}
+use Rattle.regex_lite_syntax.specs.Tree.Looks.{holds_between, is_word}
+use Rattle.regex_lite_engine.specs.declared.nfa.place.Place as code
+use Rattle.regex_lite_engine.specs.declared.nfa.place.Place.TheVariants as stored
+use Rattle.regex_lite_meta.specs.LazyDfa.Intervals.{LooksAlike}
+use Rattle.regex_lite_engine.specs.Pikevm.Again.{FitAlike, FitsAlike}
+use Rattle.regex_lite_meta.proofs.lazy_dfa.IntervalLemmas.{interval_within, same_between, same_char}
+use Rattle.regex_lite_meta.proofs.lazy_dfa.IntervalLemmas.{same_set}
+use Rattle.regex_lite_syntax.proofs.OptionLemmas.{not_there, same_some}
+
+-- the look, by what it sees of both neighbours
+abbrev holds_by : Look → Side → Side → Bool
+holds_by Start b a = b.is_none
+holds_by End b a = a.is_none
+holds_by StartLF b a = b.is_none || b.is_line_feed
+holds_by EndLF b a = a.is_none || a.is_line_feed
+holds_by StartCRLF b a = b.is_none || b.is_line_feed || (b.is_carriage_return && not a.is_line_feed)
+holds_by EndCRLF b a =
+    a.is_none || a.is_carriage_return || (a.is_line_feed && not b.is_carriage_return)
+holds_by Word b a = (b.is_word && not a.is_word) || (not b.is_word && a.is_word)
+holds_by WordNegate b a = (b.is_word && a.is_word) || (not b.is_word && not a.is_word)
+holds_by WordStart b a = not b.is_word && a.is_word
+holds_by WordEnd b a = b.is_word && not a.is_word
+holds_by WordStartHalf b a = not b.is_word
+holds_by WordEndHalf b a = not a.is_word
+
+mutual
+  unfolding holds_between
+
+  pub by_sides : (l : Look) (b a : Option ℕ)
+      → holds_between l b a ≡ holds_by l (side_of b) (side_of a)
+  by_sides Start b a = refl
+  by_sides End b a = refl
+  by_sides StartLF b a = refl
+  by_sides EndLF b a = refl
+  by_sides StartCRLF b a = refl
+  by_sides EndCRLF b a = refl
+  by_sides Word b a = refl
+  by_sides WordNegate b a = refl
+  by_sides WordStart b a = refl
+  by_sides WordEnd b a = refl
+  by_sides WordStartHalf b a = refl
+  by_sides WordEndHalf b a = refl
+
+-- looks see the same
+pub same_look : (b b' a a' : Option ℕ) → side_of b ≡ side_of b' → side_of a ≡ side_of a'
+    → (l : Look) → holds_between l b a ≡ holds_between l b' a'
+same_look b b' a a' eb ea l =
+    by_sides l b a ∙ ap (λ (z : Side). holds_by l z (side_of a)) eb
+    ∙ ap (λ (z : Side). holds_by l (side_of b') z) ea ∙ sym (by_sides l b' a')
+
+same_word : (bs : List ℕ) (c d : ℕ) → interval_of bs c ≡ interval_of bs d
+    → All (IsBoundary bs) look_bounds → is_word (Some c) ≡ is_word (Some d)
+same_word bs c d e bounds =
+    let lower =
+    same_between bs c d e 97 122 (bounds 10 0 (omega arith)) (bounds 11 0 (omega arith)) in
+    let upper = same_between bs c d e 65 90 (bounds 6 0 (omega arith)) (bounds 7 0 (omega arith)) in
+    let digits =
+    same_between bs c d e 48 57 (bounds 4 0 (omega arith)) (bounds 5 0 (omega arith)) in
+    let low_line = same_char bs c d e 95 (bounds 8 0 (omega arith)) (bounds 9 0 (omega arith)) in
+    ap (λ x. (x || is_between 65 90 c) || is_between 48 57 c || c == 95) lower
+    ∙ ap (λ x. (is_between 97 122 d || x) || is_between 48 57 c || c == 95) upper
+    ∙ ap (λ x. (is_between 97 122 d || is_between 65 90 d) || x || c == 95) digits
+    ∙ ap (λ x. (is_between 97 122 d || is_between 65 90 d) || is_between 48 57 d || x) low_line
+
+abbrev side_with : Bool → Bool → Bool → Side
+side_with feed carriage word =
+    record { is_none = false; is_line_feed = feed; is_carriage_return = carriage; is_word = word }
+
+-- looks see the same of all characters of a class
+pub same_side_of : (bs : List ℕ) (a b : Option ℕ) → class_of bs a ≡ class_of bs b
+    → All (IsBoundary bs) look_bounds → side_of a ≡ side_of b
+same_side_of bs None None e bounds = refl
+same_side_of bs None (Some d) e bounds =
+    absurd (let most = interval_within bs d in omega (arith, most, e))
+same_side_of bs (Some c) None e bounds =
+    absurd (let most = interval_within bs c in omega (arith, most, e))
+same_side_of bs (Some c) (Some d) e bounds =
+    let feed = same_char bs c d e 10 (bounds 0 0 (omega arith)) (bounds 1 0 (omega arith)) in
+    let carriage = same_char bs c d e 13 (bounds 2 0 (omega arith)) (bounds 3 0 (omega arith)) in
+    ap (λ x. side_with x (c == 13) (is_word (Some c))) feed
+    ∙ ap (λ x. side_with (d == 10) x (is_word (Some c))) carriage
+    ∙ ap (λ x. side_with (d == 10) (d == 13) x) (same_word bs c d e bounds)
+
+module _ (intervals : Intervals) (here there : Here) (alike : LooksAlike intervals here there)
+    (characters : All (IsBoundary intervals.boundaries) character_bounds)
+    (sides : intervals.looks ≡ true → All (IsBoundary intervals.boundaries) look_bounds) where
+  abbrev bs : List ℕ
+  bs = intervals.boundaries
+
+  read_alike : (set : Set) → ((c d : ℕ) → interval_of bs c ≡ interval_of bs d → set c ≡ set d)
+      → reads set here.after ≡ reads set there.after
+  read_alike set f = by_class here.after there.after alike.ahead
+    where
+      by_class : (a b : Option ℕ) → class_of bs a ≡ class_of bs b → reads set a ≡ reads set b
+      by_class None None e = refl
+      by_class None (Some d) e = absurd (let most = interval_within bs d in omega (arith, most, e))
+      by_class (Some c) None e = absurd (let most = interval_within bs c in omega (arith, most, e))
+      by_class (Some c) (Some d) e = f c d e
+
+  go_alike : (qs : List ℕ) → FitAlike (map go qs) here there
+  go_alike [] = tt
+  go_alike (q ∷ qs) = (refl, go_alike qs)
+
+  fits : (x : code.Place) → IsBoundedPlace intervals x → FitsAlike (place_of x) here there
+  fits (stored.Empty to) b = (refl, tt)
+  fits (stored.Char k to) (low, high) =
+      (read_alike (just k) (λ c d e. same_char bs c d e k low high), tt)
+  fits (stored.Class to []) b = tt
+  fits (stored.Class to (r ∷ rs)) b =
+      (read_alike (in_ranges (r ∷ rs)) (λ c d e. same_set bs c d e characters (r ∷ rs) b), tt)
+  fits (stored.Look l to) b = (
+    same_look here.before there.before here.after there.after (alike.behind b)
+        (same_side_of bs here.after there.after alike.ahead (sides b)) l,
+    tt,
+  )
+  fits (stored.Slot slot to) b = (refl, tt)
+  fits (stored.Choice one two) b = (refl, (refl, tt))
+  fits (stored.Branches entries) b = go_alike entries.items
+  fits stored.Match b = tt
+
+  all_alike : (places : List code.Place)
+      → ((q : ℕ) (x : code.Place) → slice_get places q ≡ Some x → IsBoundedPlace intervals x)
+      → AreAlike (map place_of places) here there
+  all_alike [] each q place e = absurd (not_there e)
+  all_alike (x ∷ xs) each zero place e =
+      subst (λ (z : Place ℕ). FitsAlike z here there) (same_some e) (fits x (each zero x refl))
+  all_alike (x ∷ xs) each (suc q) place e = all_alike xs (λ r y at. each (suc r) y at) q place e
+
+-- no place distinguishes positions that look alike
+pub alike_at : (places : List code.Place) (intervals : Intervals) → AreIntervalsOf places intervals
+    → (here there : Here) → LooksAlike intervals here there
+    → AreAlike (map place_of places) here there
+alike_at places intervals are here there looks =
+    all_alike intervals here there looks are.characters are.sides places are.each

@@ -1,0 +1,136 @@
+-- A turn that is remembered when it has been taken.
+use Rattle.regex_lite_meta.proofs.Common.{◌≡◌, ℕ, zero, suc, ◌<◌, ◌≤◌, Bool, true, false, List, []}
+use Rattle.regex_lite_meta.proofs.Common.{◌∷◌, ◌++◌, length, slice_get, slice_set, Some, None}
+use Rattle.regex_lite_meta.proofs.Common.{Option, sym, refl, ap, ◌∙◌, subst, inl, inr, arith}
+use Rattle.regex_lite_meta.proofs.Common.{length-map, AreAlike, Thread, best_of, Best, Cache, Here}
+use Rattle.regex_lite_meta.proofs.Common.{Way, Automaton, ways_of, searching_after, Suits, LeadsOn}
+use Rattle.regex_lite_meta.proofs.Common.{FitsTable, Remembers, Extends, class_of, side_of, IsIn}
+use Rattle.regex_lite_engine.specs.Graph.Places.{Place, reading_of}
+use Rattle.regex_lite_meta.specs.LazyDfa.Automaton.{KeptOrigin, State, Sees, hit_of, way_of}
+use Rattle.std.proofs.lemmas.Bool.{cases_eq}
+use Rattle.regex_lite_engine.specs.Pikevm.Machine.{thread_at}
+use Rattle.regex_lite_engine.specs.Pikevm.Room.{ThreadsBelow}
+use Rattle.regex_lite_meta.specs.LazyDfa.Learning.{HasTurned}
+use Rattle.regex_lite_engine.specs.Pikevm.Searching.{IsHit}
+use Rattle.regex_lite_meta.proofs.lazy_dfa.AlikeLemmas.{same_side_of}
+use Rattle.regex_lite_meta.proofs.lazy_dfa.RememberedLemmas.{remembered, set_other, set_there}
+use Rattle.regex_lite_meta.proofs.lazy_dfa.RememberedLemmas.{still_remembers}
+use Rattle.regex_lite_syntax.proofs.OptionLemmas.{not_there, same_some}
+
+-- what is pending is none of it
+pub remembers_pending : (table : List (Place ℕ)) (entries : List ℕ) (automaton : Automaton)
+    (pending : List Way)
+    → Remembers table entries automaton
+    → Remembers table entries (record automaton { pending = pending })
+remembers_pending table entries automaton pending remembers =
+    record { intervals = remembers.intervals; leads = remembers.leads; fit = remembers.fit }
+
+-- the ways of threads fit where the threads do
+pub ways_fit : (table : List (Place ℕ)) (first : ℕ) (threads : List Thread)
+    → ThreadsBelow (length table) threads → length threads ≤ reading_of table
+    → FitsTable table (ways_of first threads)
+ways_fit table first threads below few = record {
+  below = each threads below;
+  few = let n = length-map threads (way_of first) in omega (arith, n, few);
+}
+  where
+    each : (ts : List Thread) → ((k : ℕ) → k < length ts → (thread_at ts k).0 < length table)
+        → (k : ℕ) (way : Way) → slice_get (ways_of first ts) k ≡ Some way → way.place < length table
+    each [] below k way at = absurd (not_there at)
+    each (t ∷ ts) below zero way at =
+        subst (λ (w : Way). w.place < length table) (same_some at) (below 0 (omega arith))
+    each (t ∷ ts) below (suc k) way at =
+        each ts (λ j lt. below (suc j) (omega (arith, lt))) k way at
+
+-- what is remembered stays so while the ways of the threads become those of a state
+pub remembers_settled : (table : List (Place ℕ)) (entries : List ℕ)
+    (old gathered settled : Automaton) (first : ℕ) (threads : List Thread)
+    → gathered ≡ record old { pending = old.pending ++ ways_of first threads } → old.pending ≡ []
+    → Remembers table entries old → ThreadsBelow (length table) threads
+    → length threads ≤ reading_of table → Extends gathered settled
+    → (gathered.pending ≡ ways_of first threads) × Remembers table entries settled
+remembers_settled table entries old gathered settled first threads all none remembers below few
+    extends =
+    let ways = ways_of first threads in
+    let pending : gathered.pending ≡ ways =
+    ap (λ (z : Automaton). z.pending) all ∙ ap (λ own. own ++ ways) none in (
+      pending,
+      still_remembers table entries gathered settled
+          (subst (Remembers table entries) (sym all)
+          (remembers_pending table entries old (old.pending ++ ways) remembers)) extends
+          (subst (FitsTable table) (sym pending)
+          (ways_fit table first threads below few)),
+    )
+
+-- there is a match afterwards where none is searched for
+pub suits_after : (first : ℕ) (hit : Bool) (before now : Best) (last : Option KeptOrigin)
+    (searching : Bool)
+    → IsHit hit before now → last ≡ hit_of first hit now → Suits searching before
+    → Suits (searching_after last searching) now
+suits_after first false before now last searching same e suits =
+    subst (λ l. Suits (searching_after l searching) now) (sym e)
+    (subst (Suits searching) (sym same) suits)
+suits_after first true before None last searching some e suits = absurd (some refl)
+suits_after first true before (Some b) last searching some e suits =
+    subst (λ l. Suits (searching_after l searching) (Some b)) (sym e) some
+
+-- a search is in the state still, whatever is remembered of another or of this one
+pub still_in : {S : Type 0} (automaton : Automaton) (x class z : ℕ) (from : State)
+    → slice_get automaton.states x ≡ Some from → (y first : ℕ) (before : Option ℕ) (cache : Cache S)
+    → IsIn automaton y first before cache →
+    IsIn (record automaton {
+      states = slice_set automaton.states x (record from { next = slice_set from.next class z });
+    }) y first before cache
+still_in automaton x class z from at y first before cache is_in = elim (cases_eq y x) [
+  | inl same ↦
+      let own : is_in.state ≡ from =
+      same_some (sym is_in.is_state ∙ ap (slice_get automaton.states) same ∙ at) in
+      record {
+        state = record from { next = slice_set from.next class z };
+        is_state =
+            ap (slice_get
+            (slice_set automaton.states x (record from { next = slice_set from.next class z })))
+            same
+            ∙ set_there automaton.states x from
+            (record from { next = slice_set from.next class z }) at;
+        ways = is_in.ways ∙ ap (λ (s : State). s.ways) own;
+        suits = subst (λ (s : State). Suits s.searching (best_of cache.best)) own is_in.suits;
+        sees = λ looks. is_in.sees looks ∙ ap (λ (s : State). s.before) own;
+      }
+  | inr other ↦
+      record {
+        state = is_in.state;
+        is_state =
+            set_other automaton.states x
+            (record from { next = slice_set from.next class z }) y is_in.state other is_in.is_state;
+        ways = is_in.ways;
+        suits = is_in.suits;
+        sees = is_in.sees;
+      }
+]
+
+module _ (table : List (Place ℕ)) (entries : List ℕ) {S : Type 0} (old new : Automaton)
+    (same : new.intervals ≡ old.intervals) (remembers : Remembers table entries new) (x first : ℕ)
+    (here : Here) (hit : Bool) (now : Cache S)
+    (turned : HasTurned table entries old x first here hit now) (class : ℕ)
+    (is_class : class_of new.intervals.boundaries here.after ≡ class) (to : State)
+    (ways : to.ways ≡ ways_of first now.walk.memory.threads)
+    (is_hit : to.hit ≡ hit_of first hit (best_of now.best))
+    (searching : to.searching ≡ searching_after to.hit turned.is_in.state.searching)
+    (before : new.intervals.looks ≡ true → to.before ≡ side_of here.after) where
+  alike : (there : Here) → Sees new.intervals turned.is_in.state.before class there
+      → AreAlike table here there
+  alike there sees = remembers.intervals.alike here there (record {
+    ahead = is_class ∙ sym sees.ahead;
+    behind = λ looks.
+        turned.is_in.sees (sym (ap (λ z. z.looks) same) ∙ looks) ∙ sym (sees.behind looks);
+  })
+
+  pub learned : LeadsOn table entries new.intervals turned.is_in.state class to
+  learned =
+      remembered table entries new.intervals turned.before now here hit first
+      turned.starts turned.told turned.is_in.state class to turned.again alike
+      (λ there sees h p is. turned.suffice h p there is) turned.tells turned.is_first
+      turned.is_in.ways turned.is_in.suits ways is_hit searching
+      (λ looks there seen. same_side_of new.intervals.boundaries there.after here.after
+      (seen ∙ sym is_class) (remembers.intervals.sides looks) ∙ sym (before looks))

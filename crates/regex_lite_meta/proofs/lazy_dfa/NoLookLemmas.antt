@@ -1,0 +1,69 @@
+-- Where no place looks at its neighbours, no arrow requires a look.
+use Rattle.regex_lite_meta.proofs.Common.{◌≡◌, ℕ, zero, suc, true, false, List, [], ◌∷◌, map}
+use Rattle.regex_lite_meta.proofs.Common.{slice_get, Some, sym, ap, ◌∙◌, subst, HasNoLooks}
+use Rattle.regex_lite_meta.proofs.Common.{place_of, Automaton, Intervals, IsBoundedPlace}
+use Rattle.regex_lite_meta.proofs.Common.{AreIntervalsOf}
+use Rattle.regex_lite_meta.specs.LazyDfa.Automaton.{State}
+use Rattle.regex_lite_engine.specs.Graph.NoLooks.{RequiresNoLook}
+use Rattle.regex_lite_engine.specs.declared.nfa.place.Place as code
+use Rattle.regex_lite_engine.specs.declared.nfa.place.Place.TheVariants as stored
+use Rattle.regex_lite_meta.specs.LazyDfa.Intervals.{AreIntervalsFor}
+use Rattle.regex_lite_meta.specs.LazyDfa.Remembering.{RemembersFor}
+use Rattle.regex_lite_meta.proofs.lazy_dfa.AlikeLemmas.{alike_at}
+use Rattle.regex_lite_syntax.proofs.OptionLemmas.{not_there, same_some}
+use Rattle.regex_lite_engine.proofs.laws.search.NoLookLemmas.{free_arrows}
+
+module _ (intervals : Intervals) (none : intervals.looks ≡ false) where
+  no_look : (place : code.Place) → IsBoundedPlace intervals place
+      → RequiresNoLook (place_of place)
+  no_look (stored.Empty to) bounded = (tt, tt)
+  no_look (stored.Char c to) bounded = (tt, tt)
+  no_look (stored.Class to []) bounded = tt
+  no_look (stored.Class to (range ∷ ranges)) bounded = (tt, tt)
+  no_look (stored.Look test to) bounded = absurd (apart (sym none ∙ bounded))
+    where
+      apart : false ≡ true → ⊥
+      apart e = cc
+  no_look (stored.Slot slot to) bounded = (tt, tt)
+  no_look (stored.Choice first second) bounded = (tt, (tt, tt))
+  no_look (stored.Branches entries) bounded = free_arrows entries.items
+  no_look stored.Match bounded = tt
+
+  each_no_look : (places : List code.Place)
+      → ((q : ℕ) (place : code.Place) → slice_get places q ≡ Some place
+      → IsBoundedPlace intervals place)
+      → HasNoLooks (map place_of places)
+  each_no_look [] each q place e = absurd (not_there e)
+  each_no_look (first ∷ places) each zero place e =
+      subst RequiresNoLook (same_some e) (no_look first (each zero first (λ t. Some first)))
+  each_no_look (first ∷ places) each (suc q) place e =
+      each_no_look places (λ r next at. each (suc r) next at) q place e
+
+no_looks : (places : List code.Place) (intervals : Intervals)
+    → AreIntervalsOf places intervals → intervals.looks ≡ false → HasNoLooks (map place_of places)
+no_looks places intervals are none = each_no_look intervals none places are.each
+
+-- what no place distinguishes, the table doesn't
+pub intervals_for : (places : List code.Place) (intervals : Intervals)
+    → AreIntervalsOf places intervals → AreIntervalsFor (map place_of places) intervals
+intervals_for places intervals are = record {
+  alike = alike_at places intervals are;
+  sides = are.sides;
+  no_looks = no_looks places intervals are;
+}
+
+-- an automaton without states remembers no turn that another search would not take
+pub remembers_none : (places : List code.Place) (automaton : Automaton)
+    → AreIntervalsOf places automaton.intervals → automaton.states ≡ [] → automaton.pending ≡ []
+    → (entries : List ℕ) → RemembersFor (map place_of places) entries automaton
+remembers_none places automaton are empty none entries = record {
+  remembers = record {
+    intervals = intervals_for places automaton.intervals are;
+    leads = λ x from class at. absurd (nothing x from at);
+    fit = λ x state at. absurd (nothing x state at);
+  };
+  none_pending = none;
+}
+  where
+    nothing : (x : ℕ) (state : State) → slice_get automaton.states x ≡ Some state → ⊥
+    nothing x state at = not_there (sym (ap (λ states. slice_get states x) empty) ∙ at)

@@ -1,0 +1,54 @@
+-- A search that gets an automaton on its way.
+use Rattle.regex_lite_meta.proofs.Common.{◌≡◌, ℕ, false, List, [], Some, None, Option, MatchOption}
+use Rattle.regex_lite_meta.proofs.Common.{sym, ap, ◌∙◌, subst, nil_from_length, Text, best_of}
+use Rattle.regex_lite_meta.proofs.Common.{best_at, with_start_kept, best_kept, span_of}
+use Rattle.regex_lite_meta.proofs.Common.{IsBestOutcomeOf, Row, Origin, Cache, Automaton, IsIn}
+use Rattle.regex_lite_meta.proofs.Common.{IsOnItsWay, Stands, best_told}
+use Rattle.regex_lite_engine.specs.Graph.Places.{Place}
+use Rattle.regex_lite_meta.specs.declared.lazy_dfa.run.Progress.{Progress}
+
+-- one that remembers nothing
+pub empty : Automaton
+empty = record { intervals = record { boundaries = []; looks = false }; states = []; pending = [] }
+
+module _ (table : List (Place ℕ)) (h : Text) (entries : List ℕ) (s : ℕ) where
+  -- where the search stands, its state is known
+  pub known_stands : (other automaton : Automaton) (at known : Progress) (state : Option ℕ)
+      (cache : Cache Origin)
+      → Stands table h entries s other at cache → known ≡ record at { state = state } →
+      MatchOption state (Unit {0}) (λ y. IsIn automaton y at.first at.here.before cache)
+      → Stands table h entries s automaton known cache
+  known_stands other automaton at known state cache stands is state_known =
+      subst (λ z. Stands table h entries s automaton z cache) (sym is) (record {
+        p = stands.p;
+        is = stands.is;
+        on = stands.on;
+        first = stands.first;
+        own = stands.own;
+        state = state_known;
+      })
+
+  -- what is known is the best match
+  pub found_told : (p : ℕ) (cache : Cache Origin) (known : Option (Origin × ℕ))
+      → IsOnItsWay table h entries s p cache
+      → best_of cache.best ≡ best_kept known cache.best.row →
+      IsBestOutcomeOf table h entries s (best_of cache.best)
+      → IsBestOutcomeOf table h entries s (best_told known)
+  found_told p cache known on is found =
+      let row = nil_from_length cache.best.row (on.ready.best_width ∙ on.width) in
+      subst (IsBestOutcomeOf table h entries s) (is ∙ ap (best_kept known) row) found
+
+-- where the best match starts and ends, without the number of its pattern
+pub spanned : (table : List (Place ℕ)) (h : Text) (entries : List ℕ) (s : ℕ)
+    (found : Option (Origin × ℕ)) (row : Row)
+    → IsBestOutcomeOf table h entries s (best_kept found row)
+    → IsBestOutcomeOf table h entries s (with_start_kept (best_at (span_of found) row))
+spanned table h entries s None row outcome = outcome
+spanned table h entries s (Some known) row (number, found, answer, told, end, rest) = (
+  number,
+  found,
+  answer,
+  record { start_told = told.start_told; number_told = tt },
+  end,
+  rest,
+)

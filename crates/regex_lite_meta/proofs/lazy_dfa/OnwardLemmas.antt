@@ -1,0 +1,210 @@
+-- A search that goes on by remembered turns, from where it stands to where it stands then.
+use Rattle.regex_lite_meta.proofs.Common.{◌≡◌, ℕ, ◌+◌, ◌^◌, ◌<◌, ◌≤◌, ◌⊎◌, List, [], length, IfSome}
+use Rattle.regex_lite_meta.proofs.Common.{slice_get, Some, None, IsUtf8, Option, chars}
+use Rattle.regex_lite_meta.proofs.Common.{IsCharBoundary, sym, refl, ap, ◌∙◌, subst, inl, inr}
+use Rattle.regex_lite_meta.proofs.Common.{arith, slice_get_within, Text, IsBestOutcomeOf}
+use Rattle.regex_lite_meta.proofs.Common.{position_at, IsHere, Origin, Here, Automaton, best_told}
+use Rattle.regex_lite_meta.proofs.Common.{IsIdleAt, IsSince, IsScanning, Standing}
+use Rattle.regex_lite_engine.specs.Graph.Places.{Place}
+use Rattle.regex_lite_meta.specs.LazyDfa.Automaton.{KeptOrigin, State}
+use Rattle.regex_lite_meta.specs.LazyDfa.Scanning.{LedTo}
+use Rattle.regex_lite_meta.specs.LazyDfa.Stored.{known_hit}
+use Rattle.regex_lite_meta.specs.declared.lazy_dfa.spot.Spot.{Spot}
+use Rattle.regex_lite_meta.specs.declared.lazy_dfa.spot.Turn.{Turn}
+use Rattle.regex_lite_meta.specs.LazyDfa.Spots.{EndsScan, IsTaken, IsTurn}
+use Rattle.regex_lite_engine.proofs.OffsetLemmas.{boundary_at}
+use Rattle.regex_lite_syntax.proofs.OptionLemmas.{same_some}
+use Rattle.regex_lite_engine.proofs.PositionLemmas.{position_of}
+use Rattle.regex_lite_meta.proofs.lazy_dfa.ScanLemmas.{IsFirstAfter, scanned_on}
+use Rattle.regex_lite_meta.proofs.lazy_dfa.SpotLemmas.{IsSpotAt, since_led, since_on, spot_edge}
+use Rattle.regex_lite_meta.proofs.lazy_dfa.SpotLemmas.{spot_of, spot_on, spot_over, spot_since}
+use Rattle.regex_lite_meta.proofs.lazy_dfa.SpotLemmas.{standing_there}
+
+-- a search goes on from one place to another, at the same position or a later one
+abbrev pub GoesOn : List (Place ℕ) → List ℕ → Text → Automaton → (from at : Standing) → Type 0
+GoesOn table entries h automaton from at = (low p : ℕ)
+    → IsScanning table entries h low p automaton from
+    → (q : ℕ) × (p ≤ q) × IsScanning table entries h low q automaton at
+    × IsSince table entries h low p from.first at.first
+
+-- the same by offsets alone
+abbrev pub GoesToSpot : List (Place ℕ) → List ℕ → Text → Automaton → (from : Standing) → Spot
+    → (told : Standing) → Type 0
+GoesToSpot table entries h automaton from spot told = (low p : ℕ)
+    → IsScanning table entries h low p automaton from
+    → (q : ℕ) × (p ≤ q) × IsSpotAt table entries h low q automaton spot told
+    × IsSince table entries h low p from.first told.first
+
+module _ {table : List (Place ℕ)} {entries : List ℕ} {h : Text} {automaton : Automaton} where
+  pub stays_there : (at : Standing) → GoesOn table entries h automaton at at
+  stays_there at low p scanning = (p, omega arith, scanning, inl refl)
+
+  pub then_on : {a b c : Standing} → GoesOn table entries h automaton a b
+      → GoesOn table entries h automaton b c → GoesOn table entries h automaton a c
+  then_on {a} {b} {c} there on low p scanning =
+      let v = there low p scanning in
+      let r = on low v.0 v.2 in
+      let le = v.1 in
+      let more = r.1 in (
+        r.0,
+        omega (arith, le, more),
+        r.2,
+        since_on table entries h low p v.0 a.first b.first c.first le v.3 r.3,
+      )
+
+  -- positions are passed over, and then where there was nothing to go on from is known
+  pub then_skipped : {a b c : Standing} → GoesOn table entries h automaton a b
+      → ((low p : ℕ) → IsScanning table entries h low p automaton b
+      → (q : ℕ) × (p ≤ q) × IsScanning table entries h low q automaton c)
+      → ((low p : ℕ) → IsScanning table entries h low p automaton b
+      → IsSince table entries h low p b.first c.first) → GoesOn table entries h automaton a c
+  then_skipped there on first =
+      then_on there
+      (λ low p scanning. let r = on low p scanning in (r.0, r.1, r.2, first low p scanning))
+
+  -- the turn from there is taken
+  pub then_turned : {a b next : Standing} {to : ℕ} {best : Option (Origin × ℕ)}
+      → GoesOn table entries h automaton a b
+      → ((low p : ℕ) → IsScanning table entries h low p automaton b
+      → LedTo table entries h low p automaton b to best)
+      → ((state : State) → slice_get automaton.states to ≡ Some state → state.ways ≡ []
+      → best ≡ None)
+      → ((p : ℕ) → IsHere h p b.here → IsHere h (p + 1) next.here)
+      → next ≡ record next { state = to; best = best }
+      → ((state : State) → slice_get automaton.states to ≡ Some state
+      → IsFirstAfter state.ways next.here.at b.first next.first)
+      → GoesOn table entries h automaton a next
+  then_turned {b = b} {next = next} {to = to} {best = best} there led none here same first =
+      then_on there (λ low p scanning.
+      let state = led low p scanning in
+      let is = here p scanning.is in
+      let told = first state.state state.is_state in (
+        p + 1,
+        omega arith,
+        subst (IsScanning table entries h low (p + 1) automaton) (sym same)
+            (scanned_on table entries h low p automaton b scanning to best state next.here
+            next.first is told),
+        since_led table entries h low p automaton b to best state next.here next.first is
+            (none state.state state.is_state) told,
+      ))
+
+  -- the state there is one of the automaton
+  pub state_there : {from at : Standing} → GoesOn table entries h automaton from at
+      → (low p : ℕ) × IsScanning table entries h low p automaton from →
+      at.state < length automaton.states
+  state_there {at = at} there from =
+      let is = (there from.0 from.1 from.2).2 in
+      slice_get_within automaton.states at.state is.state is.is_state
+
+  -- a search goes by offsets from where it stands
+  pub to_spot : {spot : Spot} (at : Standing)
+      → spot ≡ record { at = at.here.at; state = at.state; idle = 0 }
+      → GoesToSpot table entries h automaton at spot at
+  to_spot {spot} at e low p scanning =
+      (p, omega arith, spot_of table entries h low p automaton at spot scanning e, inl refl)
+
+  pub state_at_spot : {from : Standing} {spot : Spot} {told : Standing}
+      → GoesToSpot table entries h automaton from spot told
+      → (low p : ℕ) × IsScanning table entries h low p automaton from →
+      spot.state < length automaton.states
+  state_at_spot {spot = spot} there from =
+      let is = (there from.0 from.1 from.2).2.scanning in
+      slice_get_within automaton.states spot.state is.state is.is_state
+
+-- the state to which a turn leads
+module _ {table : List (Place ℕ)} {entries : List ℕ} {automaton : Automaton} {bs : List ℕ}
+    {at x : ℕ} {turn : Turn} (leads : IsTurn table entries automaton bs at x turn) where
+  pub turn_within : turn.to < length automaton.states
+  turn_within = slice_get_within automaton.states turn.to leads.to leads.is_to
+
+  pub turn_effect : (hit : Option KeptOrigin) → known_hit turn.effect ≡ Some hit → (state : State)
+      → slice_get automaton.states turn.to ≡ Some state → (state.ways ≡ [] → ⊥) × (state.hit ≡ hit)
+  turn_effect hit told state is =
+      subst (λ (s : State). (s.ways ≡ [] → ⊥) × (s.hit ≡ hit)) (same_some (sym leads.is_to ∙ is))
+      (leads.effect hit told)
+
+module _ {table : List (Place ℕ)} {entries : List ℕ} {automaton : Automaton} (bs : List ℕ)
+    (u : IsUtf8 bs) (fits : length bs + 1 < 2 ^ 64) where
+  module _ {from at : Standing} (there : GoesOn table entries (chars bs) automaton from at) where
+    -- where there was nothing to go on from is an offset of a character
+    pub idle_edge : (low p : ℕ) × IsScanning table entries (chars bs) low p automaton from
+        → (at.first ≡ from.first) ⊎ IsCharBoundary bs at.first
+    idle_edge (low, p, scanning) = of_since (there low p scanning).3
+      where
+        of_since : IsSince table entries (chars bs) low p from.first at.first
+            → (at.first ≡ from.first) ⊎ IsCharBoundary bs at.first
+        of_since (inl e) = inl e
+        of_since (inr (here, same, idle)) =
+            let is = idle.is in
+            inr (boundary_at bs idle.r at.first u (is.inside, sym same ∙ is.bytes))
+
+    -- it goes on by turns, from there or from where there was nothing to go on from
+    pub stuck_there : (idle : Option Here) → IfSome idle (λ here. here.at ≡ at.first)
+        → IfSome idle (IsHere (chars bs) (position_at bs at.first))
+        → IfSome idle (λ _. at.first ≡ from.first → ⊥) → (low p : ℕ)
+        → IsScanning table entries (chars bs) low p automaton from →
+        ((q : ℕ) × (p ≤ q) × IsScanning table entries (chars bs) low q automaton at)
+        × IfSome idle (IsIdleAt table entries (chars bs) low p)
+    stuck_there idle same is other low p scanning =
+        let r = there low p scanning in ((r.0, r.1, r.2), of_since r.3 idle same is other)
+      where
+        of_since : IsSince table entries (chars bs) low p from.first at.first
+            → (idle : Option Here) → IfSome idle (λ here. here.at ≡ at.first)
+            → IfSome idle (IsHere (chars bs) (position_at bs at.first))
+            → IfSome idle (λ _. at.first ≡ from.first → ⊥)
+            → IfSome idle (IsIdleAt table entries (chars bs) low p)
+        of_since since None same is other = tt
+        of_since (inl e) (Some x) same is other = absurd (other e)
+        of_since (inr (here, same', idle)) (Some x) same is other =
+            let own = idle.is in
+            record {
+              r = idle.r;
+              later = idle.later;
+              is = subst (λ z. IsHere (chars bs) z x)
+                  (position_of bs u idle.r at.first (own.inside, sym same' ∙ own.bytes)) is;
+              coming = idle.coming;
+            }
+
+  module _ {from : Standing} {spot : Spot} {told : Standing}
+      (there : GoesToSpot table entries (chars bs) automaton from spot told) where
+    pub spot_boundary : (low p : ℕ) × IsScanning table entries (chars bs) low p automaton from
+        → IsCharBoundary bs spot.at
+    spot_boundary (low, p, scanning) =
+        let v = there low p scanning in
+        spot_edge table entries bs u fits low v.0 automaton spot told v.2
+
+    -- the characters beside it are looked up
+    pub from_spot : (at : Standing) → IsHere (chars bs) (position_at bs spot.at) at.here
+        → at ≡ record told { here = at.here; state = spot.state }
+        → GoesOn table entries (chars bs) automaton from at
+    from_spot at here e low p scanning = let v = there low p scanning in (
+      v.0,
+      v.1,
+      subst (IsScanning table entries (chars bs) low v.0 automaton) (sym e)
+          (standing_there table entries bs u fits low v.0 automaton spot told v.2 at.here here),
+      subst (IsSince table entries (chars bs) low p from.first)
+          (sym (ap (λ (s : Standing). s.first) e)) v.3,
+    )
+
+    module _ {turn : Turn} (leads : IsTurn table entries automaton bs spot.at spot.state turn) where
+      pub next_spot : (on : Spot) (after : Standing) → IsTaken spot turn leads.to told after on
+          → GoesToSpot table entries (chars bs) automaton from on after
+      next_spot on after taken low p scanning =
+          let v = there low p scanning in
+          let le = v.1 in (
+            v.0 + 1,
+            omega (arith, le),
+            spot_on table entries bs u fits low v.0 automaton spot told v.2 turn leads after on
+                taken,
+            since_on table entries (chars bs) low p v.0 from.first told.first after.first le v.3
+                (spot_since table entries bs u fits low v.0 automaton spot told v.2 turn leads
+                after on taken),
+          )
+
+      -- the turn leads from a match to nothing
+      pub ends_there : (after : Standing) → EndsScan spot leads.to told after → (low p : ℕ)
+          → IsScanning table entries (chars bs) low p automaton from →
+          IsBestOutcomeOf table (chars bs) entries low (best_told after.best)
+      ends_there after over low p scanning =
+          let v = there low p scanning in
+          spot_over table entries bs u fits low v.0 automaton spot told v.2 turn leads after over

@@ -1,0 +1,105 @@
+-- What is known of the next match, where the positions before it are passed over.
+use Rattle.regex_lite_meta.proofs.Common.{◌≡◌, ℕ, ◌<◌, ◌≤◌, ◌⊎◌, List, [], ◌∷◌, Some, None, IsUtf8}
+use Rattle.regex_lite_meta.proofs.Common.{chars, IsCharBoundary, sym, subst, arith, Found}
+use Rattle.regex_lite_meta.proofs.Common.{Best, best_at, with_start_kept, IsBestOutcomeOf, IsOffset}
+use Rattle.regex_lite_meta.proofs.Common.{IsNumberedFound, Origin, Row, position_at, slice_index}
+use Rattle.regex_lite_meta.proofs.Common.{get_or_from_slice_get, length, slice_get_within}
+use Rattle.regex_lite_meta.proofs.Common.{best_told}
+use Rattle.regex_lite_engine.specs.Graph.Places.{Place}
+use Rattle.regex_lite_engine.specs.Search.NumberedOutcomes.{IsBestOutcome, numbered_at}
+use Rattle.regex_lite_engine.specs.Search.NumberedOutcomes.{with_origin_kept}
+use Rattle.regex_lite_engine.specs.Search.NumberedList.{IsEntry, IsNumberedFoundOf}
+use Rattle.regex_lite_engine.specs.Search.NumberedAnswer.{NoneStartsBefore}
+use Rattle.regex_lite_engine.proofs.OffsetLemmas.{boundary_at}
+use Rattle.regex_lite_engine.proofs.PositionLemmas.{position_of}
+use Rattle.regex_lite_engine.proofs.pikevm.EndLemmas.{one_best}
+use Rattle.regex_lite_engine.proofs.search.FirstStartLemmas.{answer_from}
+
+-- of the answer of a list it is known where it starts, and of which pattern it is
+module _ (table : List (Place ℕ)) (bytes : List ℕ) (utf8 : IsUtf8 bytes) (entries : List ℕ)
+    (s : ℕ) (origin : Origin) (end : ℕ)
+    (is : IsBestOutcomeOf table (chars bytes) entries s (best_told (Some (origin, end)))) where
+  abbrev known : Found
+  known = is.1
+
+  abbrev answer : IsNumberedFoundOf table (chars bytes) entries s is.0 known
+  answer = is.2
+
+  is_entry : IsEntry entries origin.number answer.entry
+  is_entry = subst (λ n. IsEntry entries n answer.entry) (sym is.3.number_told) answer.is_entry
+
+  pub number_within : origin.number < length entries
+  number_within = slice_get_within entries origin.number answer.entry is_entry
+
+  is_start : IsOffset (chars bytes) known.start origin.at
+  is_start = (answer.answer.inside, is.3.start_told)
+
+  pub start_boundary : IsCharBoundary bytes origin.at
+  start_boundary = boundary_at bytes known.start origin.at utf8 is_start
+
+  before : NoneStartsBefore table (chars bytes) answer.entry s (position_at bytes origin.at)
+  before =
+      subst (NoneStartsBefore table (chars bytes) answer.entry s)
+      (sym (position_of bytes utf8 known.start origin.at is_start))
+      (record { from = answer.answer.from; least = answer.answer.least })
+
+  -- what is found of that pattern alone is the answer of the list
+  found_of_list : (found : Found) → IsNumberedFound table (chars bytes) answer.entry s found
+      → IsNumberedFoundOf table (chars bytes) entries s is.0 found
+  found_of_list found own =
+      let no_later = own.least known.start answer.answer.last known.end answer.answer.way (record {
+        from = answer.answer.from;
+        inside = answer.answer.inside;
+        leads = answer.answer.is_way;
+      }) in
+      let no_sooner = answer.answer.least found.start own.last found.end own.way (record {
+        from = own.from;
+        inside = own.inside;
+        leads = own.is_way;
+      }) in
+      let same : known.start ≡ found.start = omega (arith, no_later, no_sooner) in
+      record {
+        entry = answer.entry;
+        is_entry = answer.is_entry;
+        answer = own;
+        first = λ i k way q j m.
+            subst (λ z. (z < i) ⊎ ((z ≡ i) × (is.0 ≤ k))) same (answer.first i k way q j m);
+      }
+
+  same_entry : slice_index entries origin.number ≡ answer.entry
+  same_entry = get_or_from_slice_get entries origin.number answer.entry 0 is_entry
+
+  known_here : (best : Best) → IsBestOutcomeOf table (chars bytes)
+      (slice_index entries origin.number ∷ []) (position_at bytes origin.at) best
+      → IsBestOutcome table (chars bytes) answer.entry s best
+  known_here best own =
+      answer_from table (chars bytes) answer.entry s (position_at bytes origin.at) before best
+      (one_best table (chars bytes) answer.entry (position_at bytes origin.at) best
+      (subst (λ entry. IsBestOutcomeOf table (chars bytes) (entry ∷ [])
+      (position_at bytes origin.at) best) same_entry own))
+
+  -- that pattern alone has a match
+  pub one_there : IsBestOutcomeOf table (chars bytes) (slice_index entries origin.number ∷ [])
+      (position_at bytes origin.at) None → ⊥
+  one_there none =
+      known_here None none known.start answer.answer.last known.end answer.answer.way (record {
+        from = answer.answer.from;
+        inside = answer.answer.inside;
+        leads = answer.answer.is_way;
+      })
+
+  -- its first match is the answer of the list
+  pub one_of_list : (span : ℕ × ℕ) (row : Row)
+      → IsBestOutcomeOf table (chars bytes) (slice_index entries origin.number ∷ [])
+      (position_at bytes origin.at) (with_start_kept (best_at (Some span) row))
+      → IsBestOutcomeOf table (chars bytes) entries s
+      (with_origin_kept (numbered_at (Some (origin.number, span)) row))
+  one_of_list span row own =
+      let here = known_here (with_start_kept (best_at (Some span) row)) own in (
+        is.0,
+        here.0,
+        found_of_list here.0 here.1,
+        record { start_told = here.2; number_told = is.3.number_told },
+        here.3,
+        here.4,
+      )

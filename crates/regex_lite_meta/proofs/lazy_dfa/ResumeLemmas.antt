@@ -1,0 +1,279 @@
+-- A search that is taken up where remembered turns end.
+use Rattle.regex_lite_meta.proofs.Common.{◌≡◌, ℕ, zero, suc, ◌<◌, ◌≤◌, Bool, true, false, not, ◌⊎◌}
+use Rattle.regex_lite_meta.proofs.Common.{List, [], ◌∷◌, map, length, ◌==◌, slice_get, Some, None}
+use Rattle.regex_lite_meta.proofs.Common.{All, Option, MatchOption, sym, refl, ap, ◌∙◌, subst, inl}
+use Rattle.regex_lite_meta.proofs.Common.{inr, arith, nat_tests, length-map, Text, Thread, best_of}
+use Rattle.regex_lite_meta.proofs.Common.{IsComing, Best, offset, Row, Cache, Here, Way, Automaton}
+use Rattle.regex_lite_meta.proofs.Common.{told_by, threads_of, ways_of, Suits, FitsTable}
+use Rattle.regex_lite_meta.proofs.Common.{IsFirstStart, IsIn, IsOnItsWay, Stands, best_told}
+use Rattle.regex_lite_meta.proofs.Common.{IsIdleAt, IsScanning, way_in, Standing, StoredWay}
+use Rattle.regex_lite_engine.specs.Graph.Places.{Place, reading_of}
+use Rattle.regex_lite_meta.specs.LazyDfa.Automaton.{IsEmptyState, began, origin_of, told_if}
+use Rattle.regex_lite_meta.specs.LazyDfa.Running.{thread_from, GoesOnWith}
+use Rattle.std.proofs.Common.{is_some, IsSome, ⊎_elim, true≢false}
+use Rattle.regex_lite_engine.specs.Pikevm.Machine.{thread_at}
+use Rattle.regex_lite_engine.specs.Pikevm.Room.{ThreadsBelow}
+use Rattle.regex_lite_engine.specs.Pikevm.Searching.{IsBetween}
+use Rattle.regex_lite_engine.specs.Pikevm.Walking.{WayTold, ThreadsHold}
+use Rattle.regex_lite_engine.specs.Search.Beginnings.{Told, IsTold}
+use Rattle.regex_lite_engine.specs.Search.Bounds.{StepCounts}
+use Rattle.regex_lite_engine.specs.Search.Offers.{Node, Offer}
+use Rattle.regex_lite_meta.proofs.lazy_dfa.RunLemmas.{maybe_in_empty, moved_on, own_first}
+use Rattle.regex_lite_syntax.proofs.OptionLemmas.{not_there}
+use Rattle.regex_lite_engine.proofs.ReadingCountLemmas.{reads_within}
+
+eq_there : (a b : ℕ) → (a == b) ≡ true → a ≡ b
+eq_there a b e = grind (arith, nat_tests)
+
+-- less is known of a thread, and no slots are kept
+module _ (first : ℕ) where
+  start_less : (told : Option ℕ) (j : ℕ) → IsTold told j
+      → IsTold (told_if (began first told) first) j
+  start_less None j is = tt
+  start_less (Some s) j is = by_test (s == first) refl
+    where
+      by_test : (b : Bool) → (s == first) ≡ b → IsTold (told_if b first) j
+      by_test true e = sym (eq_there s first e) ∙ is
+      by_test false e = tt
+
+  module _ (table : List (Place ℕ)) (h : Text) (entries : List ℕ) where
+    way_less : (i : Told) (row : Row) (n : Node) (w : List ℕ) → WayTold table h entries i row n w
+        → WayTold table h entries (told_by first (origin_of first i)) [] n w
+    way_less i row n w (j, number, entry, ks, tells, is_entry, is, leads, slots) = (
+      j,
+      number,
+      entry,
+      ks,
+      record {
+        start_told = start_less i.at (offset h j) tells.start_told;
+        number_told = tells.number_told;
+      },
+      is_entry,
+      is,
+      leads,
+      λ k slot at. absurd (not_there at),
+    )
+
+    hold_less : (p : ℕ) (ts : List Thread) (os : List (Offer Node))
+        → ThreadsHold table h entries p ts os
+        → ThreadsHold table h entries p (threads_of first (ways_of first ts)) os
+    hold_less p [] [] held = tt
+    hold_less p [] (o ∷ os) held = absurd held
+    hold_less p (t ∷ ts) [] held = absurd held
+    hold_less p (t ∷ ts) (o ∷ os) (there, way, rest) =
+        (there, way_less t.1 t.2 o.0 o.1 way, hold_less p ts os rest)
+
+    pub coming_less : (low last p : ℕ) (ts : List Thread) (best : Best)
+        → IsComing table h entries low last p ts best
+        → IsComing table h entries low last p (threads_of first (ways_of first ts)) best
+    coming_less low last p ts best u = record {
+      recorded = u.recorded;
+      coming = u.coming;
+      way = u.way;
+      from = u.from;
+      in_step = u.in_step;
+      before = u.before;
+      hold = hold_less p ts u.coming u.hold;
+      best_holds = u.best_holds;
+      from_is = u.from_is;
+    }
+
+-- the threads of ways that all began at the first start
+module _ (first : ℕ) where
+  told_first : (w : StoredWay) → w.is_first ≡ true → (λ (b : Bool). ◌≡◌ {A = Thread} (
+    w.place,
+    told_by first (record { first = b; number = Some w.number }),
+    [],
+  ) (thread_from first w)) w.is_first
+  told_first w e = ap (λ b. (
+    w.place,
+    told_by first (record { first = b; number = Some w.number }),
+    [],
+  )) e
+
+  pub threads_first : (ws : List StoredWay) → All (λ way. way.is_first ≡ true) ws
+      → threads_of first (map way_in ws) ≡ map (thread_from first) ws
+  threads_first [] all = refl
+  threads_first (w ∷ ws) all =
+      ap (λ (t : Thread). t ∷ threads_of first (map way_in ws))
+      (told_first w (all 0 w (omega arith)))
+      ∙ ap (λ (ts : List Thread). thread_from first w ∷ ts)
+      (threads_first ws (λ k d lt. all (suc k) d (omega (arith, lt))))
+
+  same_test : (first == first) ≡ true
+  same_test = grind (arith, nat_tests)
+
+  way_first : (w : StoredWay) → w.is_first ≡ true
+      → ◌≡◌ {A = Way}
+      (record {
+        place = w.place;
+        origin = record { first = first == first; number = Some w.number };
+      })
+      (way_in w)
+  way_first w e =
+      ap (λ b. record { place = w.place; origin = record { first = b; number = Some w.number } })
+      (same_test ∙ sym e)
+
+  pub ways_first : (ws : List StoredWay) → All (λ way. way.is_first ≡ true) ws
+      → ways_of first (map (thread_from first) ws) ≡ map way_in ws
+  ways_first [] all = refl
+  ways_first (w ∷ ws) all =
+      ap (λ (x : Way). x ∷ ways_of first (map (thread_from first) ws))
+      (way_first w (all 0 w (omega arith)))
+      ∙ ap (λ (xs : List Way). way_in w ∷ xs)
+      (ways_first ws (λ k d lt. all (suc k) d (omega (arith, lt))))
+
+below_at : (n first : ℕ) (ws : List StoredWay) (ways : List Way) → map way_in ws ≡ ways
+    → ((k : ℕ) (way : Way) → slice_get ways k ≡ Some way → way.place < n) → (k : ℕ)
+    → k < length (map (thread_from first) ws) → (thread_at (map (thread_from first) ws) k).0 < n
+below_at n first ws ways e below =
+    from_stored ws
+    (subst (λ (all : List Way). (k : ℕ) (way : Way) → slice_get all k ≡ Some way → way.place < n)
+    (sym e) below)
+  where
+    from_stored : (ws : List StoredWay)
+        → ((k : ℕ) (way : Way) → slice_get (map way_in ws) k ≡ Some way → way.place < n) → (k : ℕ)
+        → k < length (map (thread_from first) ws) → (thread_at (map (thread_from first) ws) k).0 < n
+    from_stored [] below k lt = absurd (omega (arith, lt))
+    from_stored (w ∷ ws) below zero lt = below 0 (way_in w) refl
+    from_stored (w ∷ ws) below (suc k) lt =
+        from_stored ws (λ j way at. below (suc j) way at) k (omega (arith, lt))
+
+module _ (table : List (Place ℕ)) (h : Text) (entries : List ℕ) (s p : ℕ) (automaton : Automaton)
+    {S : Type 0} (old new : Cache S) (on : IsOnItsWay table h entries s p old)
+    (kept : GoesOnWith old new) where
+  between_again : ((best_of new.best ≡ None → ⊥) → 0 < new.walk.steps.entered)
+      → length new.walk.memory.threads ≤ reading_of table
+      → ThreadsBelow (length table) new.walk.memory.threads → IsBetween table new
+  between_again entered few below = record {
+    all_seen = kept.rounds ∙ on.ready.all_seen;
+    old_rounds = kept.entered;
+    cap = subst (λ n. reading_of table < n) (sym kept.room) on.ready.cap;
+    few = few;
+    below = below;
+    none_next = kept.next;
+    stack_room = on.ready.stack_room;
+    stack_empty = kept.frames;
+    best_width = kept.best_row ∙ on.ready.best_width ∙ sym kept.row;
+    entered_tried =
+        subst (λ (c : StepCounts). c.entered ≤ c.tried) (sym kept.steps) on.ready.entered_tried;
+    looked_entered =
+        subst (λ (c : StepCounts). c.looked ≤ c.entered) (sym kept.steps) on.ready.looked_entered;
+    match_entered = entered;
+  }
+
+  -- it goes on with the ways of the state, and with the match that was found
+  module _ (q : ℕ) (stuck : Standing) (scanning : IsScanning table entries h s q automaton stuck)
+      (later : p < q) (ws : List StoredWay) (ways : map way_in ws ≡ scanning.state.ways)
+      (all : All (λ way. way.is_first ≡ true) ws) (fits : FitsTable table scanning.state.ways)
+      (best : best_of new.best ≡ best_told stuck.best)
+      (entered : (stuck.best ≡ None) ⊎ (0 < old.walk.steps.entered))
+      (threads : new.walk.memory.threads ≡ map (thread_from stuck.first) ws) where
+    match_entered : (best_of new.best ≡ None → ⊥) → 0 < new.walk.steps.entered
+    match_entered some =
+        ⊎_elim (λ none. absurd (some (best ∙ ap best_told none)))
+        (λ more. subst (λ (counts : StepCounts). 0 < counts.entered) (sym kept.steps) more) entered
+
+    few_threads : length new.walk.memory.threads ≤ reading_of table
+    few_threads =
+        let same = ap (λ (ts : List Thread). length ts) threads in
+        let n = length-map ws (thread_from stuck.first) in let m = length-map ws way_in in
+        let w = ap (λ (xs : List Way). length xs) ways in let few = fits.few in
+        omega (arith, same, n, m, w, few)
+
+    taken_up : IsOnItsWay table h entries s q new
+    taken_up =
+        moved_on table h entries s p q old new on
+        (between_again match_entered few_threads (subst (ThreadsBelow (length table)) (sym threads)
+        (below_at (length table) stuck.first ws scanning.state.ways ways fits.below)))
+        kept.steps kept.now later (let few = few_threads in let more = reads_within table in
+        omega (arith, few, more)) kept.row
+        (subst (λ ts. IsComing table h entries s (length h) q ts (best_of new.best)) (sym threads)
+        (subst (λ b. IsComing table h entries s (length h) q (map (thread_from stuck.first) ws) b)
+        (sym best)
+        (subst (λ ts. IsComing table h entries s (length h) q ts (best_told stuck.best))
+        (threads_first stuck.first ws all)
+        (subst (λ xs. IsComing table h entries s (length h) q (threads_of stuck.first xs)
+        (best_told stuck.best)) (sym ways) scanning.coming))))
+
+    is_in_stuck : IsIn automaton stuck.state stuck.first stuck.here.before new
+    is_in_stuck = record {
+      state = scanning.state;
+      is_state = scanning.is_state;
+      ways = ap (ways_of stuck.first) threads ∙ ways_first stuck.first ws all ∙ ways;
+      suits = subst (Suits scanning.state.searching) (sym best) scanning.suits;
+      sees = scanning.sees;
+    }
+
+    first_stuck : (ws ≡ []) ⊎ (stuck.first < stuck.here.at)
+        → (stuck.first ≤ stuck.here.at)
+        × IsFirstStart stuck.first stuck.here.at new.walk.memory.threads
+    first_stuck (inl empty) =
+        let own = scanning.own (sym ways ∙ ap (map way_in) empty) in (
+          omega (arith, own),
+          subst (IsFirstStart stuck.first stuck.here.at)
+              (sym (threads ∙ ap (map (thread_from stuck.first)) empty)) own,
+        )
+    first_stuck (inr below) = (
+      omega (arith, below),
+      subst (IsFirstStart stuck.first stuck.here.at) (sym threads) (by_ways ws ways),
+    )
+      where
+        by_ways : (vs : List StoredWay) → map way_in vs ≡ scanning.state.ways
+            → IsFirstStart stuck.first stuck.here.at (map (thread_from stuck.first) vs)
+        by_ways [] e = scanning.own (sym e)
+        by_ways (v ∷ vs) e = λ f. omega (arith, f, below)
+
+    pub stands_stuck : (ws ≡ []) ⊎ (stuck.first < stuck.here.at) → (until : ℕ) →
+        Stands table h entries s automaton (record {
+          here = stuck.here;
+          state = Some stuck.state;
+          first = stuck.first;
+          until = until;
+        }) new
+    stands_stuck before until = let first = first_stuck before in record {
+      p = q;
+      is = scanning.is;
+      on = taken_up;
+      first = first.0;
+      own = first.1;
+      state = is_in_stuck;
+    }
+
+  -- or from nothing
+  let_gone : (here : Here) (idle : IsIdleAt table entries h s p here) → p < idle.r
+      → best_of new.best ≡ None → new.walk.memory.threads ≡ []
+      → IsOnItsWay table h entries s idle.r new
+  let_gone here idle later none threads =
+      moved_on table h entries s p idle.r old new on
+      (between_again (λ some. absurd (some none))
+      (let n = ap (λ (ts : List Thread). length ts) threads in omega (arith, n))
+      (subst (ThreadsBelow (length table)) (sym threads) (λ k lt. absurd (omega (arith, lt)))))
+      kept.steps kept.now later
+      (let n = ap (λ (ts : List Thread). length ts) threads in omega (arith, n)) kept.row
+      (subst (λ ts. IsComing table h entries s (length h) idle.r ts (best_of new.best))
+      (sym threads)
+      (subst (λ b. IsComing table h entries s (length h) idle.r [] b) (sym none) idle.coming))
+
+  pub stands_gone : (here : Here) (idle : IsIdleAt table entries h s p here) → p < idle.r
+      → best_of new.best ≡ None → new.walk.memory.threads ≡ [] → (state : Option ℕ)
+      → MatchOption state (Unit {0}) (λ y. IsEmptyState automaton y here.before) → (until : ℕ) →
+      Stands table h entries s automaton
+      (record { here = here; state = state; first = here.at; until = until }) new
+  stands_gone here idle later none threads state empty until = record {
+    p = idle.r;
+    is = idle.is;
+    on = let_gone here idle later none threads;
+    first = omega arith;
+    own = own_first here.at new.walk.memory.threads threads;
+    state = maybe_in_empty automaton state here.at here.before new empty threads none;
+  }
+
+pub none_by : {A : Type 0} (o : Option A) (told : Bool) → is_some o ≡ not told → told ≡ true
+    → o ≡ None
+none_by None told e f = refl
+none_by (Some a) told e f = absurd (true≢false (e ∙ ap (λ b. not b) f))
+
+pub some_by : {A : Type 0} (o : Option A) (told : Bool) → is_some o ≡ not told → told ≡ false
+    → IsSome o
+some_by o told e f = e ∙ ap (λ b. not b) f

@@ -1,0 +1,231 @@
+-- A search that goes on at the same position or at a later one.
+use Rattle.regex_lite_meta.proofs.Common.{◌≡◌, ℕ, zero, suc, ◌+◌, ◌-◌, ◌*◌, ◌^◌, ◌<◌, ◌≤◌, true}
+use Rattle.regex_lite_meta.proofs.Common.{◌⊎◌, List, [], ◌∷◌, length, IfSome, Some, None, Option}
+use Rattle.regex_lite_meta.proofs.Common.{MatchOption, option_map, sym, refl, ap, ◌∙◌, subst, inl}
+use Rattle.regex_lite_meta.proofs.Common.{inr, arith, cases_lt, length-map, Text, arrows_of}
+use Rattle.regex_lite_meta.proofs.Common.{place_of, table_of, Thread, best_of, IsComing, Best}
+use Rattle.regex_lite_meta.proofs.Common.{best_kept, offset, Row, IsHere, AreDeadAt, PassesTo}
+use Rattle.regex_lite_meta.proofs.Common.{Origin, Cache, Here, Automaton, ways_of, Suits, side_of}
+use Rattle.regex_lite_meta.proofs.Common.{IsFirstStart, IsIn, IsOnItsWay}
+use Rattle.regex_lite_engine.specs.Graph.Places.{Place}
+use Rattle.regex_lite_meta.specs.LazyDfa.Automaton.{IsEmptyState}
+use Rattle.regex_lite_engine.specs.Graph.Stored.{StoredGraph}
+use Rattle.regex_lite_engine.specs.Search.Bounds.{IsBoundedBy, StepCounts}
+use Rattle.std.proofs.Math.Nat.{mul-le-mul_left, mul-suc}
+use Rattle.regex_lite_engine.specs.Pikevm.Searching.{IsBetween, IsFresh}
+use Rattle.regex_lite_engine.specs.Search.NumberedList.{IsEntry}
+use Rattle.regex_lite_engine.specs.Search.Starts.{IsAmong, AreStartsAt, AreAllStarts}
+use Rattle.regex_lite_engine.proofs.OffsetLemmas.{offset_less}
+use Rattle.regex_lite_syntax.proofs.OptionLemmas.{not_there, same_some}
+use Rattle.regex_lite_engine.proofs.search.OneStartLemmas.{one_inside}
+use Rattle.regex_lite_engine.proofs.pikevm.PassLemmas.{begun}
+use Rattle.regex_lite_engine.proofs.pikevm.ComingLemmas.{jumped}
+
+-- the only pattern may always start
+pub one_start : (table : List (Place ℕ)) (h : Text) (s p : ℕ)
+    → AreStartsAt table h (s ∷ []) p (record { number = 0; place = s } ∷ [])
+one_start table h s p = record {
+  in_order = (omega arith, refl, tt);
+  each = λ number entry is. inl (among number entry is);
+}
+  where
+    among : (number entry : ℕ) → IsEntry (s ∷ []) number entry
+        → IsAmong number entry (record { number = 0; place = s } ∷ [])
+    among zero entry is = inl (refl, sym (same_some is))
+    among (suc n) entry is = absurd (not_there is)
+
+-- the pattern of a graph by itself may start anywhere
+pub all_of_one : (graph : StoredGraph) (start : ℕ) → start ≡ graph.start
+    → start < length graph.places → AreAllStarts (table_of graph) (graph.start ∷ [])
+    (record { number = 0; place = graph.start } ∷ [])
+all_of_one graph start is inside = record {
+  at_each = λ h p. one_start (table_of graph) h graph.start p;
+  inside =
+      one_inside (length (table_of graph)) (record { number = 0; place = graph.start }) true
+      (let same = length-map graph.places place_of in omega (arith, is, inside, same));
+  few = omega arith;
+  countable = omega arith;
+}
+
+more_bound : (m p r s : ℕ) → s ≤ p → p < r → m * (p - s) + m ≤ m * (r - s)
+more_bound m p r s low later =
+    let e : m * suc (p - s) ≡ m * (p - s) + m = mul-suc m (p - s) in
+    let le : m * suc (p - s) ≤ m * (r - s) = mul-le-mul_left m (omega (arith, low, later)) in
+    omega (arith, e, le)
+
+module _ (table : List (Place ℕ)) (h : Text) (entries : List ℕ) (s : ℕ) {S : Type 0} where
+  -- positions are passed over at which no match can begin
+  pub passed_over : (p : ℕ) (cache : Cache S) (here : Here) → IsOnItsWay table h entries s p cache
+      → cache.walk.memory.threads ≡ [] → best_of cache.best ≡ None →
+      (passes : PassesTo (AreDeadAt table h entries) h p here)
+      → IsOnItsWay table h entries s passes.q cache
+  passed_over p cache here on idle none passes =
+      let low = on.low in let later = passes.later in let tries = on.tries in
+      let entered = on.entries_left in let rounds = on.rounds in
+      let most : (arrows_of table + length entries) * (p - s)
+      ≤ (arrows_of table + length entries) * (passes.q - s) =
+      mul-le-mul_left (arrows_of table + length entries) (omega (arith, low, later)) in
+      let most_entered : length table * (p - s) ≤ length table * (passes.q - s) =
+      mul-le-mul_left (length table) (omega (arith, low, later)) in
+      record {
+        low = omega (arith, low, later);
+        ready = on.ready;
+        coming =
+            subst (λ b. IsComing table h entries s (length h) passes.q cache.walk.memory.threads b)
+            (sym none)
+            (jumped table h entries s
+            (length h) p passes.q cache.walk.memory.threads idle later passes.passed
+            (subst (λ b. IsComing table h entries s (length h) p cache.walk.memory.threads b) none
+            on.coming));
+        tries = omega (arith, tries, most);
+        entries_left = omega (arith, entered, most_entered);
+        rounds = omega (arith, rounds, low, later);
+        width = on.width;
+      }
+
+  -- the search is taken up at a later position, with no more threads than arrows
+  pub moved_on : (p r : ℕ) (cache now : Cache S) → IsOnItsWay table h entries s p cache
+      → IsBetween table now → now.walk.steps ≡ cache.walk.steps → now.walk.memory.now < 2 ^ 63
+      → p < r →
+      length now.walk.memory.threads ≤ arrows_of table
+      → length now.walk.memory.row ≡ length cache.walk.memory.row →
+      IsComing table h entries s (length h) r now.walk.memory.threads (best_of now.best)
+      → IsOnItsWay table h entries s r now
+  moved_on p r cache now on ready steps fresh later few width coming =
+      let low = on.low in let tries = on.tries in let entered = on.entries_left in
+      let same_tried : now.walk.steps.tried ≡ cache.walk.steps.tried =
+      ap (λ (c : StepCounts). c.tried) steps in
+      let same_entered : now.walk.steps.entered ≡ cache.walk.steps.entered =
+      ap (λ (c : StepCounts). c.entered) steps in
+      let most = more_bound (arrows_of table + length entries) p r s low later in
+      let most_entered = more_bound (length table) p r s low later in
+      record {
+        low = omega (arith, low, later);
+        ready = ready;
+        coming = coming;
+        tries = omega (arith, tries, same_tried, few, most);
+        entries_left = omega (arith, entered, same_entered, most_entered);
+        rounds = omega (arith, fresh);
+        width = width ∙ on.width;
+      }
+
+-- a search on its way in the haystack did no more than is allowed
+pub bounded_on : (table : List (Place ℕ)) (h : Text) (entries : List ℕ) (s p : ℕ) {S : Type 0}
+    (cache : Cache S)
+    → s ≤ length h → p ≤ length h + 1 → IsOnItsWay table h entries s p cache →
+    IsBoundedBy (length table) (arrows_of table + length entries) h s cache.walk.steps.tried
+    cache.walk.steps.entered cache.walk.steps.looked
+bounded_on table h entries s p cache inside most on =
+    let low = on.low in let tries = on.tries in let all_entered = on.entries_left in
+    let entered = on.ready.entered_tried in let looked = on.ready.looked_entered in
+    let all_tries = mul-le-mul_left (arrows_of table + length entries) (within low) in
+    let all_entries = mul-le-mul_left (length table) (within low) in
+    record {
+      few_tried = omega (arith, tries, all_tries);
+      entered_tried = entered;
+      few_entered = omega (arith, all_entered, all_entries);
+      few_looked = omega (arith, looked);
+      none_beyond = λ lt. absurd (omega (arith, lt, inside));
+    }
+  where
+    within : s ≤ p → p - s ≤ length h - s + 1
+    within low = omega (arith, low, inside, most)
+
+-- another start than this offset is the first where there are threads
+pub other_first : (first at : ℕ) (threads : List Thread) → (length threads ≡ 0 → ⊥)
+    → (first ≡ at → ⊥) → IsFirstStart first at threads
+other_first first at [] some other = absurd (some refl)
+other_first first at (t ∷ ts) some other = other
+
+pub own_first : (at : ℕ) (threads : List Thread) → threads ≡ [] → IsFirstStart at at threads
+own_first at threads none = subst (IsFirstStart at at) (sym none) refl
+
+-- a search without threads is in its state, if that is known, whatever the first start
+pub state_from : {S : Type 0} (automaton : Automaton) (state : Option ℕ) (first first' : ℕ)
+    (before before' : Option ℕ) (cache : Cache S)
+    → before' ≡ before → (cache.walk.memory.threads ≡ []) ⊎ (first' ≡ first) →
+    MatchOption state (Unit {0}) (λ y. IsIn automaton y first before cache)
+    → MatchOption state (Unit {0}) (λ y. IsIn automaton y first' before' cache)
+state_from automaton None first first' before before' cache e told known = tt
+state_from automaton (Some y) first first' before before' cache e told known = record {
+  state = known.state;
+  is_state = known.is_state;
+  ways = same told ∙ known.ways;
+  suits = known.suits;
+  sees = λ looks. ap side_of e ∙ known.sees looks;
+}
+  where
+    same : (cache.walk.memory.threads ≡ []) ⊎ (first' ≡ first)
+        → ways_of first' cache.walk.memory.threads ≡ ways_of first cache.walk.memory.threads
+    same (inl none) = ap (ways_of first') none ∙ sym (ap (ways_of first) none)
+    same (inr f) = ap (λ z. ways_of z cache.walk.memory.threads) f
+
+-- a search that has nothing to go on from is in an empty state, if that is known
+pub maybe_in_empty : {S : Type 0} (automaton : Automaton) (state : Option ℕ) (first : ℕ)
+    (before : Option ℕ) (cache : Cache S)
+    → MatchOption state (Unit {0}) (λ y. IsEmptyState automaton y before) →
+    cache.walk.memory.threads ≡ [] → best_of cache.best ≡ None
+    → MatchOption state (Unit {0}) (λ y. IsIn automaton y first before cache)
+maybe_in_empty automaton None first before cache empty none no_match = tt
+maybe_in_empty automaton (Some y) first before cache empty none no_match = record {
+  state = empty.state;
+  is_state = empty.is_state;
+  ways = ap (ways_of first) none ∙ sym empty.none;
+  suits = subst (λ b. Suits b (best_of cache.best)) (sym empty.searching) no_match;
+  sees = λ looks. sym (empty.sees looks);
+}
+
+-- later positions have higher offsets
+pub at_later : (h : Text) (p q : ℕ) (a b : Here) → IsHere h p a → IsHere h q b → p ≤ q → a.at ≤ b.at
+at_later h p q a b is js le = elim (cases_lt p q) [
+  | inl lt ↦ (let less = offset_less h p q lt js.inside in omega (arith, less, is.bytes, js.bytes))
+  | inr ge ↦
+      (let same : offset h p ≡ offset h q =
+      ap (offset h) (let e : p ≡ q = omega (arith, le, ge) in e) in
+      omega (arith, same, is.bytes, js.bytes))
+]
+
+pub at_next : (h : Text) (p : ℕ) (a b : Here) → IsHere h p a → IsHere h (p + 1) b → a.at < b.at
+at_next h p a b is next =
+    let less = offset_less h p (p + 1) (omega arith) next.inside in
+    omega (arith, less, is.bytes, next.bytes)
+
+-- the same offset is the same position
+pub other_at : (h : Text) (p q : ℕ) (a b : Here) → IsHere h p a → IsHere h q b → p ≤ q
+    → (b.at ≡ a.at → ⊥) → p < q
+other_at h p q a b is js le other = elim (cases_lt p q) [
+  | inl lt ↦ lt
+  | inr ge ↦
+      absurd
+      (other (js.bytes ∙ ap (offset h) (let e : q ≡ p = omega (arith, le, ge) in e) ∙ sym is.bytes))
+]
+
+-- a search that has not begun is on its way
+pub begun_on : (table : List (Place ℕ)) (h : Text) (entries : List ℕ) (s : ℕ) {S : Type 0}
+    (cache : Cache S)
+    → IsFresh table cache → length cache.walk.memory.row ≡ 0 → IsOnItsWay table h entries s s cache
+begun_on table h entries s cache fresh width =
+    let u = begun table h entries s cache fresh in
+    record {
+      low = u.low;
+      ready = u.ready;
+      coming = u.coming;
+      tries = u.tries;
+      entries_left = u.entries;
+      rounds = u.rounds;
+      width = width;
+    }
+
+-- a match was not complete before a place was entered
+pub match_counted : (best : Best) (found : Option (Origin × ℕ)) (row : Row) (entered least : ℕ)
+    → best ≡ best_kept found row → ((best ≡ None → ⊥) → 0 < entered) → least ≤ 1
+    → IfSome found (λ _. least ≤ entered)
+match_counted best None row entered least is some few = tt
+match_counted best (Some found) row entered least is some few =
+    let one = some (λ e. not_there (sym e ∙ is)) in omega (arith, one, few)
+
+pub end_counted : (best : Best) (end : Option ℕ) (entered : ℕ) → end ≡ option_map (λ b. b.1) best
+    → ((best ≡ None → ⊥) → 0 < entered) → IfSome end (λ _. 0 < entered)
+end_counted best None entered is some = tt
+end_counted None (Some end) entered is some = absurd (not_there (sym is))
+end_counted (Some best) (Some end) entered is some = some (λ e. not_there (sym e))

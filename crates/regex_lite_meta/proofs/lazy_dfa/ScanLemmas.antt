@@ -1,0 +1,223 @@
+-- A search that goes on by remembered turns.
+use Rattle.regex_lite_meta.proofs.Common.{◌≡◌, ℕ, suc, ◌+◌, Bool, true, false, ◌⊎◌, List, []}
+use Rattle.regex_lite_meta.proofs.Common.{length, slice_get, Some, None, Option, option_map, sym}
+use Rattle.regex_lite_meta.proofs.Common.{refl, ap, ◌∙◌, subst, inl, inr, arith, Text, IsComing}
+use Rattle.regex_lite_meta.proofs.Common.{Best, IsBestOutcomeOf, IsNumberedEndOf, IsHere, AreDeadAt}
+use Rattle.regex_lite_meta.proofs.Common.{PassesTo, Origin, Here, Way, Automaton, told_by}
+use Rattle.regex_lite_meta.proofs.Common.{threads_of, best_left, searching_after, Suits, LeadsOn}
+use Rattle.regex_lite_meta.proofs.Common.{class_of, side_of, best_told, end_told, IsIdleAt}
+use Rattle.regex_lite_meta.proofs.Common.{IsScanning, Standing}
+use Rattle.regex_lite_engine.specs.Graph.Places.{Place}
+use Rattle.regex_lite_meta.specs.LazyDfa.Automaton.{KeptOrigin, State}
+use Rattle.regex_lite_meta.specs.LazyDfa.Scanning.{LedTo}
+use Rattle.std.proofs.Common.{is_some}
+use Rattle.regex_lite_syntax.specs.Text.{before}
+use Rattle.regex_lite_engine.specs.Pikevm.Turns.{EndsAt}
+use Rattle.regex_lite_engine.proofs.pikevm.EndLemmas.{ended_all}
+use Rattle.regex_lite_engine.proofs.search.here.HereLemmas.{over_at}
+use Rattle.regex_lite_syntax.proofs.OptionLemmas.{not_there, same_some}
+use Rattle.regex_lite_engine.proofs.pikevm.ShortestLemmas.{shortest_known}
+use Rattle.regex_lite_engine.proofs.pikevm.ComingLemmas.{jumped}
+
+still_suits : (hit : Option KeptOrigin) (searching : Bool) (i at : ℕ) (best : Best)
+    → Suits searching best → Suits (searching_after hit searching) (best_left hit i at best)
+still_suits None searching i at best s = s
+still_suits (Some origin) searching i at best s = λ e. not_there (sym e)
+
+-- nobody asks for the first start where there are no ways
+same_threads : (i j : ℕ) (ways : List Way) → (ways ≡ []) ⊎ (j ≡ i)
+    → threads_of i ways ≡ threads_of j ways
+same_threads i j ways (inl e) = ap (threads_of i) e ∙ sym (ap (threads_of j) e)
+same_threads i j ways (inr e) = ap (λ z. threads_of z ways) (sym e)
+
+-- the first start after a turn to these ways
+abbrev pub IsFirstAfter : List Way → (at before first : ℕ) → Type 0
+IsFirstAfter ways at before first =
+    ((ways ≡ []) × (first ≡ at)) ⊎ ((ways ≡ [] → ⊥) × (first ≡ before))
+
+-- the character before the next position
+pub next_before : (h : Text) (p : ℕ) (here next : Here) → IsHere h p here → IsHere h (p + 1) next
+    → next.before ≡ here.after
+next_before h p here next is on = on.behind ∙ ap (before h) more ∙ sym is.ahead
+  where
+    more : p + 1 ≡ suc p
+    more = omega arith
+
+-- the turn before this character leads to a state in which this match is known
+pub record TurnsTo (table : List (Place ℕ)) (entries : List ℕ) (automaton : Automaton) (x : ℕ)
+    (after : Option ℕ) (y : ℕ) (hit : Option KeptOrigin) : Type 0 where
+  pub class : ℕ
+  pub is_class : class_of automaton.intervals.boundaries after ≡ class
+  pub from : State
+  pub is_from : slice_get automaton.states x ≡ Some from
+  pub to : State
+  pub is_to : slice_get automaton.states y ≡ Some to
+  pub leads : LeadsOn table entries automaton.intervals from class to
+  pub is_hit : to.hit ≡ hit
+
+module _ (table : List (Place ℕ)) (entries : List ℕ) (h : Text) (low p : ℕ) (automaton : Automaton)
+    (at : Standing) (scanning : IsScanning table entries h low p automaton at) where
+  module _ {y : ℕ} {hit : Option KeptOrigin}
+      (turn : TurnsTo table entries automaton at.state at.here.after y hit) where
+    leads_here : LeadsOn table entries automaton.intervals scanning.state turn.class turn.to
+    leads_here =
+        subst (λ s. LeadsOn table entries automaton.intervals s turn.class turn.to)
+        (same_some (sym turn.is_from ∙ scanning.is_state)) turn.leads
+
+    coming_next : (best : Best) → Suits scanning.state.searching best →
+        IsComing table h entries low (length h) p (threads_of at.first scanning.state.ways) best →
+        IsComing table h entries low (length h) (p + 1) (threads_of at.first turn.to.ways)
+        (best_left hit at.first at.here.at best)
+    coming_next best suits coming =
+        subst (λ z. IsComing table h entries low (length h) (p + 1)
+        (threads_of at.first turn.to.ways) (best_left z at.first at.here.at best)) turn.is_hit
+        (leads_here.on at.here (record { ahead = turn.is_class; behind = scanning.sees }) at.first
+        scanning.own best suits h p low (length h) scanning.is scanning.later scanning.is.inside
+        coming)
+
+    pub led_step : (best : Option (Origin × ℕ))
+        → best_told best ≡ best_left hit at.first at.here.at (best_told at.best) →
+        LedTo table entries h low p automaton at y best
+    led_step best left = record {
+      state = turn.to;
+      is_state = turn.is_to;
+      suits =
+          subst (λ b. Suits b (best_told best))
+          (ap (λ hit. searching_after hit scanning.state.searching) (sym turn.is_hit)
+          ∙ sym leads_here.searching)
+          (subst (Suits (searching_after hit scanning.state.searching)) (sym left)
+          (still_suits hit scanning.state.searching at.first at.here.at (best_told at.best)
+          scanning.suits));
+      sees = λ looks. leads_here.before looks at.here turn.is_class;
+      coming =
+          subst
+          (IsComing table h entries low (length h) (p + 1) (threads_of at.first turn.to.ways))
+          (sym left) (coming_next (best_told at.best) scanning.suits scanning.coming);
+    }
+
+    -- a turn without a match before it ends the search where it completes one, or at the end
+    pub end_led : at.best ≡ None
+        → ((p ≡ length h) ⊎ (best_left hit at.first at.here.at None ≡ None → ⊥)) →
+        IsNumberedEndOf table h entries low (best_left hit at.first at.here.at None)
+    end_led none over =
+        shortest_known table h entries low p at.here.at (threads_of at.first scanning.state.ways)
+        (threads_of at.first turn.to.ways) None (best_left hit at.first at.here.at None)
+        scanning.later scanning.is.inside refl scanning.is.bytes (ends hit) over before
+        (coming_next None (subst (λ b. Suits scanning.state.searching (best_told b)) none
+        scanning.suits) before)
+      where
+        before : IsComing table h entries low (length h) p
+            (threads_of at.first scanning.state.ways) None
+        before =
+            subst (λ b. IsComing table h entries low (length h) p
+            (threads_of at.first scanning.state.ways) (best_told b)) none scanning.coming
+
+        ends : (hit : Option KeptOrigin)
+            → EndsAt at.here.at None (best_left hit at.first at.here.at None)
+        ends None = inl refl
+        ends (Some origin) = inr (told_by at.first origin, [], refl)
+
+  module _ (y : ℕ) (best : Option (Origin × ℕ))
+      (to : LedTo table entries h low p automaton at y best) where
+    pub scanned_on : (next : Here) (first : ℕ) → IsHere h (p + 1) next
+        → IsFirstAfter to.state.ways next.at at.first first →
+        IsScanning table entries h low (p + 1) automaton
+        (record { here = next; state = y; first = first; best = best })
+    scanned_on next first is told = let later = scanning.later in record {
+      state = to.state;
+      is_state = to.is_state;
+      is = is;
+      later = omega (arith, later);
+      own = own told;
+      suits = to.suits;
+      sees = λ looks. ap side_of (next_before h p at.here next scanning.is is) ∙ to.sees looks;
+      coming =
+          subst (λ z. IsComing table h entries low (length h) (p + 1) z (best_told best))
+          (same_threads at.first first to.state.ways (firsts told)) to.coming;
+    }
+      where
+        own : IsFirstAfter to.state.ways next.at at.first first
+            → to.state.ways ≡ [] → first ≡ next.at
+        own (inl (none, e)) empty = e
+        own (inr (some, e)) empty = absurd (some empty)
+
+        firsts : IsFirstAfter to.state.ways next.at at.first first
+            → (to.state.ways ≡ []) ⊎ (first ≡ at.first)
+        firsts (inl (none, e)) = inl none
+        firsts (inr (some, e)) = inr e
+
+    pub scan_over : ((at.here.after ≡ None) ⊎ ((best_told best ≡ None → ⊥) × (to.state.ways ≡ [])))
+        → IsBestOutcomeOf table h entries low (best_told best)
+    scan_over over =
+        ended_all table h entries low p (threads_of at.first to.state.ways) (best_told best)
+        scanning.later scanning.is.inside (at_end (over_at h p at.here scanning.is over)) to.coming
+      where
+        at_end : ((p ≡ length h) ⊎ ((best_told best ≡ None → ⊥) × (to.state.ways ≡ [])))
+            → (p ≡ length h)
+            ⊎ ((best_told best ≡ None → ⊥) × (length (threads_of at.first to.state.ways) ≡ 0))
+        at_end (inl e) = inl e
+        at_end (inr (some, e)) = inr (some, ap (λ ways. length (threads_of at.first ways)) e)
+
+  -- positions are passed over at which no match can begin
+  module _ (here : Here) (passes : PassesTo (AreDeadAt table h entries) h p here)
+      (idle : scanning.state.ways ≡ []) (none : best_told at.best ≡ None) where
+    pub idle_there : IsComing table h entries low (length h) passes.q [] None
+    idle_there =
+        jumped table h entries low (length h) p passes.q [] refl passes.later passes.passed
+        (subst (λ z. IsComing table h entries low (length h) p [] z) none
+        (subst (λ ways. IsComing table h entries low (length h) p (threads_of at.first ways)
+        (best_told at.best)) idle scanning.coming))
+
+    pub is_idle : IsIdleAt table entries h low p here
+    is_idle = record { r = passes.q; later = passes.later; is = passes.is; coming = idle_there }
+
+    pub skipped : (x : ℕ) (state : State) → slice_get automaton.states x ≡ Some state
+        → state.ways ≡ [] → state.searching ≡ true
+        → (automaton.intervals.looks ≡ true → state.before ≡ side_of here.before) →
+        IsScanning table entries h low passes.q automaton
+        (record { here = here; state = x; first = here.at; best = None })
+    skipped x state x_at empty searching sees =
+        let later = scanning.later in let more = passes.later in record {
+          state = state;
+          is_state = x_at;
+          is = passes.is;
+          later = omega (arith, later, more);
+          own = λ e. refl;
+          suits = subst (λ b. Suits b None) (sym searching) refl;
+          sees = λ looks. sym (sees looks);
+          coming =
+              subst
+              (λ ways.
+              IsComing table h entries low (length h) passes.q (threads_of here.at ways) None)
+              (sym empty) idle_there;
+        }
+
+-- at the end of the haystack there is no match
+pub end_none : (table : List (Place ℕ)) (entries : List ℕ) (h : Text) (low p : ℕ)
+    (automaton : Automaton) (at : Standing)
+    → IsScanning table entries h low p automaton at → at.best ≡ None → (y : ℕ)
+    → LedTo table entries h low p automaton at y None →
+    at.here.after ≡ None → IsNumberedEndOf table h entries low None
+end_none table entries h low p automaton at scanning none y to last =
+    shortest_known table h entries low p at.here.at (threads_of at.first scanning.state.ways)
+    (threads_of at.first to.state.ways) None None scanning.later scanning.is.inside refl
+    scanning.is.bytes (inl refl)
+    (over_at {Q = None ≡ None → ⊥} h p at.here scanning.is (inl last))
+    (subst (λ b. IsComing table h entries low (length h) p (threads_of at.first scanning.state.ways)
+    (best_told b)) none scanning.coming) to.coming
+
+-- nothing but the end of a match is known
+pub end_alone : (table : List (Place ℕ)) (h : Text) (entries : List ℕ) (s : ℕ) (best : Best)
+    → IsNumberedEndOf table h entries s best
+    → IsNumberedEndOf table h entries s (end_told (option_map (λ b. b.1) best))
+end_alone table h entries s None is = is
+end_alone table h entries s (Some best) is = is
+
+pub end_back : (end : Option ℕ) → option_map (λ b. b.1) (end_told end) ≡ end
+end_back None = refl
+end_back (Some end) = refl
+
+pub best_none : (best : Option (Origin × ℕ)) (told : Bool) → told ≡ is_some best → told ≡ false
+    → best_told best ≡ None
+best_none None told e f = refl
+best_none (Some b) told e f = absurd cc

@@ -1,0 +1,218 @@
+-- A search that goes by remembered turns, by offsets alone.
+use Rattle.regex_lite_meta.proofs.Common.{◌≡◌, ℕ, suc, ◌+◌, ◌^◌, ◌<◌, ◌≤◌, ◌⊎◌, List, [], length}
+use Rattle.regex_lite_meta.proofs.Common.{drop, slice_get, Some, None, IsUtf8, Option, chars}
+use Rattle.regex_lite_meta.proofs.Common.{IsCharBoundary, sym, refl, ap, ◌∙◌, subst, inl, inr}
+use Rattle.regex_lite_meta.proofs.Common.{arith, len_utf8, Text, IsComing, IsBestOutcomeOf}
+use Rattle.regex_lite_meta.proofs.Common.{IsOffset, position_at, IsHere, Origin, Here, Automaton}
+use Rattle.regex_lite_meta.proofs.Common.{threads_of, best_left, class_of, side_of, best_told}
+use Rattle.regex_lite_meta.proofs.Common.{IsSince, IsScanning, Standing}
+use Rattle.regex_lite_engine.specs.Graph.Places.{Place}
+use Rattle.regex_lite_meta.specs.LazyDfa.Automaton.{State}
+use Rattle.regex_lite_meta.specs.LazyDfa.Scanning.{LedTo}
+use Rattle.regex_lite_meta.specs.declared.lazy_dfa.spot.Spot.{Spot}
+use Rattle.regex_lite_meta.specs.declared.lazy_dfa.spot.Step.{Step}
+use Rattle.regex_lite_meta.specs.declared.lazy_dfa.spot.Step.TheVariants.{On, Over, Stuck}
+use Rattle.regex_lite_meta.specs.declared.lazy_dfa.spot.Turn.{Turn}
+use Rattle.regex_lite_meta.specs.LazyDfa.Spots.{EndsScan, IsTaken, IsTurn, Takes}
+use Rattle.regex_lite_engine.proofs.PositionLemmas.{position_of, after_at}
+use Rattle.regex_lite_meta.proofs.lazy_dfa.ScanLemmas.{IsFirstAfter, led_step, scan_over}
+use Rattle.regex_lite_meta.proofs.lazy_dfa.ScanLemmas.{scanned_on}
+use Rattle.regex_lite_syntax.proofs.OptionLemmas.{same_some}
+use Rattle.regex_lite_engine.proofs.OffsetLemmas.{boundary_at}
+use Rattle.regex_lite_engine.proofs.search.here.HereLemmas.{here_next, moved}
+
+-- a search from position `low` on stands there, at position p, with this first start and last match
+pub record IsSpotAt (table : List (Place ℕ)) (entries : List ℕ) (haystack : Text) (low p : ℕ)
+    (automaton : Automaton) (spot : Spot) (told : Standing) : Type 0 where
+  pub here : Here
+  pub at : here.at ≡ spot.at
+  pub scanning : IsScanning table entries haystack low p automaton (record {
+    here = here;
+    state = spot.state;
+    first = told.first;
+    best = told.best;
+  })
+
+module _ (table : List (Place ℕ)) (entries : List ℕ) (h : Text) (low : ℕ) where
+  pub since_on : (p q a b c : ℕ) → p ≤ q → IsSince table entries h low p a b
+      → IsSince table entries h low q b c → IsSince table entries h low p a c
+  since_on p q a b c le (inl e) (inl f) = inl (f ∙ e)
+  since_on p q a b c le (inr (here, at, idle)) (inl f) = inr (here, at ∙ sym f, idle)
+  since_on p q a b c le before (inr (here, at, idle)) = let later = idle.later in inr (
+    here,
+    at,
+    record { r = idle.r; later = omega (arith, le, later); is = idle.is; coming = idle.coming },
+  )
+
+  -- a search goes by offsets from where it stands
+  pub spot_of : (p : ℕ) (automaton : Automaton) (at : Standing) (spot : Spot)
+      → IsScanning table entries h low p automaton at
+      → spot ≡ record { at = at.here.at; state = at.state; idle = 0 }
+      → IsSpotAt table entries h low p automaton spot at
+  spot_of p automaton at spot scanning e =
+      subst (λ z. IsSpotAt table entries h low p automaton z at) (sym e)
+      (record { here = at.here; at = refl; scanning = scanning })
+
+  -- after a turn
+  pub since_led : (q : ℕ) (automaton : Automaton) (at : Standing) (to : ℕ)
+      (best : Option (Origin × ℕ)) → (led : LedTo table entries h low q automaton at to best)
+      → (next : Here) (first : ℕ) → IsHere h (q + 1) next → (led.state.ways ≡ [] → best ≡ None)
+      → IsFirstAfter led.state.ways next.at at.first first
+      → IsSince table entries h low q at.first first
+  since_led q automaton at to best led next first is over (inr (some, e)) = inl e
+  since_led q automaton at to best led next first is over (inl (none, e)) = inr (
+    next,
+    sym e,
+    record {
+      r = q + 1;
+      later = omega arith;
+      is = is;
+      coming = subst (λ b. IsComing table h entries low (length h) (q + 1) [] (best_told b))
+          (over none)
+          (subst (λ ways. IsComing table h entries low (length h) (q + 1)
+          (threads_of at.first ways) (best_told best)) none led.coming);
+    },
+  )
+
+-- a turn changes nothing if it completes no match and the scan doesn't go on after it
+pub unmoved : (spot : Spot) (turn : Turn) (state : State) (before after : Standing) (step : Step)
+    → Takes spot turn state before after step → ((on : Spot) → step ≡ On on → ⊥)
+    → after.best ≡ before.best → after ≡ before
+unmoved spot turn state before after (On on) taken elsewhere same = absurd (elsewhere on refl)
+unmoved spot turn state before after Over over elsewhere same =
+    over.same ∙ ap (λ best. record before { best = best }) same
+unmoved spot turn state before after Stuck stuck elsewhere same = stuck
+
+module _ (table : List (Place ℕ)) (entries : List ℕ) (bs : List ℕ) (u : IsUtf8 bs)
+    (fits : length bs + 1 < 2 ^ 64) (low : ℕ) where
+  module _ (p : ℕ) (automaton : Automaton) (spot : Spot) (told : Standing)
+      (is : IsSpotAt table entries (chars bs) low p automaton spot told) where
+    own_offset : IsOffset (chars bs) p spot.at
+    own_offset = let own = is.scanning.is in (own.inside, sym is.at ∙ own.bytes)
+
+    pub spot_edge : IsCharBoundary bs spot.at
+    spot_edge = boundary_at bs p spot.at u own_offset
+
+    -- the characters beside it are read
+    pub standing_there : (x : Here) → IsHere (chars bs) (position_at bs spot.at) x
+        → IsScanning table entries (chars bs) low p automaton
+        (record { here = x; state = spot.state; first = told.first; best = told.best })
+    standing_there x there =
+        let js = subst (λ z. IsHere (chars bs) z x) (position_of bs u p spot.at own_offset) there in
+        let own = is.scanning in
+        record {
+          state = own.state;
+          is_state = own.is_state;
+          is = js;
+          later = own.later;
+          own = λ e. own.own e ∙ own.is.bytes ∙ sym js.bytes;
+          suits = own.suits;
+          sees = λ looks. ap side_of (js.behind ∙ sym own.is.behind) ∙ own.sees looks;
+          coming = own.coming;
+        }
+
+    module _ (turn : Turn) (leads : IsTurn table entries automaton bs spot.at spot.state turn) where
+      abbrev next_character : ℕ
+      next_character = leads.ahead.character
+
+      abbrev from : Standing
+      from = record { here = is.here; state = spot.state; first = told.first; best = told.best }
+
+      after_is : is.here.after ≡ Some next_character
+      after_is =
+          is.scanning.is.ahead ∙ sym (after_at bs p spot.at u own_offset) ∙ leads.ahead.begins
+
+      -- the turn ends inside the haystack
+      end_inside : turn.end ≤ length bs
+      end_inside =
+          let edge = boundary_at bs (suc p) (is.here.at + len_utf8 next_character) u
+          (moved bs p next_character is.here is.scanning.is after_is) in
+          subst (λ z. z ≤ length bs)
+          (ap (λ z. z + len_utf8 next_character) is.at ∙ sym leads.ahead.ends) edge.0
+
+      led_with : (best : Option (Origin × ℕ))
+          → best_told best ≡ best_left leads.to.hit told.first spot.at (best_told told.best) →
+          LedTo table entries (chars bs) low p automaton from turn.to best
+      led_with best left =
+          led_step table entries (chars bs) low p automaton from is.scanning (record {
+            class = leads.class;
+            is_class = ap (class_of automaton.intervals.boundaries) after_is ∙ leads.ahead.class;
+            from = leads.from;
+            is_from = leads.is_from;
+            to = leads.to;
+            is_to = leads.is_to;
+            leads = leads.leads;
+            is_hit = refl;
+          }) best
+          (left ∙ ap (λ z. best_left leads.to.hit told.first z (best_told told.best)) (sym is.at))
+
+      module _ (after : Standing) (on : Spot)
+          (taken : IsTaken spot turn leads.to told after on) where
+        led : LedTo table entries (chars bs) low p automaton from turn.to after.best
+        led = led_with after.best taken.best
+
+        abbrev next : Here
+        next = record {
+          before = Some next_character;
+          after = slice_get (chars (drop on.at bs)) 0;
+          at = on.at;
+          small = let at = taken.at in let inside = end_inside in omega (arith, at, inside, fits);
+        }
+
+        next_is : IsHere (chars bs) (p + 1) next
+        next_is =
+            here_next bs p next_character is.here next u after_is refl
+            (taken.at ∙ leads.ahead.ends ∙ ap (λ z. z + len_utf8 next_character) (sym is.at))
+            refl is.scanning.is
+
+        same : leads.to ≡ led.state
+        same = same_some (sym leads.is_to ∙ led.is_state)
+
+        first_is : IsFirstAfter led.state.ways next.at told.first after.first
+        first_is =
+            subst (λ (s : State). IsFirstAfter s.ways on.at told.first after.first) same
+            (by_ways taken.first)
+          where
+            by_ways : ((leads.to.ways ≡ []) × (after.first ≡ on.at) × (after.best ≡ None))
+                ⊎ ((leads.to.ways ≡ [] → ⊥) × (after.first ≡ told.first))
+                → IsFirstAfter leads.to.ways on.at told.first after.first
+            by_ways (inl (none, e, free)) = inl (none, e)
+            by_ways (inr (some, e)) = inr (some, e)
+
+        free : led.state.ways ≡ [] → after.best ≡ None
+        free none = by_ways taken.first
+          where
+            by_ways : ((leads.to.ways ≡ []) × (after.first ≡ on.at) × (after.best ≡ None))
+                ⊎ ((leads.to.ways ≡ [] → ⊥) × (after.first ≡ told.first)) → after.best ≡ None
+            by_ways (inl (e, at, free)) = free
+            by_ways (inr (some, e)) = absurd (some (ap (λ (s : State). s.ways) same ∙ none))
+
+        pub spot_on : IsSpotAt table entries (chars bs) low (p + 1) automaton on after
+        spot_on = record {
+          here = next;
+          at = refl;
+          scanning =
+              subst
+              (λ z. IsScanning table entries (chars bs) low (p + 1) automaton
+              (record { here = next; state = z; first = after.first; best = after.best }))
+              (sym taken.is_to)
+              (scanned_on table entries (chars bs) low p automaton from is.scanning turn.to
+              after.best led next after.first next_is first_is);
+        }
+
+        pub spot_since : IsSince table entries (chars bs) low p told.first after.first
+        spot_since =
+            since_led table entries (chars bs) low p automaton from turn.to after.best led next
+            after.first next_is free first_is
+
+      -- the turn leads from a match to nothing
+      pub spot_over : (after : Standing) → EndsScan spot leads.to told after
+          → IsBestOutcomeOf table (chars bs) entries low (best_told after.best)
+      spot_over after over =
+          let led = led_with after.best over.best in
+          scan_over table entries (chars bs) low p automaton from is.scanning turn.to after.best led
+          (inr (
+            over.some,
+            ap (λ (s : State). s.ways)
+                (same_some (sym led.is_state ∙ leads.is_to)) ∙ over.none,
+          ))

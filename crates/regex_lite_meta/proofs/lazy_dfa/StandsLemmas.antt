@@ -1,0 +1,156 @@
+-- A search that stands at a position, and takes a turn from there.
+use Rattle.regex_lite_meta.proofs.Common.{◌≡◌, ℕ, ◌+◌, ◌≤◌, Bool, ◌⊎◌, List, [], ◌∷◌, length, Some}
+use Rattle.regex_lite_meta.proofs.Common.{None, Option, MatchOption, sym, refl, ap, ◌∙◌, subst}
+use Rattle.regex_lite_meta.proofs.Common.{arith, nil_from_length, Text, arrows_of, Thread, best_of}
+use Rattle.regex_lite_meta.proofs.Common.{IsComing, best_kept, IsBestOutcomeOf, IsNumberedEndOf}
+use Rattle.regex_lite_meta.proofs.Common.{AreDeadAt, PassesTo, Origin, Cache, Here, Automaton}
+use Rattle.regex_lite_meta.proofs.Common.{threads_of, ways_of, Suits, IsFirstStart, IsIn}
+use Rattle.regex_lite_meta.proofs.Common.{IsOnItsWay, Stands, best_told, IsScanning}
+use Rattle.regex_lite_engine.specs.Graph.Places.{Place}
+use Rattle.regex_lite_meta.specs.LazyDfa.Automaton.{IsEmptyState}
+use Rattle.regex_lite_engine.specs.Search.Bounds.{IsBoundedBy}
+use Rattle.regex_lite_engine.specs.declared.search.patterns.Start.{Start}
+use Rattle.regex_lite_meta.specs.declared.lazy_dfa.run.Progress.{Progress}
+use Rattle.regex_lite_meta.specs.LazyDfa.Learning.{HasTurned}
+use Rattle.regex_lite_meta.specs.LazyDfa.Running.{started_at}
+use Rattle.regex_lite_engine.specs.Pikevm.Searching.{IsHit, TurnsAgain}
+use Rattle.regex_lite_engine.specs.Pikevm.Turns.{EndsAt}
+use Rattle.regex_lite_engine.specs.Search.Starts.{AreAllStarts}
+use Rattle.regex_lite_meta.proofs.lazy_dfa.ResumeLemmas.{coming_less}
+use Rattle.regex_lite_meta.proofs.lazy_dfa.RunLemmas.{at_later, bounded_on, maybe_in_empty}
+use Rattle.regex_lite_meta.proofs.lazy_dfa.RunLemmas.{own_first, passed_over}
+use Rattle.regex_lite_engine.proofs.pikevm.EndLemmas.{ended_all}
+use Rattle.regex_lite_engine.proofs.pikevm.ShortestLemmas.{shortest_known}
+use Rattle.regex_lite_engine.proofs.search.here.HereLemmas.{over_at}
+
+module _ {table : List (Place ℕ)} {h : Text} {entries : List ℕ} {s : ℕ} {automaton : Automaton}
+    {at : Progress} {S : Type 0} {cache : Cache S}
+    (stands : Stands table h entries s automaton at cache) where
+  -- where its state is known, it may go by remembered turns
+  pub scanning_there : {x : ℕ} → at.state ≡ Some x → (best : Option (Origin × ℕ))
+      → best_of cache.best ≡ best_told best → IsScanning table entries h s stands.p automaton
+      (record { here = at.here; state = x; first = at.first; best = best })
+  scanning_there {x} known best same = record {
+    state = is_in.state;
+    is_state = is_in.is_state;
+    is = stands.is;
+    later = stands.on.low;
+    own = λ none. first_of cache.walk.memory.threads stands.own (is_in.ways ∙ none);
+    suits = subst (Suits is_in.state.searching) same is_in.suits;
+    sees = is_in.sees;
+    coming =
+        subst (λ ways. IsComing table h entries s (length h) stands.p (threads_of at.first ways)
+        (best_told best)) is_in.ways
+        (coming_less at.first table h entries s (length h) stands.p cache.walk.memory.threads
+        (best_told best)
+        (subst (IsComing table h entries s (length h) stands.p cache.walk.memory.threads) same
+        stands.on.coming));
+  }
+    where
+      is_in : IsIn automaton x at.first at.here.before cache
+      is_in =
+          subst
+          (λ o. MatchOption o (Unit {0}) (λ y. IsIn automaton y at.first at.here.before cache))
+          known stands.state
+
+      first_of : (ts : List Thread) → IsFirstStart at.first at.here.at ts
+          → ways_of at.first ts ≡ [] → at.first ≡ at.here.at
+      first_of [] own none = own
+      first_of (t ∷ ts) own none = absurd cc
+
+  -- no slots are kept
+  pub told_there : (best : Option (Origin × ℕ))
+      → best_of cache.best ≡ best_kept best cache.best.row → best_of cache.best ≡ best_told best
+  told_there best same =
+      same
+      ∙ ap (best_kept best)
+      (nil_from_length cache.best.row (stands.on.ready.best_width ∙ stands.on.width))
+
+  pub way_there : (p : ℕ) × (p ≤ length h + 1) × IsOnItsWay table h entries s p cache
+  way_there = let inside = stands.is.inside in (stands.p, omega (arith, inside), stands.on)
+
+  pub bounded_there : (now : Cache S) → now ≡ cache →
+      IsBoundedBy (length table) (arrows_of table + length entries) h s now.walk.steps.tried
+      now.walk.steps.entered now.walk.steps.looked
+  bounded_there now same =
+      let low = stands.on.low in
+      let inside = stands.is.inside in
+      bounded_on table h entries s stands.p now (omega (arith, low, inside)) (omega (arith, inside))
+      (subst (IsOnItsWay table h entries s stands.p) (sym same) stands.on)
+
+  -- positions are passed over at which no match can begin
+  module _ {here : Here} (passes : PassesTo (AreDeadAt table h entries) h stands.p here) where
+    pub later_there : at.here.at ≤ here.at
+    later_there = at_later h stands.p passes.q at.here here stands.is passes.is passes.later
+
+    pub passed_there : cache.walk.memory.threads ≡ [] → best_of cache.best ≡ None
+        → (now : Automaton) (state : Option ℕ)
+        → MatchOption state (Unit {0}) (λ y. IsEmptyState now y here.before) → (until : ℕ) →
+        Stands table h entries s now
+        (record { here = here; state = state; first = here.at; until = until }) cache
+    passed_there none no_match now state empty until = record {
+      p = passes.q;
+      is = passes.is;
+      on = passed_over table h entries s stands.p cache here stands.on none no_match passes;
+      first = omega arith;
+      own = own_first here.at cache.walk.memory.threads none;
+      state = maybe_in_empty now state here.at here.before cache empty none no_match;
+    }
+
+  -- after the turn
+  module _ {new : Cache S} (on : IsOnItsWay table h entries s (stands.p + 1) new) where
+    pub way_after : (p : ℕ) × (p ≤ length h + 1) × IsOnItsWay table h entries s p new
+    way_after = let inside = stands.is.inside in (stands.p + 1, omega (arith, inside), on)
+
+    pub bounded_after :
+        IsBoundedBy (length table) (arrows_of table + length entries) h s new.walk.steps.tried
+        new.walk.steps.entered new.walk.steps.looked
+    bounded_after =
+        let low = stands.on.low in
+        let inside = stands.is.inside in
+        bounded_on table h entries s (stands.p + 1) new (omega (arith, low, inside))
+        (omega (arith, inside)) on
+
+    -- nothing is left to do
+    pub all_ended : ((at.here.after ≡ None)
+        ⊎ ((best_of new.best ≡ None → ⊥) × (length new.walk.memory.threads ≡ 0)))
+        → IsBestOutcomeOf table h entries s (best_of new.best)
+    all_ended over =
+        ended_all table h entries s stands.p new.walk.memory.threads (best_of new.best)
+        stands.on.low stands.is.inside (over_at h stands.p at.here stands.is over) on.coming
+
+    -- the first match that ends is known
+    pub end_known : best_of cache.best ≡ None
+        → EndsAt at.here.at (best_of cache.best) (best_of new.best)
+        → ((at.here.after ≡ None) ⊎ (best_of new.best ≡ None → ⊥))
+        → IsNumberedEndOf table h entries s (best_of new.best)
+    end_known none ends known =
+        shortest_known table h entries s stands.p at.here.at cache.walk.memory.threads
+        new.walk.memory.threads (best_of cache.best) (best_of new.best) stands.on.low
+        stands.is.inside none stands.is.bytes ends (over_at h stands.p at.here stands.is known)
+        stands.on.coming on.coming
+
+    -- the turn was taken from its state, if that is known
+    pub turned_there : {starts : List Start} (hit : Bool) → AreAllStarts table entries starts
+        → TurnsAgain table starts at.here (started_at at.here.at) cache new hit
+        → IsHit hit (best_of cache.best) (best_of new.best) →
+        MatchOption at.state (Unit {0})
+        (λ x. HasTurned table entries automaton x at.first at.here hit new)
+    turned_there {starts} hit all again is_hit = by_state at.state stands.state
+      where
+        by_state : (state : Option ℕ)
+            → MatchOption state (Unit {0}) (λ x. IsIn automaton x at.first at.here.before cache) →
+            MatchOption state (Unit {0})
+            (λ x. HasTurned table entries automaton x at.first at.here hit new)
+        by_state None known = tt
+        by_state (Some x) known = record {
+          before = cache;
+          starts = starts;
+          told = started_at at.here.at;
+          is_in = known;
+          again = again;
+          is_hit = is_hit;
+          tells = λ number. record { start_told = refl; number_told = refl };
+          is_first = stands.own;
+          suffice = λ h p there is. all.at_each h p;
+        }

@@ -1,0 +1,241 @@
+-- The automaton that stored states, targets and ways stand for, and what is known of each state.
+use Rattle.regex_lite_meta.proofs.Common.{◌≡◌, ℕ, zero, suc, ◌+◌, ◌*◌, ◌<◌, ◌≤◌, List, [], ◌∷◌, map}
+use Rattle.regex_lite_meta.proofs.Common.{length, take, drop, slice_get, slice_index}
+use Rattle.regex_lite_meta.proofs.Common.{slice_index_or, Some, Option, sym, refl, ap, ◌∙◌, subst}
+use Rattle.regex_lite_meta.proofs.Common.{arith, suc-mul, length-map, length-take-le}
+use Rattle.regex_lite_meta.proofs.Common.{nil_from_length, get_or_from_slice_get, slice_get_within}
+use Rattle.regex_lite_meta.proofs.Common.{Automaton, unknown, LeadsOn, Remembers, Intervals}
+use Rattle.regex_lite_meta.proofs.Common.{class_of, classes_in, way_in, hit_in, state_in}
+use Rattle.regex_lite_meta.proofs.Common.{StoredState, StoredWay, Target}
+use Rattle.regex_lite_meta.specs.LazyDfa.Stored.{LieWithin, states_in, HasWays}
+use Rattle.regex_lite_engine.specs.Graph.Places.{Place}
+use Rattle.regex_lite_meta.specs.LazyDfa.Automaton.{KeptOrigin, State}
+use Rattle.std.proofs.Common.{length-drop}
+use Rattle.std.proofs.Math.Nat.{mul-le-mul_right}
+use Rattle.std.proofs.lemmas.List.{get_or-take, get_or-drop, get_or-map}
+use Rattle.regex_lite_syntax.proofs.LookupLemmas.{there_is}
+use Rattle.regex_lite_meta.proofs.lazy_dfa.ScanLemmas.{TurnsTo}
+use Rattle.regex_lite_syntax.proofs.OptionLemmas.{same_some}
+
+-- the targets of a state, one for each class
+abbrev pub row : (classes : ℕ) → List Target → (y : ℕ) → List Target
+row classes targets zero = take classes targets
+row classes targets (suc y) = row classes (drop classes targets) y
+
+-- the row of a state lies among those of all
+pub row_within : (n classes y : ℕ) → y < n → y * classes + classes ≤ n * classes
+row_within n classes y lt =
+    let next : suc y ≤ n = omega (arith, lt) in
+    let fits = mul-le-mul_right classes next in
+    let own = suc-mul y classes in omega (arith, fits, own)
+
+pub row_length : (classes : ℕ) (targets : List Target) (y : ℕ)
+    → y * classes + classes ≤ length targets → length (row classes targets y) ≡ classes
+row_length classes targets zero fits = length-take-le classes targets (omega (arith, fits))
+row_length classes targets (suc y) fits =
+    row_length classes (drop classes targets) y
+    (let n = length-drop classes targets in
+    let own = suc-mul y classes in omega (arith, n, own, fits))
+
+pub row_index : (classes : ℕ) (targets : List Target) (y class : ℕ) (d : Target) → class < classes
+    → slice_index_or (row classes targets y) class d
+    ≡ slice_index_or targets (y * classes + class) d
+row_index classes targets zero class d lt =
+    get_or-take classes targets class d lt
+    ∙ ap (λ k. slice_index_or targets k d) (omega arith)
+row_index classes targets (suc y) class d lt =
+    row_index classes (drop classes targets) y class d lt
+    ∙ get_or-drop classes targets (y * classes + class) d
+    ∙ ap (λ k. slice_index_or targets k d)
+    (let own = suc-mul y classes in omega (arith, own))
+
+-- the state that a target of a state is
+pub next_at : (classes : ℕ) (targets : List Target) (y class : ℕ) (d : Target) → class < classes
+    → y * classes + classes ≤ length targets
+    → slice_index (map (λ (target : Target). target.state) (row classes targets y)) class
+    ≡ (slice_index_or targets (y * classes + class) d).state
+next_at classes targets y class d lt fits =
+    get_or-map (λ (target : Target). target.state) (row classes targets y) class d 0
+    (let n = row_length classes targets y fits in omega (arith, n, lt))
+    ∙ ap (λ (target : Target). target.state) (row_index classes targets y class d lt)
+
+-- a state that stands in the list
+pub state_at : (states : List StoredState) (ways : List StoredWay) (classes : ℕ)
+    (targets : List Target) (y : ℕ) (d : StoredState)
+    → y < length states →
+    slice_get (states_in ways classes targets states) y
+    ≡ Some (state_in ways (row classes targets y) (slice_index_or states y d))
+state_at [] ways classes targets y d lt = absurd (omega (arith, lt))
+state_at (s ∷ states) ways classes targets zero d lt = refl
+state_at (s ∷ states) ways classes targets (suc y) d lt =
+    state_at states ways classes (drop classes targets) y d (omega (arith, lt))
+
+-- there are as many as are stored
+pub length_states : (states : List StoredState) (ways : List StoredWay) (classes : ℕ)
+    (targets : List Target)
+    → length (states_in ways classes targets states) ≡ length states
+length_states [] ways classes targets = refl
+length_states (s ∷ states) ways classes targets =
+    ap suc (length_states states ways classes (drop classes targets))
+
+-- what the automaton stands for that stores these
+abbrev pub seen : Intervals → List StoredState → List Target → (used : ℕ) → List StoredWay
+    → Automaton
+seen intervals states targets used ways = record {
+  intervals = intervals;
+  states = states_in ways (classes_in intervals) targets states;
+  pending = map way_in (drop used ways);
+}
+
+module _ (states : List StoredState) (used : ℕ) (ways : List StoredWay) (classes : ℕ)
+    (targets : List Target) where
+  pub state_within : (x : ℕ) (state : State)
+      → slice_get (states_in ways classes targets states) x ≡ Some state → x < length states
+  state_within x state at =
+      let inside = slice_get_within (states_in ways classes targets states) x state at in
+      let n = length_states states ways classes targets in omega (arith, inside, n)
+
+  -- a state has as many ways as are stored
+  pub ways_len : (x : ℕ) (d : StoredState) (state : State)
+      → LieWithin used states → used ≤ length ways
+      → slice_get (states_in ways classes targets states) x ≡ Some state →
+      length state.ways ≡ (slice_index_or states x d).len
+  ways_len x d state within fits at =
+      let inside = state_within x state at in
+      let s = slice_index_or states x d in
+      let same : state_in ways (row classes targets x) s ≡ state =
+      same_some (sym (state_at states ways classes targets x d inside) ∙ at) in
+      let own = within x d inside in
+      ap (λ (z : State). length z.ways) (sym same)
+      ∙ length-map (take s.len (drop s.from ways)) way_in
+      ∙ length-take-le s.len (drop s.from ways)
+      (let n = length-drop s.from ways in omega (arith, n, own, fits))
+
+  -- there are none where none are stored, and only there
+  pub empty_by_len : (x : ℕ) (d : StoredState) (state : State)
+      → LieWithin used states → used ≤ length ways
+      → slice_get (states_in ways classes targets states) x ≡ Some state →
+      (slice_index_or states x d).len ≡ 0 → state.ways ≡ []
+  empty_by_len x d state within fits at none =
+      nil_from_length state.ways (ways_len x d state within fits at ∙ none)
+
+  pub len_by_empty : (x : ℕ) (d : StoredState) (state : State)
+      → LieWithin used states → used ≤ length ways
+      → slice_get (states_in ways classes targets states) x ≡ Some state →
+      state.ways ≡ [] → (slice_index_or states x d).len ≡ 0
+  len_by_empty x d state within fits at none =
+      sym (ways_len x d state within fits at) ∙ ap length none
+
+  -- a stored state with ways is one with ways
+  pub has_ways : LieWithin used states → used ≤ length ways → (y : ℕ) → (hit : Option KeptOrigin)
+      → HasWays states y hit →
+      (to : State) × (slice_get (states_in ways classes targets states) y ≡ Some to)
+      × (to.ways ≡ [] → ⊥) × (to.hit ≡ hit)
+  has_ways within fits y hit own_ways =
+      let s = own_ways.state in
+      let at = state_at states ways classes targets y s
+      (slice_get_within states y s own_ways.is_state) in
+      let own : slice_index_or states y s ≡ s =
+      get_or_from_slice_get states y s s own_ways.is_state in
+      let some = own_ways.some in (
+        state_in ways (row classes targets y) (slice_index_or states y s),
+        at,
+        λ none.
+            let zero = len_by_empty y s _ within fits at none in
+            let len = ap (λ (z : StoredState). z.len) own in omega (arith, zero, len, some),
+        ap (λ (z : StoredState). (state_in ways [] z).hit) own ∙ own_ways.same,
+      )
+
+module _ (intervals : Intervals) (states : List StoredState) (targets : List Target) (used : ℕ)
+    (ways : List StoredWay) (automaton : Automaton)
+    (view : seen intervals states targets used ways ≡ automaton) where
+  pub stored_within : (x : ℕ) → x < length automaton.states → x < length states
+  stored_within x inside =
+      let n = ap (λ (z : Automaton). length z.states) view in
+      let m = length_states states ways (classes_in intervals) targets in
+      omega (arith, inside, n, m)
+
+  -- what is stored at a number
+  pub is_stored : (x : ℕ) (found : StoredState) → found ≡ slice_index_or states x found
+      → x < length automaton.states →
+      slice_get automaton.states x
+      ≡ Some (state_in ways (row (classes_in intervals) targets x) found)
+  is_stored x found stored inside =
+      sym (ap (λ (z : Automaton). slice_get z.states x) view)
+      ∙ state_at states ways (classes_in intervals) targets x found (stored_within x inside)
+      ∙ ap (λ s. Some (state_in ways (row (classes_in intervals) targets x) s)) (sym stored)
+
+  -- a turn that is remembered leads on
+  module _ (table : List (Place ℕ)) (entries : List ℕ) (remembers : Remembers table entries
+      automaton) (x class y : ℕ) (inside : x < length automaton.states)
+      (few : class < classes_in intervals)
+      (known : (y ≡ unknown → ⊥) × ((state : State) → slice_get automaton.states x ≡ Some state
+      → slice_index state.next class ≡ y)) where
+    pub known_turn : (from to : State) × (slice_get automaton.states x ≡ Some from)
+        × (slice_get automaton.states y ≡ Some to)
+        × LeadsOn table entries automaton.intervals from class to
+    known_turn =
+        let from = there_is automaton.states x inside in
+        let same = known.1 from.0 from.1 in
+        let led = subst
+        (λ z. (to : State) × (slice_get automaton.states z ≡ Some to)
+        × LeadsOn table entries automaton.intervals from.0 class to)
+        same (remembers.leads x from.0 class from.1
+        (subst (λ (z : Automaton). class < classes_in z.intervals) view few)
+        (λ e. known.0 (sym same ∙ e))) in
+        (from.0, led.0, from.1, led.1, led.2)
+
+    pub turn_stored : y < length states
+    turn_stored =
+        let turn = known_turn in
+        stored_within y (slice_get_within automaton.states y turn.1 turn.3)
+
+    pub turn_led : (after : Option ℕ) → class ≡ class_of intervals.boundaries after
+        → (found : StoredState) → found ≡ slice_index_or states y found →
+        TurnsTo table entries automaton x after y (hit_in found.hit)
+    turn_led after same found stored = let turn = known_turn in record {
+      class = class;
+      is_class = sym (same ∙ ap (λ (z : Automaton). class_of z.intervals.boundaries after) view);
+      from = turn.0;
+      is_from = turn.2;
+      to = turn.1;
+      is_to = turn.3;
+      leads = turn.4;
+      is_hit =
+          ap (λ (s : State). s.hit) (same_some (sym turn.3
+          ∙ is_stored y found stored (slice_get_within automaton.states y turn.1 turn.3)));
+    }
+
+  module _ (full : length targets ≡ length states * classes_in intervals) (x class : ℕ)
+      (inside : x < length automaton.states) (few : class < classes_in automaton.intervals) where
+    same_classes : classes_in automaton.intervals ≡ classes_in intervals
+    same_classes = ap (λ (z : Automaton). classes_in z.intervals) (sym view)
+
+    own_few : class < classes_in intervals
+    own_few = subst (λ n. class < n) same_classes few
+
+    own_row : x * classes_in intervals + classes_in intervals ≤ length targets
+    own_row =
+        let fits = row_within (length states) (classes_in intervals) x (stored_within x inside) in
+        omega (arith, fits, full)
+
+    pub cell_within : x * classes_in automaton.intervals + class < length targets
+    cell_within =
+        subst (λ n. x * n + class < length targets) (sym same_classes)
+        (let fits = own_row in
+        let lt = own_few in omega (arith, fits, lt))
+
+    -- the target of a state for a class is where the turn leads
+    pub target_is : (cell : ℕ) → cell ≡ x * classes_in automaton.intervals + class
+        → (target : Target) → target ≡ slice_index_or targets cell target → (state : State)
+        → slice_get automaton.states x ≡ Some state → slice_index state.next class ≡ target.state
+    target_is cell e target stored state at =
+        let own = stored_within x inside in
+        let s = there_is states x own in
+        let same = same_some (sym at ∙ sym (ap (λ (z : Automaton). slice_get z.states x) view)
+        ∙ state_at states ways (classes_in intervals) targets x s.0 own) in
+        ap (λ (z : State). slice_index z.next class) same
+        ∙ next_at (classes_in intervals) targets x class target own_few own_row
+        ∙ ap (λ n. (slice_index_or targets (x * n + class) target).state) (sym same_classes)
+        ∙ ap (λ k. (slice_index_or targets k target).state) (sym e)
+        ∙ ap (λ (t : Target). t.state) (sym stored)

@@ -1,0 +1,183 @@
+use Rattle.regex_lite_meta.proofs.Common.{◌≡◌, suc, ◌+◌, ◌-◌, ◌*◌, ◌<◌, ◌≤◌, false, List, [], ◌∷◌}
+use Rattle.regex_lite_meta.proofs.Common.{◌++◌, map, length, take, drop, sym, refl, ap, ◌∙◌, subst}
+use Rattle.regex_lite_meta.proofs.Common.{arith, rules, suc-mul, take_all, Automaton, unknown}
+use Rattle.regex_lite_meta.proofs.Common.{classes_in, way_in, hit_in, StoredState, Target}
+use Rattle.std.proofs.Math.Seq.{drop-length}
+use Rattle.regex_lite_meta.specs.LazyDfa.Automaton.{State}
+use Rattle.regex_lite_meta.specs.LazyDfa.Stored.{LieWithin, AllAgree}
+use Rattle.std.proofs.Common.{replicate, length-append}
+use Rattle.std.proofs.lemmas.List.{length-replicate, take-append-le}
+use Rattle.std.specs.Vec.{vec_len}
+use Rattle.regex_lite_meta.proofs.lazy_dfa.StoredChangeLemmas.{added_extends, added_is, blank_row}
+use Rattle.regex_lite_meta.proofs.lazy_dfa.StoredChangeLemmas.{agree_added, extends_same}
+use Rattle.regex_lite_meta.proofs.lazy_dfa.StoredChangeLemmas.{seen_added, within_added}
+use Rattle.regex_lite_meta.proofs.lazy_dfa.StoredStateLemmas.{length_states, seen}
+use Rattle.regex_lite_meta.proofs.lazy_dfa.automaton.LazyDfa.add.Goals as goal
+use Rattle.regex_lite_meta.proofs.lazy_dfa.automaton.LazyDfa.add.Goals.{
+  After-len-self-inside,
+  After-truncate,
+  In-Ok,
+}
+
+abbrev blank : Target
+blank = record { state = unknown; effect = record { is_plain = false; completes = false } }
+
+-- the row of the new state comes after those of all others
+rows : (c : In-Ok) →
+    c.resize.new.self.items
+    ≡ c.self.inside.targets.items ++ replicate (classes_in c.self.inside.classes) blank
+rows c =
+    let old = c.self.inside.targets.items in
+    let count : vec_len c.self.inside.targets ≡ length old = search rules in
+    let len = c.len-rows.ensures in
+    let more = c.len-2.ensures.same in
+    let longer = c.len-rows.result + c.len-2.result in
+    c.in-Ok.ensures.items
+    ∙ ap (λ xs. xs ++ replicate (longer - vec_len c.self.inside.targets) blank)
+    (take_all longer old (omega (arith, count, len)))
+    ∙ ap (λ n. old ++ replicate n blank) (omega (arith, count, len, more))
+
+pub invariant_of-self-in-Ok-push : goal.invariant_of-self-in-Ok-push
+invariant_of-self-in-Ok-push c =
+    let i = c.self.inside in
+    let v = c.self.invariant in
+    let n = classes_in i.classes in
+    let items = c.in-Ok-push.ensures.items in
+    let count : vec_len i.ways ≡ length i.ways.items = search rules in
+    let len = c.len-self-inside.ensures in
+    let own = c.len.ensures in
+    let s : StoredState = record {
+      from = i.used;
+      len = c.len.result - i.used;
+      searching = c.args.searching;
+      before = c.args.before;
+      hit = c.args.hit;
+    } in
+    let all = rows (goal.at.invariant_of-self-in-Ok-push c).In-Ok in
+    let states = ap length items ∙ length-append i.states.items (s ∷ []) in
+    let next : length c.push.new.self.items ≡ suc (length i.states.items) =
+    omega (arith, states) in
+    let few = c.requires in
+    let view = ap (λ (z : Automaton). length z.states) c.self.view_is in
+    let there = length_states i.states.items i.ways.items n i.targets.items in (
+      subst (LieWithin c.len-self-inside.result) (sym items)
+          (within_added i.states.items i.used c.len-self-inside.result s v.0
+          (let fits = v.1 in omega (arith, fits, count, len)) refl
+          (omega (arith, len, own))),
+      omega (arith, count, len),
+      omega (arith, next, few, view, there),
+      subst (λ targets. AllAgree c.push.new.self.items targets) (sym all)
+          (subst
+          (λ states. AllAgree states (i.targets.items ++ replicate n blank)) (sym items)
+          (agree_added i.states.items (s ∷ []) i.targets.items n blank refl v.3)),
+      ap length all ∙ length-append i.targets.items (replicate n blank)
+          ∙ (let full = v.4 in
+          let more = length-replicate n blank in
+          let own = suc-mul (length i.states.items) n in omega (arith, full, more, own))
+          ∙ ap (λ k. k * n) (sym next),
+      v.5,
+      v.6,
+    )
+
+abbrev new_state : After-len-self-inside → State
+new_state c = record {
+  ways = c.args.self.now.pending;
+  searching = c.args.searching;
+  before = c.args.before;
+  hit = hit_in c.args.hit;
+  next = map (λ (target : Target). target.state)
+      (replicate (classes_in c.self.inside.classes) blank);
+}
+
+added : (c : After-len-self-inside) →
+    c.resize.new.self.items
+    ≡ c.self.inside.targets.items ++ replicate (classes_in c.self.inside.classes) blank →
+    seen c.self.inside.classes c.push.new.self.items c.resize.new.self.items
+    c.len-self-inside.result c.self.inside.ways.items
+    ≡ record {
+      intervals = c.args.self.now.intervals;
+      states = c.args.self.now.states ++ new_state c ∷ [];
+      pending = [];
+    }
+added c all =
+    let i = c.self.inside in
+    let v = c.self.invariant in
+    let n = classes_in i.classes in
+    let count : vec_len i.ways ≡ length i.ways.items = search rules in
+    ap (λ k. seen i.classes c.push.new.self.items c.resize.new.self.items k i.ways.items)
+    (c.len-self-inside.ensures ∙ count)
+    ∙ seen_added i.classes i.states.items i.targets.items i.used i.ways.items v.0 v.1 _ refl
+    (ap (λ k. k - i.used) (c.len.ensures ∙ count)) c.push.new.self.items
+    c.in-Ok-push.ensures.items c.resize.new.self.items (replicate n blank) all v.4
+    (length-replicate n blank)
+    ∙ ap (λ (z : Automaton). record {
+      intervals = z.intervals;
+      states = z.states ++ record (new_state c) { ways = z.pending } ∷ [];
+      pending = [];
+    }) c.self.view_is
+
+pub returns-in-Ok-push-clause-state : goal.returns-in-Ok-push-clause-state
+returns-in-Ok-push-clause-state c = λ told.
+    let at = goal.at.returns-in-Ok-push-clause-state c in
+    added_is c.args.self.now _ _ (added at.After-len-self-inside (rows at.In-Ok))
+
+pub returns-in-Ok-push-clause-extends : goal.returns-in-Ok-push-clause-extends
+returns-in-Ok-push-clause-extends c =
+    let at = goal.at.returns-in-Ok-push-clause-extends c in
+    added_extends c.args.self.now _ _ (added at.After-len-self-inside (rows at.In-Ok)) refl
+    (λ class lt. blank_row (classes_in c.self.inside.classes) class blank refl
+    (subst (λ (z : Automaton). class < classes_in z.intervals) (sym c.self.view_is) lt))
+
+pub returns-in-Ok-push-clause-none_pending : goal.returns-in-Ok-push-clause-none_pending
+returns-in-Ok-push-clause-none_pending c = λ told.
+    let ways = c.self.inside.ways.items in
+    let count : vec_len c.self.inside.ways ≡ length ways = search rules in
+    ap (λ n. map way_in (drop n ways)) (c.len-self-inside.ensures ∙ count)
+    ∙ ap (map way_in) (drop-length ways)
+
+-- without the state there are the targets that there were
+targets_left : (c : After-truncate) →
+    c.resize.new.self.items
+    ≡ c.self.inside.targets.items ++ replicate (classes_in c.self.inside.classes) blank →
+    c.truncate.new.self.items ≡ c.self.inside.targets.items
+targets_left c all =
+    let old = c.self.inside.targets.items in
+    let count : vec_len c.self.inside.targets ≡ length old = search rules in
+    let len = c.len-rows.ensures in
+    let n = c.len-rows.result in
+    c.truncate.ensures.items ∙ ap (take n) all
+    ∙ take-append-le n old (replicate (classes_in c.self.inside.classes) blank)
+    (omega (arith, count, len))
+    ∙ take_all n old (omega (arith, count, len))
+
+pub invariant_of-self-in-Err : goal.invariant_of-self-in-Err
+invariant_of-self-in-Err c =
+    let i = c.self.inside in
+    let v = c.self.invariant in
+    let states = c.in-Err.ensures.items in
+    let at = goal.at.invariant_of-self-in-Err c in
+    let targets = targets_left at.After-truncate (rows at.In-Ok) in (
+      subst (LieWithin i.used) (sym states) v.0,
+      v.1,
+      subst (λ (all : List StoredState). length all ≤ 256) (sym states) v.2,
+      subst (AllAgree c.push.new.self.items) (sym targets)
+          (subst (λ all. AllAgree all i.targets.items) (sym states) v.3),
+      ap length targets ∙ v.4
+          ∙ ap (λ (all : List StoredState). length all * classes_in i.classes) (sym states),
+      v.5,
+      v.6,
+    )
+
+pub returns-in-Err-clause-extends : goal.returns-in-Err-clause-extends
+returns-in-Err-clause-extends c =
+    let i = c.self.inside in
+    let at = goal.at.returns-in-Err-clause-extends c in
+    let same : seen i.classes c.push.new.self.items c.truncate.new.self.items i.used i.ways.items
+    ≡ c.args.self.now =
+    ap (λ all. seen i.classes all c.truncate.new.self.items i.used i.ways.items)
+    c.in-Err.ensures.items
+    ∙ ap (λ all. seen i.classes i.states.items all i.used i.ways.items)
+    (targets_left at.After-truncate (rows at.In-Ok))
+    ∙ c.self.view_is in
+    extends_same c.args.self.now _ (ap (λ (z : Automaton). z.intervals) same)
+    (ap (λ (z : Automaton). z.states) same)

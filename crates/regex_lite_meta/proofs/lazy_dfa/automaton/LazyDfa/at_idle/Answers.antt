@@ -1,0 +1,46 @@
+use Rattle.regex_lite_meta.proofs.Common.{◌≡◌, None, chars, sym, subst, arith, rules}
+use Rattle.regex_lite_meta.proofs.Common.{nil_from_length, best_of, IsHere, IsFirstStart}
+use Rattle.regex_lite_meta.proofs.lazy_dfa.RunLemmas.{maybe_in_empty, own_first}
+use Rattle.regex_lite_meta.proofs.lazy_dfa.StandsLemmas.{later_there, passed_there}
+use Rattle.regex_lite_meta.proofs.lazy_dfa.automaton.LazyDfa.at_idle.Goals as goal
+
+pub returns-clause-remembers : goal.returns-clause-remembers
+returns-clause-remembers g c =
+    c.idle_state-state.ensures.remembers (g.P.Patterns.table c.args.patterns.now)
+    (g.P.Patterns.entries c.args.patterns.now) c.requires.remembers
+
+pub returns-in-Some-clause-stands : goal.returns-in-Some-clause-stands
+returns-in-Some-clause-stands g c = λ s stands.
+    let a = c.args in
+    let few = c.if-threads-gt0.false in
+    let same = c.threads.ensures.same in
+    let none = nil_from_length a.cache.now.walk.memory.threads (omega (arith, few, same)) in
+    let no_match : best_of a.cache.now.best ≡ None = search rules in
+    let idle = c.in-Some.idle in
+    let own = c.in-Some.ensures in
+    let first = own.first in
+    record {
+      p = stands.p;
+      is = subst (IsHere (chars a.haystack.now) stands.p) (sym own.here_is) stands.is;
+      on = stands.on;
+      first = omega (arith, first);
+      own = subst (λ z. IsFirstStart z idle.here.at a.cache.now.walk.memory.threads) (sym own.first)
+          (own_first idle.here.at a.cache.now.walk.memory.threads none);
+      state =
+          maybe_in_empty a.self.now idle.state idle.first idle.here.before a.cache.now own.state
+          none no_match;
+    }
+
+pub returns-clause-stands : goal.returns-clause-stands
+returns-clause-stands g c = λ s stands.
+    let few = c.if-threads-gt0.false in
+    let same = c.threads.ensures.same in
+    let none = nil_from_length c.args.cache.now.walk.memory.threads (omega (arith, few, same)) in
+    passed_there stands (c.leave_idle-here.ensures stands.p stands.is) none (search rules)
+    c.idle_state-state.new.self c.idle_state-state.result c.idle_state-state.ensures.state
+    c.args.at.until
+
+pub returns-clause-later : goal.returns-clause-later
+returns-clause-later g c =
+    let stands = c.requires.stands.1 in
+    later_there stands (c.leave_idle-here.ensures stands.p stands.is)

@@ -1,0 +1,24 @@
+use Rattle.regex_lite_meta.proofs.Common.{table_of_list, position_at}
+use Rattle.regex_lite_engine.proofs.search.list_patterns.ListStartLemmas.{all_of_entries}
+use Rattle.regex_lite_meta.proofs.lazy_dfa.automaton.LazyDfa.find_in_list.Goals as goal
+
+pub find_while_it_pays-requires-clause-all : goal.find_while_it_pays-requires-clause-all
+find_while_it_pays-requires-clause-all c =
+    let told = c.entries-entries.ensures in
+    all_of_entries c.args.list.now c.entries-entries.result.now told.same told.inside told.few
+
+pub find_while_it_pays-requires-clause-stands : goal.find_while_it_pays-requires-clause-stands
+find_while_it_pays-requires-clause-stands c =
+    let list = c.args.list.now in (
+      position_at c.args.haystack.now c.args.start,
+      c.requires.counts,
+      c.begun-begun.ensures (table_of_list list) list.entries c.args.self.now c.args.cache.now
+          c.requires.fresh c.requires.width,
+    )
+
+pub returns-clause-found : goal.returns-clause-found
+returns-clause-found c =
+    let list = c.args.list.now in
+    c.in-Ok.ensures.found (position_at c.args.haystack.now c.args.start)
+    (c.begun-begun.ensures (table_of_list list) list.entries c.args.self.now c.args.cache.now
+    c.requires.fresh c.requires.width)

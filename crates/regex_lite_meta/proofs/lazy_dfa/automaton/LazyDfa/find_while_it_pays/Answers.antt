@@ -1,0 +1,131 @@
+use Rattle.regex_lite_meta.proofs.Common.{◌+◌, chars, arith, rules, best_of}
+use Rattle.regex_lite_meta.proofs.lazy_dfa.OnceLemmas.{found_told}
+use Rattle.regex_lite_meta.proofs.lazy_dfa.RunLemmas.{match_counted}
+use Rattle.regex_lite_meta.proofs.lazy_dfa.StandsLemmas.{all_ended, bounded_after, bounded_there}
+use Rattle.regex_lite_meta.proofs.lazy_dfa.StandsLemmas.{turned_there}
+use Rattle.regex_lite_engine.proofs.search.here.HereLemmas.{at_most}
+use Rattle.regex_lite_meta.proofs.lazy_dfa.automaton.LazyDfa.find_while_it_pays.Goals as goal
+
+pub positions-init : goal.positions-init
+positions-init g c = record {
+  remembers = c.requires.remembers;
+  none_pending = c.requires.none_pending;
+  stands = λ s begun. begun;
+}
+
+pub at_idle-at-requires-clause-stands : goal.at_idle-at-requires-clause-stands
+at_idle-at-requires-clause-stands g c =
+    let from = c.requires.stands in (from.0, c.positions.invariant.stands _ from.2)
+
+pub look_ahead-requires-clause-stands : goal.look_ahead-requires-clause-stands
+look_ahead-requires-clause-stands g c =
+    let from = c.requires.stands in
+    (from.0, c.at_idle-at.ensures.stands _ (c.positions.invariant.stands _ from.2))
+
+pub go_over-hit-requires : goal.go_over-hit-requires
+go_over-hit-requires g c =
+    let from = c.requires.stands in
+    let idle = c.at_idle-at.ensures.stands _ (c.positions.invariant.stands _ from.2) in
+    let stands = c.in_default.ensures.stands _ idle in
+    record { all = c.requires.all; on = (from.0, stands.p, stands.is, from.1, stands.on) }
+
+pub returns-in-Some-clause-found : goal.returns-in-Some-clause-found
+returns-in-Some-clause-found g c = λ s begun.
+    c.in-Some.ensures.stands s
+    (c.at_idle-at.ensures.stands s (c.positions.invariant.stands s begun))
+
+pub returns-then-is_given_up-clause-stands : goal.returns-then-is_given_up-clause-stands
+returns-then-is_given_up-clause-stands g c = λ s begun.
+    c.in_default.ensures.stands s
+    (c.at_idle-at.ensures.stands s (c.positions.invariant.stands s begun))
+
+pub returns-then-is_over-clause-found : goal.returns-then-is_over-clause-found
+returns-then-is_over-clause-found g c = λ s begun.
+    let idle = c.at_idle-at.ensures.stands s (c.positions.invariant.stands s begun) in
+    let stands = c.in_default.ensures.stands s idle in
+    let on = c.go_over-hit.ensures.on _ _ stands.is stands.on in
+    found_told (g.P.Patterns.table c.args.patterns.now) (chars c.args.haystack.now)
+    (g.P.Patterns.entries c.args.patterns.now) s (stands.p + 1) c.go_over-hit.new.cache
+    c.found.result on c.found.ensures (all_ended stands on (c.is_over.ensures.over (search rules)))
+
+pub returns-then-is_over-clause-between : goal.returns-then-is_over-clause-between
+returns-then-is_over-clause-between g c =
+    let at = c.positions.invariant.stands _ c.requires.stands.2 in
+    let stands = c.in_default.ensures.stands _ (c.at_idle-at.ensures.stands _ at) in
+    (c.go_over-hit.ensures.on _ _ stands.is stands.on).ready
+
+pub returns-then-is_over-clause-width : goal.returns-then-is_over-clause-width
+returns-then-is_over-clause-width g c =
+    let at = c.positions.invariant.stands _ c.requires.stands.2 in
+    let stands = c.in_default.ensures.stands _ (c.at_idle-at.ensures.stands _ at) in
+    (c.go_over-hit.ensures.on _ _ stands.is stands.on).width
+
+pub learn_at-at-requires-clause-between : goal.learn_at-at-requires-clause-between
+learn_at-at-requires-clause-between g c =
+    let at = c.positions.invariant.stands _ c.requires.stands.2 in
+    let stands = c.in_default.ensures.stands _ (c.at_idle-at.ensures.stands _ at) in
+    (c.go_over-hit.ensures.on _ _ stands.is stands.on).ready
+
+pub learn_at-at-requires-clause-turned : goal.learn_at-at-requires-clause-turned
+learn_at-at-requires-clause-turned g c =
+    let at = c.positions.invariant.stands _ c.requires.stands.2 in
+    let stands = c.in_default.ensures.stands _ (c.at_idle-at.ensures.stands _ at) in
+    turned_there stands (c.go_over-hit.ensures.on _ _ stands.is stands.on) c.go_over-hit.result
+    c.requires.all c.go_over-hit.ensures.again c.go_over-hit.ensures.hit
+
+pub next_position-at-requires-clause-first : goal.next_position-at-requires-clause-first
+next_position-at-requires-clause-first g c =
+    let at = c.positions.invariant.stands _ c.requires.stands.2 in
+    (c.in_default.ensures.stands _ (c.at_idle-at.ensures.stands _ at)).first
+
+pub next_position-at-requires-clause-here : goal.next_position-at-requires-clause-here
+next_position-at-requires-clause-here g c =
+    let at = c.positions.invariant.stands _ c.requires.stands.2 in
+    let stands = c.in_default.ensures.stands _ (c.at_idle-at.ensures.stands _ at) in
+    (stands.p, stands.is)
+
+pub positions-smaller : goal.positions-smaller
+positions-smaller g c =
+    let at = c.positions.invariant.stands _ c.requires.stands.2 in
+    let stands = c.in_default.ensures.stands _ (c.at_idle-at.ensures.stands _ at) in
+    let on = c.go_over-hit.ensures.on _ _ stands.is stands.on in
+    let next = c.next_position-at.ensures.stands _ _ _ _ _ stands.is on c.learn_at-at.ensures.state
+    in
+    let most = at_most c.args.haystack.now next.p c.next_position-at.result.here c.utf8.haystack
+    next.is in
+    let later = c.next_position-at.ensures.later in
+    let ahead = c.look_ahead.ensures.later in
+    let passed = c.at_idle-at.ensures.later in
+    omega (arith, most, later, ahead, passed)
+
+pub positions-preserved : goal.positions-preserved
+positions-preserved g c = record {
+  remembers = c.learn_at-at.ensures.remembers;
+  none_pending = c.learn_at-at.ensures.none_pending;
+  stands = λ s begun.
+      let idle = c.at_idle-at.ensures.stands s (c.positions.invariant.stands s begun) in
+      let stands = c.in_default.ensures.stands s idle in
+      let on = c.go_over-hit.ensures.on _ _ stands.is stands.on in
+      c.next_position-at.ensures.stands _ _ c.learn_at-at.new.self _ _ stands.is on
+      c.learn_at-at.ensures.state;
+}
+
+pub returns-in-Some-clause-bounded : goal.returns-in-Some-clause-bounded
+returns-in-Some-clause-bounded g c = λ s begun.
+    bounded_there (c.at_idle-at.ensures.stands s (c.positions.invariant.stands s begun))
+    c.look_ahead.new.cache c.in-Some.ensures.same
+
+pub returns-then-is_over-clause-entered : goal.returns-then-is_over-clause-entered
+returns-then-is_over-clause-entered g c =
+    let at = c.positions.invariant.stands _ c.requires.stands.2 in
+    let stands = c.in_default.ensures.stands _ (c.at_idle-at.ensures.stands _ at) in
+    let cache = c.go_over-hit.new.cache in
+    match_counted (best_of cache.best) c.found.result cache.best.row cache.walk.steps.entered
+    c.args.least c.found.ensures
+    (c.go_over-hit.ensures.on _ _ stands.is stands.on).ready.match_entered c.requires.least
+
+pub returns-then-is_over-clause-bounded : goal.returns-then-is_over-clause-bounded
+returns-then-is_over-clause-bounded g c = λ s begun.
+    let idle = c.at_idle-at.ensures.stands s (c.positions.invariant.stands s begun) in
+    let stands = c.in_default.ensures.stands s idle in
+    bounded_after stands (c.go_over-hit.ensures.on _ _ stands.is stands.on)

@@ -1,0 +1,51 @@
+use Rattle.regex_lite_meta.proofs.Common.{chars, slice_get_within}
+use Rattle.regex_lite_meta.proofs.lazy_dfa.StandsLemmas.{scanning_there, told_there}
+use Rattle.regex_lite_meta.proofs.lazy_dfa.automaton.LazyDfa.look_ahead.Goals as goal
+
+pub scan-requires-clause-scanning : goal.scan-requires-clause-scanning
+scan-requires-clause-scanning g c =
+    let from = c.requires.stands in
+    let same = told_there from.1 c.found.result c.found.ensures in
+    (from.0, from.1.p, scanning_there from.1 c.in-Some.is c.found.result same)
+
+pub resume-requires-clause-state : goal.resume-requires-clause-state
+resume-requires-clause-state g c =
+    let stands = c.requires.stands.1 in
+    let same = told_there stands c.found.result c.found.ensures in
+    let scanning = scanning_there stands c.in-Some.is c.found.result same in
+    let scanned = c.in-Stuck.ensures _ _ scanning in
+    slice_get_within c.args.self.now.states c.in-Stuck.stuck.state scanned.0.2.state
+    scanned.0.2.is_state
+
+pub resume-requires-clause-stands : goal.resume-requires-clause-stands
+resume-requires-clause-stands g c =
+    let from = c.requires.stands in
+    let same = told_there from.1 c.found.result c.found.ensures in
+    let scanning = scanning_there from.1 c.in-Some.is c.found.result same in
+    (chars c.args.haystack.now, from.0, from.1, c.in-Stuck.ensures from.0 from.1.p scanning)
+
+pub returns-in-Found-clause-stands : goal.returns-in-Found-clause-stands
+returns-in-Found-clause-stands g c = λ s stands.
+    let same = told_there stands c.found.result c.found.ensures in
+    c.in-Found.ensures s stands.p (scanning_there stands c.in-Some.is c.found.result same)
+
+pub returns-in-Stuck-clause-stands : goal.returns-in-Stuck-clause-stands
+returns-in-Stuck-clause-stands g c = λ s stands.
+    let same = told_there stands c.found.result c.found.ensures in
+    let scanning = scanning_there stands c.in-Some.is c.found.result same in
+    c.resume.ensures.stands (chars c.args.haystack.now) s stands
+    (c.in-Stuck.ensures s stands.p scanning)
+
+pub returns-in-Stuck-clause-between : goal.returns-in-Stuck-clause-between
+returns-in-Stuck-clause-between g c =
+    let stands = c.requires.stands.1 in
+    let same = told_there stands c.found.result c.found.ensures in
+    let scanning = scanning_there stands c.in-Some.is c.found.result same in
+    (c.resume.ensures.stands _ _ stands (c.in-Stuck.ensures _ _ scanning)).on.ready
+
+pub returns-in-Stuck-clause-width : goal.returns-in-Stuck-clause-width
+returns-in-Stuck-clause-width g c =
+    let stands = c.requires.stands.1 in
+    let same = told_there stands c.found.result c.found.ensures in
+    let scanning = scanning_there stands c.in-Some.is c.found.result same in
+    (c.resume.ensures.stands _ _ stands (c.in-Stuck.ensures _ _ scanning)).on.width

@@ -1,0 +1,55 @@
+use Rattle.regex_lite_meta.proofs.Common.{length, IfSome, refl, ap, subst, arith, length-map}
+use Rattle.regex_lite_meta.proofs.Common.{IsIdleAt, way_in}
+use Rattle.regex_lite_meta.proofs.lazy_dfa.RunLemmas.{at_later, other_at}
+use Rattle.regex_lite_meta.proofs.lazy_dfa.ResumeLemmas.{stands_gone, stands_stuck}
+use Rattle.regex_lite_meta.proofs.lazy_dfa.automaton.LazyDfa.resume.Goals as goal
+
+pub take_up_ways-requires-clause-few : goal.take_up_ways-requires-clause-few
+take_up_ways-requires-clause-few g c =
+    let stands = c.requires.stands.2 in
+    let scanning = c.requires.stands.3.0.2 in
+    let fits = c.requires.remembers.fit c.args.stuck.state scanning.state scanning.is_state in
+    let few = fits.few in
+    let cap = stands.on.ready.cap in
+    let same = ap length (c.ways-ways.ensures scanning.state scanning.is_state) in
+    omega (arith, few, cap, same, length-map c.ways-ways.result.now way_in)
+
+pub returns-then-may_have-clause-stands : goal.returns-then-may_have-clause-stands
+returns-then-may_have-clause-stands g c = λ haystack s stands scanned.
+    let q = scanned.0.0 in
+    let scanning = scanned.0.2 in
+    let stuck = c.args.stuck in
+    let later = other_at haystack stands.p q c.args.at.now.here stuck.here stands.is scanning.is
+    scanned.0.1 c.if-stuck-at.false in
+    let ways = c.ways-ways.ensures scanning.state scanning.is_state in
+    let fits = c.requires.remembers.fit stuck.state scanning.state scanning.is_state in
+    stands_stuck (g.P.Patterns.table c.args.patterns.now) haystack
+    (g.P.Patterns.entries c.args.patterns.now) s stands.p c.args.self.now c.args.cache.now
+    c.take_up_ways.new.cache stands.on c.take_up_ways.ensures.kept q stuck scanning later
+    c.ways-ways.result.now ways (c.if-may_take_up.ensures.all refl) fits
+    c.take_up_ways.ensures.best (c.if-may_have.ensures refl) c.take_up_ways.ensures.threads
+    (c.if-may_take_up.ensures.before refl) c.args.at.now.until
+
+pub returns-then-may_have-clause-later : goal.returns-then-may_have-clause-later
+returns-then-may_have-clause-later g c =
+    let haystack = c.requires.stands.0 in
+    let stands = c.requires.stands.2 in
+    let scanned = c.requires.stands.3 in
+    at_later haystack stands.p scanned.0.0 c.args.at.now.here c.args.stuck.here stands.is
+    scanned.0.2.is scanned.0.1
+
+pub returns-then-here-at-clause-stands : goal.returns-then-here-at-clause-stands
+returns-then-here-at-clause-stands g c = λ haystack s stands scanned.
+    let here = c.in-Some.here in
+    let idle = subst (λ o. IfSome o
+    (IsIdleAt (g.P.Patterns.table c.args.patterns.now) (g.P.Patterns.entries c.args.patterns.now)
+    haystack s stands.p))
+    c.in-Some.is scanned.1 in
+    let more = c.if-here-at.true in
+    let later =
+    other_at haystack stands.p idle.r c.args.at.now.here here stands.is idle.is idle.later
+    (λ e. omega (arith, e, more)) in
+    stands_gone (g.P.Patterns.table c.args.patterns.now) haystack
+    (g.P.Patterns.entries c.args.patterns.now) s stands.p c.args.self.now c.args.cache.now
+    c.let_go.new.cache stands.on c.let_go.ensures.kept here idle later c.let_go.ensures.none
+    c.let_go.ensures.threads c.empty_state-at.result c.empty_state-at.ensures _

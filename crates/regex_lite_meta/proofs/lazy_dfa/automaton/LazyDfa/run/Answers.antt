@@ -1,0 +1,82 @@
+use Rattle.regex_lite_meta.proofs.Common.{◌≡◌, ap, ◌∙◌, arith, Standing}
+use Rattle.regex_lite_meta.proofs.lazy_dfa.OnwardLemmas.{ends_there, from_spot, next_spot}
+use Rattle.regex_lite_meta.proofs.lazy_dfa.OnwardLemmas.{spot_boundary, state_at_spot, to_spot}
+use Rattle.regex_lite_meta.proofs.lazy_dfa.OnwardLemmas.{turn_effect, turn_within}
+use Rattle.regex_lite_meta.proofs.lazy_dfa.automaton.LazyDfa.run.Given as given
+use Rattle.regex_lite_meta.proofs.lazy_dfa.automaton.LazyDfa.run.Goals as goal
+use Rattle.regex_lite_meta.proofs.lazy_dfa.automaton.LazyDfa.run.Goals.{in_default}
+use Rattle.regex_lite_meta.proofs.lazy_dfa.automaton.LazyDfa.run.Goals.{in-Some+in-Stuck}
+
+pub turns-init : goal.turns-init
+turns-init g c = record {
+  near = c.none-near.ensures c.args.self.now.intervals.boundaries;
+  on = to_spot c.args.at.now c.of-spot.ensures;
+}
+
+pub turn-requires-clause-boundary : goal.turn-requires-clause-boundary
+turn-requires-clause-boundary g c =
+    spot_boundary c.args.haystack.now c.utf8.haystack (omega arith) c.turns.invariant.on
+    c.requires.scanning
+
+pub turn-requires-clause-state : goal.turn-requires-clause-state
+turn-requires-clause-state g c = state_at_spot c.turns.invariant.on c.requires.scanning
+
+pub take-requires-clause-from : goal.take-requires-clause-from
+take-requires-clause-from g c = state_at_spot c.turns.invariant.on c.requires.scanning
+
+pub take-requires-clause-to : goal.take-requires-clause-to
+take-requires-clause-to g c = turn_within c.in-Some.ensures.turn
+
+pub take-requires-clause-effect : goal.take-requires-clause-effect
+take-requires-clause-effect g c = turn_effect c.in-Some.ensures.turn
+
+pub turns-preserved : goal.turns-preserved
+turns-preserved g c =
+    let turn = c.in-Some.ensures.turn in
+    record {
+      near = c.turn.ensures.near;
+      on =
+          next_spot c.args.haystack.now c.utf8.haystack (omega arith) c.turns.invariant.on turn
+          c.in-On.on c.take.new.at (c.in-On.ensures.taken turn.to turn.is_to);
+    }
+
+pub returns-in-Over-clause-over : goal.returns-in-Over-clause-over
+returns-in-Over-clause-over g c = λ _.
+    let turn = c.in-Some.ensures.turn in
+    ends_there c.args.haystack.now c.utf8.haystack (omega arith) c.turns.invariant.on turn
+    c.take.new.at (c.in-Over.ensures.taken turn.to turn.is_to)
+
+pub settle-requires : goal.settle-requires
+settle-requires g c =
+    spot_boundary c.args.haystack.now c.utf8.haystack (omega arith) c.turns.invariant.on
+    c.requires.scanning
+
+pub settle-requires-2 : goal.settle-requires-2
+settle-requires-2 g c =
+    spot_boundary c.args.haystack.now c.utf8.haystack (omega arith) c.turns.invariant.on
+    c.requires.scanning
+
+-- at the end of the haystack
+pub returns-then-spot-haystack-clause-on : goal.returns-then-spot-haystack-clause-on
+returns-then-spot-haystack-clause-on g c = λ _.
+    from_spot c.args.haystack.now c.utf8.haystack (omega arith) c.turns.invariant.on
+    c.settle.new.self c.settle.ensures.here c.settle.ensures.same
+
+stays : (g : given.Over) (c : goal.After-settle-2 g) → c.match-turn.at ≡ c.turns.at
+stays g c = elim c.match-turn.branch [
+  | in-Some+in-Stuck w ↦
+      let turn = w.in-Some.ensures.turn in
+      w.at-is ∙ w.in-Stuck.ensures.taken turn.to turn.is_to
+  | in_default w ↦ w.at-is
+]
+
+pub returns-clause-on : goal.returns-clause-on
+returns-clause-on g c = λ _.
+    from_spot c.args.haystack.now c.utf8.haystack (omega arith) c.turns.invariant.on
+    c.settle-2.new.self c.settle-2.ensures.here
+    (c.settle-2.ensures.same
+    ∙ ap (λ (own : Standing). record own {
+      here = c.settle-2.new.self.here;
+      state = c.turns.spot.state;
+    })
+    (stays g c))

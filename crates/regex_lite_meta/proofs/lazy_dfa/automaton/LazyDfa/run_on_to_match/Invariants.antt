@@ -1,0 +1,13 @@
+use Rattle.regex_lite_meta.proofs.Common.{◌≡◌, ◌-◌, length, chars}
+use Rattle.regex_lite_meta.proofs.lazy_dfa.OnwardLemmas.{GoesOn}
+use Rattle.regex_lite_meta.proofs.lazy_dfa.automaton.LazyDfa.run_on_to_match.Given as goal
+
+abbrev pub invariant-leaps : goal.invariant-leaps
+invariant-leaps g l = record {
+  none : l.at.best ≡ l.initial.at.best;
+  on : GoesOn (g.P.Patterns.table l.patterns) (g.P.Patterns.entries l.patterns)
+      (chars l.haystack) l.self l.initial.at l.at;
+}
+
+abbrev pub decreases-leaps : goal.decreases-leaps
+decreases-leaps g l = length l.haystack - l.at.here.at

@@ -1,0 +1,15 @@
+use Rattle.regex_lite_meta.proofs.Common.{◌≡◌, ◌-◌, length, chars}
+use Rattle.regex_lite_meta.specs.LazyDfa.Intervals.{IsInterval}
+use Rattle.regex_lite_meta.proofs.lazy_dfa.OnwardLemmas.{GoesToSpot}
+use Rattle.regex_lite_meta.proofs.lazy_dfa.automaton.LazyDfa.run_to_match.Given as goal
+
+abbrev pub invariant-turns : goal.invariant-turns
+invariant-turns g l = record {
+  near : IsInterval l.self.intervals.boundaries l.near;
+  none : l.at.best ≡ l.initial.at.best;
+  on : GoesToSpot (g.P.Patterns.table l.patterns) (g.P.Patterns.entries l.patterns)
+      (chars l.haystack) l.self l.initial.at l.spot l.at;
+}
+
+abbrev pub decreases-turns : goal.decreases-turns
+decreases-turns g l = length l.haystack - l.spot.at

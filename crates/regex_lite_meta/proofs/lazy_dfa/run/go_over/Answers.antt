@@ -1,0 +1,80 @@
+use Rattle.regex_lite_meta.proofs.Common.{ℕ, ◌+◌, ◌-◌, ◌*◌, ◌^◌, ◌<◌, ◌≤◌, length, chars, sym, ◌∙◌}
+use Rattle.regex_lite_meta.proofs.Common.{arith, arrows_of}
+use Rattle.std.proofs.Math.Nat.{mul-le-mul_left}
+use Rattle.regex_lite_engine.proofs.pikevm.EndLemmas.{bound_more}
+use Rattle.regex_lite_engine.proofs.pikevm.PassLemmas.{bound_on}
+use Rattle.regex_lite_meta.proofs.lazy_dfa.run.go_over.Goals as goal
+
+-- what one more position costs fits
+next_fits : (len s p m most a : ℕ) → s ≤ p → p ≤ len → m * (len - s + 1) < most → a ≤ m * (p - s)
+    → a + m < most
+next_fits len s p m most a low inside fits so_far =
+    let next : a + m ≤ m * (p + 1 - s) = bound_more a (a + m) p s m low so_far (omega arith) in
+    let within : p + 1 - s ≤ len - s + 1 = omega (arith, low, inside) in
+    let all = mul-le-mul_left m within in omega (arith, next, all, fits)
+
+pub turn-requires-clause-inside : goal.turn-requires-clause-inside
+turn-requires-clause-inside g c = c.requires.all.inside
+
+pub returns-clause-on : goal.returns-clause-on
+returns-clause-on g c = λ s p is on.
+    let a = c.args in
+    let table = g.P.Patterns.table a.patterns.now in
+    let entries = g.P.Patterns.entries a.patterns.now in
+    let h = chars a.haystack.now in
+    let old = a.cache.now in
+    let new = c.turn.new.self in
+    let all = c.requires.all in
+    let low = on.low in
+    let now = c.turn.ensures.round in
+    let rounds = on.rounds in
+    let tries = c.turn.ensures.tries in
+    let few = all.few in
+    record {
+      low = omega (arith, low);
+      ready = c.turn.ensures.ready;
+      coming =
+          c.turn.ensures.comes h entries p s (length h) is low is.inside (all.at_each h p)
+          on.coming;
+      tries =
+          bound_on table h entries s (old.walk.steps.tried + length old.walk.memory.threads)
+          (new.walk.steps.tried + length new.walk.memory.threads) p p
+          (arrows_of table + length entries) low (omega arith) on.tries (omega (arith, tries, few));
+      entries_left =
+          bound_on table h entries s old.walk.steps.entered new.walk.steps.entered p p
+          (length table) low (omega arith) on.entries_left c.turn.ensures.entries;
+      rounds = omega (arith, rounds, now, low);
+      width =
+          sym c.turn.ensures.ready.best_width ∙ c.turn.ensures.width ∙ on.ready.best_width
+          ∙ on.width;
+    }
+
+pub turn-requires-clause-ready : goal.turn-requires-clause-ready
+turn-requires-clause-ready g c = c.requires.on.4.ready
+
+pub returns-clause-again : goal.returns-clause-again
+returns-clause-again g c = c.turn.ensures.again
+
+pub returns-clause-hit : goal.returns-clause-hit
+returns-clause-hit g c = c.turn.ensures.hit
+
+pub returns-clause-ends : goal.returns-clause-ends
+returns-clause-ends g c = c.turn.ensures.ends
+
+pub turn-requires-clause-few_tries : goal.turn-requires-clause-few_tries
+turn-requires-clause-few_tries g c =
+    let told = c.requires.on in
+    let few = c.requires.all.few in
+    let fits = next_fits (length (chars c.args.haystack.now)) told.0 told.1
+    (arrows_of (g.P.Patterns.table c.args.patterns.now)
+    + length (g.P.Patterns.entries c.args.patterns.now)) (2 ^ 127)
+    (c.args.cache.now.walk.steps.tried + length c.args.cache.now.walk.memory.threads) told.4.low
+    told.2.inside told.3.tries told.4.tries in
+    omega (arith, fits, few)
+
+pub turn-requires-clause-few_entries : goal.turn-requires-clause-few_entries
+turn-requires-clause-few_entries g c =
+    let told = c.requires.on in
+    next_fits (length (chars c.args.haystack.now)) told.0 told.1
+    (length (g.P.Patterns.table c.args.patterns.now)) (2 ^ 127) c.args.cache.now.walk.steps.entered
+    told.4.low told.2.inside told.3.entries told.4.entries_left

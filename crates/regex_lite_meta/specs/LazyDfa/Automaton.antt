@@ -1,0 +1,140 @@
+-- The states of the lazy automaton, and the turns that lead from one to another.
+use Rattle.std.specs.Prelude.{◌≡◌, ◌+◌, ◌<◌, ◌≤◌, ◌==◌, ℕ, Bool, true, false, List, []}
+use Rattle.std.specs.Prelude.{map, length, slice_get, slice_index, Option, Some, None}
+use Rattle.regex_lite_syntax.specs.Text.{Text}
+use Rattle.regex_lite_meta.specs.declared.lazy_dfa.side.Side.{Side}
+use Rattle.regex_lite_engine.specs.declared.search.here.Here.{Here}
+use Rattle.regex_lite_engine.specs.Graph.Places.{Place, reading_of}
+use Rattle.regex_lite_meta.specs.LazyDfa.Intervals.{AreIntervalsFor, Intervals, class_of}
+use Rattle.regex_lite_meta.specs.LazyDfa.Intervals.{classes_in, side_of}
+use Rattle.regex_lite_engine.specs.Search.Beginnings.{Told}
+use Rattle.regex_lite_engine.specs.Pikevm.Machine.{Thread}
+use Rattle.regex_lite_engine.specs.Search.Standing.{IsHere}
+use Rattle.regex_lite_engine.specs.Pikevm.Turns.{IsComing}
+use Rattle.regex_lite_engine.specs.Search.NumberedOutcomes.{Best}
+
+-- what is kept of where a way began: whether at the first start, and the number of its pattern
+pub record KeptOrigin : Type 0 where
+  pub first : Bool
+  pub number : Option ℕ
+
+-- a place to go on from, with where the way to it began
+pub record Way : Type 0 where
+  pub place : ℕ
+  pub origin : KeptOrigin
+
+-- what a search goes on with between two characters, whatever the haystack
+pub record State : Type 0 where
+  -- the ways, the most preferred first
+  pub ways : List Way
+  -- whether there is no match yet
+  pub searching : Bool
+  -- what looks see of the character before
+  pub before : Side
+  -- where the way began by which a match was complete at the last position
+  pub hit : Option KeptOrigin
+  -- the numbers of the states that turns lead to, by the class of the next character
+  pub next : List ℕ
+
+pub record Automaton : Type 0 where
+  pub intervals : Intervals
+  pub states : List State
+  -- the ways of a state that is to come
+  pub pending : List Way
+
+-- stands for a turn that isn't remembered
+abbrev pub unknown : ℕ
+unknown = 65535
+
+-- the way with this origin began at start i, if it is the first
+abbrev pub told_if : Bool → (i : ℕ) → Option ℕ
+told_if true i = Some i
+told_if false i = None
+
+abbrev pub told_by : (i : ℕ) → KeptOrigin → Told
+told_by i origin = record { at = told_if origin.first i; number = origin.number }
+
+abbrev pub thread_of : (i : ℕ) → Way → Thread
+thread_of i way = (way.place, told_by i way.origin, [])
+
+-- the threads of a state where the first start is i. Nothing is known of the other starts
+abbrev pub threads_of : (i : ℕ) → List Way → List Thread
+threads_of i ways = map (thread_of i) ways
+
+-- the way began there
+abbrev pub began : (first : ℕ) → Option ℕ → Bool
+began first None = false
+began first (Some start) = start == first
+
+abbrev pub origin_of : (first : ℕ) → Told → KeptOrigin
+origin_of first told = record { first = began first told.at; number = told.number }
+
+abbrev pub way_of : (first : ℕ) → Thread → Way
+way_of first thread = record { place = thread.0; origin = origin_of first thread.1 }
+
+abbrev pub ways_of : (first : ℕ) → List Thread → List Way
+ways_of first threads = map (way_of first) threads
+
+-- where the way began by which the match is complete, if one is
+abbrev pub hit_of : (first : ℕ) → (hit : Bool) → (found : Best) → Option KeptOrigin
+hit_of first false found = None
+hit_of first true None = None
+hit_of first true (Some found) = Some (origin_of first found.0)
+
+-- the best match after a position where the first start is i
+abbrev pub best_left : Option KeptOrigin → (i at : ℕ) → Best → Best
+best_left None i at best = best
+best_left (Some origin) i at best = Some (told_by i origin, at, [])
+
+-- own starts are added until there is a match
+abbrev pub searching_after : Option KeptOrigin → Bool → Bool
+searching_after None searching = searching
+searching_after (Some origin) searching = false
+
+-- there is no match while one is searched for
+abbrev pub Suits : (searching : Bool) → Best → Type 0
+Suits true best = best ≡ None
+Suits false best = best ≡ None → ⊥
+
+-- a search in this state sees a character of this class
+pub record Sees (intervals : Intervals) (before : Side) (class : ℕ) (there : Here) : Type 0 where
+  pub ahead : class_of intervals.boundaries there.after ≡ class
+  pub behind : intervals.looks ≡ true → side_of there.before ≡ before
+
+-- Wherever a search in state x sees a character of the class, its turn leads to state y. Where
+-- there are no ways, the position's own start is the first
+pub record LeadsOn (table : List (Place ℕ)) (entries : List ℕ) (intervals : Intervals) (x : State)
+    (class : ℕ) (y : State) : Type 0 where
+  pub on : (there : Here) → Sees intervals x.before class there → (i : ℕ)
+      → (x.ways ≡ [] → i ≡ there.at) → (best : Best) → Suits x.searching best
+      → (haystack : Text) (p first last : ℕ) → IsHere haystack p there → first ≤ p → p ≤ last
+      → IsComing table haystack entries first last p (threads_of i x.ways) best
+      → IsComing table haystack entries first last (p + 1) (threads_of i y.ways)
+      (best_left y.hit i there.at best)
+  pub searching : y.searching ≡ searching_after y.hit x.searching
+  pub before : intervals.looks ≡ true → (there : Here)
+      → class_of intervals.boundaries there.after ≡ class → side_of there.after ≡ y.before
+
+-- a state without ways in which a match is searched for after this character
+pub record IsEmptyState (automaton : Automaton) (x : ℕ) (last : Option ℕ) : Type 0 where
+  pub state : State
+  pub is_state : slice_get automaton.states x ≡ Some state
+  pub none : state.ways ≡ []
+  pub searching : state.searching ≡ true
+  pub sees : automaton.intervals.looks ≡ true → state.before ≡ side_of last
+
+-- the ways lead to places of the table, and are no more than those that read a character
+pub record FitsTable (table : List (Place ℕ)) (ways : List Way) : Type 0 where
+  pub below : (k : ℕ) (way : Way) → slice_get ways k ≡ Some way → way.place < length table
+  pub few : length ways ≤ reading_of table
+
+-- all turns that are remembered are those of searches in this table
+pub record Remembers (table : List (Place ℕ)) (entries : List ℕ) (automaton : Automaton)
+    : Type 0 where
+  pub intervals : AreIntervalsFor table automaton.intervals
+  pub leads : (x : ℕ) (from : State) (class : ℕ) → slice_get automaton.states x ≡ Some from
+      → class < classes_in automaton.intervals → (slice_index from.next class ≡ unknown → ⊥)
+      → (to : State) × (slice_get automaton.states (slice_index from.next class) ≡ Some to)
+      × LeadsOn table entries automaton.intervals from class to
+  pub fit : (x : ℕ) (state : State) → slice_get automaton.states x ≡ Some state
+      → FitsTable table state.ways

@@ -1,0 +1,44 @@
+-- What is known of a search whose turns are remembered.
+use Rattle.std.specs.Prelude.{◌≡◌, ℕ, Bool, true, List, [], ◌∷◌, slice_get, Option, Some}
+use Rattle.regex_lite_syntax.specs.Text.{Text}
+use Rattle.regex_lite_engine.specs.declared.search.here.Here.{Here}
+use Rattle.regex_lite_engine.specs.declared.search.patterns.Start.{Start}
+use Rattle.regex_lite_engine.specs.declared.pikevm.cache.Cache.{Cache}
+use Rattle.regex_lite_engine.specs.Graph.Places.{Place}
+use Rattle.regex_lite_meta.specs.LazyDfa.Automaton.{Automaton, State, Suits, ways_of}
+use Rattle.regex_lite_meta.specs.LazyDfa.Intervals.{side_of}
+use Rattle.regex_lite_engine.specs.Search.Beginnings.{Told, TellsStart}
+use Rattle.regex_lite_engine.specs.Pikevm.Machine.{Thread}
+use Rattle.regex_lite_engine.specs.Pikevm.Searching.{IsHit, TurnsAgain}
+use Rattle.regex_lite_engine.specs.Search.Standing.{IsHere}
+use Rattle.regex_lite_engine.specs.Pikevm.Turns.{best_of}
+use Rattle.regex_lite_engine.specs.Search.Starts.{AreStartsAt}
+
+-- the first start is the position's own if there is no thread, and otherwise another
+abbrev pub IsFirstStart : (first at : ℕ) → List Thread → Type 0
+IsFirstStart first at [] = first ≡ at
+IsFirstStart first at (thread ∷ threads) = first ≡ at → ⊥
+
+-- the search is in this state, after this character
+pub record IsIn {S : Type 0} (automaton : Automaton) (x : ℕ) (first : ℕ) (before : Option ℕ)
+    (cache : Cache S) : Type 0 where
+  pub state : State
+  pub is_state : slice_get automaton.states x ≡ Some state
+  pub ways : ways_of first cache.walk.memory.threads ≡ state.ways
+  pub suits : Suits state.searching (best_of cache.best)
+  pub sees : automaton.intervals.looks ≡ true → side_of before ≡ state.before
+
+-- the search that is now in the cache has taken a turn from this state
+pub record HasTurned {S : Type 0} (table : List (Place ℕ)) (entries : List ℕ)
+    (automaton : Automaton) (x first : ℕ) (here : Here) (hit : Bool) (now : Cache S) : Type 0 where
+  pub before : Cache S
+  pub starts : List Start
+  pub told : ℕ → Told
+  pub is_in : IsIn automaton x first here.before before
+  pub again : TurnsAgain table starts here told before now hit
+  pub is_hit : IsHit hit (best_of before.best) (best_of now.best)
+  pub tells : (number : ℕ) → TellsStart (told number) here.at number
+  pub is_first : IsFirstStart first here.at before.walk.memory.threads
+  -- these starts suffice wherever they do
+  pub suffice : (haystack : Text) (p : ℕ) (there : Here) → IsHere haystack p there
+      → AreStartsAt table haystack entries p starts

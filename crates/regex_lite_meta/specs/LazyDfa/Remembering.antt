@@ -1,0 +1,68 @@
+-- What a searcher remembers, and what it passes over.
+use Rattle.std.specs.Prelude.{◌≡◌, ℕ, List, [], ◌∷◌, Option, IfSome, Some, length}
+use Rattle.regex_lite_syntax.specs.Text.{Text}
+use Rattle.regex_lite_meta.specs.declared.lazy_dfa.list_spans.ListSpanSearcher.{ListSpanSearcher}
+use Rattle.regex_lite_meta.specs.declared.lazy_dfa.spans.Passed.{Passed}
+use Rattle.regex_lite_meta.specs.declared.lazy_dfa.spans.SpanSearcher.{SpanSearcher}
+use Rattle.regex_lite_engine.specs.declared.pikevm.beginning.Origin.{Origin}
+use Rattle.regex_lite_engine.specs.Backtrack.Short.{SearchesShort}
+use Rattle.regex_lite_engine.specs.Graph.NoLooks.{HasNoLooks}
+use Rattle.regex_lite_engine.specs.Graph.Places.{Place}
+use Rattle.regex_lite_engine.specs.Graph.Stored.{StoredGraph, table_of}
+use Rattle.regex_lite_engine.specs.Graph.StoredList.{StoredList, table_of_list}
+use Rattle.regex_lite_meta.specs.LazyDfa.Automaton.{Automaton, Remembers}
+use Rattle.regex_lite_meta.specs.LazyDfa.Scanning.{best_told, span_told}
+use Rattle.regex_lite_engine.specs.Search.NumberedOutcomes.{IsBestOutcomeOf}
+use Rattle.regex_lite_engine.specs.Search.Counting.{IsCountable}
+use Rattle.regex_lite_engine.specs.Pikevm.Searching.{IsBetween}
+
+-- all turns are those of searches for these entries of the table
+pub record RemembersFor (table : List (Place ℕ)) (entries : List ℕ) (automaton : Automaton)
+    : Type 0 where
+  pub remembers : Remembers table entries automaton
+  pub none_pending : automaton.pending ≡ []
+
+-- all turns are those of searches in this graph
+abbrev pub RemembersAll : StoredGraph → Automaton → Type 0
+RemembersAll graph automaton = RemembersFor (table_of graph) (graph.start ∷ []) automaton
+
+-- if there is an automaton, then no slots are kept
+abbrev pub IsRemembering : StoredGraph → (slots : ℕ) → Option Automaton → Type 0
+IsRemembering graph slots automaton =
+    IfSome automaton (λ automaton. RemembersAll graph automaton × (slots ≡ 0))
+
+-- the same of searches for all patterns of a list
+abbrev pub IsRememberingList : StoredList → (slots : ℕ) → Option Automaton → Type 0
+IsRememberingList list slots automaton =
+    IfSome automaton (λ automaton.
+    RemembersFor (table_of_list list) list.entries automaton × (slots ≡ 0))
+
+-- searches for matches of the graph go on in its memory, which has no slots, and searches for this
+-- many slots of a short match in the memory beside it
+pub record FindsSpansIn (graph : StoredGraph) (slots : ℕ) (spans : SpanSearcher) : Type 0 where
+  pub remembers : RemembersAll graph spans.dfa
+  pub between : IsBetween (table_of graph) spans.cache
+  pub width : length spans.cache.walk.memory.row ≡ 0
+  pub countable : IsCountable (table_of graph)
+  pub short : IfSome spans.short (λ short. SearchesShort graph short
+      × (length short.walk.stack.row ≡ slots) × HasNoLooks (table_of graph))
+
+-- searches for matches of any pattern of the list go on in its memory, which has no slots
+pub record FindsSpansInList (list : StoredList) (spans : ListSpanSearcher) : Type 0 where
+  pub remembers : RemembersFor (table_of_list list) list.entries spans.dfa
+  pub between : IsBetween (table_of_list list) spans.cache
+  pub width : length spans.cache.walk.memory.row ≡ 0
+
+-- the most preferred match from the least start at s or later starts at `from` and ends there, if
+-- its end is known
+abbrev pub IsKnown : (table : List (Place ℕ)) → Text → (start s : ℕ) → Passed → Type 0
+IsKnown table haystack start s passed =
+    IfSome passed.end (λ end.
+    IsBestOutcomeOf table haystack (start ∷ []) s (span_told (Some (passed.from, end))))
+
+-- the answer of a search of the list from position s on has this start and the number of this
+-- pattern
+abbrev pub IsOriginInList : StoredList → Text → (s : ℕ) → Origin → Type 0
+IsOriginInList list haystack s origin =
+    (end : ℕ)
+    × IsBestOutcomeOf (table_of_list list) haystack list.entries s (best_told (Some (origin, end)))

@@ -1,0 +1,68 @@
+-- A search that remembers its turns and goes by those that it remembers.
+use Rattle.std.specs.Prelude.{◌≡◌, ◌+◌, ◌-◌, ◌*◌, ◌^◌, ◌≤◌, ◌<◌, ℕ, List, []}
+use Rattle.std.specs.Prelude.{MatchOption, Some, length, slice_index}
+use Rattle.regex_lite_syntax.specs.Text.{Text}
+use Rattle.regex_lite_meta.specs.declared.lazy_dfa.run.Progress.{Progress}
+use Rattle.regex_lite_meta.specs.declared.lazy_dfa.state.StoredWay.{StoredWay}
+use Rattle.regex_lite_engine.specs.declared.search.here.Here.{Here}
+use Rattle.regex_lite_engine.specs.declared.pikevm.cache.Cache.{Cache}
+use Rattle.regex_lite_engine.specs.Graph.Places.{Place}
+use Rattle.regex_lite_engine.specs.Graph.Renumbered.{arrows_of}
+use Rattle.regex_lite_meta.specs.LazyDfa.Automaton.{Automaton, IsEmptyState}
+use Rattle.regex_lite_meta.specs.LazyDfa.Learning.{IsFirstStart, IsIn}
+use Rattle.regex_lite_engine.specs.Search.Beginnings.{Told}
+use Rattle.regex_lite_engine.specs.Pikevm.Machine.{Thread}
+use Rattle.regex_lite_engine.specs.Pikevm.Searching.{IsBetween}
+use Rattle.regex_lite_engine.specs.Search.Standing.{IsHere}
+use Rattle.regex_lite_engine.specs.Pikevm.Turns.{best_of, IsComing}
+
+module _ (table : List (Place ℕ)) (haystack : Text) (entries : List ℕ) (s : ℕ) where
+  -- a search from position s on has come to position p
+  pub record IsOnItsWay {S : Type 0} (p : ℕ) (cache : Cache S) : Type 0 where
+    pub low : s ≤ p
+    pub ready : IsBetween table cache
+    pub coming : IsComing table haystack entries s (length haystack) p cache.walk.memory.threads
+        (best_of cache.best)
+    pub tries :
+        cache.walk.steps.tried + length cache.walk.memory.threads
+        ≤ (arrows_of table + length entries) * (p - s)
+    pub entries_left : cache.walk.steps.entered ≤ length table * (p - s)
+    pub rounds : cache.walk.memory.now < 2 ^ 63 + (p - s)
+    pub width : length cache.walk.memory.row ≡ 0
+
+  -- that is where it stands, and its state, if that is known
+  pub record Stands {S : Type 0} (automaton : Automaton) (at : Progress) (cache : Cache S)
+      : Type 0 where
+    pub p : ℕ
+    pub is : IsHere haystack p at.here
+    pub on : IsOnItsWay p cache
+    pub first : at.first ≤ at.here.at
+    pub own : IsFirstStart at.first at.here.at cache.walk.memory.threads
+    pub state : MatchOption at.state (Unit {0})
+        (λ x. IsIn automaton x at.first at.here.before cache)
+
+-- what is kept of the way of this pattern that began at the offset
+abbrev pub started_at : (at number : ℕ) → Told
+started_at at number = record { at = Some at; number = Some number }
+
+-- the thread of a way that began at the first start
+abbrev pub thread_from : (first : ℕ) → StoredWay → Thread
+thread_from first way = (way.place, started_at first way.number, [])
+
+-- the memory and the counts are as before, but for what there is to go on from
+pub record GoesOnWith {S : Type 0} (old new : Cache S) : Type 0 where
+  pub steps : new.walk.steps ≡ old.walk.steps
+  pub rounds : length new.walk.memory.rounds ≡ length old.walk.memory.rounds
+  pub now : new.walk.memory.now < 2 ^ 63
+  pub entered : (q : ℕ) → slice_index new.walk.memory.rounds q ≤ new.walk.memory.now
+  pub room : new.walk.memory.room ≡ old.walk.memory.room
+  pub row : length new.walk.memory.row ≡ length old.walk.memory.row
+  pub frames : new.walk.memory.frames ≡ []
+  pub next : new.walk.memory.next ≡ []
+  pub best_row : length new.best.row ≡ length old.best.row
+
+-- that is where it stands, in the state without ways, if that is known
+pub record StandsIdle (automaton : Automaton) (here : Here) (at : Progress) : Type 0 where
+  pub here_is : at.here ≡ here
+  pub first : at.first ≡ at.here.at
+  pub state : MatchOption at.state (Unit {0}) (λ x. IsEmptyState automaton x at.here.before)

@@ -1,0 +1,294 @@
+//! What a lazy automaton remembers.
+ghost use Rattle.std.specs.Prelude.{◌≡◌, ◌+◌, ◌*◌, ◌≤◌, ◌<◌, ◌++◌, ◌∷◌, [], ℕ, IfOk, IfSome};
+ghost use Rattle.std.specs.Prelude.{Option, Some, length, map, slice_get, slice_index, slice_set};
+ghost use Rattle.std.specs.Prelude.{true};
+ghost use Rattle.regex_lite_meta.specs.LazyDfa.Automaton.{KeptOrigin, State, unknown};
+ghost use Rattle.regex_lite_meta.specs.LazyDfa.Extending.{Extends, IsState};
+ghost use Rattle.regex_lite_meta.specs.LazyDfa.Intervals.{classes_in};
+ghost use Rattle.regex_lite_meta.specs.LazyDfa.Stored.{hit_in, known_hit, way_in};
+
+use crate::lazy_dfa::classes::Classes;
+use crate::lazy_dfa::room::{MOST_STATES, Room};
+use crate::lazy_dfa::side::Side;
+use crate::lazy_dfa::state::{Effect, Hit, StoredState, StoredWay, Target, are_same};
+use std::alloc::{AllocError, Global};
+use std::marker::Model;
+
+/// They do if of this number of bytes more than one turn finds no room.
+const BYTES_FOR_ONE: usize = 32;
+
+/// Stands for the state to which a turn leads that isn't remembered.
+const UNKNOWN: u16 = 0xFFFF;
+
+/// Classes of characters, and the states that searches have come to. All its memory is requested at
+/// once. When that is full, nothing more is remembered.
+#[derive(Drop)]
+pub(crate) struct LazyDfa {
+    pub(super) classes: Classes,
+    pub(super) states: Vec<StoredState>,
+    /// Where turns lead: for each state a row, with a target for each class of the next character.
+    targets: Vec<Target>,
+    /// How many targets a row has.
+    width: usize,
+    /// The ways of all states, and after them the pending ones: those of a state that is to come.
+    ways: Vec<StoredWay>,
+    /// How many of them belong to states.
+    used: usize,
+    /// How many turns have found no room.
+    not_kept: usize,
+    /// Over this number of bytes searches may go without it.
+    spare: usize,
+}
+
+impl Model for LazyDfa {
+    ghost use Rattle.std.specs.Prelude.{◌≡◌, ◌*◌, ◌≤◌, ◌<◌, length, map, drop, vec_capacity};
+    ghost use Rattle.regex_lite_meta.specs.LazyDfa.Automaton.{Automaton};
+    ghost use Rattle.regex_lite_meta.specs.LazyDfa.Intervals.{classes_in};
+    ghost use Rattle.regex_lite_meta.specs.LazyDfa.Stored.{AllAgree, LieWithin};
+    ghost use Rattle.regex_lite_meta.specs.LazyDfa.Stored.{states_in, way_in};
+
+    ghost Value = { Automaton };
+
+    ghost view = { λ dfa. record {
+      intervals = dfa.classes;
+      states = states_in dfa.ways.items (classes_in dfa.classes) dfa.targets.items dfa.states.items;
+      pending = map way_in (drop dfa.used dfa.ways.items);
+    } };
+
+    ghost invariant = { λ dfa. LieWithin dfa.used dfa.states.items
+        × (dfa.used ≤ length dfa.ways.items) × (length dfa.states.items ≤ 256)
+        × AllAgree dfa.states.items dfa.targets.items
+        × (length dfa.targets.items ≡ length dfa.states.items * classes_in dfa.classes)
+        × (dfa.width ≡ classes_in dfa.classes) × (dfa.width < 128) };
+}
+
+impl LazyDfa {
+    /// One that remembers nothing yet. Searches that go over `spare` bytes don't give it up.
+    pub(crate) fn new(
+        alloc: Global,
+        classes: Classes,
+        room: Room,
+        spare: usize,
+    ) -> Result<LazyDfa, AllocError>
+        ensures intervals { IfOk result (λ dfa. dfa.intervals ≡ classes) }
+        ensures states { IfOk result (λ dfa. dfa.states ≡ []) }
+        ensures pending { IfOk result (λ dfa. dfa.pending ≡ []) }
+    {
+        let states = Vec::with_capacity(alloc, room.states)?;
+        let targets = Vec::with_capacity(alloc, room.targets)?;
+        let ways = Vec::with_capacity(alloc, room.ways)?;
+        let width = classes.len();
+        Ok(LazyDfa {
+            classes,
+            states,
+            targets,
+            width,
+            ways,
+            used: 0,
+            not_kept: 0,
+            spare,
+        })
+    }
+
+    /// Whether too many turns have found no room for a search that has gone over this number of
+    /// bytes.
+    pub(super) fn is_given_up(&self, went: usize) -> bool {
+        self.not_kept.saturating_mul(BYTES_FOR_ONE) > self.spare.saturating_add(went)
+    }
+
+    /// Counts the bytes that a search has gone over.
+    pub(crate) fn count_bytes(&mut self, went: usize)
+        ensures { self.new ≡ self.old }
+    {
+        self.spare = self.spare.saturating_add(went);
+    }
+
+    /// Whether the graph has looks. Then so does every search for its turns.
+    pub(super) fn has_looks(&self) -> bool
+        ensures { result ≡ self.now.intervals.looks }
+    {
+        self.classes.looks()
+    }
+
+    /// Adds a pending way. Returns whether there was room.
+    pub(crate) fn push_way(&mut self, way: StoredWay) -> bool
+        ensures pushed { result ≡ true → self.new ≡ record self.old {
+          pending = self.old.pending ++ way_in way ∷ [];
+        } }
+        ensures same { self.new ≡ record self.old { pending = self.new.pending } }
+    {
+        if self.ways.len() >= self.ways.capacity() {
+            return false;
+        }
+        match self.ways.push(way) {
+            Ok(()) => true,
+            Err(_) => false,
+        }
+    }
+
+    /// Forgets the pending ways.
+    pub(crate) fn drop_pending(&mut self)
+        ensures { self.new ≡ record self.old { pending = [] } }
+    {
+        self.ways.truncate(self.used);
+    }
+
+    /// The state that has the pending ways and these properties, if it is there or there is room
+    /// for it.
+    #[tactic(auto, using(crate::proofs::lazy_dfa::StoredStateLemmas::length_states))]
+    pub(crate) fn settle(&mut self, searching: bool, before: Side, hit: Hit) -> Option<u16>
+        ensures state { IfSome result (λ y.
+            IsState self.new y self.old.pending searching before (hit_in hit)) }
+        ensures extends { Extends self.old self.new }
+        ensures none_pending { self.new.pending ≡ [] }
+    {
+        if let Some(y) = self.find_state(searching, before, hit) {
+            self.drop_pending();
+            return Some(y);
+        }
+        let y = self.states.len();
+        if !self.has_room() || !self.add(searching, before, hit) {
+            self.drop_pending();
+            self.not_kept = self.not_kept.saturating_add(1);
+            return None;
+        }
+        Some(y as u16)
+    }
+
+    /// Whether there is room for another state.
+    #[tactic(auto, using(crate::proofs::lazy_dfa::StoredStateLemmas::length_states))]
+    pub(super) fn has_room(&self) -> bool
+        ensures { result ≡ true → length self.now.states < 256 }
+    {
+        self.states.len() < self.states.capacity().min(MOST_STATES)
+            && self.targets.len() + self.classes.len() <= self.targets.capacity()
+    }
+
+    /// The state that has the pending ways and these properties.
+    #[tactic(auto, using(crate::proofs::lazy_dfa::StoredStateLemmas::length_states))]
+    fn find_state(&self, searching: bool, before: Side, hit: Hit) -> Option<u16>
+        ensures { IfSome result (λ y.
+            IsState self.now y self.now.pending searching before (hit_in hit)) }
+    {
+        let len = self.pending().len();
+        'states: for y in 0..self.states.len() {
+            let state = &self.states[y];
+            // Most states differ in how many ways they have.
+            if state.len == len
+                && state.is_like(searching, before, hit)
+                && are_same(self.ways(y), self.pending())
+            {
+                return Some(y as u16);
+            }
+        }
+        None
+    }
+
+    /// Adds a state with the pending ways and these properties. Returns whether there was memory.
+    fn add(&mut self, searching: bool, before: Side, hit: Hit) -> bool
+        requires { length self.old.states < 256 }
+        ensures state { result ≡ true → IsState self.new (length self.old.states)
+            self.old.pending searching before (hit_in hit) }
+        ensures extends { Extends self.old self.new }
+        ensures none_pending { result ≡ true → self.new.pending ≡ [] }
+    {
+        let state = StoredState {
+            from: self.used,
+            len: self.ways.len() - self.used,
+            searching,
+            before,
+            hit,
+        };
+        let rows = self.targets.len();
+        let longer = rows + self.classes.len();
+        let unknown = Target {
+            state: UNKNOWN,
+            effect: Effect {
+                is_plain: false,
+                completes: false,
+            },
+        };
+        let Ok(()) = self.targets.resize(longer, unknown) else {
+            return false;
+        };
+        match self.states.push(state) {
+            Ok(()) => {
+                self.used = self.ways.len();
+                true
+            }
+            Err(_) => {
+                self.targets.truncate(rows);
+                false
+            }
+        }
+    }
+
+    /// Remembers where a turn leads.
+    #[tactic(auto, using(crate::proofs::lazy_dfa::StoredStateLemmas::length_states))]
+    pub(crate) fn remember(&mut self, x: u16, class: usize, y: u16)
+        requires state { x < length self.old.states }
+        requires class { class < classes_in self.old.intervals }
+        requires target { y < length self.old.states }
+        ensures { (state : State) → slice_get self.old.states x ≡ Some state
+            → self.new ≡ record self.old {
+              states = slice_set self.old.states x
+                  (record state { next = slice_set state.next class y });
+            } }
+    {
+        let target = Target {
+            state: y,
+            effect: self.states[y as usize].effect(),
+        };
+        let cell = self.cell(x, class);
+        self.targets[cell] = target;
+    }
+
+    /// Where the turn from this state leads, if it is remembered.
+    #[inline(always)]
+    pub(super) fn known_target(&self, x: u16, class: usize) -> Option<Target>
+        requires state { x < length self.now.states }
+        requires class { class < classes_in self.now.intervals }
+        ensures known { IfSome result (λ target. ¬ (target.state ≡ unknown)
+            × ((state : State) → slice_get self.now.states x ≡ Some state
+            → slice_index state.next class ≡ target.state)) }
+        ensures effect { IfSome result (λ target. (hit : Option KeptOrigin)
+            → known_hit target.effect ≡ Some hit → (to : State)
+            × (slice_get self.now.states target.state ≡ Some to) × ¬ (to.ways ≡ [])
+            × (to.hit ≡ hit)) }
+    {
+        let target = self.targets[self.cell(x, class)];
+        // Most turns lead to plain states. These are remembered, so no other test is needed.
+        if !target.effect.is_plain && target.state as usize >= self.states.len() {
+            return None;
+        }
+        Some(target)
+    }
+
+    /// Where the target of this state for this class lies in the list of all.
+    #[inline(always)]
+    fn cell(&self, x: u16, class: usize) -> usize
+        requires state { x < length self.now.states }
+        requires class { class < classes_in self.now.intervals }
+        ensures { result ≡ x * classes_in self.now.intervals + class }
+    {
+        x as usize * self.width + class
+    }
+
+    /// The ways of the state.
+    #[tactic(auto, using(crate::proofs::lazy_dfa::StoredStateLemmas::length_states))]
+    pub(super) fn ways(&self, y: usize) -> &[StoredWay]
+        requires { y < length self.now.states }
+        ensures { (state : State) → slice_get self.now.states y ≡ Some state
+            → map way_in result.now ≡ state.ways }
+    {
+        let StoredState { from, len, .. } = self.states[y];
+        &self.ways[from..from + len]
+    }
+
+    /// The pending ways.
+    fn pending(&self) -> &[StoredWay]
+        ensures { map way_in result.now ≡ self.now.pending }
+    {
+        &self.ways[self.used..]
+    }
+}

@@ -1,0 +1,168 @@
+//! The characters at which what places read begins and ends.
+ghost use Rattle.std.specs.Prelude.{◌≡◌, ◌≤◌, ◌<◌, ◌∷◌, ◌++◌, [], All, true, length};
+ghost use Rattle.regex_lite_meta.specs.LazyDfa.Intervals.{AreBounded, IsBoundary, IsBoundedPlace};
+ghost use Rattle.regex_lite_meta.specs.LazyDfa.Intervals.{character_bounds, look_bounds};
+ghost use Rattle.regex_lite_meta.specs.LazyDfa.Boundaries.{Grows};
+
+use regex_lite_engine::nfa::place::Place;
+use regex_lite_syntax::ClassRange;
+use std::marker::Model;
+
+/// At most this many boundaries are kept, so that the number of an interval takes few bits.
+const MOST: usize = 125;
+
+/// Numbers that aren't characters, the surrogates and all above the last character, are kept apart
+/// from those that are.
+const CHARACTER_BOUNDS: [u32; 3] = [0xD800, 0xE000, 0x11_0000];
+
+/// What looks distinguish: line feeds, carriage returns, and the runs of word characters.
+const LOOK_BOUNDS: [u32; 12] = [10, 11, 13, 14, 48, 58, 65, 91, 95, 96, 97, 123];
+
+/// Where the intervals begin, except the lowest. They are few enough to need no block of memory.
+#[derive(Drop)]
+pub(crate) struct Boundaries {
+    /// In the order in which they were added, each once. Those before `len` are used.
+    cells: [u32; 125],
+    len: usize,
+    /// Whether some place looks at its neighbours.
+    looks: bool,
+}
+
+impl Model for Boundaries {
+    ghost use Rattle.std.specs.Prelude.{◌≡◌, ◌≤◌, All, true, take};
+    ghost use Rattle.regex_lite_meta.specs.LazyDfa.Intervals.{Intervals, IsBoundary, look_bounds};
+
+    ghost Value = { Intervals };
+
+    ghost view = { λ bounds. record {
+      boundaries = take bounds.len bounds.cells;
+      looks = bounds.looks;
+    } };
+
+    ghost invariant = { λ bounds. (bounds.len ≤ 125)
+        × (bounds.looks ≡ true → All (IsBoundary (take bounds.len bounds.cells)) look_bounds) };
+}
+
+impl Boundaries {
+    /// The boundaries between characters and other numbers.
+    pub(crate) fn new() -> Boundaries
+        ensures { All (IsBoundary result.boundaries) character_bounds }
+    {
+        let mut bounds = Boundaries {
+            cells: [0; MOST],
+            len: 0,
+            looks: false,
+        };
+        'bounds: for k in 0..CHARACTER_BOUNDS.len() {
+            bounds.push(CHARACTER_BOUNDS[k]);
+        }
+        bounds
+    }
+
+    /// All of them.
+    pub(crate) fn all(&self) -> &[u32]
+        ensures same { result.now ≡ self.now.boundaries }
+        ensures few { length result.now ≤ 125 }
+        ensures sides { self.now.looks ≡ true → All (IsBoundary result.now) look_bounds }
+    {
+        &self.cells[..self.len]
+    }
+
+    /// How many there are.
+    #[inline(always)]
+    pub(crate) fn len(&self) -> usize
+        ensures { result ≡ length self.now.boundaries }
+    {
+        self.len
+    }
+
+    /// Whether some place looks at its neighbours.
+    pub(crate) fn looks(&self) -> bool
+        ensures { result ≡ self.now.looks }
+    {
+        self.looks
+    }
+
+    /// Adds the boundaries of what the place reads. Returns whether there was room for them.
+    pub(crate) fn add_place(&mut self, place: &Place) -> bool
+        ensures bounded { result ≡ true → IsBoundedPlace self.new place.now }
+        ensures grows { Grows self.old self.new }
+    {
+        match place {
+            Place::Char { c, .. } => self.add(*c as u32) && self.add(*c as u32 + 1),
+            Place::Class { set, .. } => self.add_ranges(set.ranges()),
+            Place::Look { .. } => self.add_looks(),
+            _ => true,
+        }
+    }
+
+    /// Adds the boundaries of the ranges.
+    fn add_ranges(&mut self, ranges: &[ClassRange]) -> bool
+        ensures bounded { result ≡ true → AreBounded self.new.boundaries ranges.now }
+        ensures grows { Grows self.old self.new }
+    {
+        'bounds: for i in (0..ranges.len()).rev() {
+            let ClassRange { start, end } = ranges[i];
+            if !self.add(start as u32) || !self.add(end as u32 + 1) {
+                return false;
+            }
+        }
+        true
+    }
+
+    /// Adds the boundaries of what looks distinguish.
+    fn add_looks(&mut self) -> bool
+        ensures looks { result ≡ true → self.new.looks ≡ true }
+        ensures grows { Grows self.old self.new }
+    {
+        'bounds: for k in 0..LOOK_BOUNDS.len() {
+            if !self.add(LOOK_BOUNDS[k]) {
+                return false;
+            }
+        }
+        self.looks = true;
+        true
+    }
+
+    /// Adds a boundary at this number. Returns whether there was room for it.
+    #[tactic(auto, using(crate::proofs::lazy_dfa::BoundaryLemmas::one_more))]
+    fn add(&mut self, bound: u32) -> bool
+        ensures added { result ≡ true → IsBoundary self.new.boundaries bound }
+        ensures grows { Grows self.old self.new }
+        ensures looks { self.new.looks ≡ self.old.looks }
+    {
+        if is_among(self.all(), bound) {
+            return true;
+        }
+        if self.len >= MOST {
+            return false;
+        }
+        self.push(bound);
+        true
+    }
+
+    /// Adds a boundary at this number, for which there is room.
+    #[tactic(auto, using(crate::proofs::lazy_dfa::BoundaryLemmas::one_more))]
+    fn push(&mut self, bound: u32)
+        requires { length self.old.boundaries < 125 }
+        ensures { self.new ≡ record self.old {
+          boundaries = self.old.boundaries ++ bound ∷ [];
+        } }
+    {
+        self.cells[self.len] = bound;
+        self.len += 1;
+    }
+}
+
+/// Whether an interval begins at this number.
+#[tactic(auto, using(crate::proofs::lazy_dfa::BoundaryLemmas::boundary_at))]
+fn is_among(boundaries: &[u32], bound: u32) -> bool
+    ensures { result ≡ true → IsBoundary boundaries.now bound }
+{
+    'bounds: for k in 0..boundaries.len() {
+        if boundaries[k] == bound {
+            return true;
+        }
+    }
+    false
+}

@@ -1,0 +1,184 @@
+//! Classes of characters that no place of a graph distinguishes.
+ghost use Rattle.std.specs.Prelude.{◌≡◌, ◌+◌, ◌≤◌, ◌<◌, ℕ, IfOk, IfSome};
+ghost use Rattle.std.specs.Prelude.{IsCharBoundary, length, nat_le, slice_index};
+ghost use Rattle.regex_lite_meta.specs.LazyDfa.Intervals.{AreIntervalsOf, IsAhead, IsInterval};
+ghost use Rattle.regex_lite_meta.specs.LazyDfa.Intervals.{class_of, classes_in};
+ghost use Rattle.regex_lite_meta.specs.LazyDfa.Intervals.{interval_of, tick};
+
+use crate::lazy_dfa::boundaries::Boundaries;
+use crate::lazy_dfa::interval::Interval;
+use regex_lite_engine::nfa::place::Place;
+use regex_lite_engine::search::here::first_char;
+use std::marker::Model;
+
+/// The class of a character, and the offset at which the character ends.
+#[derive(Clone, Copy)]
+pub(crate) struct Ahead {
+    pub class: usize,
+    pub end: usize,
+}
+
+/// The intervals between the boundaries of all that a graph reads. The end of a haystack is in a
+/// class of its own.
+#[derive(Drop)]
+pub(crate) struct Classes {
+    boundaries: Boundaries,
+    /// The intervals of the ASCII characters.
+    ascii: [u8; 128],
+}
+
+impl Model for Classes {
+    ghost use Rattle.std.specs.Prelude.{◌≡◌, ◌≤◌, ◌<◌, ℕ, length, slice_index};
+    ghost use Rattle.regex_lite_meta.specs.LazyDfa.Intervals.{Intervals, interval_of};
+
+    ghost Value = { Intervals };
+
+    ghost view = { λ classes. classes.boundaries };
+
+    ghost invariant = { λ classes. (length classes.boundaries.boundaries ≤ 125)
+        × ((c : ℕ) → c < 128
+        → slice_index classes.ascii c ≡ interval_of classes.boundaries.boundaries c) };
+}
+
+impl Classes {
+    /// The classes of characters that these places don't distinguish; none if there would be too
+    /// many.
+    pub(crate) fn of(places: &[Place]) -> Option<Classes>
+        ensures { IfSome result (AreIntervalsOf places.now) }
+    {
+        let mut boundaries = Boundaries::new();
+        'places: for q in 0..places.len() {
+            if !boundaries.add_place(&places[q]) {
+                return None;
+            }
+        }
+        let ascii = ascii_of(boundaries.all());
+        Some(Classes { boundaries, ascii })
+    }
+
+    /// Whether some place looks at its neighbours.
+    pub(crate) fn looks(&self) -> bool
+        ensures { result ≡ self.now.looks }
+    {
+        self.boundaries.looks()
+    }
+
+    /// How many classes there are.
+    #[inline(always)]
+    pub(crate) fn len(&self) -> usize
+        ensures same { result ≡ classes_in self.now }
+        ensures few { result < 128 }
+    {
+        self.boundaries.len() + 2
+    }
+
+    /// The class of the next character, or of the end.
+    pub(crate) fn class(&self, next: Option<char>) -> usize
+        ensures same { result ≡ class_of self.now.boundaries next }
+        ensures few { result < classes_in self.now }
+    {
+        match next {
+            None => self.boundaries.len() + 1,
+            Some(c) => self.interval(c),
+        }
+    }
+
+    /// The class of the character.
+    #[tactic(auto, using(crate::proofs::lazy_dfa::IntervalLemmas::interval_within))]
+    fn interval(&self, c: char) -> usize
+        ensures same { result ≡ interval_of self.now.boundaries c }
+        ensures inside { result ≤ length self.now.boundaries }
+    {
+        if c.is_ascii() {
+            self.ascii[c as usize] as usize
+        } else {
+            Interval::around(self.boundaries.all(), c as u32).class
+        }
+    }
+
+    /// The class of the character at this offset, and where the character ends. None at the end of
+    /// the haystack. The interval of one that isn't ASCII is remembered as `near`.
+    #[inline(always)]
+    #[tactic(auto, using(crate::proofs::lazy_dfa::IntervalLemmas::interval_within))]
+    pub(super) fn ahead(&self, haystack: &str, at: usize, near: &mut Interval) -> Option<Ahead>
+        requires boundary { IsCharBoundary haystack.now at }
+        requires near { IsInterval self.now.boundaries near.old }
+        ensures ahead { IfSome result (IsAhead self.now.boundaries haystack.now at) }
+        ensures few { IfSome result (λ ahead. ahead.class < classes_in self.now) }
+        ensures near { IsInterval self.now.boundaries near.new }
+    {
+        let bytes = haystack.as_bytes();
+        if at >= bytes.len() {
+            return None;
+        }
+        let byte = bytes[at];
+        if byte >= 128 {
+            return self.wide_ahead(haystack, at, near);
+        }
+        Some(Ahead {
+            class: self.ascii[byte as usize] as usize,
+            end: at + 1,
+        })
+    }
+
+    /// Like `ahead`, for a character that may not be ASCII.
+    #[inline(always)]
+    fn wide_ahead(&self, haystack: &str, at: usize, near: &mut Interval) -> Option<Ahead>
+        requires inside { at < length haystack.now }
+        requires boundary { IsCharBoundary haystack.now at }
+        requires near { IsInterval self.now.boundaries near.old }
+        ensures ahead { IfSome result (IsAhead self.now.boundaries haystack.now at) }
+        ensures few { IfSome result (λ ahead. ahead.class < classes_in self.now) }
+        ensures near { IsInterval self.now.boundaries near.new }
+    {
+        let Some(c) = first_char(haystack, at) else {
+            return None;
+        };
+        Some(Ahead {
+            class: self.class_near(c as u32, near),
+            end: at + c.len_utf8(),
+        })
+    }
+
+    /// The class of the character, which is likely to be in this interval. If it isn't, the
+    /// interval is replaced by its own.
+    #[inline(always)]
+    fn class_near(&self, c: u32, near: &mut Interval) -> usize
+        requires { IsInterval self.now.boundaries near.old }
+        ensures same { interval_of self.now.boundaries c ≡ result }
+        ensures few { result < classes_in self.now }
+        ensures near { IsInterval self.now.boundaries near.new }
+    {
+        let boundaries = self.boundaries.all();
+        if !near.has(c) {
+            near.come_to(boundaries, c);
+        }
+        near.class
+    }
+}
+
+/// The intervals of the ASCII characters: a boundary counts for those from it on.
+#[tactic(auto, using(crate::proofs::lazy_dfa::IntervalLemmas::interval_steps))]
+fn ascii_of(boundaries: &[u32]) -> [u8; 128]
+    requires { length boundaries.now ≤ 125 }
+    ensures { (c : ℕ) → c < 128 → slice_index result c ≡ interval_of boundaries.now c }
+{
+    let mut ascii = [0; 128];
+    'bounds: for k in (0..boundaries.len()).rev() {
+        if boundaries[k] < 128 {
+            count_from(&mut ascii, boundaries[k] as usize);
+        }
+    }
+    ascii
+}
+
+/// Counts one more for each character from this one on.
+fn count_from(ascii: &mut [u8; 128], from: usize)
+    requires { (c : ℕ) → c < 128 → slice_index ascii.old c < 125 }
+    ensures { (c : ℕ) → c < 128
+        → slice_index ascii.new c ≡ tick (nat_le from c) + slice_index ascii.old c }
+{
+    'characters: for c in from..128 {
+        ascii[c] += 1;
+    }
+}

@@ -1,0 +1,244 @@
+//! A whole search that remembers its turns, and goes by those that it remembers.
+ghost use Rattle.std.specs.Prelude.{◌≡◌, ◌+◌, ◌≤◌, [], ℕ, IfErr, IfOk, IfSome, IsCharBoundary};
+ghost use Rattle.std.specs.Prelude.{MatchOption, chars, length};
+ghost use Rattle.regex_lite_meta.specs.LazyDfa.Automaton.{Remembers};
+ghost use Rattle.regex_lite_meta.specs.LazyDfa.Learning.{HasTurned, IsIn};
+ghost use Rattle.regex_lite_meta.specs.LazyDfa.Running.{Stands};
+ghost use Rattle.regex_lite_meta.specs.LazyDfa.Scanning.{best_told};
+ghost use Rattle.regex_lite_engine.specs.Graph.Renumbered.{arrows_of};
+ghost use Rattle.regex_lite_engine.specs.Search.Starts.{AreAllStarts};
+ghost use Rattle.regex_lite_engine.specs.Search.Bounds.{IsBoundedBy, characters_left};
+ghost use Rattle.regex_lite_engine.specs.Search.Offsets.{position_at};
+ghost use Rattle.regex_lite_engine.specs.Search.Counting.{CanCount};
+ghost use Rattle.regex_lite_engine.specs.Search.NumberedOutcomes.{IsBestOutcomeOf};
+ghost use Rattle.regex_lite_engine.specs.Pikevm.Searching.{IsFresh, IsBetween};
+
+use crate::lazy_dfa::automaton::LazyDfa;
+use crate::lazy_dfa::learn::Taken;
+use crate::lazy_dfa::run::{Progress, go_over, next_position};
+use crate::lazy_dfa::scan::{Scanned, Standing};
+use crate::lazy_dfa::turns::take_turns;
+use regex_lite_engine::pikevm::beginning::Origin;
+use regex_lite_engine::pikevm::cache::Cache;
+use regex_lite_engine::pikevm::run::is_over;
+use regex_lite_engine::search::patterns::Patterns;
+
+impl LazyDfa {
+    /// Where the most preferred match starts and ends, from the least start at or after this
+    /// offset. No turn is looked up before the search has entered this many places, none or one:
+    /// before the first turn, a new automaton has none.
+    // Not inlined, so that a search without an automaton costs no more than the test for it.
+    #[inline(never)]
+    pub(crate) fn find<P: Patterns>(
+        &mut self,
+        patterns: &P,
+        cache: &mut Cache<Origin>,
+        haystack: &str,
+        start: usize,
+        least: u128,
+    ) -> Option<(Origin, usize)>
+        requires all { AreAllStarts (P.table patterns.now) (P.entries patterns.now)
+            (P.starts patterns.now) }
+        requires boundary { IsCharBoundary haystack.now start }
+        requires remembers { Remembers (P.table patterns.now) (P.entries patterns.now) self.old }
+        requires none_pending { self.old.pending ≡ [] }
+        requires fresh { IsFresh (P.table patterns.now) cache.old }
+        requires counts { CanCount (P.table patterns.now) (length (P.entries patterns.now))
+            (characters_left (chars haystack.now) (position_at haystack.now start)) }
+        requires width { length cache.old.walk.memory.row ≡ 0 }
+        requires least { least ≤ 1 }
+        ensures found { IsBestOutcomeOf (P.table patterns.now) (chars haystack.now)
+            (P.entries patterns.now) (position_at haystack.now start) (best_told result) }
+        ensures bounded { IsBoundedBy (length (P.table patterns.now))
+            (arrows_of (P.table patterns.now) + length (P.entries patterns.now))
+            (chars haystack.now) (position_at haystack.now start) cache.new.walk.steps.tried
+            cache.new.walk.steps.entered cache.new.walk.steps.looked }
+        ensures entered { IfSome result (λ _. least ≤ cache.new.walk.steps.entered) }
+        ensures remembers { Remembers (P.table patterns.now) (P.entries patterns.now) self.new }
+        ensures none_pending { self.new.pending ≡ [] }
+        ensures between { IsBetween (P.table patterns.now) cache.new }
+        ensures width { length cache.new.walk.memory.row ≡ 0 }
+    {
+        let at = Progress::begun(haystack, start);
+        self.find_from(patterns, cache, haystack, at, least)
+    }
+
+    /// The same from where a search stands.
+    pub(super) fn find_from<P: Patterns>(
+        &mut self,
+        patterns: &P,
+        cache: &mut Cache<Origin>,
+        haystack: &str,
+        from: Progress,
+        least: u128,
+    ) -> Option<(Origin, usize)>
+        requires all { AreAllStarts (P.table patterns.now) (P.entries patterns.now)
+            (P.starts patterns.now) }
+        requires remembers { Remembers (P.table patterns.now) (P.entries patterns.now) self.old }
+        requires none_pending { self.old.pending ≡ [] }
+        requires stands { (s : ℕ)
+            × CanCount (P.table patterns.now) (length (P.entries patterns.now))
+            (characters_left (chars haystack.now) s)
+            × Stands (P.table patterns.now) (chars haystack.now) (P.entries patterns.now) s self.old
+            from cache.old }
+        requires least { least ≤ 1 }
+        ensures found { (s : ℕ) → Stands (P.table patterns.now) (chars haystack.now)
+            (P.entries patterns.now) s self.old from cache.old
+            → IsBestOutcomeOf (P.table patterns.now) (chars haystack.now) (P.entries patterns.now) s
+            (best_told result) }
+        ensures bounded { (s : ℕ) → Stands (P.table patterns.now) (chars haystack.now)
+            (P.entries patterns.now) s self.old from cache.old
+            → IsBoundedBy (length (P.table patterns.now))
+            (arrows_of (P.table patterns.now) + length (P.entries patterns.now))
+            (chars haystack.now) s cache.new.walk.steps.tried cache.new.walk.steps.entered
+            cache.new.walk.steps.looked }
+        ensures entered { IfSome result (λ _. least ≤ cache.new.walk.steps.entered) }
+        ensures remembers { Remembers (P.table patterns.now) (P.entries patterns.now) self.new }
+        ensures none_pending { self.new.pending ≡ [] }
+        ensures between { IsBetween (P.table patterns.now) cache.new }
+        ensures width { length cache.new.walk.memory.row ≡ 0 }
+    {
+        match self.find_while_it_pays(patterns, cache, haystack, from, least) {
+            Ok(found) => found,
+            Err(at) => {
+                take_turns(cache, patterns, haystack, at, None);
+                cache.best.found()
+            }
+        }
+    }
+
+    /// The same, unless too many turns find no room: then it returns where the search stands.
+    pub(crate) fn find_while_it_pays<P: Patterns>(
+        &mut self,
+        patterns: &P,
+        cache: &mut Cache<Origin>,
+        haystack: &str,
+        from: Progress,
+        least: u128,
+    ) -> Result<Option<(Origin, usize)>, Progress>
+        requires all { AreAllStarts (P.table patterns.now) (P.entries patterns.now)
+            (P.starts patterns.now) }
+        requires remembers { Remembers (P.table patterns.now) (P.entries patterns.now) self.old }
+        requires none_pending { self.old.pending ≡ [] }
+        requires stands { (s : ℕ)
+            × CanCount (P.table patterns.now) (length (P.entries patterns.now))
+            (characters_left (chars haystack.now) s)
+            × Stands (P.table patterns.now) (chars haystack.now) (P.entries patterns.now) s self.old
+            from cache.old }
+        requires least { least ≤ 1 }
+        ensures found { (s : ℕ) → Stands (P.table patterns.now) (chars haystack.now)
+            (P.entries patterns.now) s self.old from cache.old
+            → IfOk result (λ found. IsBestOutcomeOf (P.table patterns.now) (chars haystack.now)
+            (P.entries patterns.now) s (best_told found)) }
+        ensures bounded { (s : ℕ) → Stands (P.table patterns.now) (chars haystack.now)
+            (P.entries patterns.now) s self.old from cache.old
+            → IfOk result (λ _. IsBoundedBy (length (P.table patterns.now))
+            (arrows_of (P.table patterns.now) + length (P.entries patterns.now))
+            (chars haystack.now) s cache.new.walk.steps.tried cache.new.walk.steps.entered
+            cache.new.walk.steps.looked) }
+        ensures entered { IfOk result (λ found. IfSome found
+            (λ _. least ≤ cache.new.walk.steps.entered)) }
+        ensures stands { (s : ℕ) → Stands (P.table patterns.now) (chars haystack.now)
+            (P.entries patterns.now) s self.old from cache.old
+            → IfErr result (λ at. Stands (P.table patterns.now) (chars haystack.now)
+            (P.entries patterns.now) s self.new at cache.new) }
+        ensures remembers { Remembers (P.table patterns.now) (P.entries patterns.now) self.new }
+        ensures none_pending { self.new.pending ≡ [] }
+        ensures between { IsBetween (P.table patterns.now) cache.new }
+        ensures width { length cache.new.walk.memory.row ≡ 0 }
+    {
+        let mut at = from;
+        'positions: loop {
+            at = self.at_idle(patterns, cache, haystack, at);
+            if let Some(found) = self.look_ahead(patterns, cache, haystack, &mut at, least) {
+                return Ok(found);
+            }
+            if self.is_given_up(at.here.at.saturating_sub(from.here.at)) {
+                return Err(at);
+            }
+            let hit = go_over(cache, patterns, haystack, at.here);
+            at.state = self.learn_at(patterns, cache, at, hit);
+            if is_over(at.here, &cache.walk.memory, &cache.best) {
+                return Ok(cache.best.found());
+            }
+            at = next_position(cache, haystack, at);
+        }
+    }
+
+    /// Remembers the turn, if the state from which it was taken is known, unless the last scan went
+    /// on by it. Returns the state that the search is in.
+    pub(super) fn learn_at<P: Patterns>(
+        &mut self,
+        patterns: &P,
+        cache: &Cache<Origin>,
+        at: Progress,
+        hit: bool,
+    ) -> Option<u16>
+        requires remembers { Remembers (P.table patterns.now) (P.entries patterns.now) self.old }
+        requires none_pending { self.old.pending ≡ [] }
+        requires turned { MatchOption at.state (Unit {0}) (λ x. HasTurned (P.table patterns.now)
+            (P.entries patterns.now) self.old x at.first at.here hit cache.now) }
+        requires between { IsBetween (P.table patterns.now) cache.now }
+        ensures remembers { Remembers (P.table patterns.now) (P.entries patterns.now) self.new }
+        ensures none_pending { self.new.pending ≡ [] }
+        ensures state { MatchOption result (Unit {0})
+            (λ y. IsIn self.new y at.first at.here.after cache.now) }
+    {
+        if at.was_scanned() {
+            return None;
+        }
+        let taken = Taken {
+            state: at.state?,
+            first: at.first,
+            here: at.here,
+            hit,
+        };
+        self.learn(patterns, taken, cache)
+    }
+
+    /// Goes by turns that are remembered, if the search has entered this many places. Returns the
+    /// answer where they lead to it. Else the search goes on where they end, or where it was.
+    fn look_ahead<P: Patterns>(
+        &self,
+        patterns: &P,
+        cache: &mut Cache<Origin>,
+        haystack: &str,
+        at: &mut Progress,
+        least: u128,
+    ) -> Option<Option<(Origin, usize)>>
+        requires remembers { Remembers (P.table patterns.now) (P.entries patterns.now) self.now }
+        requires stands { (s : ℕ) × Stands (P.table patterns.now) (chars haystack.now)
+            (P.entries patterns.now) s self.now at.old cache.old }
+        ensures stands { (s : ℕ) → Stands (P.table patterns.now) (chars haystack.now)
+            (P.entries patterns.now) s self.now at.old cache.old
+            → MatchOption result (Stands (P.table patterns.now) (chars haystack.now)
+            (P.entries patterns.now) s self.now at.new cache.new)
+            (λ best. IsBestOutcomeOf (P.table patterns.now) (chars haystack.now)
+            (P.entries patterns.now) s (best_told best)) }
+        ensures between { IsBetween (P.table patterns.now) cache.new }
+        ensures width { length cache.new.walk.memory.row ≡ 0 }
+        ensures later { at.old.here.at ≤ at.new.here.at }
+        ensures entered { IfSome result (λ _. least ≤ cache.new.walk.steps.entered) }
+        ensures same { IfSome result (λ _. cache.new ≡ cache.old) }
+    {
+        let Some(state) = at.state else {
+            return None;
+        };
+        if at.here.at < at.until || cache.walk.steps.entered() < least {
+            return None;
+        }
+        let from = Standing {
+            here: at.here,
+            state,
+            first: at.first,
+            best: cache.best.found(),
+        };
+        match self.scan(patterns, haystack, from) {
+            Scanned::Found(best) => Some(best),
+            Scanned::Stuck { at: stuck, idle } => {
+                self.resume(patterns, cache, at, stuck, idle);
+                None
+            }
+        }
+    }
+}

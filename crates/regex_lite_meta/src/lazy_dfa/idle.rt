@@ -1,0 +1,258 @@
+//! Positions at which there is nothing to go on from, and no match: a search goes on by turns, if
+//! they are known, or else passes over those at which no match can begin.
+ghost use Rattle.std.specs.Prelude.{◌≡◌, ◌<◌, ◌≤◌, [], ℕ, List, IfSome, MatchOption, None, Some};
+ghost use Rattle.std.specs.Prelude.{chars, false, length, slice_get, true};
+ghost use Rattle.regex_lite_meta.specs.LazyDfa.Automaton.{IsEmptyState, Remembers, State};
+ghost use Rattle.regex_lite_meta.specs.LazyDfa.Running.{Stands, StandsIdle};
+ghost use Rattle.regex_lite_meta.specs.LazyDfa.Scanning.{best_told, IsScanning, IsSince};
+ghost use Rattle.regex_lite_engine.specs.Graph.Places.{Place};
+ghost use Rattle.regex_lite_engine.specs.Search.NumberedOutcomes.{IsBestOutcomeOf};
+ghost use Rattle.regex_lite_engine.specs.Search.Standing.{IsHere};
+ghost use Rattle.regex_lite_engine.specs.Search.Starts.{PassesTo};
+ghost use Rattle.regex_lite_engine.specs.Search.Starts.{AreDeadAt};
+
+use crate::lazy_dfa::automaton::LazyDfa;
+use crate::lazy_dfa::run::Progress;
+use crate::lazy_dfa::scan::Standing;
+use crate::lazy_dfa::state::Hit;
+use regex_lite_engine::pikevm::beginning::Origin;
+use regex_lite_engine::pikevm::cache::Cache;
+use regex_lite_engine::search::here::Here;
+use regex_lite_engine::search::patterns::Patterns;
+
+/// Turns over no more bytes than these are faster than passing over them.
+const NEAR: usize = 4;
+
+impl LazyDfa {
+    /// Where there is neither a thread nor a match, passes over positions at which no match can
+    /// begin, unless turns are faster.
+    pub(super) fn at_idle<P: Patterns>(
+        &mut self,
+        patterns: &P,
+        cache: &Cache<Origin>,
+        haystack: &str,
+        at: Progress,
+    ) -> Progress
+        requires remembers { Remembers (P.table patterns.now) (P.entries patterns.now) self.old }
+        requires none_pending { self.old.pending ≡ [] }
+        requires stands { (s : ℕ) × Stands (P.table patterns.now) (chars haystack.now)
+            (P.entries patterns.now) s self.old at cache.now }
+        ensures remembers { Remembers (P.table patterns.now) (P.entries patterns.now) self.new }
+        ensures none_pending { self.new.pending ≡ [] }
+        ensures stands { (s : ℕ) → Stands (P.table patterns.now) (chars haystack.now)
+            (P.entries patterns.now) s self.old at cache.now
+            → Stands (P.table patterns.now) (chars haystack.now) (P.entries patterns.now) s self.new
+            result cache.now }
+        ensures later { at.here.at ≤ result.here.at }
+    {
+        if cache.walk.memory.threads() > 0 || !cache.best.is_none() {
+            return self.find_state_again(patterns, cache, at);
+        }
+        if let Some(idle) = self.stay_idle(patterns, at) {
+            return idle;
+        }
+        let here = self.leave_idle(patterns, haystack, at.here);
+        let state = self.idle_state(here.before);
+        Progress {
+            here,
+            state,
+            first: here.at,
+            until: at.until,
+        }
+    }
+
+    /// The state without ways in which a match is searched for after this character, if there is
+    /// room for it.
+    fn idle_state(&mut self, before: Option<char>) -> Option<u16>
+        requires none_pending { self.old.pending ≡ [] }
+        ensures remembers { (table : List (Place ℕ)) (entries : List ℕ)
+            → Remembers table entries self.old → Remembers table entries self.new }
+        ensures none_pending { self.new.pending ≡ [] }
+        ensures state { MatchOption result (Unit {0}) (λ y. IsEmptyState self.new y before) }
+    {
+        let side = self.side(before);
+        self.settle(true, side, Hit::Nowhere)
+    }
+
+    /// The same position in the state without ways, if a turn from there is remembered.
+    pub(super) fn stay_idle<P: Patterns>(&self, patterns: &P, at: Progress) -> Option<Progress>
+        ensures { IfSome result (StandsIdle self.now at.here) }
+    {
+        // A prefilter is faster than turns.
+        if patterns.has_prefilter() {
+            return None;
+        }
+        let state = self.empty_state(at.here.before)?;
+        if !self.knows(state, at.here.after) {
+            return None;
+        }
+        Some(Progress {
+            here: at.here,
+            state: Some(state),
+            first: at.here.at,
+            until: at.until,
+        })
+    }
+
+    /// The next position at which a match can begin, or this one, if its turn is worth taking.
+    pub(super) fn leave_idle<P: Patterns>(&self, patterns: &P, haystack: &str, here: Here) -> Here
+        requires { (p : ℕ) × IsHere (chars haystack.now) p here }
+        ensures { (p : ℕ) → IsHere (chars haystack.now) p here
+            → PassesTo (AreDeadAt (P.table patterns.now) (chars haystack.now)
+            (P.entries patterns.now)) (chars haystack.now) p result }
+    {
+        let next = patterns.pass_over(haystack, here);
+        if self.is_worth_a_turn(patterns, here, next) {
+            return here;
+        }
+        next
+    }
+
+    /// Goes on by remembered turns, and over positions at which no match can begin. Returns whether
+    /// nothing leads on from the last match, which is the answer then.
+    pub(super) fn run_on<P: Patterns>(
+        &self,
+        patterns: &P,
+        haystack: &str,
+        at: &mut Standing,
+    ) -> bool
+        requires remembers { Remembers (P.table patterns.now) (P.entries patterns.now) self.now }
+        requires scanning { (low p : ℕ) × IsScanning (P.table patterns.now) (P.entries patterns.now)
+            (chars haystack.now) low p self.now at.old }
+        ensures over { result ≡ true → (low p : ℕ) → IsScanning (P.table patterns.now)
+            (P.entries patterns.now) (chars haystack.now) low p self.now at.old
+            → IsBestOutcomeOf (P.table patterns.now) (chars haystack.now) (P.entries patterns.now)
+            low (best_told at.new.best) }
+        ensures on { result ≡ false → (low p : ℕ) → IsScanning (P.table patterns.now)
+            (P.entries patterns.now) (chars haystack.now) low p self.now at.old
+            → (q : ℕ) × (p ≤ q) × IsScanning (P.table patterns.now) (P.entries patterns.now)
+            (chars haystack.now) low q self.now at.new
+            × IsSince (P.table patterns.now) (P.entries patterns.now) (chars haystack.now) low p
+            at.old.first at.new.first }
+    {
+        if self.run(patterns, haystack, at) {
+            return true;
+        }
+        self.leap_on(patterns, haystack, at)
+    }
+
+    /// Like `run_on`, but passes over positions first.
+    // Not inlined, so that a search without a prefilter costs no more than the call.
+    #[inline(never)]
+    fn leap_on<P: Patterns>(&self, patterns: &P, haystack: &str, at: &mut Standing) -> bool
+        requires remembers { Remembers (P.table patterns.now) (P.entries patterns.now) self.now }
+        requires scanning { (low p : ℕ) × IsScanning (P.table patterns.now) (P.entries patterns.now)
+            (chars haystack.now) low p self.now at.old }
+        ensures over { result ≡ true → (low p : ℕ) → IsScanning (P.table patterns.now)
+            (P.entries patterns.now) (chars haystack.now) low p self.now at.old
+            → IsBestOutcomeOf (P.table patterns.now) (chars haystack.now) (P.entries patterns.now)
+            low (best_told at.new.best) }
+        ensures on { result ≡ false → (low p : ℕ) → IsScanning (P.table patterns.now)
+            (P.entries patterns.now) (chars haystack.now) low p self.now at.old
+            → (q : ℕ) × (p ≤ q) × IsScanning (P.table patterns.now) (P.entries patterns.now)
+            (chars haystack.now) low q self.now at.new
+            × IsSince (P.table patterns.now) (P.entries patterns.now) (chars haystack.now) low p
+            at.old.first at.new.first }
+    {
+        'leaps: loop {
+            if !self.leap(patterns, haystack, at) {
+                return false;
+            }
+            if self.run(patterns, haystack, at) {
+                return true;
+            }
+        }
+    }
+
+    /// Like `run_on`, up to the first match that ends, if there is none yet.
+    pub(super) fn run_on_to_match<P: Patterns>(
+        &self,
+        patterns: &P,
+        haystack: &str,
+        at: &mut Standing,
+    )
+        requires remembers { Remembers (P.table patterns.now) (P.entries patterns.now) self.now }
+        requires scanning { (low p : ℕ) × IsScanning (P.table patterns.now) (P.entries patterns.now)
+            (chars haystack.now) low p self.now at.old }
+        ensures on { (low p : ℕ) → IsScanning (P.table patterns.now) (P.entries patterns.now)
+            (chars haystack.now) low p self.now at.old
+            → (q : ℕ) × (p ≤ q) × IsScanning (P.table patterns.now) (P.entries patterns.now)
+            (chars haystack.now) low q self.now at.new
+            × IsSince (P.table patterns.now) (P.entries patterns.now) (chars haystack.now) low p
+            at.old.first at.new.first }
+        ensures none { at.new.best ≡ at.old.best }
+    {
+        'leaps: loop {
+            self.run_to_match(patterns, haystack, at);
+            if !self.leap(patterns, haystack, at) {
+                return;
+            }
+        }
+    }
+
+    /// Where there is nothing to go on from and no match, asks the prefilter, if there is one, for
+    /// the next position at which a match can begin. Returns whether that is a later one. It stays
+    /// in the same state, so the graph has no looks.
+    #[inline(always)]
+    fn leap<P: Patterns>(&self, patterns: &P, haystack: &str, at: &mut Standing) -> bool
+        requires scanning { (low p : ℕ) × IsScanning (P.table patterns.now) (P.entries patterns.now)
+            (chars haystack.now) low p self.now at.old }
+        ensures on { result ≡ true → (low p : ℕ) → IsScanning (P.table patterns.now)
+            (P.entries patterns.now) (chars haystack.now) low p self.now at.old
+            → (q : ℕ) × (p ≤ q) × IsScanning (P.table patterns.now) (P.entries patterns.now)
+            (chars haystack.now) low q self.now at.new
+            × IsSince (P.table patterns.now) (P.entries patterns.now) (chars haystack.now) low p
+            at.old.first at.new.first }
+        ensures later { result ≡ true → at.old.here.at < at.new.here.at }
+        ensures same { result ≡ false → at.new ≡ at.old }
+        ensures none { at.new.best ≡ at.old.best }
+    {
+        if !self.may_leap(patterns, at) {
+            return false;
+        }
+        let next = patterns.pass_over(haystack, at.here);
+        if next.at <= at.here.at {
+            return false;
+        }
+        at.here = next;
+        at.first = next.at;
+        true
+    }
+
+    /// Whether there is nothing to go on from and no match, a prefilter and no looks.
+    #[inline(always)]
+    fn may_leap<P: Patterns>(&self, patterns: &P, at: &Standing) -> bool
+        requires { at.now.state < length self.now.states }
+        ensures looks { result ≡ true → self.now.intervals.looks ≡ false }
+        ensures none { result ≡ true → at.now.best ≡ None }
+        ensures empty { result ≡ true → (state : State)
+            → slice_get self.now.states at.now.state ≡ Some state → state.ways ≡ [] }
+    {
+        patterns.has_prefilter()
+            && !self.has_looks()
+            && at.best.is_none()
+            && self.is_empty(at.state)
+    }
+
+    /// Whether it pays to take the turns up to this position, so that they are remembered.
+    #[inline(always)]
+    pub(super) fn is_worth_a_turn<P: Patterns>(
+        &self,
+        patterns: &P,
+        here: Here,
+        next: Here,
+    ) -> bool {
+        !patterns.has_prefilter()
+            && here.at < next.at
+            && next.at - here.at <= NEAR
+            && self.has_room()
+    }
+
+    /// Whether the turn from this state is remembered.
+    #[inline(always)]
+    pub(super) fn knows(&self, x: u16, next: Option<char>) -> bool
+        requires { x < length self.now.states }
+    {
+        self.known_target(x, self.classes.class(next)).is_some()
+    }
+}

@@ -1,0 +1,187 @@
+//! Turns of a search, remembered.
+ghost use Rattle.std.specs.Prelude.{◌≡◌, ◌∷◌, [], ◌<◌, ◌≤◌, ◌++◌, ℕ, IfSome};
+ghost use Rattle.std.specs.Prelude.{MatchOption, Some, length, map, slice_get, true};
+ghost use Rattle.regex_lite_meta.specs.LazyDfa.Automaton.{FitsTable, Remembers, State};
+ghost use Rattle.regex_lite_meta.specs.LazyDfa.Automaton.{hit_of, searching_after, ways_of};
+ghost use Rattle.regex_lite_meta.specs.LazyDfa.Intervals.{side_of};
+ghost use Rattle.regex_lite_meta.specs.LazyDfa.Learning.{HasTurned, IsIn};
+ghost use Rattle.regex_lite_meta.specs.LazyDfa.Running.{Stands};
+ghost use Rattle.regex_lite_meta.specs.LazyDfa.Stored.{hit_in};
+ghost use Rattle.regex_lite_syntax.specs.Text.{Text};
+ghost use Rattle.regex_lite_engine.specs.Pikevm.Searching.{IsBetween};
+ghost use Rattle.regex_lite_engine.specs.Pikevm.Turns.{best_of};
+
+use crate::lazy_dfa::automaton::LazyDfa;
+use crate::lazy_dfa::run::Progress;
+use crate::lazy_dfa::side::Side;
+use crate::lazy_dfa::state::{Hit, StoredWay};
+use regex_lite_engine::pikevm::beginning::Origin;
+use regex_lite_engine::pikevm::cache::Cache;
+use regex_lite_engine::pikevm::memory::Memory;
+use regex_lite_engine::search::here::{Here, byte_len};
+use regex_lite_engine::search::patterns::Patterns;
+
+/// A turn that a search has taken: from which state, with which first start, and where. A match
+/// was complete there, or not.
+#[derive(Clone, Copy)]
+pub(crate) struct Taken {
+    pub state: u16,
+    pub first: usize,
+    pub here: Here,
+    pub hit: bool,
+}
+
+impl LazyDfa {
+    /// Remembers the turn by which the search came to what the cache holds now. Returns the state
+    /// that the search is in, if there is room for it.
+    pub(crate) fn learn<P: Patterns>(
+        &mut self,
+        patterns: &P,
+        taken: Taken,
+        cache: &Cache<Origin>,
+    ) -> Option<u16>
+        requires remembers { Remembers (P.table patterns.now) (P.entries patterns.now) self.old }
+        requires turned { HasTurned (P.table patterns.now) (P.entries patterns.now) self.old
+            taken.state taken.first taken.here taken.hit cache.now }
+        requires between { IsBetween (P.table patterns.now) cache.now }
+        requires none_pending { self.old.pending ≡ [] }
+        ensures remembers { Remembers (P.table patterns.now) (P.entries patterns.now) self.new }
+        ensures state { IfSome result (λ y.
+            IsIn self.new y taken.first taken.here.after cache.now) }
+        ensures none_pending { self.new.pending ≡ [] }
+    {
+        if !self.gather(&cache.walk.memory, taken.first) {
+            self.drop_pending();
+            return None;
+        }
+        let hit = hit_told(taken.first, taken.hit, cache);
+        let searching = self.searching_after(taken.state, hit);
+        let before = self.side(taken.here.after);
+        let y = self.settle(searching, before, hit)?;
+        let class = self.classes.class(taken.here.after);
+        self.remember(taken.state, class, y);
+        Some(y)
+    }
+
+    /// The state in which the search stands, with this first start, if there is room for it.
+    pub(super) fn state_at<P: Patterns>(
+        &mut self,
+        patterns: &P,
+        at: Progress,
+        cache: &Cache<Origin>,
+    ) -> Option<u16>
+        requires remembers { Remembers (P.table patterns.now) (P.entries patterns.now) self.old }
+        requires between { IsBetween (P.table patterns.now) cache.now }
+        requires none_pending { self.old.pending ≡ [] }
+        ensures remembers { Remembers (P.table patterns.now) (P.entries patterns.now) self.new }
+        ensures state { MatchOption result (Unit {0})
+            (λ y. IsIn self.new y at.first at.here.before cache.now) }
+        ensures none_pending { self.new.pending ≡ [] }
+    {
+        if !self.gather(&cache.walk.memory, at.first) {
+            self.drop_pending();
+            return None;
+        }
+        let before = self.side(at.here.before);
+        let hit = hit_told(at.first, has_just_ended(at, cache), cache);
+        self.settle(cache.best.is_none(), before, hit)
+    }
+
+    /// The same position, in its state, if the last scan was stuck here. The search has come here
+    /// by ordinary turns, which it took without a look at their states.
+    pub(super) fn find_state_again<P: Patterns>(
+        &mut self,
+        patterns: &P,
+        cache: &Cache<Origin>,
+        at: Progress,
+    ) -> Progress
+        requires remembers { Remembers (P.table patterns.now) (P.entries patterns.now) self.old }
+        requires none_pending { self.old.pending ≡ [] }
+        requires between { IsBetween (P.table patterns.now) cache.now }
+        ensures remembers { Remembers (P.table patterns.now) (P.entries patterns.now) self.new }
+        ensures none_pending { self.new.pending ≡ [] }
+        ensures stands { (haystack : Text) (s : ℕ) → Stands (P.table patterns.now) haystack
+            (P.entries patterns.now) s self.old at cache.now
+            → Stands (P.table patterns.now) haystack (P.entries patterns.now) s self.new result
+            cache.now }
+        ensures here { result.here ≡ at.here }
+    {
+        if !at.was_stuck() {
+            return at;
+        }
+        let state = self.state_at(patterns, at, cache);
+        at.with_state(state)
+    }
+
+    /// Adds the threads of the position to the pending ways. Returns whether there was room.
+    fn gather(&mut self, memory: &Memory<Origin>, first: usize) -> bool
+        ensures gathered { result ≡ true → self.new ≡ record self.old {
+          pending = self.old.pending ++ ways_of first memory.now.threads;
+        } }
+        ensures same { self.new ≡ record self.old { pending = self.new.pending } }
+    {
+        'threads: for k in 0..memory.threads() {
+            let (place, start) = memory.thread(k);
+            let way = StoredWay {
+                place,
+                number: start.number,
+                is_first: start.at == first,
+            };
+            if !self.push_way(way) {
+                return false;
+            }
+        }
+        true
+    }
+
+    /// Whether there is no match yet after a turn from this state.
+    #[tactic(auto, using(crate::proofs::lazy_dfa::StoredStateLemmas::length_states))]
+    fn searching_after(&self, x: u16, hit: Hit) -> bool
+        requires { x < length self.now.states }
+        ensures { (state : State) → slice_get self.now.states x ≡ Some state
+            → result ≡ searching_after (hit_in hit) state.searching }
+    {
+        match hit {
+            Hit::Nowhere => self.states[x as usize].searching,
+            Hit::AtFirst(_) | Hit::AtLater(_) => false,
+        }
+    }
+
+    /// What looks see of the character, if there are looks.
+    pub(super) fn side(&self, c: Option<char>) -> Side
+        ensures { self.now.intervals.looks ≡ true → result ≡ side_of c }
+    {
+        if self.classes.looks() {
+            Side::of(c)
+        } else {
+            Side::none()
+        }
+    }
+}
+
+/// Whether the last turn completed a match.
+fn has_just_ended(at: Progress, cache: &Cache<Origin>) -> bool {
+    let (Some(last), Some(end)) = (at.here.before, cache.best.end()) else {
+        return false;
+    };
+    end.saturating_add(byte_len(last)) == at.here.at
+}
+
+/// Where the way began by which a turn completed a match, if it did.
+fn hit_told(first: usize, hit: bool, cache: &Cache<Origin>) -> Hit
+    ensures { hit_in result ≡ hit_of first hit (best_of cache.now.best) }
+{
+    if !hit {
+        return Hit::Nowhere;
+    }
+    match cache.best.found() {
+        None => Hit::Nowhere,
+        Some((origin, _)) => {
+            if origin.at == first {
+                Hit::AtFirst(origin.number)
+            } else {
+                Hit::AtLater(origin.number)
+            }
+        }
+    }
+}

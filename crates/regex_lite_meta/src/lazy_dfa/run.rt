@@ -1,0 +1,218 @@
+//! Searches that remember their turns, and go by those that they remember.
+ghost use Rattle.std.specs.Prelude.{◌≡◌, [], ◌<◌, ◌≤◌, ◌+◌, ◌⊎◌, ℕ, List};
+ghost use Rattle.std.specs.Prelude.{IsCharBoundary, IsSome, MatchOption, None};
+ghost use Rattle.std.specs.Prelude.{chars, length, map, slice_index, true};
+ghost use Rattle.regex_lite_meta.specs.LazyDfa.Automaton.{Automaton};
+ghost use Rattle.regex_lite_meta.specs.LazyDfa.Learning.{IsIn};
+ghost use Rattle.regex_lite_meta.specs.LazyDfa.Running.{GoesOnWith, IsOnItsWay};
+ghost use Rattle.regex_lite_meta.specs.LazyDfa.Running.{Stands, started_at, thread_from};
+ghost use Rattle.regex_lite_meta.specs.LazyDfa.Scanning.{best_told};
+ghost use Rattle.regex_lite_engine.specs.declared.pikevm.beginning.Origin.{Origin};
+ghost use Rattle.regex_lite_engine.specs.Graph.Places.{Place};
+ghost use Rattle.regex_lite_engine.specs.Search.Bounds.{characters_left};
+ghost use Rattle.regex_lite_engine.specs.Search.Offsets.{position_at};
+ghost use Rattle.regex_lite_engine.specs.Search.Counting.{CanCount};
+ghost use Rattle.regex_lite_engine.specs.Pikevm.Searching.{IsFresh, IsHit, TurnsAgain};
+ghost use Rattle.regex_lite_engine.specs.Search.Starts.{AreAllStarts};
+ghost use Rattle.regex_lite_engine.specs.Search.Standing.{IsHere};
+ghost use Rattle.regex_lite_engine.specs.Pikevm.Turns.{EndsAt, best_of};
+
+use crate::lazy_dfa::state::StoredWay;
+use regex_lite_engine::pikevm::beginning::Origin;
+use regex_lite_engine::pikevm::cache::Cache;
+use regex_lite_engine::search::here::Here;
+use regex_lite_engine::search::patterns::Patterns;
+
+/// Where a search stands, and its state, if that is known.
+#[derive(Clone, Copy)]
+pub(crate) struct Progress {
+    pub here: Here,
+    pub state: Option<u16>,
+    /// The first start, where some ways of the state began.
+    pub first: usize,
+    /// Up to this offset turns were looked up before.
+    pub until: usize,
+}
+
+impl Progress {
+    /// Where a search stands before its first turn.
+    pub(crate) fn begun(haystack: &str, start: usize) -> Progress
+        requires { IsCharBoundary haystack.now start }
+        ensures { (table : List (Place ℕ)) (entries : List ℕ) (automaton : Automaton)
+            (cache : Cache Origin) → IsFresh table cache → length cache.walk.memory.row ≡ 0
+            → Stands table (chars haystack.now) entries (position_at haystack.now start) automaton
+            result cache }
+    {
+        let here = Here::at(haystack, start);
+        Progress {
+            here,
+            state: None,
+            first: here.at,
+            until: 0,
+        }
+    }
+
+    /// Whether the last scan went on from here, so that the turn is remembered.
+    pub(super) fn was_scanned(&self) -> bool {
+        self.here.at.saturating_add(1) < self.until
+    }
+
+    /// Whether the last scan was stuck here.
+    pub(super) fn was_stuck(&self) -> bool {
+        self.here.at.saturating_add(1) == self.until
+    }
+
+    /// The same position, in this state.
+    pub(super) fn with_state(self, state: Option<u16>) -> Progress
+        ensures { result ≡ record self { state = state } }
+    {
+        Progress {
+            here: self.here,
+            state,
+            first: self.first,
+            until: self.until,
+        }
+    }
+}
+
+/// Goes on to the next position. The state is the one that the search is in there.
+pub(super) fn next_position(cache: &Cache<Origin>, haystack: &str, at: Progress) -> Progress
+    requires here { (p : ℕ) × IsHere (chars haystack.now) p at.here }
+    requires more { IsSome at.here.after }
+    requires first { at.first ≤ at.here.at }
+    ensures stands { (table : List (Place ℕ)) (entries : List ℕ) (automaton : Automaton)
+        (s p : ℕ) → IsHere (chars haystack.now) p at.here
+        → IsOnItsWay table (chars haystack.now) entries s (p + 1) cache.now
+        → MatchOption at.state (Unit {0})
+        (λ y. IsIn automaton y at.first at.here.after cache.now)
+        → Stands table (chars haystack.now) entries s automaton result cache.now }
+    ensures later { at.here.at < result.here.at }
+{
+    let here = at.here.next(haystack);
+    let first = if cache.walk.memory.threads() == 0 {
+        here.at
+    } else {
+        at.first
+    };
+    Progress {
+        here,
+        state: at.state,
+        first,
+        until: at.until,
+    }
+}
+
+/// Where there is neither a thread nor a match, passes over positions at which no match can
+/// begin. The state isn't known then.
+pub(super) fn pass_idle<P: Patterns>(
+    cache: &Cache<Origin>,
+    patterns: &P,
+    haystack: &str,
+    at: Progress,
+) -> Progress
+    requires { (s : ℕ) × (automaton : Automaton) × Stands (P.table patterns.now)
+        (chars haystack.now) (P.entries patterns.now) s automaton at cache.now }
+    ensures stands { (s : ℕ) (automaton : Automaton) → Stands (P.table patterns.now)
+        (chars haystack.now) (P.entries patterns.now) s automaton at cache.now
+        → Stands (P.table patterns.now) (chars haystack.now) (P.entries patterns.now) s
+        automaton result cache.now }
+    ensures unknown { result.state ≡ None }
+    ensures later { at.here.at ≤ result.here.at }
+{
+    if cache.walk.memory.threads() > 0 || !cache.best.is_none() {
+        return Progress {
+            here: at.here,
+            state: None,
+            first: at.first,
+            until: at.until,
+        };
+    }
+    let here = patterns.pass_over(haystack, at.here);
+    Progress {
+        here,
+        state: None,
+        first: here.at,
+        until: at.until,
+    }
+}
+
+/// Goes over the position, at which each pattern may start. Returns whether a match is complete
+/// there.
+pub(super) fn go_over<P: Patterns>(
+    cache: &mut Cache<Origin>,
+    patterns: &P,
+    haystack: &str,
+    here: Here,
+) -> bool
+    requires all { AreAllStarts (P.table patterns.now) (P.entries patterns.now)
+        (P.starts patterns.now) }
+    requires on { (s p : ℕ) × IsHere (chars haystack.now) p here
+        × CanCount (P.table patterns.now) (length (P.entries patterns.now))
+        (characters_left (chars haystack.now) s)
+        × IsOnItsWay (P.table patterns.now) (chars haystack.now) (P.entries patterns.now) s p
+        cache.old }
+    ensures on { (s p : ℕ) → IsHere (chars haystack.now) p here
+        → IsOnItsWay (P.table patterns.now) (chars haystack.now) (P.entries patterns.now) s p
+        cache.old
+        → IsOnItsWay (P.table patterns.now) (chars haystack.now) (P.entries patterns.now) s
+        (p + 1) cache.new }
+    ensures again { TurnsAgain (P.table patterns.now)
+        (P.starts patterns.now) here (started_at here.at) cache.old cache.new result }
+    ensures hit { IsHit result (best_of cache.old.best) (best_of cache.new.best) }
+    ensures ends { EndsAt here.at (best_of cache.old.best) (best_of cache.new.best) }
+{
+    // There is room for more ways than there are patterns.
+    let _threads = cache.walk.memory.threads();
+    cache.turn(patterns, here)
+}
+
+/// Goes on from nothing: without a thread, and without a match.
+pub(super) fn let_go(cache: &mut Cache<Origin>)
+    requires old { (q : ℕ) → slice_index cache.old.walk.memory.rounds q
+        ≤ cache.old.walk.memory.now }
+    ensures threads { cache.new.walk.memory.threads ≡ [] }
+    ensures none { best_of cache.new.best ≡ None }
+    ensures kept { GoesOnWith cache.old cache.new }
+{
+    cache.walk.memory.restart();
+    cache.best.clear();
+}
+
+/// Whether this can be the match of a search that has done as much: none is found before a
+/// place is entered.
+pub(super) fn may_have(cache: &Cache<Origin>, found: Option<(Origin, usize)>) -> bool
+    ensures { result ≡ true → (found ≡ None) ⊎ (0 < cache.now.walk.steps.entered) }
+{
+    found.is_none() || cache.walk.steps.entered() > 0
+}
+
+/// Goes on with these ways, all of which began at this start, and with this match, if there is
+/// one.
+pub(super) fn take_up_ways(
+    cache: &mut Cache<Origin>,
+    ways: &[StoredWay],
+    first: usize,
+    found: Option<(Origin, usize)>,
+)
+    requires few { length ways.now < cache.old.walk.memory.room }
+    requires width { length cache.old.walk.memory.row ≡ 0 }
+    requires best_width { length cache.old.best.row ≡ 0 }
+    requires old { (q : ℕ) → slice_index cache.old.walk.memory.rounds q
+        ≤ cache.old.walk.memory.now }
+    ensures threads { cache.new.walk.memory.threads ≡ map (thread_from first) ways.now }
+    ensures best { best_of cache.new.best ≡ best_told found }
+    ensures kept { GoesOnWith cache.old cache.new }
+{
+    let_go(cache);
+    for way in ways {
+        cache.walk.memory.push_next::<false>(
+            way.place,
+            Origin {
+                at: first,
+                number: way.number,
+            },
+        );
+    }
+    cache.walk.memory.turn_over();
+    cache.best.keep(found);
+}

@@ -1,0 +1,132 @@
+//! The states of a lazy automaton.
+ghost use Rattle.std.specs.Prelude.{◌≡◌, ◌<◌, Option, Some, true};
+ghost use Rattle.regex_lite_meta.specs.LazyDfa.Automaton.{KeptOrigin};
+ghost use Rattle.regex_lite_meta.specs.LazyDfa.Stored.{hit_in, known_hit};
+
+use crate::lazy_dfa::side::Side;
+use std::mem::size_of;
+
+/// A place to go on from, whether the way to it began at the first start, and the number of its
+/// pattern.
+#[derive(Clone, Copy)]
+pub(crate) struct StoredWay {
+    pub place: u32,
+    pub number: u32,
+    pub is_first: bool,
+}
+
+/// Where the way began by which a match was complete, with the number of its pattern.
+#[derive(Clone, Copy)]
+pub(crate) enum Hit {
+    /// None was.
+    Nowhere,
+    AtFirst(u32),
+    AtLater(u32),
+}
+
+/// What a search goes on with between two characters, whatever the haystack.
+#[derive(Clone, Copy)]
+pub(crate) struct StoredState {
+    /// Where its ways begin in the list of all, and how many they are.
+    pub from: usize,
+    pub len: usize,
+    /// Whether there is no match yet.
+    pub searching: bool,
+    /// What looks see of the character before.
+    pub before: Side,
+    /// Whether a match was complete at the last position.
+    pub hit: Hit,
+}
+
+// An automaton has memory for hundreds of them.
+const _: () = prove!(size_of::<StoredState>() == 32);
+
+/// Where a turn leads.
+#[derive(Clone, Copy)]
+pub(crate) struct Target {
+    /// The number of the state, or that the turn isn't remembered.
+    pub state: u16,
+    pub effect: Effect,
+}
+
+/// What a turn does besides, as far as that is known without a look at the state it leads to. At
+/// most one of both holds.
+// A test of one of them in memory takes fewer instructions than that of an enum.
+#[derive(Clone, Copy)]
+pub(crate) struct Effect {
+    /// Nothing: the state has ways, and no match was complete.
+    pub is_plain: bool,
+    /// The state has ways, and a match of the first pattern was complete, which began at the first
+    /// start.
+    pub completes: bool,
+}
+
+// An automaton has memory for thousands of them.
+const _: () = prove!(size_of::<Target>() == 4);
+
+/// Whether the ways are the same.
+pub(crate) fn are_same(ways: &[StoredWay], others: &[StoredWay]) -> bool
+    ensures { result ≡ true → ways.now ≡ others.now }
+{
+    if ways.len() != others.len() {
+        return false;
+    }
+    'ways: for k in 0..ways.len() {
+        if !ways[k].is(others[k]) {
+            return false;
+        }
+    }
+    true
+}
+
+impl StoredWay {
+    /// Whether they are the same.
+    fn is(self, other: StoredWay) -> bool
+        ensures { result ≡ true → self ≡ other }
+    {
+        self.place == other.place && self.number == other.number && self.is_first == other.is_first
+    }
+}
+
+impl StoredState {
+    /// Whether it has these properties, whatever its ways.
+    pub(crate) fn is_like(&self, searching: bool, before: Side, hit: Hit) -> bool
+        ensures searching { result ≡ true → self.now.searching ≡ searching }
+        ensures before { result ≡ true → self.now.before ≡ before }
+        ensures hit { result ≡ true → self.now.hit ≡ hit }
+    {
+        self.searching == searching && self.before.is(before) && self.hit.is(hit)
+    }
+
+    /// What a turn to it does besides.
+    pub(crate) fn effect(&self) -> Effect
+        ensures some { (hit : Option KeptOrigin) → known_hit result ≡ Some hit
+            → 0 < self.now.len }
+        ensures hit { (hit : Option KeptOrigin) → known_hit result ≡ Some hit
+            → hit_in self.now.hit ≡ hit }
+    {
+        Effect {
+            is_plain: self.len > 0 && self.hit.is(Hit::Nowhere),
+            completes: self.len > 0 && self.hit.is(Hit::AtFirst(0)),
+        }
+    }
+}
+
+impl Hit {
+    /// Whether they are the same.
+    pub(crate) fn is(self, other: Hit) -> bool
+        ensures { result ≡ true → self ≡ other }
+    {
+        match self {
+            Hit::Nowhere => matches!(other, Hit::Nowhere),
+            Hit::AtFirst(number) => match other {
+                Hit::AtFirst(of_other) => number == of_other,
+                _ => false,
+            },
+            Hit::AtLater(number) => match other {
+                Hit::AtLater(of_other) => number == of_other,
+                _ => false,
+            },
+        }
+    }
+}
