@@ -10,8 +10,8 @@ ghost use Rattle.regex_lite_engine.specs.Graph.Places.{kept_back_of, kept_back_w
 ghost use Rattle.regex_lite_engine.specs.Graph.Stored.{LeadsBelow, place_of, table_of};
 ghost use Rattle.regex_lite_engine.specs.Search.Starts.{AreHeadsOf, NoneBeginsAtEnd};
 
-pub mod class;
-pub mod groups;
+pub(crate) mod class;
+pub(crate) mod groups;
 pub(crate) mod kept_back;
 pub mod list;
 pub mod place;

@@ -9,4 +9,4 @@ pub mod one_of_list;
 pub mod one_pattern;
 pub mod outcome;
 pub mod patterns;
-pub mod skip;
+pub(crate) mod skip;

@@ -56,6 +56,8 @@ impl Graph {
 
     /// Whether the pairs of a place and an offset from this one on are few enough to keep a bit for
     /// each.
+    ///
+    /// Condition: the offset is on a character boundary.
     pub fn has_few_pairs(&self, haystack: &str, start: usize) -> bool
         requires { IsCharBoundary haystack.now start }
         ensures { IsTrue result

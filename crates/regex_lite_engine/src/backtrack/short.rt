@@ -31,6 +31,10 @@ pub struct ShortSearcher {
 impl ShortSearcher {
     /// One for this graph, whose matches have this number of slots. All its memory is asked for
     /// here. None if the graph has too many places.
+    ///
+    /// # Errors
+    ///
+    /// If memory runs out.
     pub fn new(
         alloc: Global,
         graph: &Graph,
@@ -66,6 +70,9 @@ impl ShortSearcher {
 
     /// Returns the start and the end of the match that a search by itself finds from this offset
     /// on. Its slots are in the row.
+    ///
+    /// Condition: the offset is on a character boundary, the haystack is short enough from there,
+    /// and the searcher is one for this graph.
     pub fn search(&mut self, graph: &Graph, haystack: &str, start: usize) -> Option<(usize, usize)>
         requires boundary { IsCharBoundary haystack.now start }
         requires short { length haystack.now - start < self.old.offsets }

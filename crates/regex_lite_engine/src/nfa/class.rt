@@ -31,7 +31,7 @@ impl Model for MappedClass {
 
 impl MappedClass {
     /// The set of the class, which it shares.
-    pub fn new(class: &Rc<Class>) -> Result<MappedClass, AllocError>
+    pub(crate) fn new(class: &Rc<Class>) -> Result<MappedClass, AllocError>
         ensures { IfOk result (λ set. set ≡ class.now.value) }
     {
         Ok(MappedClass {
@@ -43,7 +43,7 @@ impl MappedClass {
     /// Whether the set holds the character.
     // Inlined, so that the loop of a search needn't save its registers for an ASCII one.
     #[inline(always)]
-    pub fn contains(&self, c: char) -> bool
+    pub(crate) fn contains(&self, c: char) -> bool
         ensures { result ≡ in_ranges self.now c }
     {
         if c.is_ascii() {

@@ -161,6 +161,8 @@ impl GraphList {
     }
 
     /// The groups of the pattern with this number.
+    ///
+    /// Condition: the list has more patterns than this number.
     pub fn groups(&self, number: usize) -> &Groups
         requires { number < length self.now.groups }
         ensures { slice_get self.now.groups number ≡ Some result.now }

@@ -33,7 +33,7 @@ const _: () = prove!(size_of::<Place>() == 32);
 
 impl Place {
     /// How many arrows it has after the first.
-    pub fn other_arrows(&self) -> usize
+    pub(crate) fn other_arrows(&self) -> usize
         ensures { result ≡ kept_back_with 0 (place_of self.now) }
     {
         match self {
@@ -44,7 +44,7 @@ impl Place {
     }
 
     /// How much a search that keeps slots keeps back here.
-    pub fn kept_back(&self) -> usize
+    pub(crate) fn kept_back(&self) -> usize
         ensures { result ≡ kept_back (place_of self.now) }
     {
         match self {

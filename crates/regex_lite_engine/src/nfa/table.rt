@@ -43,7 +43,7 @@ impl Model for Table {
 impl Table {
     /// The table of these places, which have `arrows` arrows, and of which `reading` read a
     /// character.
-    pub fn new(places: Vec<Place>, arrows: usize, reading: usize) -> Table
+    pub(crate) fn new(places: Vec<Place>, arrows: usize, reading: usize) -> Table
         requires closed { IsClosed places.items arrows reading }
         requires each_arrow { arrows_of (map place_of places.items) ≡ arrows }
         ensures { result ≡ record {
@@ -61,7 +61,7 @@ impl Table {
     }
 
     /// What stands at a place, for a search: each call is counted.
-    pub fn look(&self, place: u32, steps: &mut Steps) -> &Place
+    pub(crate) fn look(&self, place: u32, steps: &mut Steps) -> &Place
         requires inside { place < length self.now.places }
         requires room { steps.old.looked + 1 < 2 ^ 128 }
         ensures found { slice_get self.now.places place ≡ Some result.now }
@@ -90,7 +90,7 @@ impl Table {
     }
 
     /// How many arrows there are.
-    pub fn arrows(&self) -> usize
+    pub(crate) fn arrows(&self) -> usize
         ensures same { result ≡ self.now.arrows }
         ensures all { result ≡ arrows_of (places_of self.now) }
         ensures few { result < 2 ^ 34 }
@@ -108,7 +108,7 @@ impl Table {
     }
 
     /// How much a search with this number of slots keeps back if it enters each place once.
-    pub fn kept_back(&self, slots: usize) -> usize
+    pub(crate) fn kept_back(&self, slots: usize) -> usize
         ensures { result ≡ sum_by (kept_back_with slots) (places_of self.now) }
     {
         if slots == 0 {

@@ -34,6 +34,10 @@ impl<S: Beginning> Best<S> {
     ghost use Rattle.regex_lite_engine.specs.Pikevm.Turns.{best_of};
 
     /// None yet, with room for a row of `width` slots.
+    ///
+    /// # Errors
+    ///
+    /// If memory runs out.
     pub fn with_width(alloc: Global, width: usize) -> Result<Best<S>, AllocError>
         ensures none { IfOk result (λ best. best_of best ≡ None) }
         ensures width { IfOk result (λ best. length best.row ≡ width) }
@@ -77,6 +81,8 @@ impl<S: Beginning> Best<S> {
     }
 
     /// Sets the slots to these, which another search has found.
+    ///
+    /// Condition: there are as many as in the row.
     pub fn set_row(&mut self, row: &[Option<usize>])
         requires { length row.now ≡ length self.old.row }
         ensures { self.new ≡ record self.old { row = row.now } }
@@ -149,7 +155,9 @@ impl Best<Origin> {
         Some((origin.number as usize, outcome))
     }
 
-    /// Makes this match the best, or forgets the match if there is none. No slots are kept.
+    /// Makes this match the best, or forgets the match if there is none.
+    ///
+    /// Condition: no slots are kept.
     pub fn keep(&mut self, found: Option<(Origin, usize)>)
         requires { length self.old.row ≡ 0 }
         ensures best { best_of self.new ≡ best_kept found [] }

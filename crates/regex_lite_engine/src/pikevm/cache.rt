@@ -22,6 +22,12 @@ pub struct Cache<S: Beginning> {
 }
 
 /// All the memory of a search that keeps this number of slots, asked for before its first step.
+///
+/// Condition: the table has a place.
+///
+/// # Errors
+///
+/// If memory runs out.
 pub fn cache_for<S: Beginning>(
     alloc: Global,
     table: &Table,
@@ -43,8 +49,12 @@ pub fn cache_for<S: Beginning>(
     Ok(Cache { walk, best })
 }
 
-/// The memory of searches that keep this number of slots. Without a pattern no search begins, and
-/// no place needs any memory.
+/// The memory of searches for several patterns that keep this number of slots. Without a pattern no
+/// search begins, and no place needs any memory.
+///
+/// # Errors
+///
+/// If memory runs out.
 pub fn cache_for_list(
     alloc: Global,
     list: &GraphList,

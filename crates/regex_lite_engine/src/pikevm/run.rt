@@ -16,6 +16,9 @@ use crate::search::here::Here;
 use crate::search::patterns::Patterns;
 
 /// Goes from position to position, until the most preferred match is known.
+///
+/// Condition: the start is on a character boundary, the cache has just been made for the table of
+/// the patterns or made ready for another search, and no count of the search can be too large.
 pub fn run<S: Beginning, P: Patterns>(
     cache: &mut Cache<S>,
     patterns: &mut P,

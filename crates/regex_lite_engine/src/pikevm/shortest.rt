@@ -17,6 +17,9 @@ use crate::search::here::Here;
 use crate::search::patterns::Patterns;
 
 /// Goes from position to position, up to the first at which a match is complete.
+///
+/// Condition: the start is on a character boundary, the cache has just been made for the table of
+/// the patterns or made ready for another search, and no count of the search can be too large.
 pub fn run_shortest<P: Patterns>(
     cache: &mut Cache<Unkept>,
     patterns: &mut P,

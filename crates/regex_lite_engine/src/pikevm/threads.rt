@@ -32,6 +32,8 @@ impl<S: Beginning> Memory<S> {
     }
 
     /// The place of a thread of the position, and what is kept of where its way began.
+    ///
+    /// Condition: the position has more threads than this number.
     pub fn thread(&self, k: usize) -> (u32, S)
         requires { k < length self.now.threads }
         ensures place { result.0 ≡ (thread_at self.now.threads k).0 }
@@ -48,6 +50,8 @@ impl<S: Beginning> Memory<S> {
     }
 
     /// Adds a thread to the next position, with the row of the way that is followed.
+    ///
+    /// Condition: there is room for one more, and all cells are ready if `READY` says so.
     pub fn push_next<const READY: bool>(&mut self, place: u32, start: S)
         requires room { length self.old.next < self.old.room }
         requires ready { READY ≡ true → self.old.ready ≡ true }

@@ -25,6 +25,9 @@ impl<S: Beginning> Cache<S> {
 
     /// Goes over the position. Its own starts come last, and only while there is no match. Returns
     /// whether a match is complete there.
+    ///
+    /// Condition: no search is under way at a position, each start is a place of the table, and no
+    /// count can be too large.
     // Inlined with all that it calls, though searches with an automaton call it too: otherwise a
     // turn costs a quarter more.
     #[inline(always)]

@@ -33,6 +33,8 @@ impl Graph {
 
     /// Whether it is known that no match begins at this offset or later. It is looked for only if
     /// no character begins a match: otherwise most searches would look for a start twice.
+    ///
+    /// Condition: the offset is on a character boundary.
     pub fn has_no_start(&self, haystack: &str, start: usize) -> bool
         requires { IsCharBoundary haystack.now start }
         ensures { IsTrue result → AreDeadFrom (table_of self.now) (chars haystack.now)

@@ -19,6 +19,8 @@ impl Here {
     ghost use Rattle.regex_lite_engine.specs.Search.Standing.{IsHere};
 
     /// The position at this offset.
+    ///
+    /// Condition: it is on a character boundary.
     pub fn at(haystack: &str, at: usize) -> Here
         requires { IsCharBoundary haystack.now at }
         ensures here { IsHere (chars haystack.now) (position_at haystack.now at) result }
@@ -33,6 +35,8 @@ impl Here {
     }
 
     /// The position after the next character.
+    ///
+    /// Condition: the position is one of the haystack, and there is a next character.
     #[inline(always)]
     pub fn next(self, haystack: &str) -> Here
         requires { (p : ℕ) × IsHere (chars haystack.now) p self × IsSome self.after }
@@ -70,6 +74,8 @@ fn wide_len(c: char) -> usize
 }
 
 /// The character that begins there.
+///
+/// Condition: the offset is on a character boundary.
 pub fn first_char(haystack: &str, at: usize) -> Option<char>
     requires { IsCharBoundary haystack.now at }
     ensures { result ≡ slice_get (chars (drop at haystack.now)) 0 }

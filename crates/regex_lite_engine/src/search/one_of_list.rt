@@ -22,6 +22,8 @@ pub struct OneOfList<'g> {
 
 impl<'g> OneOfList<'g> {
     /// The pattern with this number, which may start nowhere yet.
+    ///
+    /// Condition: the list has more patterns than this number.
     pub fn new(list: &'g GraphList, number: usize) -> OneOfList<'g>
         requires { number < length list.now.entries }
         ensures list { result.list.now ≡ list.now }
