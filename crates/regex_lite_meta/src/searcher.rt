@@ -16,12 +16,12 @@ ghost use Rattle.regex_lite_engine.specs.Pikevm.Searching.{IsBetween, IsFresh};
 use crate::lazy_dfa::automaton::LazyDfa;
 use crate::lazy_dfa::remembering::{pays, pays_with_slots};
 use crate::lazy_dfa::spans::{Passed, SpanSearcher, find_slots, pass_to_match, weigh};
+use regex_lite_engine::Graph;
 use regex_lite_engine::pikevm::beginning::Origin;
 use regex_lite_engine::pikevm::best::span_of;
 use regex_lite_engine::pikevm::cache::{Cache, cache_for, restart};
 use regex_lite_engine::pikevm::run::run;
 use regex_lite_engine::search::one_pattern::OnePattern;
-use regex_lite_engine::{Graph, Steps};
 use std::alloc::{AllocError, Global};
 use std::marker::Model;
 

@@ -1,5 +1,5 @@
 //! What a lazy automaton remembers.
-ghost use Rattle.std.specs.Prelude.{◌≡◌, ◌+◌, ◌*◌, ◌≤◌, ◌<◌, ◌++◌, ◌∷◌, [], ℕ, IfOk, IfSome};
+ghost use Rattle.std.specs.Prelude.{◌≡◌, ◌+◌, ◌*◌, ◌≤◌, ◌<◌, ◌++◌, ◌∷◌, [], IfOk, IfSome};
 ghost use Rattle.std.specs.Prelude.{Option, Some, length, map, slice_get, slice_index, slice_set};
 ghost use Rattle.std.specs.Prelude.{true};
 ghost use Rattle.regex_lite_meta.specs.LazyDfa.Automaton.{KeptOrigin, State, unknown};
@@ -41,7 +41,7 @@ pub(crate) struct LazyDfa {
 }
 
 impl Model for LazyDfa {
-    ghost use Rattle.std.specs.Prelude.{◌≡◌, ◌*◌, ◌≤◌, ◌<◌, length, map, drop, vec_capacity};
+    ghost use Rattle.std.specs.Prelude.{◌≡◌, ◌*◌, ◌≤◌, ◌<◌, length, map, drop};
     ghost use Rattle.regex_lite_meta.specs.LazyDfa.Automaton.{Automaton};
     ghost use Rattle.regex_lite_meta.specs.LazyDfa.Intervals.{classes_in};
     ghost use Rattle.regex_lite_meta.specs.LazyDfa.Stored.{AllAgree, LieWithin};

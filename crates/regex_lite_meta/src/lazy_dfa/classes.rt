@@ -1,5 +1,5 @@
 //! Classes of characters that no place of a graph distinguishes.
-ghost use Rattle.std.specs.Prelude.{◌≡◌, ◌+◌, ◌≤◌, ◌<◌, ℕ, IfOk, IfSome};
+ghost use Rattle.std.specs.Prelude.{◌≡◌, ◌+◌, ◌≤◌, ◌<◌, ℕ, IfSome};
 ghost use Rattle.std.specs.Prelude.{IsCharBoundary, length, nat_le, slice_index};
 ghost use Rattle.regex_lite_meta.specs.LazyDfa.Intervals.{AreIntervalsOf, IsAhead, IsInterval};
 ghost use Rattle.regex_lite_meta.specs.LazyDfa.Intervals.{class_of, classes_in};

@@ -1,7 +1,7 @@
 //! Turns of a search, remembered.
-ghost use Rattle.std.specs.Prelude.{◌≡◌, ◌∷◌, [], ◌<◌, ◌≤◌, ◌++◌, ℕ, IfSome};
-ghost use Rattle.std.specs.Prelude.{MatchOption, Some, length, map, slice_get, true};
-ghost use Rattle.regex_lite_meta.specs.LazyDfa.Automaton.{FitsTable, Remembers, State};
+ghost use Rattle.std.specs.Prelude.{◌≡◌, [], ◌<◌, ◌++◌, ℕ, IfSome};
+ghost use Rattle.std.specs.Prelude.{MatchOption, Some, length, slice_get, true};
+ghost use Rattle.regex_lite_meta.specs.LazyDfa.Automaton.{Remembers, State};
 ghost use Rattle.regex_lite_meta.specs.LazyDfa.Automaton.{hit_of, searching_after, ways_of};
 ghost use Rattle.regex_lite_meta.specs.LazyDfa.Intervals.{side_of};
 ghost use Rattle.regex_lite_meta.specs.LazyDfa.Learning.{HasTurned, IsIn};

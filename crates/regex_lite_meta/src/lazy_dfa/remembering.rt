@@ -1,5 +1,5 @@
 //! Whether a searcher remembers its turns.
-ghost use Rattle.std.specs.Prelude.{ℕ, List, IfOk, IfSome};
+ghost use Rattle.std.specs.Prelude.{ℕ, List, IfSome};
 ghost use Rattle.regex_lite_meta.specs.LazyDfa.Remembering.{RemembersFor, RemembersAll};
 ghost use Rattle.regex_lite_engine.specs.Graph.Stored.{places_of};
 ghost use Rattle.regex_lite_engine.specs.Graph.StoredList.{table_of_list};

@@ -3,7 +3,6 @@ ghost use Rattle.std.specs.Prelude.{◌≡◌, ◌↔◌, ◌+◌, ◌<◌, ◌�
 ghost use Rattle.std.specs.Prelude.{IsCharBoundary, IsTrue, None, Some, chars, length, slice_get};
 ghost use Rattle.std.specs.Prelude.{true};
 ghost use Rattle.regex_lite_meta.specs.LazyDfa.Automaton.{IsEmptyState, Remembers, State};
-ghost use Rattle.regex_lite_meta.specs.LazyDfa.Intervals.{side_of};
 ghost use Rattle.regex_lite_meta.specs.LazyDfa.Scanning.{best_told, IsScanning, IsSince};
 ghost use Rattle.regex_lite_meta.specs.LazyDfa.Scanning.{LedTo, ScansTo};
 ghost use Rattle.regex_lite_syntax.specs.Text.{Text};

@@ -1,5 +1,5 @@
 //! Scans that go by offsets, without the characters beside them.
-ghost use Rattle.std.specs.Prelude.{◌≡◌, ◌+◌, ◌<◌, ◌≤◌, [], ℕ, IfSome, IsCharBoundary, IsTrue};
+ghost use Rattle.std.specs.Prelude.{◌≡◌, ◌+◌, ◌<◌, ◌≤◌, [], ℕ, IfSome, IsCharBoundary};
 ghost use Rattle.std.specs.Prelude.{None, Option, Some, chars, false, true, length, slice_get};
 ghost use Rattle.regex_lite_meta.specs.LazyDfa.Automaton.{KeptOrigin, Remembers, State};
 ghost use Rattle.regex_lite_meta.specs.LazyDfa.Intervals.{IsInterval};
