@@ -1,25 +1,38 @@
-/* Regular expressions for patterns and texts from strangers, for C and C++.
+/* Regular expressions for untrusted patterns and texts, for C and C++.
  *
- * A pattern of any kind is searched for in time that grows with the text alone: no pattern makes a
- * search explode. What each call returns is proved; the file crates/regex_lite_c/src says what is
- * proved of each, and README.md here has an example.
+ * The time of a search grows linearly with the text: no pattern causes catastrophic backtracking.
+ * What each call returns is proved. The contract of each call is in crates/regex_lite_c/src, and
+ * README.md in this folder has an example.
  *
- * Texts are bytes of UTF-8 with a length, and need no NUL at their end. Offsets count bytes. A
- * match begins and ends between characters.
+ * Texts are UTF-8 with a length, and need no terminating NUL. Offsets count bytes. A match begins
+ * and ends on character boundaries.
  *
- * WHAT A CALLER OWES. A call refuses, by a number, whatever it can see: bytes that are no UTF-8, an
- * offset inside a character or above the length, a handle that holds nothing, an index that is too
- * great, too little room. It can't see these, which are all that a caller has to take care of:
+ * CALLER'S OBLIGATIONS. A call rejects whatever invalid input it can detect, and returns why: bytes
+ * that are not valid UTF-8, an offset inside a character or beyond the end, a handle that holds
+ * nothing, an index out of range, a buffer that is too small. It can't detect the following, so the
+ * caller has to ensure it:
  *
- * 1. No pointer is null, also where a length is 0. A length is that of the memory at its pointer,
+ * 1. No pointer is null, even if its length is 0. A length is that of the memory at its pointer,
  *    and below 2^63.
- * 2. What a call writes to overlaps nothing else that the call is given.
- * 3. A handle is begun by REGEX_LITE_NOTHING, changed by these calls alone and never copied.
- *    Options are made by REGEX_LITE_DEFAULTS, and their flags are true or false.
- * 4. A handle is used in one thread, from its building to its freeing. Different handles may be
- *    used in different threads at once.
+ * 2. What a call writes to overlaps nothing else that is passed to the call.
+ * 3. A handle is initialised with REGEX_LITE_NOTHING, modified by these calls alone and never
+ *    copied. Options are initialised with REGEX_LITE_DEFAULTS, and their flags are true or false.
+ * 4. No two calls use the same handle at the same time, whatever the calls are.
  * 5. No call is made in a signal handler, nor in the forked child of a process with threads.
- * 6. malloc, realloc and free are those of one allocator, and align to 16 bytes.
+ * 6. malloc, realloc and free belong to one allocator, and align to 16 bytes.
+ *
+ * THREADS. Every call writes to its handle, even one that only reads the regex: it takes the regex
+ * out of the handle, and puts it back before it returns. If two threads use the same handle at the
+ * same time, the second finds an empty handle or a regex that is in use, so that a regex is lost or
+ * freed twice. Under a mutex, any thread may make any call with a handle, including those that
+ * build and free: the thread that builds a regex need not be the one that uses or frees it.
+ * Different handles may be used by different threads at the same time without a mutex. For
+ * searches in parallel, build one regex for each thread.
+ *
+ * LONG TEXTS. Each call with a text reads the whole text once to check that it is UTF-8, wherever
+ * the search starts. So a loop that passes the end of each match as the next start takes time that
+ * grows with the square of the text's length. Use regex_lite_find_all, regex_lite_captures_all or
+ * their counterparts for lists instead, with room for many matches per call.
  */
 #ifndef REGEX_LITE_H
 #define REGEX_LITE_H
@@ -31,6 +44,12 @@
 #ifdef __cplusplus
 extern "C" {
 #endif
+
+/* The version of this header. regex_lite_version returns that of the library. */
+#define REGEX_LITE_VERSION "0.1.9"
+#define REGEX_LITE_VERSION_MAJOR 0
+#define REGEX_LITE_VERSION_MINOR 1
+#define REGEX_LITE_VERSION_PATCH 9
 
 /* A handle: what holds a regex, or nothing. */
 typedef struct regex_lite {
@@ -137,14 +156,16 @@ typedef struct regex_lite_list_groups {
     size_t count;
 } regex_lite_list_groups;
 
-/* What a call returns. Where it isn't REGEX_LITE_YES, nothing was written but what is said. */
+/* What a call returns. Where it isn't REGEX_LITE_YES, the call has written only what its
+ * description says. */
 enum {
     REGEX_LITE_NO = 0,            /* there is none */
-    REGEX_LITE_YES = 1,           /* there is one, and what is to be written was */
+    REGEX_LITE_YES = 1,           /* there is one, and everything was written */
     REGEX_LITE_NOTHING_HELD = 2,  /* the handle holds nothing */
-    REGEX_LITE_NOT_TEXT = 3,      /* the bytes are no UTF-8 */
-    REGEX_LITE_BAD_OFFSET = 4,    /* above the length, or inside a character */
-    REGEX_LITE_NO_ROOM = 5,       /* too little room: how much is needed was written */
+    REGEX_LITE_NOT_TEXT = 3,      /* the bytes are not valid UTF-8 */
+    REGEX_LITE_BAD_OFFSET = 4,    /* beyond the end, or inside a character */
+    REGEX_LITE_NO_ROOM = 5,       /* too little room, which stays as it was; the description of
+                                   * the call says whether it writes how much is needed */
     REGEX_LITE_OUT_OF_MEMORY = 6, /* a request for memory was refused */
     REGEX_LITE_NO_GROUP = 7,      /* no group has this index */
     REGEX_LITE_SYNTAX = 10,       /* from here on of a pattern: bad syntax */
@@ -155,12 +176,22 @@ enum {
     REGEX_LITE_SLOTS = 15         /* more ends of groups than can be numbered */
 };
 
-/* Builds the regex of a pattern: REGEX_LITE_YES, and the handle holds it; else why not, and it
- * holds nothing. What it held before is freed.
+/* Writes the version of the library, as text: REGEX_LITE_VERSION, followed by "+unproved" if the
+ * library was built without a proof. Returns REGEX_LITE_YES, or REGEX_LITE_NO_ROOM; its length is
+ * written either way. Ten bytes more than REGEX_LITE_VERSION has are enough. */
+uint32_t regex_lite_version(uint8_t *room, size_t room_len, size_t *len);
+
+/* Writes what an answer means, as English text: REGEX_LITE_YES, or REGEX_LITE_NO_ROOM; its length
+ * is written either way. A number that is no answer has the text "unknown answer". No text has more
+ * than 100 bytes. */
+uint32_t regex_lite_strerror(uint32_t answer, uint8_t *room, size_t room_len, size_t *len);
+
+/* Builds the regex of a pattern: REGEX_LITE_YES, and the handle holds it; otherwise it returns why
+ * not, and the handle holds nothing. What it held before is freed.
  *
- * What is wrong with a pattern is written to the message as far as that is said, and message_len is
- * its length; a message that is longer than its room isn't written. No message has more than 100
- * bytes. */
+ * The text of a refusal is written to the message, also where memory ran out, and its length to
+ * message_len; a message that is longer than its room isn't written, but its length is. No message
+ * has more than 100 bytes. message_len is 0 with REGEX_LITE_YES and with REGEX_LITE_NOT_TEXT. */
 uint32_t regex_lite_new(regex_lite *handle, const uint8_t *pattern, size_t pattern_len,
                         const regex_lite_options *options, uint8_t *message, size_t message_room,
                         size_t *message_len);
@@ -205,29 +236,36 @@ uint32_t regex_lite_group_index(regex_lite *handle, const uint8_t *name, size_t 
 size_t regex_lite_places(regex_lite *handle);
 size_t regex_lite_arrows(regex_lite *handle);
 
-/* Whether the bytes are UTF-8. The calls below see to that themselves. */
+/* Whether the bytes are UTF-8. The calls below check that themselves. */
 bool regex_lite_is_text(const uint8_t *bytes, size_t len);
 
 /* Whether the pattern matches somewhere from this offset on: REGEX_LITE_YES or REGEX_LITE_NO. Looks
- * see the whole text: ^ doesn't match at the offset, unless that is 0. */
+ * see the whole text: ^ doesn't match at the offset, unless that is 0.
+ *
+ * Like each call below that takes a start, it reads the whole text, not only the part from the
+ * start on: see LONG TEXTS above before you call it in a loop. */
 uint32_t regex_lite_is_match(regex_lite *handle, const uint8_t *text, size_t len, size_t start);
 
 /* Writes the match that starts first from this offset on, of those the one that the pattern
- * prefers: REGEX_LITE_YES, or REGEX_LITE_NO. */
+ * prefers: REGEX_LITE_YES, or REGEX_LITE_NO. It reads the whole text, whatever the start: for all
+ * matches of a text, regex_lite_find_all takes linear time where a loop over this call doesn't. */
 uint32_t regex_lite_find(regex_lite *handle, const uint8_t *text, size_t len, size_t start,
                          regex_lite_span *span);
 
-/* The same, with what the search cost written too, where the answer is one of these two. */
+/* Does the same as regex_lite_find, and also writes what the search cost, where the answer is
+ * REGEX_LITE_YES or REGEX_LITE_NO. It reads the whole text, whatever the start. */
 uint32_t regex_lite_find_counted(regex_lite *handle, const uint8_t *text, size_t len, size_t start,
                                  regex_lite_span *span, regex_lite_cost *cost);
 
-/* Writes the least offset at which a match from this offset on ends. */
+/* Writes the least offset at which a match ends that starts at this offset or later:
+ * REGEX_LITE_YES, or REGEX_LITE_NO. It reads the whole text, whatever the start. */
 uint32_t regex_lite_shortest(regex_lite *handle, const uint8_t *text, size_t len, size_t start,
                              size_t *end);
 
 /* Searches many texts, whose bytes come one after another, and writes for each where its first
  * match is, by offsets in that text; is_there is false where it has none: REGEX_LITE_YES. With room
- * for fewer spans than texts nothing is written: REGEX_LITE_NO_ROOM.
+ * for fewer spans than texts nothing at all is written: REGEX_LITE_NO_ROOM. `count` spans are
+ * needed.
  *
  * The lengths of the texts have to add up to `len`, and no text may end inside a character, else
  * the answer is REGEX_LITE_BAD_OFFSET. The texts are searched in the same memory, and what the
@@ -237,32 +275,46 @@ uint32_t regex_lite_find_each(regex_lite *handle, const uint8_t *texts, size_t l
                               size_t room);
 
 /* Writes the groups of the match that regex_lite_find writes, from the whole match on, and how many
- * they are: REGEX_LITE_YES. With room for fewer it writes how many they are alone. */
+ * they are: REGEX_LITE_YES, or REGEX_LITE_NO. With room for fewer it only writes how many they are:
+ * REGEX_LITE_NO_ROOM. It reads the whole text, whatever the start: for the groups of all matches
+ * of a text use regex_lite_captures_all, which takes linear time where a loop over this call
+ * takes quadratic time. */
 uint32_t regex_lite_captures(regex_lite *handle, const uint8_t *text, size_t len, size_t start,
                              regex_lite_span *spans, size_t room, size_t *count);
 
 /* Writes the next matches of a text from left to right, as many as there is room for, and how many
- * these are: REGEX_LITE_YES, or REGEX_LITE_NO where none is left. No two overlap.
+ * these are: REGEX_LITE_YES, or REGEX_LITE_NO where none is left. No two overlap. With a `room` of
+ * 0 the answer is REGEX_LITE_NO_ROOM, and the count is 0. Where the answer isn't REGEX_LITE_YES,
+ * the walk stays where it was.
  *
- * The walk is begun by REGEX_LITE_START, and goes on with the same handle and text. Each call reads
- * the whole text once to see that it is UTF-8, so room for many matches is better. */
+ * The walk is initialised with REGEX_LITE_START, and goes on with the same handle and text. Each
+ * call reads the whole text once to check that it is UTF-8, so room for many matches is better. */
 uint32_t regex_lite_find_all(regex_lite *handle, const uint8_t *text, size_t len,
                              regex_lite_walk *walk, regex_lite_span *spans, size_t room,
                              size_t *count);
 
 /* Writes the groups of the matches that regex_lite_find_all writes, those of a match in a row, and
  * how many matches these are: the groups of match i begin at i * regex_lite_groups. It writes as
- * many as there is room for: REGEX_LITE_YES, REGEX_LITE_NO where none is left, or
- * REGEX_LITE_NO_ROOM with room for fewer spans than a match has groups. */
+ * many as there is room for: REGEX_LITE_YES means that all remaining matches were written, or that
+ * the next one has more groups than there are spans left. REGEX_LITE_NO means that none is left.
+ * With room for fewer spans than a match has groups, which is regex_lite_groups, the answer is
+ * REGEX_LITE_NO_ROOM, and the count is 0.
+ *
+ * Where memory runs out, the answer is REGEX_LITE_OUT_OF_MEMORY. Then the groups of the matches
+ * before have been written, the count says how many matches these are, which may be 0, and the walk
+ * goes on after them. Each call reads the whole text once, so room for many matches is better. */
 uint32_t regex_lite_captures_all(regex_lite *handle, const uint8_t *text, size_t len,
                                  regex_lite_walk *walk, regex_lite_span *spans, size_t room,
                                  size_t *count);
 
 /* Writes the next pieces of a text, as many as there is room for, and how many these are:
  * REGEX_LITE_YES, or REGEX_LITE_NO where none is left. The pieces are what stands before, between
- * and after the matches that regex_lite_find_all writes, so there is one more than matches.
+ * and after the matches that regex_lite_find_all writes, so there is one more than matches. With a
+ * `room` of 0 the answer is REGEX_LITE_NO_ROOM, and the count is 0. Where the answer isn't
+ * REGEX_LITE_YES, the cut stays where it was.
  *
- * The cut is begun by REGEX_LITE_UNCUT, and goes on with the same handle and text. */
+ * The cut is initialised with REGEX_LITE_UNCUT, and goes on with the same handle and text. Each
+ * call reads the whole text once, so room for many pieces is better. */
 uint32_t regex_lite_split(regex_lite *handle, const uint8_t *text, size_t len, regex_lite_cut *cut,
                           regex_lite_span *pieces, size_t room, size_t *count);
 
@@ -289,7 +341,8 @@ uint32_t regex_lite_escape(const uint8_t *text, size_t len, uint8_t *room, size_
  * With REGEX_LITE_NOT_TEXT, refusal->number is that of the first pattern that isn't valid UTF-8.
  * With any other refusal it is that of the first pattern that is refused by itself, or how many
  * patterns there are where none is: where memory runs out, or where the patterns have more places
- * together than can be numbered. The message is as that of regex_lite_new. */
+ * together than can be numbered. The message is like that of regex_lite_new, and its length is also
+ * 0 with REGEX_LITE_BAD_OFFSET. */
 uint32_t regex_lite_list_new(regex_lite_list *handle, const uint8_t *bytes, size_t len,
                              const regex_lite_list_pattern *patterns, size_t count,
                              uint8_t *message, size_t message_room,
@@ -313,47 +366,57 @@ size_t regex_lite_list_places(regex_lite_list *handle);
 size_t regex_lite_list_arrows(regex_lite_list *handle);
 
 /* Whether one of the patterns matches somewhere from this offset on: REGEX_LITE_YES or
- * REGEX_LITE_NO. Looks see the whole text, as with regex_lite_is_match. */
+ * REGEX_LITE_NO. Looks see the whole text, as with regex_lite_is_match, and the whole text is
+ * read. */
 uint32_t regex_lite_list_is_match(regex_lite_list *handle, const uint8_t *text, size_t len,
                                   size_t start);
 
 /* Writes the match that is found from this offset on, with the number of its pattern:
- * REGEX_LITE_YES, or REGEX_LITE_NO. */
+ * REGEX_LITE_YES, or REGEX_LITE_NO. It reads the whole text, whatever the start: for all matches of
+ * a text use regex_lite_list_find_all. */
 uint32_t regex_lite_list_find(regex_lite_list *handle, const uint8_t *text, size_t len,
                               size_t start, regex_lite_list_span *span);
 
-/* The same, with what the search cost written too, where the answer is one of these two. */
+/* Does the same as regex_lite_list_find, and also writes what the search cost, where the answer is
+ * REGEX_LITE_YES or REGEX_LITE_NO. It reads the whole text, whatever the start. */
 uint32_t regex_lite_list_find_counted(regex_lite_list *handle, const uint8_t *text, size_t len,
                                       size_t start, regex_lite_list_span *span,
                                       regex_lite_cost *cost);
 
 /* Writes the groups of the match that regex_lite_list_find writes, from the whole match on, the
- * number of its pattern, and how many groups that has: REGEX_LITE_YES. With room for fewer groups
- * it writes the two numbers alone. */
+ * number of its pattern, and how many groups that has: REGEX_LITE_YES, or REGEX_LITE_NO. With room
+ * for fewer groups it only writes the two numbers: REGEX_LITE_NO_ROOM. It reads the whole text,
+ * whatever the start: for the groups of all matches of a text use regex_lite_list_captures_all. */
 uint32_t regex_lite_list_captures(regex_lite_list *handle, const uint8_t *text, size_t len,
                                   size_t start, regex_lite_span *spans, size_t room,
                                   regex_lite_list_groups *groups);
 
 /* Writes the next matches of a text from left to right, whichever pattern each is of, as many as
  * there is room for, and how many these are: REGEX_LITE_YES, or REGEX_LITE_NO where none is left.
- * No two overlap. The walk is as that of regex_lite_find_all. */
+ * No two overlap. The walk is like that of regex_lite_find_all, and so are the answers. */
 uint32_t regex_lite_list_find_all(regex_lite_list *handle, const uint8_t *text, size_t len,
                                   regex_lite_walk *walk, regex_lite_list_span *spans, size_t room,
                                   size_t *count);
 
 /* Writes the groups of the matches that regex_lite_list_find_all writes, those of a match in a row,
  * and how many matches these are. For each match it writes the number of its pattern, and how many
- * groups that has. It writes as many as there is room for: REGEX_LITE_YES, or REGEX_LITE_NO where
- * none is left. With too little room for the next match the answer is REGEX_LITE_NO_ROOM, and
- * `count` is how many groups that has. */
+ * groups that has. It writes as many as there is room for: REGEX_LITE_YES means that all remaining
+ * matches were written, or that there is no room left for the number or for the groups of the next
+ * one. REGEX_LITE_NO means that none is left. With too little room for the first of them the answer
+ * is REGEX_LITE_NO_ROOM, and `count` is how many groups that has.
+ *
+ * Where memory runs out, the answer is REGEX_LITE_OUT_OF_MEMORY. Then the groups of the matches
+ * before have been written, `count` says how many matches these are, which may be 0, and the walk
+ * goes on after them. Each call reads the whole text once, so room for many matches is better. */
 uint32_t regex_lite_list_captures_all(regex_lite_list *handle, const uint8_t *text, size_t len,
                                       regex_lite_walk *walk, regex_lite_list_groups *groups,
                                       size_t groups_room, regex_lite_span *spans, size_t room,
                                       size_t *count);
 
-/* Writes for each pattern, by its number, whether it matches somewhere from this offset on: 1 or 0.
- * And how many patterns there are: REGEX_LITE_YES. With room for fewer bytes it writes this number
- * alone. Each pattern is searched for by itself. */
+/* Writes for each pattern, by its number, whether it matches somewhere from this offset on, 1 or 0,
+ * and how many patterns there are: REGEX_LITE_YES. With room for fewer bytes it only writes how
+ * many there are: REGEX_LITE_NO_ROOM. Each pattern is searched for by itself. It reads the whole
+ * text, whatever the start. */
 uint32_t regex_lite_list_matches(regex_lite_list *handle, const uint8_t *text, size_t len,
                                  size_t start, uint8_t *matched, size_t room, size_t *count);
 

@@ -16,6 +16,7 @@ void __real_free(void *place);
 static long allowed; /* how many requests are still granted; below 0 all are */
 static long blocks;  /* how many blocks are in use */
 static long refused;
+static long parts; /* how often groups were written before memory ran out */
 
 static bool is_granted(void) {
     if (allowed == 0) {
@@ -53,6 +54,74 @@ static int call_fault_at(void) {
     return 1;
 }
 
+/* Builds a pattern that is refused, and returns how many answers are what they shouldn't be. The
+ * text of a refusal takes no memory, so it is always written. */
+static int call_refused(void) {
+    regex_lite regex = REGEX_LITE_NOTHING;
+    regex_lite_list list = REGEX_LITE_NOTHING;
+    regex_lite_options options = REGEX_LITE_DEFAULTS;
+    regex_lite_list_pattern each = {3, REGEX_LITE_DEFAULTS};
+    regex_lite_list_refusal refusal;
+    static const char *const texts[] = {"found open group without closing ')'", "out of memory"};
+    uint8_t message[100], list_message[100];
+    size_t n;
+    uint32_t answer = regex_lite_new(&regex, TEXT("a(b"), &options, message, sizeof message, &n);
+    uint32_t of_list = regex_lite_list_new(&list, TEXT("a(b"), &each, 1, list_message,
+                                           sizeof list_message, &refusal);
+    const char *text = texts[answer == REGEX_LITE_SYNTAX ? 0 : 1];
+    const char *list_text = texts[of_list == REGEX_LITE_SYNTAX ? 0 : 1];
+    if ((answer == REGEX_LITE_SYNTAX || answer == REGEX_LITE_OUT_OF_MEMORY) &&
+        n == strlen(text) && memcmp(message, text, n) == 0 &&
+        (of_list == REGEX_LITE_SYNTAX || of_list == REGEX_LITE_OUT_OF_MEMORY) &&
+        refusal.message_len == strlen(list_text) &&
+        memcmp(list_message, list_text, refusal.message_len) == 0)
+        return 0;
+    printf("the text of a refusal: %u, %.*s\n", (unsigned)answer, (int)n, (char *)message);
+    return 1;
+}
+
+/* Whether this is what is written of the groups of two matches, or of one where memory ran out. */
+static bool is_part(uint32_t answer, const regex_lite_walk *walk, const regex_lite_span *spans,
+                    size_t count) {
+    if (answer == REGEX_LITE_YES) return count == 2 && walk->end == 5;
+    if (answer != REGEX_LITE_OUT_OF_MEMORY) return false;
+    parts += count;
+    return count == 0 ? !walk->is_begun && spans[0].start == 9
+                      : count == 1 && walk->end == 2 && spans[1].end == 1 && spans[2].start == 9;
+}
+
+/* Writes the groups of two matches, and returns how many answers are what they shouldn't be. */
+static int call_parts(void) {
+    regex_lite regex = REGEX_LITE_NOTHING;
+    regex_lite_list list = REGEX_LITE_NOTHING;
+    regex_lite_options options = REGEX_LITE_DEFAULTS;
+    regex_lite_list_pattern each = {4, REGEX_LITE_DEFAULTS};
+    regex_lite_list_refusal refusal;
+    regex_lite_list_groups groups[2];
+    regex_lite_walk walk = REGEX_LITE_START, list_walk = REGEX_LITE_START;
+    regex_lite_span spans[4], list_spans[4];
+    uint8_t message[100];
+    size_t n, count, list_count;
+    uint32_t answer, of_list;
+    bool is_so = true;
+    for (n = 0; n < 4; n++) spans[n].start = spans[n].end = list_spans[n].start = 9;
+    if (regex_lite_new(&regex, TEXT("(a)b"), &options, message, sizeof message, &n) ==
+        REGEX_LITE_YES) {
+        answer = regex_lite_captures_all(&regex, TEXT("ab_ab"), &walk, spans, 4, &count);
+        is_so = is_part(answer, &walk, spans, count);
+    }
+    if (regex_lite_list_new(&list, TEXT("(a)b"), &each, 1, message, sizeof message, &refusal) ==
+        REGEX_LITE_YES) {
+        of_list = regex_lite_list_captures_all(&list, TEXT("ab_ab"), &list_walk, groups, 2,
+                                               list_spans, 4, &list_count);
+        is_so = is_so && is_part(of_list, &list_walk, list_spans, list_count);
+    }
+    regex_lite_free(&regex);
+    regex_lite_list_free(&list);
+    if (!is_so) printf("the groups of some matches are wrong\n");
+    return !is_so;
+}
+
 /* Makes all calls that take memory, and returns how many returned what they shouldn't. */
 static int call_all(void) {
     static const char text[] = "Mister Samwise, Sam";
@@ -70,6 +139,8 @@ static int call_all(void) {
     int wrong = 0;
     answers[0] = regex_lite_new(&regex, TEXT("\\b(?<name>[Ss]am)(wise)?\\b"), &options, message,
                                 sizeof message, &n);
+    if (answers[0] != REGEX_LITE_YES && (n != 13 || memcmp(message, "out of memory", 13) != 0))
+        wrong++;
     others = answers[0] == REGEX_LITE_YES ? REGEX_LITE_OUT_OF_MEMORY : REGEX_LITE_NOTHING_HELD;
     answers[1] = regex_lite_is_match(&regex, TEXT(text), 0);
     answers[2] = regex_lite_find(&regex, TEXT(text), 0, spans);
@@ -91,7 +162,7 @@ static int call_all(void) {
     n = regex_lite_escape(TEXT("a.b"), room, sizeof room, &n);
     if (n != REGEX_LITE_YES && n != REGEX_LITE_OUT_OF_MEMORY) wrong++;
     regex_lite_free(&regex);
-    return wrong + call_fault_at();
+    return wrong + call_fault_at() + call_refused() + call_parts();
 }
 
 /* Makes all calls for several patterns, and returns how many returned what they shouldn't. */
@@ -158,5 +229,5 @@ int main(void) {
         if (is_done) break;
     }
     printf("refusals: each of %ld requests was refused, and nothing leaked\n", at);
-    return at < 10;
+    return at < 10 || parts == 0;
 }

@@ -3,7 +3,7 @@ use Rattle.regex_lite_c.proofs.Common.{◌≡◌, ℕ, zero, suc, ◌<◌, ◌�
 use Rattle.regex_lite_c.proofs.Common.{IsCharBoundary, refl, inl, inr, arith, cases_lt, NO, NO_ROOM}
 use Rattle.regex_lite_c.proofs.Common.{OUT_OF_MEMORY, YES}
 use Rattle.std.proofs.Common.{◌≢◌}
-use Rattle.regex_lite_c.specs.Answers.{RefusesText}
+use Rattle.regex_lite_c.specs.Answers.{IsSearchAnswer, RefusesText}
 use Rattle.regex_lite_c.specs.declared.answer.TheConstants.{NOT_TEXT, BAD_OFFSET}
 
 -- the answers where a text can be searched
@@ -27,6 +27,16 @@ nothing_refused bytes start answer utf8 boundary is =
       not_text = (λ wrong. absurd (not.0 wrong), λ wrong. absurd (wrong utf8));
       bad_offset = (λ wrong. absurd (not.1 wrong), λ wrong. absurd (wrong.1 boundary));
     }
+
+-- the answer of a search that finds something in a text that can be searched
+pub found_answer : (bytes : List ℕ) (start : ℕ) (Yes No : Type 0) → IsUtf8 bytes
+    → IsCharBoundary bytes start → Yes → IsSearchAnswer bytes start YES Yes No
+found_answer bytes start Yes No utf8 boundary is = record {
+  found = λ _. is;
+  none = λ wrong. absurd (omega (arith, wrong));
+  refused = nothing_refused bytes start YES utf8 boundary (inl (omega arith));
+  one_of = inl (omega arith);
+}
 
 -- they are some of those that a call returns
 pub one_of_more : (answer : ℕ) → IsOne answer

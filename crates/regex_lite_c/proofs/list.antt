@@ -1,2 +1,3 @@
 -- lemmas that the proofs of lists share
 pub mod ListBuildLemmas
+pub mod ListSearchLemmas

@@ -1,20 +1,15 @@
 -- What is returned, held and written where a regex is to be built.
-use Rattle.std.specs.Prelude.{◌≡◌, ◌≢◌, ◌<◌, ◌≤◌, ◌⊎◌, ◌↔◌, ◌++◌, ℕ, List}
-use Rattle.std.specs.Prelude.{Option, Some, None, IsUtf8, drop, length}
+use Rattle.std.specs.Prelude.{◌≡◌, ◌≢◌, ◌↔◌, ℕ, List, Option, Some, None, IsUtf8}
 use Rattle.regex_lite_syntax.specs.Errors.{Refusal, kind_of, text_of}
 use Rattle.regex_lite.specs.Expression.{Expression, IsAccepted, IsDue, expression_of}
 use Rattle.regex_lite.specs.Settings.{Settings}
 use Rattle.regex_lite_c.specs.Answers.{number_of}
+use Rattle.regex_lite_c.specs.Rooms.{IsWritten}
 use Rattle.regex_lite_c.specs.declared.answer.TheConstants.{YES, NOT_TEXT, OUT_OF_MEMORY}
 
--- a message was written to the room for it, or nothing if that is too small; and its length was
--- reported. Or memory ran out for it, and its length counts as 0
+-- a message was written to the room for it, if that is large enough, and its length was reported
 abbrev pub IsMessage : (text old new : List ℕ) → (len : ℕ) → Type 0
-IsMessage text old new len =
-    ((len ≡ 0) × (new ≡ old))
-    ⊎ ((len ≡ length text)
-    × (length text ≤ length old → new ≡ text ++ drop (length text) old)
-    × (length old < length text → new ≡ old))
+IsMessage text old new len = (answer : ℕ) × IsWritten text old new len answer
 
 -- the pattern is refused by this number, with the text of this refusal, which is due
 abbrev pub IsRefusedBy : Settings → (answer : ℕ) → (old new : List ℕ) → (len : ℕ) → Type 0

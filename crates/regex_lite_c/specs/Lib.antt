@@ -2,6 +2,7 @@
 pub mod Handles
 pub mod Options
 pub mod Answers
+pub mod AnswerTexts
 pub mod Building
 pub mod Faults
 pub mod ListBuilding

@@ -1,6 +1,6 @@
 -- What is returned of searches for several patterns.
 use Rattle.std.specs.Prelude.{◌≡◌, ◌≢◌, ◌⊎◌, ◌<◌, ◌≤◌, ℕ, Bool, List, Option, Some, None}
-use Rattle.std.specs.Prelude.{chars, cond, length, map}
+use Rattle.std.specs.Prelude.{chars, cond, length}
 use Rattle.regex_lite.specs.Expression.{Expression}
 use Rattle.regex_lite.specs.Groups.{Groups}
 use Rattle.regex_lite.specs.RegexListSearches.{TellsAnswerOfList, TellsGroupsOfList}
@@ -13,9 +13,9 @@ use Rattle.regex_lite_c.specs.declared.list.types.ListGroups.{ListGroups}
 use Rattle.regex_lite_c.specs.declared.list.types.ListSpan.{ListSpan}
 use Rattle.regex_lite_c.specs.declared.types.Span.{Span}
 
--- the number of a pattern, and where its match starts and ends
-abbrev pub list_span_of : ListSpan → ℕ × (ℕ × ℕ)
-list_span_of span = (span.number, (span.start, span.end))
+-- the span that stands for a match of the pattern with this number, from one offset to another
+abbrev pub list_span_of : ℕ × (ℕ × ℕ) → ListSpan
+list_span_of told = record { number = told.0; start = told.1.0; end = told.1.1 }
 
 -- what is returned of a search for the patterns from this offset on is the number of the pattern
 -- that matches, and where its match starts and ends
@@ -25,6 +25,12 @@ TellsListSpan list haystack start told =
     TellsAnswerOfList
     (λ tree found span. span ≡ offsets (chars haystack) (found.start, found.end))
     list haystack start told
+
+-- the search finds a match, and the span is where that starts and ends, with its pattern's number
+abbrev pub FindsListSpan : List Expression → (haystack : List ℕ) → (start : ℕ) → ListSpan → Type 0
+FindsListSpan list haystack start span =
+    (told : ℕ × (ℕ × ℕ)) × TellsListSpan list haystack start (Some told)
+    × (span ≡ list_span_of told)
 
 -- these are the groups of the match that starts first from this offset on, as many as are told, of
 -- the pattern with the number that is returned
@@ -61,7 +67,7 @@ AreToldFlags list haystack start count matched =
 pub record IsFlagsAnswer (list : List Expression) (bytes : List ℕ) (start : ℕ)
     (old new : List ℕ) (old_count count answer : ℕ) : Type 0 where
   pub told : answer ≡ YES → (matched : List Bool) × AreToldFlags list bytes start count matched
-      × AreWrittenAs (λ byte. byte) (map flag_of matched) old new
+      × AreWrittenAs flag_of matched old new
   pub no_room : answer ≡ NO_ROOM → (matched : List Bool)
       × AreToldFlags list bytes start count matched × (length old < count)
   pub same : answer ≢ YES → new ≡ old

@@ -1,6 +1,6 @@
 -- What a caller's spans stand for.
 use Rattle.std.specs.Prelude.{◌≡◌, ◌≢◌, ◌⊎◌, ◌+◌, ◌<◌, ◌≤◌, ℕ, List, Option, Some}
-use Rattle.std.specs.Prelude.{None, cond, chars, length, option_map, slice_get}
+use Rattle.std.specs.Prelude.{None, chars, false, length, option_map, slice_get, true}
 use Rattle.regex_lite.specs.Expression.{Expression}
 use Rattle.regex_lite.specs.Groups.{Groups}
 use Rattle.regex_lite.specs.Searches.{TellsAnswer, TellsGroups, offsets}
@@ -8,9 +8,10 @@ use Rattle.regex_lite_c.specs.Answers.{IsFailure, RefusesText}
 use Rattle.regex_lite_c.specs.declared.answer.TheConstants.{NO, YES, NO_ROOM}
 use Rattle.regex_lite_c.specs.declared.types.Span.{Span}
 
--- where a part starts and ends, where there is one
-abbrev pub span_of : Span → Option (ℕ × ℕ)
-span_of span = cond span.is_there (Some (span.start, span.end)) None
+-- the span that stands for a part of a text, from one offset to another, or for none
+abbrev pub span_of : Option (ℕ × ℕ) → Span
+span_of None = record { is_there = false; start = 0; end = 0 }
+span_of (Some part) = record { is_there = true; start = part.0; end = part.1 }
 
 -- what is returned of a search for the pattern from this offset on is where its match starts and
 -- ends
@@ -19,10 +20,16 @@ TellsSpan re haystack start told =
     TellsAnswer (λ tree found span. span ≡ offsets (chars haystack) (found.start, found.end))
     re haystack start told
 
--- these were written to the front of the room, as they are viewed, and nothing after them
-pub record AreWrittenAs {X Y : Type 0} (view : X → Y) (told : List Y) (old new : List X)
+-- the search finds a match, and the span is where that starts and ends
+abbrev pub FindsSpan : Expression → (haystack : List ℕ) → (start : ℕ) → Span → Type 0
+FindsSpan re haystack start span =
+    (told : ℕ × ℕ) × TellsSpan re haystack start (Some told) × (span ≡ span_of (Some told))
+
+-- these were written to the front of the room, each as what stands for it, and nothing after them
+pub record AreWrittenAs {X Y : Type 0} (stands_for : Y → X) (told : List Y) (old new : List X)
     : Type 0 where
-  pub each : (k : ℕ) → k < length told → option_map view (slice_get new k) ≡ slice_get told k
+  pub each : (k : ℕ) → k < length told
+      → slice_get new k ≡ option_map stands_for (slice_get told k)
   pub rest : (k : ℕ) → length told ≤ k → slice_get new k ≡ slice_get old k
 
 -- the same for the caller's spans
@@ -33,7 +40,7 @@ AreWritten told old new = AreWrittenAs span_of told old new
 pub record AreWrittenAt (at : ℕ) (told : List (Option (ℕ × ℕ))) (old new : List Span)
     : Type 0 where
   pub each : (k : ℕ) → k < length told
-      → option_map span_of (slice_get new (at + k)) ≡ slice_get told k
+      → slice_get new (at + k) ≡ option_map span_of (slice_get told k)
   pub rest : (k : ℕ) → (k < at) ⊎ (at + length told ≤ k) → slice_get new k ≡ slice_get old k
 
 -- these are the groups of the match that starts first from this offset on, this many

@@ -1,6 +1,7 @@
 //! The numbers that calls return.
 ghost use Rattle.std.specs.Prelude.{◌≡◌};
 ghost use Rattle.regex_lite_syntax.specs.Errors.{kind_of};
+ghost use Rattle.regex_lite_c.specs.AnswerTexts.{answer_text};
 ghost use Rattle.regex_lite_c.specs.Answers.{number_of};
 
 use regex_lite::{Error, ErrorKind};
@@ -20,7 +21,7 @@ pub(crate) const NOT_TEXT: u32 = 3;
 /// The offset is above the text's length or inside a character.
 pub(crate) const BAD_OFFSET: u32 = 4;
 
-/// The room is too small. How much is needed was written, and nothing else.
+/// The room is too small for what is to be written first, and stays as it was.
 pub(crate) const NO_ROOM: u32 = 5;
 
 /// Memory ran out.
@@ -63,5 +64,28 @@ pub(crate) fn number_of(error: &Error) -> u32
         ErrorKind::Slots => SLOTS,
         ErrorKind::Memory => OUT_OF_MEMORY,
         ErrorKind::Replace => REPLACE,
+    }
+}
+
+/// What an answer means, in a few words. A number that no call returns is an unknown answer.
+pub(crate) fn text_of_answer(answer: u32) -> &'static str
+    ensures { result.now ≡ answer_text answer }
+{
+    match answer {
+        NO => "no match, or nothing is left",
+        YES => "success",
+        NOTHING_HELD => "the handle holds nothing",
+        NOT_TEXT => "the bytes are not valid UTF-8",
+        BAD_OFFSET => "an offset is out of range or inside a character",
+        NO_ROOM => "the room is too small",
+        OUT_OF_MEMORY => "out of memory",
+        NO_GROUP => "there is no group with this index",
+        SYNTAX => "the pattern has a syntax error",
+        NESTING => "the pattern exceeds the limit on nesting",
+        GROUPS => "the pattern has too many groups",
+        SIZE => "the pattern exceeds the size limit",
+        PLACES => "the pattern has too many places",
+        SLOTS => "the pattern has too many ends of groups",
+        _ => "unknown answer",
     }
 }

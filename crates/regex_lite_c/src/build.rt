@@ -40,7 +40,7 @@ pub extern "C" fn regex_lite_new(
             YES
         }
         Err(error) => {
-            write_message(alloc, &error, message, message_len);
+            write_message(&error, message, message_len);
             number_of(&error)
         }
     }
@@ -112,12 +112,9 @@ fn set_limits(builder: &mut RegexBuilder, options: &Options)
     builder.size_limit(options.size_limit);
 }
 
-/// Writes the error's text to the room, and how long it is.
-pub(crate) fn write_message(alloc: Global, error: &Error, message: &mut [u8], len: &mut usize)
-    requires { len.old ≡ 0 }
+/// Writes the error's text to the room, if that is large enough, and how long it is.
+pub(crate) fn write_message(error: &Error, message: &mut [u8], len: &mut usize)
     ensures { IsMessage (text_of error.now) message.old message.new len.new }
 {
-    if let Ok(text) = format!(in alloc; "{error}") {
-        room::write(text.as_str().as_bytes(), message, len);
-    }
+    room::write(error.text().as_bytes(), message, len);
 }

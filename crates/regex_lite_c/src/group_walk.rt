@@ -16,8 +16,9 @@ use std::alloc::Global;
 /// match in a row, from the whole match on, or 0 where none is left. The number of these matches is
 /// written too, and the walk goes on after the last of them.
 ///
-/// They are the matches of `regex_lite_find_all`. Where memory runs out after some of them, these
-/// are written.
+/// They are the matches of `regex_lite_find_all`. 1 means that no further match would have fitted:
+/// none is left, or the next has more groups than the room has spans left. Where memory runs out,
+/// the number tells how many matches were written before, and the walk goes on after them.
 #[unsafe(no_mangle)]
 pub extern "C" fn regex_lite_captures_all(
     alloc: Global,
@@ -80,7 +81,7 @@ fn fill_groups(
     let mut used = 0;
     for item in items {
         let Ok(caps) = item else {
-            return or_yes(*count, OUT_OF_MEMORY);
+            return OUT_OF_MEMORY;
         };
         if spans.len() - used < caps.len() {
             return or_yes(*count, NO_ROOM);

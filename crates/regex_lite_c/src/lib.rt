@@ -11,6 +11,7 @@
 //! same for callers in C.
 #![tactic(auto)]
 
+mod about;
 mod answer;
 mod build;
 mod each;
@@ -26,4 +27,5 @@ mod search;
 mod split;
 mod text;
 mod types;
+mod version;
 mod walk;

@@ -3,7 +3,7 @@ ghost use Rattle.std.specs.Prelude.{◌≡◌, ◌≢◌, ◌<◌, ◌≤◌, �
 ghost use Rattle.regex_lite.specs.Searches.{MatchesFrom, TellsEnd};
 ghost use Rattle.regex_lite_c.specs.Answers.{IsSearchAnswer};
 ghost use Rattle.regex_lite_c.specs.Costs.{IsCostOfSearch};
-ghost use Rattle.regex_lite_c.specs.Spans.{TellsSpan, span_of};
+ghost use Rattle.regex_lite_c.specs.Spans.{FindsSpan, TellsSpan};
 
 use crate::answer::{NO, NOTHING_HELD, OUT_OF_MEMORY, YES};
 use crate::handle::Handle;
@@ -62,7 +62,7 @@ pub extern "C" fn regex_lite_find(
     ensures same { handle.new.value ≡ handle.old.value }
     ensures nothing_held { (result ≡ NOTHING_HELD) ↔ (handle.old.value ≡ None) }
     ensures answer { IfSome handle.old.value (λ re. IsSearchAnswer text.now start result
-        (TellsSpan re text.now start (span_of span.new)) (TellsSpan re text.now start None)) }
+        (FindsSpan re text.now start span.new) (TellsSpan re text.now start None)) }
     ensures written { result ≢ YES → span.new ≡ span.old }
 {
     let Some(regex) = handle.take(alloc) else {
@@ -76,8 +76,7 @@ pub extern "C" fn regex_lite_find(
 /// Where this regex matches first.
 fn find(regex: &Regex, text: &[u8], start: usize, span: &mut Span) -> u32
     ensures answer { IsSearchAnswer text.now start result
-        (TellsSpan regex.now text.now start (span_of span.new))
-        (TellsSpan regex.now text.now start None) }
+        (FindsSpan regex.now text.now start span.new) (TellsSpan regex.now text.now start None) }
     ensures held { result ≢ NOTHING_HELD }
     ensures written { result ≢ YES → span.new ≡ span.old }
 {
@@ -108,9 +107,10 @@ pub extern "C" fn regex_lite_find_counted(
     ensures same { handle.new.value ≡ handle.old.value }
     ensures nothing_held { (result ≡ NOTHING_HELD) ↔ (handle.old.value ≡ None) }
     ensures answer { IfSome handle.old.value (λ re. IsSearchAnswer text.now start result
-        (TellsSpan re text.now start (span_of span.new)) (TellsSpan re text.now start None)) }
+        (FindsSpan re text.now start span.new) (TellsSpan re text.now start None)) }
     ensures cost { result ≤ YES
         → IfSome handle.old.value (λ re. IsCostOfSearch re text.now start cost.new) }
+    ensures entered { result ≡ YES → 0 < cost.new.entered }
     ensures written { result ≢ YES → span.new ≡ span.old }
     ensures same_cost { YES < result → cost.new ≡ cost.old }
 {
@@ -125,10 +125,10 @@ pub extern "C" fn regex_lite_find_counted(
 /// Where this regex matches first, and what it cost to find out.
 fn find_counted(regex: &Regex, text: &[u8], start: usize, span: &mut Span, cost: &mut Cost) -> u32
     ensures answer { IsSearchAnswer text.now start result
-        (TellsSpan regex.now text.now start (span_of span.new))
-        (TellsSpan regex.now text.now start None) }
+        (FindsSpan regex.now text.now start span.new) (TellsSpan regex.now text.now start None) }
     ensures held { result ≢ NOTHING_HELD }
     ensures cost { result ≤ YES → IsCostOfSearch regex.now text.now start cost.new }
+    ensures entered { result ≡ YES → 0 < cost.new.entered }
     ensures written { result ≢ YES → span.new ≡ span.old }
     ensures same_cost { YES < result → cost.new ≡ cost.old }
 {

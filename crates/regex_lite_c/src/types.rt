@@ -45,7 +45,7 @@ pub struct Span {
 impl Span {
     /// The span of a match.
     pub(crate) fn of(found: &Match<'_>) -> Span
-        ensures { span_of result ≡ Some (span_of_match found.now) }
+        ensures { result ≡ span_of (Some (span_of_match found.now)) }
     {
         Span {
             is_there: true,
@@ -56,7 +56,7 @@ impl Span {
 
     /// The span from one offset to another.
     pub(crate) fn between(start: usize, end: usize) -> Span
-        ensures { span_of result ≡ Some (start, end) }
+        ensures { result ≡ span_of (Some (start, end)) }
     {
         Span {
             is_there: true,
@@ -67,7 +67,7 @@ impl Span {
 
     /// The span of a group, if it took part.
     pub(crate) fn of_group(group: Option<Match<'_>>) -> Span
-        ensures { span_of result ≡ option_map span_of_match group.entry }
+        ensures { result ≡ span_of (option_map span_of_match group.entry) }
     {
         match group {
             Some(found) => Span::of(&found),

@@ -146,8 +146,8 @@ impl Error {
         }
     }
 
-    /// The text that `Display` writes.
-    fn text(&self) -> &'static str
+    /// The text that `Display` writes. It is static, so it asks for no memory.
+    pub fn text(&self) -> &'static str
         ensures { result.now ≡ text_of self.now }
     {
         match self.fault {

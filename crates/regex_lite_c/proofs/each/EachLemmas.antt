@@ -58,7 +58,7 @@ next_ends re bytes lens at k old new so less =
 pub one_searched : (re : Expression) (bytes lens : List ℕ) (at k : ℕ) (old new : List Span)
     (span : Span) (told : Option (ℕ × ℕ))
     → AreSearched re bytes lens at k old new → k < length lens → k < length new
-    → TellsSpan re (slice_range bytes at (at + get_or lens k 0)) 0 told → span_of span ≡ told
+    → TellsSpan re (slice_range bytes at (at + get_or lens k 0)) 0 told → span ≡ span_of told
     → AreSearched re bytes lens (at + get_or lens k 0) (k + 1) old (slice_set new k span)
 one_searched re bytes lens at k old new span told so less room tells is =
     let next = len_at lens k less in

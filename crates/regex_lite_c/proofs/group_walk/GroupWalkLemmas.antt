@@ -1,17 +1,19 @@
 -- Groups of matches of a regex that are written one after another.
-use Rattle.regex_lite_c.proofs.Common.{◌≡◌, ℕ, ◌+◌, ◌<◌, true, false, List, [], ◌∷◌, ◌++◌, length}
+use Rattle.regex_lite_c.proofs.Common.{◌≡◌, ℕ, ◌+◌, ◌<◌, List, [], ◌∷◌, ◌++◌, length}
 use Rattle.regex_lite_c.proofs.Common.{Some, None, Option, chars, unwrap_or, sym, ap, subst, inl}
 use Rattle.regex_lite_c.proofs.Common.{inr, arith, cases_lt, Found, ComesNext, Expression, Groups}
 use Rattle.regex_lite_c.proofs.Common.{group_span, IsAnswerOf, spans_of_all, span_of, AreWritten}
-use Rattle.regex_lite_c.proofs.Common.{walk_room, YES, Span}
-use Rattle.std.proofs.Common.{IsSome, Bool, cond}
+use Rattle.regex_lite_c.proofs.Common.{walk_room, refl, OUT_OF_MEMORY, YES, Span}
+use Rattle.std.proofs.Common.{IsSome}
 use Rattle.regex_lite.specs.Groups.{span_at}
 use Rattle.regex_lite.specs.Items.{AreGroupsFound}
 use Rattle.regex_lite.specs.MatchList.{AreFirst}
 use Rattle.regex_lite.specs.Replacements.{AreGroupsOfEach}
-use Rattle.regex_lite_c.specs.GroupWalks.{AreGroupsListed, IsFilled, IsWithoutRoom}
+use Rattle.regex_lite_c.specs.GroupWalks.{AreGroupsListed, IsFilled, IsWithoutRoom, NoMoreFit}
 use Rattle.regex_lite_c.proofs.group_walk.StageLemmas.{AreSoFar, IsEndOf, Searched, Stage}
-use Rattle.regex_lite_c.proofs.group_walk.StageLemmas.{other_end}
+use Rattle.regex_lite_c.proofs.group_walk.StageLemmas.{first_to_end, first_with_next}
+use Rattle.regex_lite_c.proofs.group_walk.StageLemmas.{found_at_start}
+use Rattle.regex_lite_c.proofs.group_walk.StageLemmas.{other_end, used_by}
 use Rattle.regex_lite_c.proofs.walk.WalkLemmas.{lists_all}
 
 -- one more match has its groups after those of the others
@@ -37,7 +39,7 @@ of_regex = record {
 }
 
 -- those that were written are the first of those ahead
-listed : (start now : Stage Expression) → AreSoFar of_regex start now → 0 < now.count
+unfoldable listed : (start now : Stage Expression) → AreSoFar of_regex start now → 0 < now.count
     → AreGroupsListed start.ahead (walk_room start.walk start.spans) (walk_room now.walk now.spans)
     now.count
 listed start now so some =
@@ -64,24 +66,56 @@ IsAnswer start now answer =
     IsFilled start.ahead (walk_room start.walk start.spans) (walk_room now.walk now.spans) now.count
     answer
 
--- why a walk ends here: none is left, memory ran out, or there is too little room
+-- the next match has more groups than there is room left for
+abbrev pub IsFull : (now : Stage Expression) → Type 0
+IsFull now =
+    (next : Found) × (groups : Groups) × ComesNext now.ahead (Some next)
+    × AreGroupsFound now.ahead.sought now.ahead.haystack next groups
+    × (length now.spans < now.used + length groups.spans)
+
+-- why a walk ends here: none is left, or there is too little room
 abbrev pub IsEnd : (now : Stage Expression) → (answer : ℕ) → Type 0
-IsEnd now answer =
-    IsEndOf (ComesNext now.ahead None) (now.used ≡ 0 → IsWithoutRoom now.ahead (length now.spans))
-    answer
+IsEnd now answer = IsEndOf (ComesNext now.ahead None) (IsFull now) answer
+
+-- so no more matches fit
+no_more : (start now : Stage Expression) (so : AreSoFar of_regex start now) (groups : List Groups)
+    (answer : ℕ)
+    → so.groups ≡ groups → length now.spans ≡ length start.spans → IsEnd now answer
+    → NoMoreFit start.ahead so.list (length (spans_of_all groups)) (length start.spans)
+no_more start now so groups answer is same (inl over) =
+    inl (first_to_end of_regex start now so (inr over.1))
+no_more start now so groups answer is same (inr (no_room, full)) = inr (
+  full.0,
+  full.1,
+  first_with_next of_regex start now so full.0 full.2,
+  found_at_start of_regex start now so full.0 full.1 full.3,
+  omega (arith, full.4, same, used_by of_regex start now so groups is),
+)
 
 -- the answer is yes where there are some, and else says why the walk ends
 pub filled : (start now : Stage Expression) (answer otherwise : ℕ) → AreSoFar of_regex start now
+    → length now.spans ≡ length start.spans
     → (0 < now.count → answer ≡ YES) → (now.count ≡ 0 → answer ≡ otherwise) → IsEnd now otherwise
     → IsAnswer start now answer
-filled start now answer otherwise so some none ends = elim (cases_lt 0 now.count) [
+unfolding listed
+filled start now answer otherwise so len some none ends = elim (cases_lt 0 now.count) [
   | inl more ↦
       let is = some more in
+      let own = so.some more in
       record {
-        found = λ _. (listed start now so more, more);
+        found = λ _. (
+          record {
+            listed = listed start now so more;
+            no_more =
+                no_more start now so (own.front ++ (own.last ∷ [])) otherwise own.is len ends;
+          },
+          more,
+        );
         none = λ wrong. absurd (omega (arith, is, wrong));
         no_room = λ wrong. absurd (omega (arith, is, wrong));
-        same = λ wrong. absurd (wrong is);
+        part = λ wrong. absurd (omega (arith, is, wrong));
+        no_count = λ wrong. absurd (wrong is);
+        same = λ zero. absurd (omega (arith, zero, more));
         one_of = inl (omega (arith, is));
       }
   | inr few ↦
@@ -90,13 +124,30 @@ filled start now answer otherwise so some none ends = elim (cases_lt 0 now.count
       let end = other_end _ _ answer (subst (IsEnd now) (sym (none zero)) ends) in
       record {
         found = λ yes. absurd (end.0 yes);
-        none = λ nil. subst (λ a. ComesNext a None) same.0 (end.1 nil);
-        no_room = λ full. subst (λ a. IsWithoutRoom a (length start.spans)) same.0
-            (subst (λ spans. IsWithoutRoom now.ahead (length spans)) same.2 (end.2 full same.3));
-        same = λ _. (same.1, same.2, zero);
-        one_of = end.3;
+        none = λ nil. subst (λ a. ComesNext a None) same.0 (end.2 nil);
+        no_room = λ no_room.
+            let full = end.3 no_room in
+            subst (λ a. IsWithoutRoom a (length start.spans)) same.0
+            (full.0, full.1, full.2, full.3, omega (arith, full.4, same.3, len));
+        part = λ wrong. absurd (end.1 wrong);
+        no_count = λ _ _. zero;
+        same = λ _. (same.1, same.2);
+        one_of = end.4;
       }
 ]
+
+-- where memory runs out, what was written stays
+pub cut_off : (start now : Stage Expression) → AreSoFar of_regex start now
+    → IsAnswer start now OUT_OF_MEMORY
+cut_off start now so = record {
+  found = λ wrong. absurd (omega (arith, wrong));
+  none = λ wrong. absurd (omega (arith, wrong));
+  no_room = λ wrong. absurd (omega (arith, wrong));
+  part = λ _ more. listed start now so more;
+  no_count = λ _ wrong. absurd (wrong refl);
+  same = λ zero. let own = so.none zero in (own.1, own.2);
+  one_of = inr (inl refl);
+}
 
 -- a match has at least one group, the whole match
 pub some_groups : (re : Expression) (haystack : List ℕ) (found : Found) (own : Groups)
@@ -109,13 +160,7 @@ some_groups re haystack found own are = (some_spans own.spans are.2.whole, are.2
     some_spans (span ∷ spans) some = omega arith
 
 -- a span that stands for a part ends where the part does
-pub end_of_span : (s : Span) (span : Option (ℕ × ℕ)) → span_of s ≡ span → IsSome span
-    → s.end ≡ (unwrap_or span (0, 0)).1
-end_of_span s span is some = end_of s.is_there s.start s.end span is some
-  where
-    -- so whether there is a part or not
-    end_of : (b : Bool) (start end : ℕ) (span : Option (ℕ × ℕ))
-        → cond b (Some (start, end)) None ≡ span → IsSome span → end ≡ (unwrap_or span (0, 0)).1
-    end_of true start end span is some =
-        let to : Option (ℕ × ℕ) → ℕ × ℕ = λ o. unwrap_or o (0, 0) in ap (λ o. (to o).1) is
-    end_of false start end span is some = let wrong = subst IsSome (sym is) some in absurd cc
+pub end_of_span : (s : Span) (part : Option (ℕ × ℕ)) → s ≡ span_of part → IsSome part
+    → s.end ≡ (unwrap_or part (0, 0)).1
+end_of_span s (Some part) is some = ap (λ own. own.end) is
+end_of_span s None is some = absurd cc

@@ -1,18 +1,22 @@
 -- How far a walk has written the groups of matches, whatever is searched for, a regex or several
 -- patterns.
-use Rattle.regex_lite_c.proofs.Common.{◌≡◌, ℕ, suc, ◌+◌, ◌-◌, ◌<◌, ◌≤◌, ◌⊎◌, List, [], ◌∷◌, ◌++◌}
+use Rattle.regex_lite_c.proofs.Common.{◌≡◌, ℕ, zero, suc, ◌+◌, ◌-◌, ◌<◌, ◌≤◌, ◌⊎◌, List, []}
+use Rattle.regex_lite_c.proofs.Common.{◌∷◌, ◌++◌}
 use Rattle.regex_lite_c.proofs.Common.{length, slice_get, Some, None, Option, option_map, sym, refl}
 use Rattle.regex_lite_c.proofs.Common.{ap, ◌∙◌, subst, inl, inr, append-nil, arith, length-append}
-use Rattle.regex_lite_c.proofs.Common.{cases_lt, Found, Groups, spans_of_all, span_of, AreWritten}
+use Rattle.regex_lite_c.proofs.Common.{cases_lt, chars, Found, Groups, spans_of_all, span_of}
+use Rattle.regex_lite_c.proofs.Common.{AreWritten}
 use Rattle.regex_lite_c.proofs.Common.{ended_of, NO, NO_ROOM, OUT_OF_MEMORY, YES, Span, Walk}
 use Rattle.std.proofs.Common.{◌≢◌}
 use Rattle.std.proofs.lemmas.Grind.{flat_map-append}
 use Rattle.regex_lite_syntax.specs.Text.{Text}
 use Rattle.regex_lite_syntax.proofs.LookupLemmas.{get_left, get_right}
-use Rattle.regex_lite.specs.Ahead.{AheadOf, PassesAnswer}
+use Rattle.regex_lite.specs.Ahead.{AheadOf, AnswerComesNext, NoneIsAhead, PassesAnswer}
 use Rattle.regex_lite.specs.Groups.{whole_span}
+use Rattle.regex_lite.specs.MatchList.{IsNextAnswer}
 use Rattle.regex_lite_c.specs.Spans.{AreWrittenAt}
-use Rattle.regex_lite_c.proofs.walk.WalkLemmas.{ListsAnswers, lists_more, lists_none}
+use Rattle.regex_lite_c.proofs.walk.WalkLemmas.{AreFirstOf, ListsAnswers, lists_more, lists_none}
+use Rattle.regex_lite_c.proofs.walk.WalkLemmas.{lists_to_end}
 
 -- what is searched for: the match in an answer, and how it is related to the groups of a match, and
 -- a list of answers to those of each match
@@ -57,13 +61,14 @@ written_after told more old now new before is =
     record {
       each = λ k lt. elim (cases_lt k n) [
         | inl left ↦
-            ap (option_map span_of) (is.rest k (inl left)) ∙ before.each k left
-            ∙ sym (get_left told more k left)
+            is.rest k (inl left) ∙ before.each k left
+            ∙ ap (option_map span_of) (sym (get_left told more k left))
         | inr right ↦
             let j = k - n in
             let at : k ≡ n + j = omega (arith, right) in
-            subst (λ m. option_map span_of (slice_get new m) ≡ slice_get (told ++ more) m) (sym at)
-            (is.each j (omega (arith, lt, longer, at)) ∙ sym (get_right told more j))
+            subst (λ m. slice_get new m ≡ option_map span_of (slice_get (told ++ more) m)) (sym at)
+            (is.each j (omega (arith, lt, longer, at))
+            ∙ ap (option_map span_of) (sym (get_right told more j)))
       ];
       rest = λ k le.
           is.rest k (inr (omega (arith, le, longer))) ∙ before.rest k (omega (arith, le, longer));
@@ -159,28 +164,75 @@ module _ {S A : Type 0} (searched : Searched S A) where
         some = λ _. record { front = so.groups; last = own; is = refl; end = one.end };
       }
 
--- why a walk ends: none is left, memory ran out, or there is too little room
+-- what is ahead of a walk, after those of which the groups were written
+module _ {S A : Type 0} (searched : Searched S A) (start now : Stage S)
+    (so : AreSoFar searched start now) where
+  -- these are the first of the answers ahead, one more than were written
+  abbrev AreFirstWithNext : (list : List A) → Type 0
+  AreFirstWithNext list =
+      AreFirstOf searched.found_of searched.IsAnswerTo start.ahead.sought
+      (chars start.ahead.haystack) (length so.list + 1) start.ahead.ended list
+
+  one_left : now.count + suc zero ≡ length so.list + 1
+  one_left = omega (arith, so.number)
+
+  -- if none is left, those that were written are all
+  pub first_to_end : NoneIsAhead searched.found_of searched.IsAnswerTo now.ahead
+      → AreFirstWithNext so.list
+  first_to_end over =
+      subst (λ n. AreFirstOf searched.found_of searched.IsAnswerTo start.ahead.sought
+      (chars start.ahead.haystack) n start.ahead.ended so.list) one_left
+      (lists_to_end searched.found_of searched.IsAnswerTo start.ahead now.ahead
+      (now.count + suc zero) (suc zero) so.list (so.lists (suc zero)) over)
+
+  -- and else the next comes after them
+  pub first_with_next : (answer : A)
+      → AnswerComesNext searched.found_of searched.IsAnswerTo now.ahead (Some answer)
+      → AreFirstWithNext (so.list ++ (answer ∷ []))
+  first_with_next answer comes =
+      let lists = so.lists (suc zero) in
+      let Next : S → List ℕ → Type 0 =
+      λ sought bytes. IsNextAnswer searched.found_of (searched.IsAnswerTo sought (chars bytes))
+      now.ahead.ended (Some answer) in
+      let here : Next start.ahead.sought start.ahead.haystack =
+      subst (λ sought. Next sought start.ahead.haystack) lists.sought
+      (subst (λ bytes. Next now.ahead.sought bytes) lists.haystack comes) in
+      subst (λ n. AreFirstOf searched.found_of searched.IsAnswerTo start.ahead.sought
+      (chars start.ahead.haystack) n start.ahead.ended (so.list ++ (answer ∷ []))) one_left
+      (lists.on (answer ∷ []) (here, refl))
+
+  -- the groups of a match that is ahead are those of a match ahead at the start
+  pub found_at_start : (answer : A) (own : Groups)
+      → searched.AreFound now.ahead.sought now.ahead.haystack answer own
+      → searched.AreFound start.ahead.sought start.ahead.haystack answer own
+  found_at_start answer own are =
+      let lists = so.lists (suc zero) in
+      subst (λ sought. searched.AreFound sought start.ahead.haystack answer own) lists.sought
+      (subst (λ bytes. searched.AreFound now.ahead.sought bytes answer own) lists.haystack are)
+
+  -- as many spans are used as these groups have
+  pub used_by : (groups : List Groups) → so.groups ≡ groups
+      → length (spans_of_all groups) ≡ now.used
+  used_by groups is = sym (ap (λ own. length (spans_of_all own)) is) ∙ so.used_is
+
+-- why a walk ends with no memory refused: none is left, or there is too little room
 abbrev pub IsEndOf : (over full : Type 0) → (answer : ℕ) → Type 0
-IsEndOf over full answer =
-    ((answer ≡ NO) × over) ⊎ ((answer ≡ OUT_OF_MEMORY) ⊎ ((answer ≡ NO_ROOM) × full))
+IsEndOf over full answer = ((answer ≡ NO) × over) ⊎ ((answer ≡ NO_ROOM) × full)
 
 -- each of these is none of the others
 pub other_end : (over full : Type 0) (answer : ℕ) → IsEndOf over full answer
-    → (answer ≢ YES) × (answer ≡ NO → over) × (answer ≡ NO_ROOM → full)
+    → (answer ≢ YES) × (answer ≢ OUT_OF_MEMORY) × (answer ≡ NO → over)
+    × (answer ≡ NO_ROOM → full)
     × ((answer ≤ YES) ⊎ ((answer ≡ OUT_OF_MEMORY) ⊎ (answer ≡ NO_ROOM)))
 other_end over full answer (inl none) = (
+  λ wrong. omega (arith, none.0, wrong),
   λ wrong. omega (arith, none.0, wrong),
   λ _. none.1,
   λ wrong. absurd (omega (arith, none.0, wrong)),
   inl (omega (arith, none.0)),
 )
-other_end over full answer (inr (inl memory)) = (
-  λ wrong. omega (arith, memory, wrong),
-  λ wrong. absurd (omega (arith, memory, wrong)),
-  λ wrong. absurd (omega (arith, memory, wrong)),
-  inr (inl memory),
-)
-other_end over full answer (inr (inr small)) = (
+other_end over full answer (inr small) = (
+  λ wrong. omega (arith, small.0, wrong),
   λ wrong. omega (arith, small.0, wrong),
   λ wrong. absurd (omega (arith, small.0, wrong)),
   λ _. small.1,

@@ -59,7 +59,7 @@ many start ended list =
 
 -- this piece, after those that were written, ends there
 abbrev pub IsPieceTo : Stage → (end : ℕ) → Span → Type 0
-IsPieceTo now end piece = span_of piece ≡ Some (unwrap_or (ended_of now.walk) 0, end)
+IsPieceTo now end piece = piece ≡ span_of (Some (unwrap_or (ended_of now.walk) 0, end))
 
 -- the piece before the next match is written, and the walk goes on after it
 pub record IsOneMore (old new : Stage) (k : ℕ) : Type 0 where
@@ -102,9 +102,9 @@ one_piece_more start old new k so same one =
           (Some (unwrap_or (last_end ended spans) 0, own.0)) start.spans old.spans k one.piece
           so.written (many start.ahead ended so.list ∙ so.number) one.below
           (one.before
-          ∙ ap (λ e. Some (unwrap_or e 0, (found_span (chars old.ahead.haystack) found).0))
-          so.walked
-          ∙ ap (λ s. Some (unwrap_or (last_end ended spans) 0, s.0)) here)));
+          ∙ ap (λ e. span_of
+          (Some (unwrap_or e 0, (found_span (chars old.ahead.haystack) found).0))) so.walked
+          ∙ ap (λ s. span_of (Some (unwrap_or (last_end ended spans) 0, s.0))) here)));
       walked = one.ends ∙ ap (λ s. Some s.1) here
           ∙ sym (ap (last_end ended) longer ∙ end_more ended spans own);
     }
@@ -130,7 +130,8 @@ last_piece start now k piece so below same over is =
       over = λ _. omega (arith, so.number, below, same);
       full = λ wrong. absurd cc;
       written = written_more span_of before rest start.spans now.spans k piece so.written
-          (number ∙ so.number) below (is ∙ ap (λ e. Some (unwrap_or e 0, bytes)) so.walked);
+          (number ∙ so.number) below
+          (is ∙ ap (λ e. span_of (Some (unwrap_or e 0, bytes))) so.walked);
       number = omega (arith, length-append before (rest ∷ []), number, so.number);
       goes_on = so.walked;
     }

@@ -96,49 +96,51 @@ abbrev pub Lists : (start a : Ahead) (room left : ℕ) (list : List Found) → T
 Lists start a room left list = ListsAnswers (λ own. own) IsAnswerOf start a room left list
 
 -- one more was written
-pub written_more : {X Y : Type 0} (view : X → Y) (told : List Y) (one : Y) (old now : List X)
-    (n : ℕ) (s : X)
-    → AreWrittenAs view told old now → length told ≡ n → n < length now → view s ≡ one
-    → AreWrittenAs view (told ++ (one ∷ [])) old (slice_set now n s)
-written_more view told one old now n s is number below same =
+pub written_more : {X Y : Type 0} (stands_for : Y → X) (told : List Y) (one : Y)
+    (old now : List X) (n : ℕ) (s : X)
+    → AreWrittenAs stands_for told old now → length told ≡ n → n < length now → s ≡ stands_for one
+    → AreWrittenAs stands_for (told ++ (one ∷ [])) old (slice_set now n s)
+written_more stands_for told one old now n s is number below same =
     let longer = length-append told (one ∷ []) in
     record {
       each = λ k lt. elim (cases_lt k n) [
         | inl before ↦
-            ap (option_map view) (set_elsewhere now n k s (λ e. omega (arith, e, before)))
+            set_elsewhere now n k s (λ e. omega (arith, e, before))
             ∙ is.each k (omega (arith, number, before))
-            ∙ sym (get_left told (one ∷ []) k (omega (arith, number, before)))
+            ∙ ap (option_map stands_for)
+            (sym (get_left told (one ∷ []) k (omega (arith, number, before))))
         | inr after ↦
             let here : k ≡ n = omega (arith, after, lt, longer, number) in
-            subst (λ j. option_map view (slice_get (slice_set now n s) j)
-            ≡ slice_get (told ++ (one ∷ [])) j) (sym here)
-            (ap (option_map view) (set_here now n s below) ∙ ap Some same
-            ∙ sym
-            (subst (λ j. slice_get (told ++ (one ∷ [])) j ≡ Some one) number
-            (get_seam told one [])))
+            subst (λ j. slice_get (slice_set now n s) j
+            ≡ option_map stands_for (slice_get (told ++ (one ∷ [])) j)) (sym here)
+            (set_here now n s below ∙ ap Some same
+            ∙ ap (option_map stands_for)
+            (sym (subst (λ j. slice_get (told ++ (one ∷ [])) j ≡ Some one) number
+            (get_seam told one []))))
       ];
       rest = λ k le.
           set_elsewhere now n k s (λ e. omega (arith, e, le, longer, number))
           ∙ is.rest k (omega (arith, le, longer));
     }
 
--- an answer is told as this, and written as what is viewed like that
+-- an answer is told as this, and written as what stands for that
 module _ {S A X Y : Type 0} (found_of : A → Found)
-    (IsAnswerTo : S → Text → (s : ℕ) → Option A → Type 0) (view : X → Y)
+    (IsAnswerTo : S → Text → (s : ℕ) → Option A → Type 0) (stands_for : Y → X)
     (tell : List ℕ → A → Y) where
   -- this many of the answers ahead were written, the first of them
   pub record AreFirstWritten (start a : AheadOf S) (old now : List X) (k : ℕ) : Type 0 where
     pub list : List A
     pub number : length list ≡ k
     pub lists : ListsAnswers found_of IsAnswerTo start a (length old) (length old - k) list
-    pub written : AreWrittenAs view (map (tell start.haystack) list) old now
+    pub written : AreWrittenAs stands_for (map (tell start.haystack) list) old now
     pub same : k ≡ 0 → (a ≡ start) × (now ≡ old)
 
   -- one more was
   pub first_written_more : (start a next : AheadOf S) (old now : List X) (k : ℕ) (answer : A)
       (s : X)
       → AreFirstWritten start a old now k → k < length old → length now ≡ length old
-      → PassesAnswer found_of IsAnswerTo a answer next → view s ≡ tell start.haystack answer
+      → PassesAnswer found_of IsAnswerTo a answer next
+      → s ≡ stands_for (tell start.haystack answer)
       → AreFirstWritten start next old (slice_set now k s) (k + 1)
   first_written_more start a next old now k answer s so below len passes is =
       let left = length old - (k + 1) in
@@ -150,9 +152,9 @@ module _ {S A X Y : Type 0} (found_of : A → Found)
         lists = lists_more found_of IsAnswerTo start a next (length old) left so.list answer
             (subst (λ n. ListsAnswers found_of IsAnswerTo start a (length old) n so.list) less
             so.lists) passes;
-        written = subst (λ told. AreWrittenAs view told old (slice_set now k s))
+        written = subst (λ told. AreWrittenAs stands_for told old (slice_set now k s))
             (sym (map-append own so.list (answer ∷ [])))
-            (written_more view (map own so.list) (own answer) old now k s so.written
+            (written_more stands_for (map own so.list) (own answer) old now k s so.written
             (length-map so.list own ∙ so.number) (omega (arith, below, len)) is);
         same = λ none. absurd (omega (arith, none));
       }

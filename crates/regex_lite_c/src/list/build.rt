@@ -59,7 +59,7 @@ pub extern "C" fn regex_lite_list_new(
             handle.put(list);
             YES
         }
-        Err(refused) => tell(alloc, &refused, message, refusal),
+        Err(refused) => tell(&refused, message, refusal),
     }
 }
 
@@ -173,7 +173,7 @@ fn number_for(error: &Error, number: usize, count: usize) -> usize
 }
 
 /// Writes why patterns are refused, and returns its number.
-fn tell(alloc: Global, refused: &Refused, message: &mut [u8], told: &mut ListRefusal) -> u32
+fn tell(refused: &Refused, message: &mut [u8], told: &mut ListRefusal) -> u32
     requires { told.old.message_len ≡ 0 }
     ensures { IsTold refused.now result told.new message.old message.new }
 {
@@ -184,7 +184,7 @@ fn tell(alloc: Global, refused: &Refused, message: &mut [u8], told: &mut ListRef
         }
         Refused::By(number, error) => {
             told.number = *number;
-            write_message(alloc, error, message, &mut told.message_len);
+            write_message(error, message, &mut told.message_len);
             number_of(error)
         }
     }

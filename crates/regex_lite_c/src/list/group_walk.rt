@@ -19,9 +19,11 @@ use std::alloc::Global;
 /// match the number of its pattern and how many groups that has are written too, and how many
 /// matches these are. The walk goes on after the last of them.
 ///
-/// They are the matches of `regex_lite_list_find_all`. Where memory runs out after some of them,
-/// these are written. With too little room for the next match, only the number of its groups is
-/// written, instead of the number of matches.
+/// They are the matches of `regex_lite_list_find_all`. 1 means that no further match would have
+/// fitted: none is left, or there is no room for the number of the next or for its groups. Where
+/// memory runs out, the number tells how many matches were written before, and the walk goes on
+/// after them. With too little room for the first match, only the number of its groups is written,
+/// instead of the number of matches.
 #[unsafe(no_mangle)]
 pub extern "C" fn regex_lite_list_captures_all(
     alloc: Global,
@@ -90,7 +92,7 @@ fn fill_groups(
     let mut used = 0;
     for item in items {
         let Ok((number, caps)) = item else {
-            return or_yes(*count, OUT_OF_MEMORY);
+            return OUT_OF_MEMORY;
         };
         if *count == told.len() || spans.len() - used < caps.len() {
             return or_need(count, caps.len());

@@ -3,7 +3,7 @@ ghost use Rattle.std.specs.Prelude.{◌≡◌, ◌≢◌, ◌<◌, ◌≤◌, �
 ghost use Rattle.regex_lite.specs.RegexListSearches.{AnyMatches};
 ghost use Rattle.regex_lite_c.specs.Answers.{IsSearchAnswer};
 ghost use Rattle.regex_lite_c.specs.Costs.{IsCostOfListSearch};
-ghost use Rattle.regex_lite_c.specs.ListSpans.{TellsListSpan, list_span_of};
+ghost use Rattle.regex_lite_c.specs.ListSpans.{FindsListSpan, TellsListSpan};
 
 use crate::answer::{NO, NOTHING_HELD, OUT_OF_MEMORY, YES};
 use crate::list::handle::ListHandle;
@@ -64,7 +64,7 @@ pub extern "C" fn regex_lite_list_find(
     ensures same { handle.new.value ≡ handle.old.value }
     ensures nothing_held { (result ≡ NOTHING_HELD) ↔ (handle.old.value ≡ None) }
     ensures answer { IfSome handle.old.value (λ list. IsSearchAnswer text.now start result
-        (TellsListSpan list text.now start (Some (list_span_of span.new)))
+        (FindsListSpan list text.now start span.new)
         (TellsListSpan list text.now start None)) }
     ensures written { result ≢ YES → span.new ≡ span.old }
 {
@@ -79,7 +79,7 @@ pub extern "C" fn regex_lite_list_find(
 /// Where one of these patterns matches first, and which.
 fn find(list: &RegexList, text: &[u8], start: usize, span: &mut ListSpan) -> u32
     ensures answer { IsSearchAnswer text.now start result
-        (TellsListSpan list.now text.now start (Some (list_span_of span.new)))
+        (FindsListSpan list.now text.now start span.new)
         (TellsListSpan list.now text.now start None) }
     ensures held { result ≢ NOTHING_HELD }
     ensures written { result ≢ YES → span.new ≡ span.old }
@@ -111,10 +111,11 @@ pub extern "C" fn regex_lite_list_find_counted(
     ensures same { handle.new.value ≡ handle.old.value }
     ensures nothing_held { (result ≡ NOTHING_HELD) ↔ (handle.old.value ≡ None) }
     ensures answer { IfSome handle.old.value (λ list. IsSearchAnswer text.now start result
-        (TellsListSpan list text.now start (Some (list_span_of span.new)))
+        (FindsListSpan list text.now start span.new)
         (TellsListSpan list text.now start None)) }
     ensures cost { result ≤ YES
         → IfSome handle.old.value (λ list. IsCostOfListSearch list text.now start cost.new) }
+    ensures entered { result ≡ YES → 0 < cost.new.entered }
     ensures written { result ≢ YES → span.new ≡ span.old }
     ensures same_cost { YES < result → cost.new ≡ cost.old }
 {
@@ -135,10 +136,11 @@ fn find_counted(
     cost: &mut Cost,
 ) -> u32
     ensures answer { IsSearchAnswer text.now start result
-        (TellsListSpan list.now text.now start (Some (list_span_of span.new)))
+        (FindsListSpan list.now text.now start span.new)
         (TellsListSpan list.now text.now start None) }
     ensures held { result ≢ NOTHING_HELD }
     ensures cost { result ≤ YES → IsCostOfListSearch list.now text.now start cost.new }
+    ensures entered { result ≡ YES → 0 < cost.new.entered }
     ensures written { result ≢ YES → span.new ≡ span.old }
     ensures same_cost { YES < result → cost.new ≡ cost.old }
 {

@@ -43,7 +43,7 @@ pub struct ListSpan {
 impl ListSpan {
     /// The span of a match of the pattern with this number.
     pub(crate) fn of(number: usize, found: &Match<'_>) -> ListSpan
-        ensures { list_span_of result ≡ (number, span_of_match found.now) }
+        ensures { result ≡ list_span_of (number, span_of_match found.now) }
     {
         ListSpan {
             number,

@@ -1,5 +1,5 @@
 //! Which of several patterns match, in bytes of the caller.
-ghost use Rattle.std.specs.Prelude.{◌≡◌, ◌<◌, ◌≤◌, IfSome, IsCharBoundary, None, length, map};
+ghost use Rattle.std.specs.Prelude.{◌≡◌, ◌<◌, ◌≤◌, IfSome, IsCharBoundary, None, length};
 ghost use Rattle.regex_lite_c.specs.ListSpans.{IsFlagsAnswer, flag_of};
 ghost use Rattle.regex_lite_c.specs.Spans.{AreWrittenAs};
 
@@ -75,7 +75,7 @@ fn matches_at(
 fn write_flags(set: &SetMatches, matched: &mut [u8], count: &mut usize) -> u32
     ensures count { count.new ≡ length set.now }
     ensures written { count.new ≤ length matched.old → (result ≡ YES)
-        × AreWrittenAs (λ byte. byte) (map flag_of set.now) matched.old matched.new }
+        × AreWrittenAs flag_of set.now matched.old matched.new }
     ensures no_room { length matched.old < count.new
         → (result ≡ NO_ROOM) × (matched.new ≡ matched.old) }
 {
@@ -90,7 +90,7 @@ fn write_flags(set: &SetMatches, matched: &mut [u8], count: &mut usize) -> u32
 /// Writes for each pattern whether it matches.
 fn put_flags(set: &SetMatches, matched: &mut [u8])
     requires { length set.now ≤ length matched.old }
-    ensures { AreWrittenAs (λ byte. byte) (map flag_of set.now) matched.old matched.new }
+    ensures { AreWrittenAs flag_of set.now matched.old matched.new }
 {
     for k in 0..set.len() {
         matched[k] = flag(set.matched(k));

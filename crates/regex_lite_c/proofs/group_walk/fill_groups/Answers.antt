@@ -1,10 +1,11 @@
 use Rattle.regex_lite_c.proofs.Common.{◌+◌, Some, sym, refl, ap, ◌∙◌, subst, inl, inr, arith}
 use Rattle.regex_lite_c.proofs.Common.{ahead_of, Expression, group_span, IsAnswerOf}
 use Rattle.regex_lite_c.proofs.walk.WalkLemmas.{comes_none}
-use Rattle.regex_lite_c.proofs.group_walk.GroupWalkLemmas.{end_of_span, filled, of_regex}
+use Rattle.regex_lite_c.proofs.group_walk.GroupWalkLemmas.{cut_off, end_of_span, filled, of_regex}
 use Rattle.regex_lite_c.proofs.group_walk.GroupWalkLemmas.{some_groups}
 use Rattle.regex_lite_c.proofs.group_walk.StageLemmas.{AreSoFar, Stage, more_so_far, none_so_far}
 use Rattle.regex_lite_c.proofs.group_walk.StageLemmas.{stage_of}
+use Rattle.regex_lite_c.proofs.Common.{span_of}
 use Rattle.regex_lite_c.proofs.group_walk.fill_groups.Goals as goal
 use Rattle.regex_lite_c.proofs.group_walk.fill_groups.Goals.{After-next}
 
@@ -35,26 +36,25 @@ loop-item-init c =
 pub returns-in_default : goal.returns-in_default
 returns-in_default c =
     let here = (goal.at.returns-in_default c).After-next in
-    filled (start_of here) (now_of here) c.or_yes.result 6 c.loop-item.invariant.so_far
-    c.or_yes.ensures.some c.or_yes.ensures.none (inr (inl refl))
+    cut_off (start_of here) (now_of here) c.loop-item.invariant.so_far
 
 pub returns-then-spans-used : goal.returns-then-spans-used
 returns-then-spans-used c =
     let here = (goal.at.returns-then-spans-used c).After-next in
     let step = rw c.in-Ok.is at c.in-Some.ensures.steps in
-    filled (start_of here) (now_of here) c.or_yes-then-spans-used.result 5
-    c.loop-item.invariant.so_far
-    c.or_yes-then-spans-used.ensures.some c.or_yes-then-spans-used.ensures.none
-    (inr (inr (
+    filled (start_of here) (now_of here) c.or_yes.result 5
+    c.loop-item.invariant.so_far c.loop-item.auto.spans
+    c.or_yes.ensures.some c.or_yes.ensures.none
+    (inr (
       refl,
-      λ none_used. (
+      (
         step.0,
         c.in-Ok.caps,
         step.4.comes,
         step.1,
-        omega (arith, c.if-spans-used.true, c.len.ensures, none_used),
+        omega (arith, c.if-spans-used.true, c.len.ensures, c.loop-item.invariant.so_far.fits),
       ),
-    )))
+    ))
 
 pub loop-item-preserved : goal.loop-item-preserved
 loop-item-preserved c =
@@ -79,7 +79,7 @@ loop-item-preserved c =
         room = omega (arith, c.if-spans-used.false, so.fits, c.len.ensures);
         some = some.0;
         end = c.after.ensures ∙ ap Some (end_of_span c.of_group.result (group_span own 0)
-            (c.of_group.ensures ∙ c.get.ensures.span) some.1);
+            (c.of_group.ensures ∙ ap span_of c.get.ensures.span) some.1);
         used = ap (λ n. c.loop-item.used + n) c.len-used.ensures;
         count = refl;
       });
@@ -90,8 +90,8 @@ returns c =
     let here = (goal.at.returns c).After-next in
     let now = now_of here in
     let so = c.loop-item.invariant.so_far in
-    filled (start_of here) now c.or_yes-2.result 0 so c.or_yes-2.ensures.some
-    c.or_yes-2.ensures.none
+    filled (start_of here) now c.or_yes-2.result 0 so c.loop-item.auto.spans
+    c.or_yes-2.ensures.some c.or_yes-2.ensures.none
     (inl (
       refl,
       comes_none (λ own. own) IsAnswerOf now.ahead (so.lists 0).limit

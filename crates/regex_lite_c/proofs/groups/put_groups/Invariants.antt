@@ -4,6 +4,6 @@ use Rattle.regex_lite_c.proofs.groups.put_groups.Given as goal
 abbrev pub invariant-loop-k : goal.invariant-loop-k
 invariant-loop-k l = record {
   each : (j : ℕ) → j < l.k
-      → option_map span_of (slice_get l.spans (l.at + j)) ≡ slice_get l.caps.spans j;
+      → slice_get l.spans (l.at + j) ≡ option_map span_of (slice_get l.caps.spans j);
   rest : (j : ℕ) → (j < l.at) ⊎ (l.at + l.k ≤ j) → slice_get l.spans j ≡ slice_get l.fn.spans j;
 }

@@ -8,7 +8,7 @@ at_front : (told : List (Option (ℕ × ℕ))) (old new : List Span) → AreWrit
     → AreWritten told old new
 at_front told old new is = record {
   each = λ k lt.
-      subst (λ j. option_map span_of (slice_get new j) ≡ slice_get told k) (zero-add k)
+      subst (λ j. slice_get new j ≡ option_map span_of (slice_get told k)) (zero-add k)
       (is.each k lt);
   rest = λ k le. is.rest k (inr (omega (arith, le)));
 }

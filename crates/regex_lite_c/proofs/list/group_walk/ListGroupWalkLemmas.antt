@@ -1,19 +1,23 @@
 -- Groups of matches of several patterns that are written one after another.
-use Rattle.regex_lite_c.proofs.Common.{◌≡◌, ℕ, suc, ◌+◌, ◌<◌, ◌≤◌, List, [], ◌∷◌, ◌++◌, length}
-use Rattle.regex_lite_c.proofs.Common.{slice_set, None, chars, sym, refl, ap, ◌∙◌, subst, inl, inr}
+use Rattle.regex_lite_c.proofs.Common.{◌≡◌, ℕ, suc, ◌+◌, ◌<◌, ◌≤◌, ◌⊎◌, List, [], ◌∷◌, ◌++◌, length}
+use Rattle.regex_lite_c.proofs.Common.{slice_set, Some, None, chars, sym, refl, ap, ◌∙◌, subst}
+use Rattle.regex_lite_c.proofs.Common.{inl, inr}
 use Rattle.regex_lite_c.proofs.Common.{arith, cases_lt, Found, Expression, Groups, group_span}
 use Rattle.regex_lite_c.proofs.Common.{ListComesNext, IsAnswerOfPatterns, spans_of_all}
-use Rattle.regex_lite_c.proofs.Common.{AreWrittenAs, AreWritten, NO_ROOM, YES, ListGroups}
-use Rattle.std.proofs.Common.{◌≢◌, IsSome}
+use Rattle.regex_lite_c.proofs.Common.{AreWrittenAs, AreWritten, OUT_OF_MEMORY, YES, ListGroups}
+use Rattle.std.proofs.Common.{IsSome}
 use Rattle.std.proofs.lemmas.List.{length-set}
 use Rattle.regex_lite.specs.ListAhead.{AreGroupsFoundInList}
 use Rattle.regex_lite.specs.MatchList.{AreFirstAnswers}
 use Rattle.regex_lite_c.specs.ListGroupWalks.{AreListGroupsListed, AreListGroupsOfEach}
-use Rattle.regex_lite_c.specs.ListGroupWalks.{IsListFilled, IsWithoutListRoom, counts_of}
-use Rattle.regex_lite_c.specs.ListGroupWalks.{ListGroupRoom, counts_of_each, list_group_room}
+use Rattle.regex_lite_c.specs.ListGroupWalks.{AreAllThatFitList, IsListFilled}
+use Rattle.regex_lite_c.specs.ListGroupWalks.{IsWithoutListRoom, ListGroupRoom, NoMoreFitList}
+use Rattle.regex_lite_c.specs.ListGroupWalks.{counts_of, counts_of_each, list_group_room}
 use Rattle.regex_lite_c.proofs.group_walk.GroupWalkLemmas.{some_groups}
 use Rattle.regex_lite_c.proofs.group_walk.StageLemmas.{AreSoFar, IsEndOf, IsOneMore, Searched}
-use Rattle.regex_lite_c.proofs.group_walk.StageLemmas.{Stage, more_so_far, none_so_far, other_end}
+use Rattle.regex_lite_c.proofs.group_walk.StageLemmas.{Stage, first_to_end, first_with_next}
+use Rattle.regex_lite_c.proofs.group_walk.StageLemmas.{found_at_start, more_so_far, none_so_far}
+use Rattle.regex_lite_c.proofs.group_walk.StageLemmas.{other_end, used_by}
 use Rattle.regex_lite_c.proofs.walk.WalkLemmas.{lists_all, written_more}
 
 -- the match in an answer
@@ -100,7 +104,7 @@ pub record IsOneMoreTold (old new : ListStage) : Type 0 where
   pub one : ListGroups
   pub told : new.told ≡ slice_set old.told old.stage.count one
   pub below : old.stage.count < length old.told
-  pub counts : counts_of one ≡ (more.answer.0, length more.own.spans)
+  pub counts : one ≡ counts_of (more.answer.0, length more.own.spans)
 
 -- so still with one more match
 pub one_more : (start old new : ListStage) → IsListSoFar start old → IsOneMoreTold old new
@@ -131,7 +135,7 @@ one_more start old new sofar is =
     }
 
 -- those that were written are the first of those ahead
-listed : (start now : ListStage) → IsListSoFar start now → 0 < now.stage.count
+unfoldable listed : (start now : ListStage) → IsListSoFar start now → 0 < now.stage.count
     → AreListGroupsListed start.stage.ahead (room_of start) (room_of now) now.stage.count
 listed start now sofar some =
     let so = sofar.so in
@@ -163,34 +167,102 @@ abbrev pub IsAnswer : (start now : ListStage) → (count answer : ℕ) → Type 
 IsAnswer start now count answer =
     IsListFilled start.stage.ahead (room_of start) (room_of now) count answer
 
--- there is no room for the next match, which has this many groups
-abbrev pub IsFull : (now : ListStage) → (need : ℕ) → Type 0
-IsFull now need =
-    IsWithoutListRoom now.stage.ahead (length now.told) (length now.stage.spans) need
+-- the next match has more groups than there is room left for, or there is no room for its number;
+-- and where nothing was written the number of these groups is
+abbrev pub IsFull : (now : ListStage) → (count : ℕ) → Type 0
+IsFull now count =
+    (next : ℕ × Found) × (groups : Groups) × ListComesNext now.stage.ahead (Some next)
+    × AreGroupsFoundInList now.stage.ahead.sought now.stage.ahead.haystack next.0 next.1 groups
+    × ((length now.told ≡ now.stage.count)
+    ⊎ (length now.stage.spans < now.stage.used + length groups.spans))
+    × (now.stage.count ≡ 0 → count ≡ length groups.spans)
 
 -- why a walk ends here, with this number written
 abbrev pub IsEnd : (now : ListStage) → (count answer : ℕ) → Type 0
 IsEnd now count answer =
-    IsEndOf (ListComesNext now.stage.ahead None)
-    (now.stage.count ≡ 0 → now.stage.used ≡ 0 → IsFull now count) answer
+    IsEndOf (ListComesNext now.stage.ahead None × (now.stage.count ≡ 0 → count ≡ 0))
+    (IsFull now count) answer
+
+-- the rooms are as long as they were
+abbrev pub AreAsLong : (start now : ListStage) → Type 0
+AreAsLong start now =
+    (length now.told ≡ length start.told) × (length now.stage.spans ≡ length start.stage.spans)
+
+-- so no more matches fit
+no_more : (start now : ListStage) (so : AreSoFar of_patterns start.stage now.stage)
+    (groups : List Groups) (count answer : ℕ)
+    → so.groups ≡ groups → AreAsLong start now → IsEnd now count answer
+    → NoMoreFitList start.stage.ahead so.list (length (spans_of_all groups)) (length start.told)
+    (length start.stage.spans)
+no_more start now so groups count answer is len (inl over) =
+    inl (first_to_end of_patterns start.stage now.stage so (inr over.1.0))
+no_more start now so groups count answer is len (inr (no_room, full)) = inr (
+  full.0,
+  full.1,
+  first_with_next of_patterns start.stage now.stage so full.0 full.2,
+  found_at_start of_patterns start.stage now.stage so full.0 full.1 full.3,
+  elim full.4 [
+    | inl told ↦ inl (omega (arith, told, len.0, so.number))
+    | inr spans ↦ inr (omega (
+      arith,
+      spans,
+      len.1,
+      used_by of_patterns start.stage now.stage so groups is,
+    ))
+  ],
+)
+
+-- nothing was written, since there is too little room
+none_fits : (start now : ListStage) (count : ℕ) → IsListSoFar start now → AreAsLong start now
+    → now.stage.count ≡ 0 → IsFull now count
+    → IsWithoutListRoom start.stage.ahead (length start.told) (length start.stage.spans) count
+none_fits start now count sofar len zero full =
+    let same = sofar.so.none zero in
+    let need = full.5 zero in
+    subst (λ a. IsWithoutListRoom a (length start.told) (length start.stage.spans) count) same.0 (
+      full.0,
+      full.1,
+      full.2,
+      full.3,
+      need,
+      elim full.4 [
+        | inl told ↦ inl (omega (arith, told, len.0, zero))
+        | inr spans ↦ inr (omega (arith, spans, len.1, need, same.3))
+      ],
+    )
 
 -- the answer is yes where there are some, and else says why the walk ends
 pub filled : (start now : ListStage) (count answer otherwise : ℕ) → IsListSoFar start now
+    → AreAsLong start now
     → (0 < now.stage.count → (answer ≡ YES) × (count ≡ now.stage.count))
-    → (now.stage.count ≡ 0 → answer ≡ otherwise)
-    → (now.stage.count ≡ 0 → otherwise ≢ NO_ROOM → count ≡ 0) → IsEnd now count otherwise
+    → (now.stage.count ≡ 0 → answer ≡ otherwise) → IsEnd now count otherwise
     → IsAnswer start now count answer
-filled start now count answer otherwise sofar some none no_count ends =
+unfolding listed
+filled start now count answer otherwise sofar len some none ends =
     elim (cases_lt 0 now.stage.count) [
-      | inl more ↦ let is = some more in record {
-        found = λ _. subst (λ n. AreListGroupsListed start.stage.ahead (room_of start)
-            (room_of now) n × (0 < n)) (sym is.1) (listed start now sofar more, more);
-        none = λ wrong. absurd (omega (arith, is.0, wrong));
-        no_room = λ wrong. absurd (omega (arith, is.0, wrong));
-        same = λ wrong. absurd (wrong is.0);
-        no_count = λ wrong _. absurd (wrong is.0);
-        one_of = inl (omega (arith, is.0));
-      }
+      | inl more ↦
+          let is = some more in
+          let own = sofar.so.some more in
+          record {
+            found = λ _. subst (λ n. AreAllThatFitList start.stage.ahead (room_of start)
+                (room_of now) n × (0 < n)) (sym is.1) (
+                  record {
+                    listed = listed start now sofar more;
+                    no_more = no_more start now sofar.so (own.front ++ (own.last ∷ [])) count
+                        otherwise own.is len ends;
+                  },
+                  more,
+                );
+            none = λ wrong. absurd (omega (arith, is.0, wrong));
+            no_room = λ wrong. absurd (omega (arith, is.0, wrong));
+            part = λ wrong. absurd (omega (arith, is.0, wrong));
+            no_count = λ wrong. absurd (wrong is.0);
+            same = λ none. elim none [
+              | inl no_room ↦ absurd (omega (arith, is.0, no_room))
+              | inr zero ↦ absurd (omega (arith, is.1, zero, more))
+            ];
+            one_of = inl (omega (arith, is.0));
+          }
       | inr few ↦
           let zero : now.stage.count ≡ 0 = omega (arith, few) in
           let told = sofar.same zero in
@@ -198,19 +270,39 @@ filled start now count answer otherwise sofar some none no_count ends =
           let end = other_end _ _ answer (subst (IsEnd now count) (sym (none zero)) ends) in
           record {
             found = λ yes. absurd (end.0 yes);
-            none = λ nil. subst (λ a. ListComesNext a None) same.0 (end.1 nil);
-            no_room = λ full.
-                subst (λ a. IsWithoutListRoom a (length start.told) (length start.stage.spans)
-                count) same.0
-                (subst (λ own. IsWithoutListRoom now.stage.ahead (length own)
-                (length start.stage.spans) count) told
-                (subst (λ spans. IsWithoutListRoom now.stage.ahead (length now.told)
-                (length spans) count) same.2 (end.2 full zero same.3)));
+            none = λ nil. subst (λ a. ListComesNext a None) same.0 (end.2 nil).0;
+            no_room = λ full. none_fits start now count sofar len zero (end.3 full);
+            part = λ wrong. absurd (end.1 wrong);
+            no_count = λ yes full memory. elim end.4 [
+              | inl few ↦ elim (cases_lt 0 answer) [
+                | inl some ↦ absurd (yes (omega (arith, few, some)))
+                | inr none ↦ (end.2 (omega (arith, none))).1 zero
+              ]
+              | inr other ↦ elim other [
+                | inl is ↦ absurd (memory is)
+                | inr is ↦ absurd (full is)
+              ]
+            ];
             same = λ _. (same.1, told, same.2);
-            no_count = λ _ roomy. no_count zero (λ is. roomy (none zero ∙ is));
-            one_of = end.3;
+            one_of = end.4;
           }
     ]
+
+-- where memory runs out, what was written stays
+pub cut_off : (start now : ListStage) → IsListSoFar start now
+    → IsAnswer start now now.stage.count OUT_OF_MEMORY
+cut_off start now sofar = record {
+  found = λ wrong. absurd (omega (arith, wrong));
+  none = λ wrong. absurd (omega (arith, wrong));
+  no_room = λ wrong. absurd (omega (arith, wrong));
+  part = λ _ more. listed start now sofar more;
+  no_count = λ _ _ wrong. absurd (wrong refl);
+  same = λ none. elim none [
+    | inl wrong ↦ absurd (omega (arith, wrong))
+    | inr zero ↦ let own = sofar.so.none zero in (own.1, sofar.same zero, own.2)
+  ];
+  one_of = inr (inl refl);
+}
 
 -- the groups of a match that was found are some, of which the whole match is one
 pub some_list_groups : (patterns : List Expression) (haystack : List ℕ) (number : ℕ)

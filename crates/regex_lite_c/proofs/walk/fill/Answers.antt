@@ -36,7 +36,8 @@ loop-k-preserved c =
     (ahead_of c.loop-k.matches) (ahead_of c.next.new.self) c.args.spans.now c.loop-k.spans
     c.loop-k.k step.0 c.of.result so (omega (arith, c.loop-k-test.true, c.loop-k.auto.spans))
     c.loop-k.auto.spans step.4 (c.of.ensures
-    ∙ ap Some (step.1.span ∙ ap (λ bytes. found_span (chars bytes) step.0) so.lists.haystack))
+    ∙ ap (λ part. span_of (Some part))
+    (step.1.span ∙ ap (λ bytes. found_span (chars bytes) step.0) so.lists.haystack))
 
 pub returns-clause-listed : goal.returns-clause-listed
 returns-clause-listed c =

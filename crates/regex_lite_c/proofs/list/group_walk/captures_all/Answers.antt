@@ -20,8 +20,9 @@ returns-in-Ok-captures_iter_after c =
       found = is.found;
       none = is.none;
       no_room = is.no_room;
-      same = is.same;
+      part = is.part;
       no_count = is.no_count;
+      same = is.same;
       refused = nothing_refused bytes (unwrap_or (ended_of c.args.walk.now) 0)
           c.fill_groups.result text.1
           (subst (IsCharBoundary bytes) (c.unwrap_or.ensures ∙ ap (λ e. unwrap_or e 0) ended)

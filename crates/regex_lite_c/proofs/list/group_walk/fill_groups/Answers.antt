@@ -5,8 +5,11 @@ use Rattle.regex_lite_c.proofs.walk.WalkLemmas.{comes_none}
 use Rattle.regex_lite_c.proofs.group_walk.GroupWalkLemmas.{end_of_span}
 use Rattle.regex_lite_c.proofs.group_walk.StageLemmas.{Stage, stage_of}
 use Rattle.regex_lite_c.proofs.list.group_walk.ListGroupWalkLemmas.{IsListSoFar, ListStage}
-use Rattle.regex_lite_c.proofs.list.group_walk.ListGroupWalkLemmas.{filled, found_in, nothing_yet}
-use Rattle.regex_lite_c.proofs.list.group_walk.ListGroupWalkLemmas.{one_more, some_list_groups}
+use Rattle.regex_lite_c.proofs.list.group_walk.ListGroupWalkLemmas.{cut_off, filled, found_in}
+use Rattle.regex_lite_c.proofs.list.group_walk.ListGroupWalkLemmas.{nothing_yet, one_more}
+use Rattle.regex_lite_c.proofs.list.group_walk.ListGroupWalkLemmas.{some_list_groups}
+use Rattle.regex_lite_c.proofs.Common.{span_of}
+use Rattle.regex_lite_c.specs.ListGroupWalks.{counts_of}
 use Rattle.regex_lite_c.proofs.list.group_walk.fill_groups.Goals as goal
 use Rattle.regex_lite_c.proofs.list.group_walk.fill_groups.Goals.{
   After-next,
@@ -48,38 +51,31 @@ loop-item-init c =
 pub returns-in_default : goal.returns-in_default
 returns-in_default c =
     let here = (goal.at.returns-in_default c).After-next in
-    filled (start_of here) (now_of here) c.loop-item.count c.or_yes.result 6
-    c.loop-item.invariant.so_far (λ some. (c.or_yes.ensures.some some, refl)) c.or_yes.ensures.none
-    (λ zero _. zero) (inr (inl refl))
+    cut_off (start_of here) (now_of here) c.loop-item.invariant.so_far
 
 pub returns-then-count-told : goal.returns-then-count-told
 returns-then-count-told c =
     let here = (goal.at.returns-then-count-told c).After-next in
     let step = rw c.in-Ok.is at c.in-Some.ensures.steps in
+    let so = c.loop-item.invariant.so_far.so in
     let need = c.or_need.ensures.none in
     filled (start_of here) (now_of here) c.or_need.new.count c.or_need.result 5
-    c.loop-item.invariant.so_far c.or_need.ensures.some (λ zero. (need zero).0)
-    (λ zero wrong. absurd (wrong refl)) (inr (inr (
+    c.loop-item.invariant.so_far (c.loop-item.auto.told, c.loop-item.auto.spans)
+    c.or_need.ensures.some (λ zero. (need zero).0) (inr (
       refl,
-      λ zero none_used. (
+      (
         (c.in-Ok.number, step.0),
         c.in-Ok.caps,
         step.4.comes,
         step.1,
-        (need zero).1 ∙ c.len-then-count-told.ensures,
         elim c.then-count-told.branch [
-          | then-count-told-via-then-count-told w ↦ inl (omega (arith, zero, w.if-count-told.true))
-          | then-count-told-via-else-count-told+then-spans-used w ↦ inr (omega (
-            arith,
-            none_used,
-            w.if-spans-used.true,
-            w.len.ensures,
-            (need zero).1,
-            c.len-then-count-told.ensures,
-          ))
+          | then-count-told-via-then-count-told w ↦ inl (omega (arith, w.if-count-told.true))
+          | then-count-told-via-else-count-told+then-spans-used w ↦
+              inr (omega (arith, w.if-spans-used.true, w.len.ensures, so.fits))
         ],
+        λ zero. (need zero).1 ∙ c.len-then-count-told.ensures,
       ),
-    )))
+    ))
 
 pub loop-item-preserved : goal.loop-item-preserved
 loop-item-preserved c =
@@ -111,14 +107,14 @@ loop-item-preserved c =
           room = omega (arith, c.if-spans-used.false, sofar.so.fits, c.len.ensures);
           some = some.0;
           end = c.after.ensures ∙ ap Some (end_of_span c.of_group.result (group_span own 0)
-              (c.of_group.ensures ∙ c.get.ensures.span) some.1);
+              (c.of_group.ensures ∙ ap span_of c.get.ensures.span) some.1);
           used = ap (λ n. c.loop-item.used + n) c.len-used.ensures;
           count = refl;
         };
         one = one;
         told = refl;
         below = omega (arith, sofar.within, c.if-count-told.false);
-        counts = ap (λ n. (c.in-Ok.number, n)) c.len-in-loop-item.ensures;
+        counts = ap (λ n. counts_of (c.in-Ok.number, n)) c.len-in-loop-item.ensures;
       });
     }
 
@@ -127,10 +123,14 @@ returns c =
     let here = (goal.at.returns c).After-next in
     let now = now_of here in
     let sofar = c.loop-item.invariant.so_far in
-    filled (start_of here) now c.loop-item.count c.or_yes-2.result 0 sofar
-    (λ some. (c.or_yes-2.ensures.some some, refl)) c.or_yes-2.ensures.none (λ zero _. zero)
+    filled (start_of here) now c.loop-item.count c.or_yes.result 0 sofar
+    (c.loop-item.auto.told, c.loop-item.auto.spans)
+    (λ some. (c.or_yes.ensures.some some, refl)) c.or_yes.ensures.none
     (inl (
       refl,
-      comes_none found_in IsAnswerOfPatterns now.stage.ahead (sofar.so.lists 0).limit
-          c.in-None.ensures.steps.over,
+      (
+        comes_none found_in IsAnswerOfPatterns now.stage.ahead (sofar.so.lists 0).limit
+            c.in-None.ensures.steps.over,
+        λ zero. zero,
+      ),
     ))

@@ -42,7 +42,7 @@ loop-k-preserved c =
     (list_ahead_of c.args.matches.now) (list_ahead_of c.loop-k.matches)
     (list_ahead_of c.next.new.self) c.args.spans.now c.loop-k.spans c.loop-k.k answer c.of.result so
     (omega (arith, c.loop-k-test.true, c.loop-k.auto.spans)) c.loop-k.auto.spans step.4
-    (c.of.ensures ∙ ap (λ s. (c.in-Some.number, s))
+    (c.of.ensures ∙ ap (λ part. list_span_of (c.in-Some.number, part))
     (step.1.span ∙ ap (λ bytes. found_span (chars bytes) step.0) so.lists.haystack))
 
 pub returns-clause-listed : goal.returns-clause-listed
