@@ -1,29 +1,8 @@
-//! The same as main.c, over the crate that is named `engine`: ours, whose calls may fail, or the
-//! Rust crate.
+//! The same as main.c, over the crate that is named `engine`: ours, or the Rust crate.
 use std::io::Read;
 use std::time::Instant;
 
 use engine::Regex;
-
-#[cfg(feature = "ours")]
-fn is_match(regex: &Regex, text: &str) -> bool {
-    regex.is_match(text).unwrap()
-}
-
-#[cfg(feature = "ours")]
-fn count(regex: &Regex, text: &str) -> usize {
-    regex.find_all(text).unwrap().len()
-}
-
-#[cfg(not(feature = "ours"))]
-fn is_match(regex: &Regex, text: &str) -> bool {
-    regex.is_match(text)
-}
-
-#[cfg(not(feature = "ours"))]
-fn count(regex: &Regex, text: &str) -> usize {
-    regex.find_iter(text).count()
-}
 
 fn main() {
     let arguments: Vec<String> = std::env::args().collect();
@@ -35,8 +14,8 @@ fn main() {
     let begun = Instant::now();
     for _ in 0..rounds {
         found = match arguments[2].as_str() {
-            "is_match" => is_match(&regex, &text).into(),
-            _ => count(&regex, &text),
+            "is_match" => regex.is_match(&text).into(),
+            _ => regex.find_iter(&text).count(),
         };
     }
     let nanoseconds = begun.elapsed().as_nanos() as f64 / f64::from(rounds);

@@ -1,263 +1,78 @@
-//! The calls of the library for C that are used here, as regex_lite.h declares them.
+//! The library for C, as regex_lite.h declares it, behind safe calls. All unsafe code is here.
+//!
+//! Most of what the header asks of a caller holds by types. A text is a `&str`, so it is UTF-8, and
+//! its length is below 2^63. No reference is null, even to nothing. What a call writes to is
+//! borrowed mutably, so it overlaps nothing else. A handle is borrowed mutably by each call, so no
+//! two calls use one at once, and it can't be copied.
 
-use std::ffi::c_void;
-use std::ptr;
+#![allow(unsafe_code)]
 
-pub const YES: u32 = 1;
-pub const BAD_OFFSET: u32 = 4;
-pub const NO_ROOM: u32 = 5;
-pub const OUT_OF_MEMORY: u32 = 6;
-pub const SYNTAX: u32 = 10;
+mod calls;
+mod handle;
+mod list;
+mod one;
+#[cfg(test)]
+pub mod replace;
+mod types;
 
-/// What holds a regex, or nothing.
-#[repr(C)]
-pub struct Handle(*mut c_void);
+pub use handle::{Handle, Held};
+pub use list::List;
+pub use one::{escape, One};
+pub use types::{GroupCount, ListSpan, Span, Walk};
 
-impl Handle {
-    /// One that holds nothing.
-    pub fn nothing() -> Handle {
-        Handle(ptr::null_mut())
+use crate::error::Error;
+
+const NO: u32 = 0;
+const YES: u32 = 1;
+const BAD_OFFSET: u32 = 4;
+const NO_ROOM: u32 = 5;
+const OUT_OF_MEMORY: u32 = 6;
+const SYNTAX: u32 = 10;
+
+/// How long the message of a refusal can be, in bytes.
+const MESSAGE: usize = 100;
+
+/// Returns whether the answer is yes, or why the call is refused.
+fn is_yes(answer: u32) -> Result<bool, Error> {
+    match answer {
+        YES => Ok(true),
+        NO => Ok(false),
+        BAD_OFFSET => Err(Error::BadOffset),
+        OUT_OF_MEMORY => Err(Error::OutOfMemory),
+        // The handle holds something, the text is UTF-8, and each buffer is long enough.
+        other => unreachable!("the library answers {other}"),
     }
 }
 
-/// What holds a list of patterns, or nothing.
-#[repr(C)]
-pub struct ListHandle(*mut c_void);
+/// Gives the buffer this length, with blank items at its end if it was shorter.
+pub fn resize<T: Clone + Default>(buffer: &mut Vec<T>, len: usize) -> Result<(), Error> {
+    let more = len.saturating_sub(buffer.len());
+    buffer
+        .try_reserve_exact(more)
+        .map_err(|_| Error::OutOfMemory)?;
+    buffer.resize(len, T::default());
+    Ok(())
+}
 
-impl ListHandle {
-    /// One that holds nothing.
-    pub fn nothing() -> ListHandle {
-        ListHandle(ptr::null_mut())
+/// Returns the text that `call` writes to the buffer that it is lent, if there is one. `call`
+/// returns its answer, and how long the text is. The first buffer has `first` bytes, and if that is
+/// too few the second has as many as are needed.
+fn written(
+    first: usize,
+    mut call: impl FnMut(&mut [u8]) -> (u32, usize),
+) -> Result<Option<String>, Error> {
+    let mut buffer = Vec::new();
+    resize(&mut buffer, first)?;
+    let (mut answer, mut len) = call(&mut buffer);
+    if answer == NO_ROOM {
+        resize(&mut buffer, len)?;
+        (answer, len) = call(&mut buffer);
     }
-}
-
-#[repr(C)]
-pub struct Options {
-    pub case_insensitive: bool,
-    pub multi_line: bool,
-    pub dot_matches_new_line: bool,
-    pub crlf: bool,
-    pub swap_greed: bool,
-    pub ignore_whitespace: bool,
-    pub nest_limit: u32,
-    pub size_limit: usize,
-}
-
-#[repr(C)]
-#[derive(Clone, Copy, Default)]
-pub struct Span {
-    pub is_there: bool,
-    pub start: usize,
-    pub end: usize,
-}
-
-#[repr(C)]
-#[derive(Default)]
-pub struct Fault {
-    pub start: usize,
-    pub end: usize,
-    pub is_cut_short: bool,
-}
-
-#[repr(C)]
-#[derive(Default)]
-pub struct Walk {
-    pub is_begun: bool,
-    pub end: usize,
-}
-
-#[repr(C)]
-#[derive(Default)]
-pub struct Cut {
-    pub walk: Walk,
-    pub is_over: bool,
-}
-
-#[repr(C)]
-pub struct Replacing {
-    pub limit: usize,
-    pub is_literal: bool,
-    pub len: usize,
-}
-
-#[repr(C)]
-pub struct ListPattern {
-    pub len: usize,
-    pub options: Options,
-}
-
-#[repr(C)]
-#[derive(Default)]
-pub struct ListRefusal {
-    pub number: usize,
-    pub message_len: usize,
-}
-
-#[repr(C)]
-#[derive(Clone, Copy, Default)]
-pub struct ListGroups {
-    pub number: usize,
-    pub count: usize,
-}
-
-#[repr(C)]
-#[derive(Clone, Copy, Default)]
-pub struct ListSpan {
-    pub number: usize,
-    pub start: usize,
-    pub end: usize,
-}
-
-extern "C" {
-    pub fn regex_lite_new(
-        handle: *mut Handle,
-        pattern: *const u8,
-        pattern_len: usize,
-        options: *const Options,
-        message: *mut u8,
-        message_room: usize,
-        message_len: *mut usize,
-    ) -> u32;
-    pub fn regex_lite_fault_at(
-        pattern: *const u8,
-        pattern_len: usize,
-        options: *const Options,
-        fault: *mut Fault,
-    ) -> u32;
-    pub fn regex_lite_free(handle: *mut Handle);
-    pub fn regex_lite_groups(handle: *mut Handle) -> usize;
-    pub fn regex_lite_group_index(
-        handle: *mut Handle,
-        name: *const u8,
-        name_len: usize,
-        index: *mut usize,
-    ) -> u32;
-    pub fn regex_lite_is_match(
-        handle: *mut Handle,
-        text: *const u8,
-        len: usize,
-        start: usize,
-    ) -> u32;
-    pub fn regex_lite_find(
-        handle: *mut Handle,
-        text: *const u8,
-        len: usize,
-        start: usize,
-        span: *mut Span,
-    ) -> u32;
-    pub fn regex_lite_find_each(
-        handle: *mut Handle,
-        texts: *const u8,
-        len: usize,
-        lens: *const usize,
-        count: usize,
-        spans: *mut Span,
-        room: usize,
-    ) -> u32;
-    pub fn regex_lite_captures(
-        handle: *mut Handle,
-        text: *const u8,
-        len: usize,
-        start: usize,
-        spans: *mut Span,
-        room: usize,
-        count: *mut usize,
-    ) -> u32;
-    pub fn regex_lite_find_all(
-        handle: *mut Handle,
-        text: *const u8,
-        len: usize,
-        walk: *mut Walk,
-        spans: *mut Span,
-        room: usize,
-        count: *mut usize,
-    ) -> u32;
-    pub fn regex_lite_split(
-        handle: *mut Handle,
-        text: *const u8,
-        len: usize,
-        cut: *mut Cut,
-        pieces: *mut Span,
-        room: usize,
-        count: *mut usize,
-    ) -> u32;
-    pub fn regex_lite_replace(
-        handle: *mut Handle,
-        text: *const u8,
-        len: usize,
-        replacement: *const u8,
-        replacement_len: usize,
-        replacing: *mut Replacing,
-        room: *mut u8,
-        room_len: usize,
-    ) -> u32;
-    pub fn regex_lite_escape(
-        text: *const u8,
-        len: usize,
-        room: *mut u8,
-        room_len: usize,
-        pattern_len: *mut usize,
-    ) -> u32;
-    pub fn regex_lite_list_new(
-        handle: *mut ListHandle,
-        bytes: *const u8,
-        len: usize,
-        patterns: *const ListPattern,
-        count: usize,
-        message: *mut u8,
-        message_room: usize,
-        refusal: *mut ListRefusal,
-    ) -> u32;
-    pub fn regex_lite_list_free(handle: *mut ListHandle);
-    pub fn regex_lite_list_is_match(
-        handle: *mut ListHandle,
-        text: *const u8,
-        len: usize,
-        start: usize,
-    ) -> u32;
-    pub fn regex_lite_list_find(
-        handle: *mut ListHandle,
-        text: *const u8,
-        len: usize,
-        start: usize,
-        span: *mut ListSpan,
-    ) -> u32;
-    pub fn regex_lite_list_captures(
-        handle: *mut ListHandle,
-        text: *const u8,
-        len: usize,
-        start: usize,
-        spans: *mut Span,
-        room: usize,
-        groups: *mut ListGroups,
-    ) -> u32;
-    pub fn regex_lite_list_find_all(
-        handle: *mut ListHandle,
-        text: *const u8,
-        len: usize,
-        walk: *mut Walk,
-        spans: *mut ListSpan,
-        room: usize,
-        count: *mut usize,
-    ) -> u32;
-    pub fn regex_lite_list_captures_all(
-        handle: *mut ListHandle,
-        text: *const u8,
-        len: usize,
-        walk: *mut Walk,
-        groups: *mut ListGroups,
-        groups_room: usize,
-        spans: *mut Span,
-        room: usize,
-        count: *mut usize,
-    ) -> u32;
-    pub fn regex_lite_list_matches(
-        handle: *mut ListHandle,
-        text: *const u8,
-        len: usize,
-        start: usize,
-        matched: *mut u8,
-        room: usize,
-        count: *mut usize,
-    ) -> u32;
+    if !is_yes(answer)? {
+        return Ok(None);
+    }
+    buffer.truncate(len);
+    Ok(Some(
+        String::from_utf8(buffer).expect("the library writes UTF-8"),
+    ))
 }

@@ -1,0 +1,205 @@
+//! Handles, and the calls that a regex and a list of patterns both have.
+
+use std::ffi::c_void;
+use std::fmt;
+use std::marker::PhantomData;
+use std::ptr;
+
+use super::types::{GroupCount, Span, Walk};
+use super::{is_yes, resize, NO_ROOM, OUT_OF_MEMORY};
+use crate::error::Error;
+use crate::Cost;
+
+/// What a handle holds: a regex, or a list of patterns.
+pub trait Held: Sized + 'static {
+    /// Where a match is, as a call writes it.
+    type Span: Copy + Default + fmt::Debug;
+
+    /// The calls for such a handle.
+    const CALLS: Calls<Self>;
+
+    /// Writes the groups of the first match from the offset on, and how many they are. Returns the
+    /// answer of the call.
+    fn captures(
+        handle: &mut Handle<Self>,
+        text: &str,
+        start: usize,
+        spans: &mut [Span],
+        told: &mut GroupCount,
+    ) -> u32;
+
+    /// Writes the groups of the next matches, how many each has, and how many matches these are, or
+    /// how many groups the next one has. Returns the answer of the call.
+    fn captures_all(
+        handle: &mut Handle<Self>,
+        text: &str,
+        walk: &mut Walk,
+        told: &mut [GroupCount],
+        spans: &mut [Span],
+        count: &mut usize,
+    ) -> u32;
+}
+
+/// The calls of a kind of handle that have the same parameters for both kinds.
+pub struct Calls<H: Held> {
+    pub free: unsafe extern "C" fn(*mut Handle<H>),
+    pub places: unsafe extern "C" fn(*mut Handle<H>) -> usize,
+    pub arrows: unsafe extern "C" fn(*mut Handle<H>) -> usize,
+    pub is_match: unsafe extern "C" fn(*mut Handle<H>, *const u8, usize, usize) -> u32,
+    pub find: unsafe extern "C" fn(*mut Handle<H>, *const u8, usize, usize, *mut H::Span) -> u32,
+    pub find_counted: unsafe extern "C" fn(
+        *mut Handle<H>,
+        *const u8,
+        usize,
+        usize,
+        *mut H::Span,
+        *mut Cost,
+    ) -> u32,
+    pub find_all: unsafe extern "C" fn(
+        *mut Handle<H>,
+        *const u8,
+        usize,
+        *mut Walk,
+        *mut H::Span,
+        usize,
+        *mut usize,
+    ) -> u32,
+}
+
+/// A handle of C. It holds something, except while that is being built.
+#[repr(C)]
+pub struct Handle<H: Held> {
+    place: *mut c_void,
+    held: PhantomData<H>,
+}
+
+// SAFETY: what a handle holds is its own, and any thread may use it, if only one does at a time.
+unsafe impl<H: Held> Send for Handle<H> {}
+
+impl<H: Held> Handle<H> {
+    /// Makes a handle that holds nothing yet.
+    pub(super) fn nothing() -> Handle<H> {
+        Handle {
+            place: ptr::null_mut(),
+            held: PhantomData,
+        }
+    }
+
+    /// Returns how many places the patterns have, written out.
+    pub fn places(&mut self) -> usize {
+        // SAFETY: the handle is live, and borrowed mutably.
+        unsafe { (H::CALLS.places)(self) }
+    }
+
+    /// Returns how many arrows lead from place to place.
+    pub fn arrows(&mut self) -> usize {
+        // SAFETY: the handle is live, and borrowed mutably.
+        unsafe { (H::CALLS.arrows)(self) }
+    }
+
+    /// Returns whether there is a match from the offset on.
+    pub fn is_match(&mut self, text: &str, start: usize) -> Result<bool, Error> {
+        // SAFETY: the handle and the text are live, and the text is as long as is said.
+        is_yes(unsafe { (H::CALLS.is_match)(self, text.as_ptr(), text.len(), start) })
+    }
+
+    /// Returns the first match from the offset on.
+    pub fn find(&mut self, text: &str, start: usize) -> Result<Option<H::Span>, Error> {
+        let mut span = H::Span::default();
+        // SAFETY: the handle, the text and the span are live, and the text is as long as is said.
+        let answer = unsafe { (H::CALLS.find)(self, text.as_ptr(), text.len(), start, &mut span) };
+        Ok(is_yes(answer)?.then_some(span))
+    }
+
+    /// Returns the first match from the offset on, and what the search for it cost.
+    pub fn find_counted(
+        &mut self,
+        text: &str,
+        start: usize,
+    ) -> Result<(Option<H::Span>, Cost), Error> {
+        let mut span = H::Span::default();
+        let mut cost = Cost::default();
+        let (bytes, len) = (text.as_ptr(), text.len());
+        // SAFETY: all that is passed is live, and the text is as long as is said.
+        let answer =
+            unsafe { (H::CALLS.find_counted)(self, bytes, len, start, &mut span, &mut cost) };
+        Ok((is_yes(answer)?.then_some(span), cost))
+    }
+
+    /// Writes the next matches, as many as the buffer holds, and returns how many these are. The
+    /// buffer isn't empty, and the walk is one over this text.
+    pub fn find_all(
+        &mut self,
+        text: &str,
+        walk: &mut Walk,
+        buffer: &mut [H::Span],
+    ) -> Result<usize, Error> {
+        let mut count = 0;
+        // SAFETY: all that is passed is live, and the text and the buffer are as long as is said.
+        let answer = unsafe {
+            (H::CALLS.find_all)(
+                self,
+                text.as_ptr(),
+                text.len(),
+                walk,
+                buffer.as_mut_ptr(),
+                buffer.len(),
+                &mut count,
+            )
+        };
+        is_yes(answer)?;
+        Ok(count)
+    }
+
+    /// Writes the groups of the first match from the offset on, and returns the number of its
+    /// pattern, if there is a match. The buffer is made longer where it has to be, and then as long
+    /// as the match has groups.
+    pub fn captures(
+        &mut self,
+        text: &str,
+        start: usize,
+        spans: &mut Vec<Span>,
+    ) -> Result<Option<usize>, Error> {
+        let mut told = GroupCount::default();
+        let mut answer = H::captures(self, text, start, spans, &mut told);
+        if answer == NO_ROOM {
+            resize(spans, told.count)?;
+            answer = H::captures(self, text, start, spans, &mut told);
+        }
+        if !is_yes(answer)? {
+            return Ok(None);
+        }
+        spans.truncate(told.count);
+        Ok(Some(told.number))
+    }
+
+    /// Writes the groups of the next matches and how many each has, and returns how many matches
+    /// these are. They may be fewer than the buffers hold although others follow. The spans are
+    /// made more where the next match has more groups. The walk is one over this text.
+    pub fn captures_all(
+        &mut self,
+        text: &str,
+        walk: &mut Walk,
+        told: &mut [GroupCount],
+        spans: &mut Vec<Span>,
+    ) -> Result<usize, Error> {
+        let mut count = 0;
+        let mut answer = H::captures_all(self, text, walk, told, spans, &mut count);
+        if answer == NO_ROOM {
+            resize(spans, count)?;
+            answer = H::captures_all(self, text, walk, told, spans, &mut count);
+        }
+        // Where memory is refused after some matches, these come first.
+        if answer != OUT_OF_MEMORY || count == 0 {
+            is_yes(answer)?;
+        }
+        Ok(count)
+    }
+}
+
+impl<H: Held> Drop for Handle<H> {
+    fn drop(&mut self) {
+        // SAFETY: the handle is live, and is not used again.
+        unsafe { (H::CALLS.free)(self) }
+    }
+}

@@ -1,0 +1,128 @@
+//! The calls that a list of patterns alone has.
+
+use super::calls::*;
+use super::handle::{Calls, Handle, Held};
+use super::one::refusal;
+use super::types::{GroupCount, ListPattern, ListRefusal, ListSpan, Span, Walk};
+use super::{is_yes, resize, MESSAGE, YES};
+use crate::error::{Error, ListError};
+use crate::Options;
+
+/// A list of patterns, as what a handle holds.
+pub enum List {}
+
+impl Held for List {
+    type Span = ListSpan;
+
+    const CALLS: Calls<List> = Calls {
+        free: regex_lite_list_free,
+        places: regex_lite_list_places,
+        arrows: regex_lite_list_arrows,
+        is_match: regex_lite_list_is_match,
+        find: regex_lite_list_find,
+        find_counted: regex_lite_list_find_counted,
+        find_all: regex_lite_list_find_all,
+    };
+
+    fn captures(
+        handle: &mut Handle<List>,
+        text: &str,
+        start: usize,
+        spans: &mut [Span],
+        told: &mut GroupCount,
+    ) -> u32 {
+        // SAFETY: all that is passed is live, and the text and the spans are as long as is said.
+        unsafe {
+            regex_lite_list_captures(
+                handle,
+                text.as_ptr(),
+                text.len(),
+                start,
+                spans.as_mut_ptr(),
+                spans.len(),
+                told,
+            )
+        }
+    }
+
+    fn captures_all(
+        handle: &mut Handle<List>,
+        text: &str,
+        walk: &mut Walk,
+        told: &mut [GroupCount],
+        spans: &mut [Span],
+        count: &mut usize,
+    ) -> u32 {
+        // SAFETY: all that is passed is live, and the text and both buffers are as long as is said.
+        unsafe {
+            regex_lite_list_captures_all(
+                handle,
+                text.as_ptr(),
+                text.len(),
+                walk,
+                told.as_mut_ptr(),
+                told.len(),
+                spans.as_mut_ptr(),
+                spans.len(),
+                count,
+            )
+        }
+    }
+}
+
+impl Handle<List> {
+    /// Builds the list of these patterns.
+    pub fn new(patterns: &[(&str, Options)]) -> Result<Handle<List>, ListError> {
+        let mut handle = Handle::nothing();
+        let bytes: String = patterns.iter().map(|(text, _)| *text).collect();
+        let own = |&(text, options): &(&str, Options)| ListPattern {
+            len: text.len(),
+            options,
+        };
+        let each: Vec<_> = patterns.iter().map(own).collect();
+        let mut message = [0; MESSAGE];
+        let mut told = ListRefusal::default();
+        // SAFETY: all that is passed is live and as long as is said, and the lengths of the
+        // patterns add up to that of the bytes.
+        let answer = unsafe {
+            regex_lite_list_new(
+                &mut handle,
+                bytes.as_ptr(),
+                bytes.len(),
+                each.as_ptr(),
+                each.len(),
+                message.as_mut_ptr(),
+                message.len(),
+                &mut told,
+            )
+        };
+        if answer == YES {
+            return Ok(handle);
+        }
+        let number = (told.number < patterns.len()).then_some(told.number);
+        let (pattern, options) = number.map_or(("", Options::default()), |k| patterns[k]);
+        let error = refusal(answer, &message, told.message_len, pattern, &options);
+        Err(ListError { number, error })
+    }
+
+    /// Returns whether each pattern matches from the offset on. The list has `len` patterns.
+    pub fn matches(&mut self, text: &str, start: usize, len: usize) -> Result<Vec<bool>, Error> {
+        let mut flags = Vec::new();
+        resize(&mut flags, len)?;
+        let mut count = 0;
+        // SAFETY: all that is passed is live, and the text and the flags are as long as is said.
+        let answer = unsafe {
+            regex_lite_list_matches(
+                self,
+                text.as_ptr(),
+                text.len(),
+                start,
+                flags.as_mut_ptr(),
+                flags.len(),
+                &mut count,
+            )
+        };
+        is_yes(answer)?;
+        Ok(flags.iter().map(|flag| *flag == 1_u8).collect())
+    }
+}
