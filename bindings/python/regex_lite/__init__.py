@@ -4,12 +4,15 @@ No pattern makes a search explode: its time grows with the text alone. README.md
 from `re`.
 """
 
+from ._calls import compile, escape, findall, finditer, search, split, sub, subn
+from ._departures import DepartureWarning
+from ._errors import error
+from ._flags import DOTALL, IGNORECASE, MULTILINE, VERBOSE, Flags, I, M, S, X
 from ._lists import RegexList
 from ._matches import Match
-from ._patterns import (DOTALL, IGNORECASE, MULTILINE, VERBOSE, Flags, I, M, Pattern, S, X, compile,
-                        escape, findall, finditer, search, split, sub, subn)
-from ._library import error
+from ._patterns import Pattern
 
-__all__ = ['DOTALL', 'IGNORECASE', 'MULTILINE', 'VERBOSE', 'Flags', 'I', 'M', 'Match', 'Pattern',
-           'RegexList', 'S', 'X', 'compile', 'error', 'escape', 'findall', 'finditer', 'search',
-           'split', 'sub', 'subn']
+__version__ = '0.1.9'
+__all__ = ['DOTALL', 'DepartureWarning', 'IGNORECASE', 'MULTILINE', 'VERBOSE', 'Flags', 'I', 'M',
+           'Match', 'Pattern', 'RegexList', 'S', 'X', 'compile', 'error', 'escape', 'findall',
+           'finditer', 'search', 'split', 'sub', 'subn']

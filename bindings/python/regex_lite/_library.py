@@ -3,104 +3,61 @@
 from __future__ import annotations
 
 import ctypes
-import os
 import struct
-from ctypes import POINTER, byref, c_bool, c_char_p, c_size_t, c_uint32, c_uint64, c_void_p
-from pathlib import Path
-from typing import Any, Callable, Iterator, List, Optional, Sequence, Tuple
+import sys
+import threading
+from ctypes import POINTER, byref, c_char, c_char_p, c_size_t, c_ssize_t, c_uint32, c_void_p
+from itertools import chain
+from typing import Any, Callable, Iterator, List, Optional, Sequence, Tuple, cast
+
+from ._errors import error
+from ._loading import load
+from ._structures import Cost, CSpan, Fault, Handle, Options as Options, Replacing
+from ._structures import Walk as Walk
 
 NO, YES, NOTHING_HELD, NOT_TEXT, BAD_OFFSET, NO_ROOM, OUT_OF_MEMORY, NO_GROUP = range(8)
 SYNTAX = 10
 LONGEST_MESSAGE = 100
+FIRST_ROOM, LATER_ROOM = 16, 1 << 16  # spans that are asked for at once
+LONG = 1 << 14  # characters of a string that is encoded once, if it isn't ASCII
 Span = Optional[Tuple[int, int]]
+# Whether a group took part, where it starts, and where it ends: for each group of a match.
+Row = Tuple[Any, ...]
 
 
-class Handle(ctypes.Structure):
-    """What holds a regex, or nothing."""
-
-    _fields_ = [('place', c_void_p)]
-
-
-class Options(ctypes.Structure):
-    """The settings under which a pattern is built."""
-
-    _fields_ = [('case_insensitive', c_bool), ('multi_line', c_bool),
-                ('dot_matches_new_line', c_bool), ('crlf', c_bool), ('swap_greed', c_bool),
-                ('ignore_whitespace', c_bool), ('nest_limit', c_uint32), ('size_limit', c_size_t)]
-
-
-class CSpan(ctypes.Structure):
-    """A part of a text, in bytes."""
-
-    _fields_ = [('is_there', c_bool), ('start', c_size_t), ('end', c_size_t)]
-
-
-class Fault(ctypes.Structure):
-    """Where in a pattern its first fault is, in bytes."""
-
-    _fields_ = [('start', c_size_t), ('end', c_size_t), ('is_cut_short', c_bool)]
-
-
-class Walk(ctypes.Structure):
-    """How far a walk over the matches of a text has come."""
-
-    _fields_ = [('is_begun', c_bool), ('end', c_size_t)]
-
-
-class Replacing(ctypes.Structure):
-    """How matches are replaced, and how long the new text is."""
-
-    _fields_ = [('limit', c_size_t), ('is_literal', c_bool), ('len', c_size_t)]
-
-
-class Cost(ctypes.Structure):
-    """What a search cost."""
-
-    _fields_ = [('tried', c_uint64), ('entered', c_uint64), ('looked', c_uint64)]
-
-
-class error(Exception):
-    """A pattern is refused. `msg` says why, and `number` is that of the library.
-
-    Where the syntax is wrong, `pos` is where the part of the pattern begins that is at fault, and
-    `lineno` and `colno` are the line and the column of that place, both from 1 on. `end` is the end
-    of the shortest prefix with which no accepted pattern begins; it is None where some accepted
-    pattern begins with this one. Where only a limit is passed, all four are None."""
-
-    def __init__(self, msg: str, pattern: str, number: int, pos: Optional[int] = None,
-                 end: Optional[int] = None) -> None:
-        super().__init__(msg if pos is None else f'{msg} at position {pos}')
-        self.msg = msg
-        self.pattern = pattern
-        self.number = number
-        self.pos = pos
-        self.end = end
-        self.lineno: Optional[int] = None
-        self.colno: Optional[int] = None
-        if pos is not None:
-            self.lineno = pattern.count('\n', 0, pos) + 1
-            self.colno = pos - pattern.rfind('\n', 0, pos)
-
-
-def _load() -> ctypes.PyDLL:
-    """The shared object: that which REGEX_LITE_LIBRARY names, or that beside this file.
-
-    Its calls keep the interpreter's lock, so that no two threads are in one regex at once."""
-    beside = Path(__file__).with_name('libregex_lite.so')
-    return ctypes.PyDLL(os.environ.get('REGEX_LITE_LIBRARY', str(beside)))
-
-
-_LIBRARY = _load()
+_LIBRARY = load()
 TEXT = [c_char_p, c_size_t]
 _ROOM = [c_void_p, c_size_t, POINTER(c_size_t)]
+# The calls hold the interpreter's lock, so no two run at once. Free threading needs another lock.
+_HAS_LOCK = getattr(sys, '_is_gil_enabled', lambda: True)()
+_LOCK = threading.RLock()  # freeing can come in the midst of a call
 
 
 def call(name: str, result: object, *arguments: object) -> Callable[..., int]:
-    """A function of the library."""
+    """A function of the library, whose arguments ctypes converts."""
     function = getattr(_LIBRARY, f'regex_lite_{name}')
     function.restype = result
     function.argtypes = list(arguments)
-    return function  # type: ignore[no-any-return]
+    return guarded(function, _HAS_LOCK)
+
+
+def quick_call(name: str) -> Callable[..., int]:
+    """A function of the library whose arguments have to be bytes and objects of ctypes: it would
+    cut an `int` to 32 bits. Such a call takes half the time of one that converts its arguments."""
+    function = _LIBRARY[f'regex_lite_{name}']
+    function.restype = c_uint32
+    return guarded(function, _HAS_LOCK)
+
+
+def guarded(function: Callable[..., int], has_lock: bool) -> Callable[..., int]:
+    """The function, under a lock of its own where the interpreter has none."""
+    if has_lock:
+        return function
+
+    def alone(*arguments: object) -> int:
+        with _LOCK:
+            return function(*arguments)
+    return alone
 
 
 _HANDLE = POINTER(Handle)
@@ -113,17 +70,17 @@ _arrows = call('arrows', c_size_t, _HANDLE)
 _find_counted = call('find_counted', c_uint32, _HANDLE, *TEXT, c_size_t, POINTER(CSpan),
                      POINTER(Cost))
 _group_name = call('group_name', c_uint32, _HANDLE, c_size_t, *_ROOM)
-_captures = call('captures', c_uint32, _HANDLE, *TEXT, c_size_t, POINTER(CSpan), c_size_t,
-                 POINTER(c_size_t))
 _find_each = call('find_each', c_uint32, _HANDLE, *TEXT, POINTER(c_size_t), c_size_t,
-                  POINTER(CSpan), c_size_t)
-_find_all = call('find_all', c_uint32, _HANDLE, *TEXT, POINTER(Walk), POINTER(CSpan), c_size_t,
-                 POINTER(c_size_t))
-_captures_all = call('captures_all', c_uint32, _HANDLE, *TEXT, POINTER(Walk), POINTER(CSpan),
-                     c_size_t, POINTER(c_size_t))
+                  c_void_p, c_size_t)
 _replace = call('replace', c_uint32, _HANDLE, *TEXT, *TEXT, POINTER(Replacing), c_void_p,
                 c_size_t)
 _escape = call('escape', c_uint32, *TEXT, *_ROOM)
+_find = quick_call('find')
+_captures = quick_call('captures')
+_find_all = quick_call('find_all')
+_captures_all = quick_call('captures_all')
+SPAN, BYTE = struct.Struct('@?NN'), struct.Struct('@c')
+_START, _UNREAD = c_size_t.from_param(0), byref(c_size_t())  # the second for a count that is known
 
 
 def checked(answer: int) -> bool:
@@ -135,21 +92,64 @@ def checked(answer: int) -> bool:
     return answer == YES
 
 
-def _unpacked(spans: ctypes.Array[CSpan], count: int) -> Iterator[Tuple[Any, ...]]:
-    """The first spans, field by field: much faster than by the fields of each."""
-    return struct.iter_unpack('@?NN', memoryview(spans).cast('B')[:count * ctypes.sizeof(CSpan)])
+class Room:
+    """Memory to which a call writes items, such as spans. `start` is passed to the call."""
+
+    def __init__(self, item: struct.Struct, size: int) -> None:
+        self._item = item.size
+        self._memory = bytearray(max(1, size) * item.size)
+        self.start = byref(c_char.from_buffer(self._memory))
+
+    def first(self, count: int) -> memoryview:
+        """The first of the items."""
+        return memoryview(self._memory)[:count * self._item]
 
 
-def groups_of(spans: ctypes.Array[CSpan], count: int) -> List[Span]:
-    """The first spans, as many as are asked for, of which some may be none."""
-    return [(start, end) if is_there else None for is_there, start, end in _unpacked(spans, count)]
+def row_of(spans: memoryview) -> Row:
+    """The fields of these spans, one after another."""
+    return tuple(chain.from_iterable(SPAN.iter_unpack(spans)))
+
+
+def spans_of(row: Row) -> List[Span]:
+    """The spans of the groups of a match, of which some may be none."""
+    fields = iter(row)
+    return [(start, end) if is_there else None for is_there, start, end in zip(*[fields] * 3)]
+
+
+def room_sizes(length: int, groups: int) -> Iterator[int]:
+    """For how many matches there is room in one call after another, in a text of this length.
+
+    Each call reads the whole text, so rooms grow, and are the larger the longer the text is. The
+    first is small, since a caller may stop early."""
+    spans = FIRST_ROOM + length // 1024
+    while True:
+        yield max(1, spans // groups)
+        spans = min(4 * spans, max(LATER_ROOM, length // 16))
 
 
 def encoded(text: str) -> bytes:
     """The text in UTF-8. One with a lone surrogate has no such form."""
     if not isinstance(text, str):
         raise TypeError(f'a str is wanted, not {type(text).__name__}')
-    return text.encode()
+    if len(text) < LONG or text.isascii() or _kept_utf8 is None:
+        return text.encode()
+    length = c_ssize_t()
+    return ctypes.string_at(_kept_utf8(text, byref(length)), length.value)
+
+
+def _kept() -> Optional[Callable[..., int]]:
+    """The function of CPython that encodes a string once and keeps the UTF-8 with the string; other
+    interpreters have none. A copy takes less than a tenth of the time that encoding takes."""
+    api = getattr(ctypes, 'pythonapi', None)
+    if api is None:
+        return None
+    function = api.PyUnicode_AsUTF8AndSize
+    function.restype = c_void_p
+    function.argtypes = [ctypes.py_object, c_void_p]
+    return cast(Callable[..., int], function)
+
+
+_kept_utf8 = _kept()
 
 
 def refusal(answer: int, message: bytes, pattern: str, options: Options) -> Exception:
@@ -182,10 +182,13 @@ class Regex:
         self.groups = _groups(self._handle)
         self.places = _places(self._handle)
         self.arrows = _arrows(self._handle)
-        self._spans = CSpan * self.groups
+        self._here, self._width = byref(self._handle), c_size_t.from_param(self.groups)
+        self._spans, self._row = CSpan * self.groups, struct.Struct('@' + '?NN' * self.groups)
+        self._memory: List[Tuple[ctypes.Array[CSpan], Any, c_size_t]] = []
 
-    def __del__(self) -> None:
-        _free(self._handle)
+    # When the interpreter ends, names of the module may be gone before the last regex is.
+    def __del__(self, free: Callable[..., int] = _free) -> None:
+        free(self._handle)
 
     def name(self, index: int) -> Optional[str]:
         """The name of a group, where it has one."""
@@ -197,33 +200,69 @@ class Regex:
         checked(_group_name(self._handle, index, room, length.value, length))
         return room.raw.decode()
 
-    def captures(self, text: bytes, start: int) -> Optional[List[Span]]:
-        """The spans of the groups of the first match from there on, in bytes of UTF-8."""
-        spans, count = self._spans(), c_size_t()
-        if not checked(_captures(self._handle, text, len(text), start, spans, len(spans), count)):
-            return None
-        return groups_of(spans, count.value)
+    def captures(self, text: bytes, start: int) -> Optional[Row]:
+        """The groups of the first match from there on, in bytes of UTF-8."""
+        # Memory is taken from the list, and put back, so that no two threads write to the same.
+        try:
+            memory = self._memory.pop()
+        except IndexError:
+            spans = self._spans()
+            memory = spans, byref(spans), c_size_t()
+        spans, there, length = memory
+        length.value = len(text)
+        begin = c_size_t(start) if start else _START
+        if self.groups == 1:
+            answer = _find(self._here, text, length, begin, there)
+        else:
+            answer = _captures(self._here, text, length, begin, there, self._width, _UNREAD)
+        row = self._row.unpack(spans) if answer == YES else None
+        self._memory.append(memory)
+        return row if answer <= YES or checked(answer) else None
 
     def find_each(self, texts: Sequence[bytes]) -> List[Span]:
         """The span of the first match in each of the texts, in bytes of UTF-8."""
         count, raw = len(texts), b''.join(texts)
-        lens, spans = (c_size_t * count)(*map(len, texts)), (CSpan * count)()
-        checked(_find_each(self._handle, raw, len(raw), lens, count, spans, count))
-        return groups_of(spans, count)
+        lens, spans = (c_size_t * count)(*map(len, texts)), Room(SPAN, count)
+        checked(_find_each(self._handle, raw, len(raw), lens, count, spans.start, count))
+        return [(start, end) if is_there else None
+                for is_there, start, end in SPAN.iter_unpack(spans.first(count))]
 
-    def next_spans(self, text: bytes, walk: Walk, room: int) -> List[Tuple[int, int]]:
-        """The spans of the next matches, at most this many, and none at the end."""
-        spans, count = (CSpan * room)(), c_size_t()
-        checked(_find_all(self._handle, text, len(text), walk, spans, room, count))
-        return [(start, end) for _, start, end in _unpacked(spans, count.value)]
+    def rows(self, text: bytes, most: int = 0) -> Iterator[memoryview]:
+        """The groups of the first matches, of all where `most` is 0, and of none where it is
+        negative, in bytes of UTF-8: the rows of some matches at a time. `matches_in` and
+        `column_in` read them."""
+        if most < 0:
+            return
+        walk, left = Walk(), most or sys.maxsize
+        for size in room_sizes(len(text), self.groups):
+            room = min(size, left)
+            count, rows = self._walk_on(text, walk, room, self.groups)
+            yield rows
+            left -= count
+            if count < room or left == 0:
+                return
 
-    def count(self, text: bytes, walk: Walk) -> int:
-        """How many matches are left, which are walked over."""
-        room, count, total = 4096, c_size_t(), 0
-        spans = (CSpan * room)()
-        while checked(_find_all(self._handle, text, len(text), walk, spans, room, count)):
-            total += count.value
-        return total
+    def matches_in(self, rows: memoryview) -> Iterator[Row]:
+        """The groups of each match."""
+        return self._row.iter_unpack(rows)
+
+    def column_in(self, rows: memoryview, group: int) -> Iterator[Tuple[int, int]]:
+        """Where a group of each match starts and ends: both are 0 where it took no part."""
+        size = SPAN.size
+        own = struct.Struct(f'@{size * group}x8xNN{size * (self.groups - group - 1)}x')
+        return own.iter_unpack(rows)  # type: ignore[return-value]
+
+    def count(self, text: bytes, walk: Walk, most: int = 0) -> int:
+        """How many matches are left, or of the next ones, as `most` says. They are walked over."""
+        if most < 0:
+            return 0
+        total = 0
+        for size in room_sizes(len(text), 1):
+            count, _ = self._walk_on(text, walk, size, 1)
+            total += count
+            if count < size or 0 < most <= total:
+                break
+        return min(most, total) if most else total
 
     def tried(self, text: bytes) -> int:
         """How many places a search for the first match tries."""
@@ -233,26 +272,35 @@ class Regex:
 
     def next_captures(self, text: bytes, walk: Walk, room: int) -> List[List[Span]]:
         """The spans of the groups of the next matches, at most this many, and none at the end."""
-        spans, count = (CSpan * (room * self.groups))(), c_size_t()
-        checked(_captures_all(self._handle, text, len(text), walk, spans, len(spans), count))
-        found = groups_of(spans, count.value * self.groups)
-        return [found[i:i + self.groups] for i in range(0, len(found), self.groups)]
+        _, rows = self._walk_on(text, walk, room, self.groups)
+        return [spans_of(row) for row in self.matches_in(rows)]
 
     def replaced(self, text: bytes, new: bytes, limit: int, is_literal: bool = True) -> bytes:
         """The text with its first matches replaced, or all if the limit is 0, by another text or
         by what it gives as a template, where `$1` is a group."""
         how, size = Replacing(limit, is_literal, 0), 2 * len(text) + len(new)
-        room = ctypes.create_string_buffer(size)
-        answer = _replace(self._handle, text, len(text), new, len(new), how, room, size)
-        if answer == NO_ROOM:
-            room = ctypes.create_string_buffer(how.len)
-            answer = _replace(self._handle, text, len(text), new, len(new), how, room, how.len)
+        answer = NO_ROOM
+        while answer == NO_ROOM:
+            size = max(size, how.len)
+            room = Room(BYTE, size)
+            answer = _replace(self._handle, text, len(text), new, len(new), how, room.start, size)
         checked(answer)
-        return room.raw[:how.len]
+        return bytes(room.first(how.len))
+
+    def _walk_on(self, text: bytes, walk: Walk, room: int,
+                 groups: int) -> Tuple[int, memoryview]:
+        """How many matches come next, at most this many, and their groups: all, or the whole match
+        alone."""
+        spans, count = Room(SPAN, room * groups), c_size_t()
+        ask = _find_all if groups == 1 else _captures_all
+        checked(ask(self._here, text, c_size_t(len(text)), byref(walk), spans.start,
+                    c_size_t(room * groups), byref(count)))
+        return count.value, spans.first(count.value * groups)
 
 
 def escaped(text: bytes) -> bytes:
     """The pattern that means this text."""
-    room, length = ctypes.create_string_buffer(2 * len(text) + 1), c_size_t()
-    checked(_escape(text, len(text), room, len(room), byref(length)))
-    return room.raw[:length.value]
+    size, length = 2 * len(text), c_size_t()
+    room = Room(BYTE, size)
+    checked(_escape(text, len(text), room.start, size, length))
+    return bytes(room.first(length.value))

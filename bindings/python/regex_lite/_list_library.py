@@ -4,11 +4,12 @@ from __future__ import annotations
 
 import ctypes
 import struct
-from ctypes import POINTER, c_size_t, c_uint32, c_void_p
-from typing import List, Optional, Sequence, Tuple
+from ctypes import POINTER, byref, c_size_t, c_uint32, c_void_p
+from typing import Callable, Iterator, List, Optional, Sequence, Tuple
 
-from ._library import (LONGEST_MESSAGE, NO_ROOM, TEXT, YES, CSpan, Options, Span, Walk, call,
-                       checked, encoded, groups_of, refusal)
+from ._library import (LONGEST_MESSAGE, NO_ROOM, SPAN, TEXT, YES, Room, Row, call, checked, encoded,
+                       quick_call, refusal, room_sizes, row_of)
+from ._structures import Options, Walk
 
 
 class ListHandle(ctypes.Structure):
@@ -45,15 +46,12 @@ _LIST = POINTER(ListHandle)
 _list_new = call('list_new', c_uint32, _LIST, *TEXT, POINTER(ListPattern), c_size_t, c_void_p,
                  c_size_t, POINTER(ListRefusal))
 _list_free = call('list_free', None, _LIST)
-_list_captures = call('list_captures', c_uint32, _LIST, *TEXT, c_size_t, POINTER(CSpan),
-                      c_size_t, POINTER(ListGroups))
-_list_find_all = call('list_find_all', c_uint32, _LIST, *TEXT, POINTER(Walk), POINTER(ListSpan),
-                      c_size_t, POINTER(c_size_t))
-_list_captures_all = call('list_captures_all', c_uint32, _LIST, *TEXT, POINTER(Walk),
-                          POINTER(ListGroups), c_size_t, POINTER(CSpan), c_size_t,
-                          POINTER(c_size_t))
 _list_matches = call('list_matches', c_uint32, _LIST, *TEXT, c_size_t, c_void_p, c_size_t,
                      POINTER(c_size_t))
+_list_captures = quick_call('list_captures')
+_list_find_all = quick_call('list_find_all')
+_list_captures_all = quick_call('list_captures_all')
+FOUND, SIZES = struct.Struct('@NNN'), struct.Struct('@NN')  # a ListSpan, and a ListGroups
 
 
 class RawList:
@@ -70,51 +68,66 @@ class RawList:
         if answer != YES:
             bad = patterns[refused.number] if refused.number < len(patterns) else ''
             raise refusal(answer, message.raw[:refused.message_len], bad, options)
-        self._len = len(texts)
+        self._here, self._len = byref(self._handle), len(texts)
         self._room = 4  # groups for which there is room at first
 
-    def __del__(self) -> None:
-        _list_free(self._handle)
+    # When the interpreter ends, names of the module may be gone before the last list is.
+    def __del__(self, free: Callable[..., int] = _list_free) -> None:
+        free(self._handle)
 
-    def captures(self, text: bytes, start: int) -> Optional[Tuple[int, List[Span]]]:
-        """The number of the pattern of the first match from there on, and the spans of its groups,
-        in bytes of UTF-8."""
+    def captures(self, text: bytes, start: int) -> Optional[Tuple[int, Row]]:
+        """The number of the pattern of the first match from there on, and its groups, in bytes of
+        UTF-8."""
         groups = ListGroups()
         while True:
-            spans = (CSpan * self._room)()
-            answer = _list_captures(self._handle, text, len(text), start, spans, self._room, groups)
+            room = self._room
+            spans = Room(SPAN, room)
+            answer = _list_captures(self._here, text, c_size_t(len(text)), c_size_t(start),
+                                    spans.start, c_size_t(room), byref(groups))
             if answer != NO_ROOM:
                 break
-            self._room = groups.count
+            self._room = max(room, groups.count)
         if not checked(answer):
             return None
-        return groups.number, groups_of(spans, groups.count)
+        return groups.number, row_of(spans.first(groups.count))
 
-    def next_spans(self, text: bytes, walk: Walk, room: int) -> List[Tuple[int, int, int]]:
-        """The numbers and spans of the next matches, at most this many, and none at the end."""
-        spans, count = (ListSpan * room)(), c_size_t()
-        checked(_list_find_all(self._handle, text, len(text), walk, spans, room, count))
-        written = memoryview(spans).cast('B')[:count.value * ctypes.sizeof(ListSpan)]
-        return [(number, start, end) for number, start, end in struct.iter_unpack('@NNN', written)]
+    def spans(self, text: bytes) -> Iterator[Tuple[int, int, int]]:
+        """The numbers and spans of all matches."""
+        walk, count = Walk(), c_size_t()
+        for size in room_sizes(len(text), 1):
+            found = Room(FOUND, size)
+            checked(_list_find_all(self._here, text, c_size_t(len(text)), byref(walk),
+                                   found.start, c_size_t(size), byref(count)))
+            yield from FOUND.iter_unpack(found.first(count.value))  # type: ignore[misc]
+            if count.value < size:
+                return
 
-    def next_captures(self, text: bytes, walk: Walk, room: int) -> List[Tuple[int, List[Span]]]:
-        """The numbers of the patterns of the next matches, and the spans of their groups: at most
-        this many, and none at the end."""
-        sizes, count = (ListGroups * room)(), c_size_t()
-        while True:
-            spans = (CSpan * (room * self._room))()
-            answer = _list_captures_all(self._handle, text, len(text), walk, sizes, room, spans,
-                                        len(spans), count)
-            if answer != NO_ROOM:
-                break
-            self._room = count.value
+    def rows(self, text: bytes) -> Iterator[Tuple[int, Row]]:
+        """The numbers of the patterns of all matches, and their groups."""
+        walk = Walk()
+        for size in room_sizes(len(text), 1):
+            sizes, row = self._walk_on(text, walk, size)
+            if not sizes:
+                return
+            start = 0
+            for number, groups in sizes:
+                end = start + 3 * groups
+                yield number, row[start:end]
+                start = end
+
+    def _walk_on(self, text: bytes, walk: Walk, size: int) -> Tuple[List[Tuple[int, int]], Row]:
+        """The numbers of the patterns of the next matches, and how many groups each has; and these
+        groups, one after another. They are at most this many groups, if a match has no more, and
+        none at the end."""
+        count, answer = c_size_t(), NO_ROOM
+        while answer == NO_ROOM:
+            size = max(size, count.value)
+            sizes, spans, room = Room(SIZES, size), Room(SPAN, size), c_size_t(size)
+            answer = _list_captures_all(self._here, text, c_size_t(len(text)), byref(walk),
+                                        sizes.start, room, spans.start, room, byref(count))
         checked(answer)
-        found, end = [], 0
-        groups = groups_of(spans, sum(own.count for own in sizes[:count.value]))
-        for own in sizes[:count.value]:
-            found.append((own.number, groups[end:end + own.count]))
-            end += own.count
-        return found
+        found = [(number, groups) for number, groups in SIZES.iter_unpack(sizes.first(count.value))]
+        return found, row_of(spans.first(sum(groups for _, groups in found)))
 
     def matches(self, text: bytes) -> List[int]:
         """The numbers of the patterns that match somewhere."""

@@ -4,24 +4,31 @@ from __future__ import annotations
 
 from typing import Dict, Iterable, Iterator, List, Optional, Tuple
 
+from ._departures import warn_of_departures
+from ._flags import NEST_LIMIT, SIZE_LIMIT, Flags, options_of
 from ._library import encoded
 from ._list_library import RawList
-from ._matches import Match, Offsets
-from ._patterns import Flags, Pattern, in_parts, options_of
+from ._matches import Match, match_of
+from ._patterns import Pattern
+from ._texts import offsets_in, start_in
 
 
 class RegexList:
     """Several patterns that are ready to be searched for at once, numbered from 0 on. A search
     goes over a string once for all of them. Of the matches that start first it finds that of the
-    pattern with the lowest number. It is used in the thread that built it."""
+    pattern with the lowest number. It may be used in any thread."""
 
-    def __init__(self, patterns: Iterable[str], flags: int = 0, *, nest_limit: int = 50,
-                 size_limit: int = 10485760) -> None:
+    def __init__(self, patterns: Iterable[str], flags: int = 0, *, nest_limit: int = NEST_LIMIT,
+                 size_limit: int = SIZE_LIMIT) -> None:
+        """Raises what `Pattern` raises, for the first pattern that is refused."""
+        options = options_of(flags, nest_limit, size_limit)
         self.patterns = tuple(patterns)
         self.flags = Flags(flags)
         self._limits = {'nest_limit': nest_limit, 'size_limit': size_limit}
-        self._list = RawList(self.patterns, options_of(flags, nest_limit, size_limit))
+        self._list = RawList(self.patterns, options)
         self._compiled: Dict[int, Pattern] = {}
+        for pattern in self.patterns:
+            warn_of_departures(pattern, flags, 2)
 
     def __len__(self) -> int:
         return len(self.patterns)
@@ -29,30 +36,27 @@ class RegexList:
     def search(self, string: str, pos: int = 0) -> Optional[Tuple[int, Match]]:
         """The first match that starts at this offset or later, and the number of its pattern."""
         raw = encoded(string)
-        offsets = Offsets(string, raw)
-        start = offsets.bytes(string, min(max(pos, 0), len(string)))
-        found = self._list.captures(raw, start)
+        offsets = offsets_in(string, raw)
+        found = self._list.captures(raw, start_in(string, offsets, pos))
         if found is None:
             return None
-        number, spans = found
-        return number, Match(self._pattern(number), string, offsets.in_characters(spans))
+        number, row = found
+        return number, match_of(self._pattern(number), string, row, offsets)
 
     def finditer(self, string: str) -> Iterator[Tuple[int, Match]]:
         """All matches, from left to right, each with the number of its pattern."""
         raw = encoded(string)
-        offsets = Offsets(string, raw)
-        for number, spans in in_parts(self._list.next_captures, raw):
-            yield number, Match(self._pattern(number), string, offsets.in_characters(spans))
+        offsets = offsets_in(string, raw)
+        return ((number, match_of(self._pattern(number), string, row, offsets))
+                for number, row in self._list.rows(raw))
 
     def spans(self, string: str) -> Iterator[Tuple[int, Tuple[int, int]]]:
         """The same matches without their groups: the number of the pattern of each, and its span.
         It takes a fraction of the time of `finditer`."""
         raw = encoded(string)
-        offsets = Offsets(string, raw)
-        for number, start, end in in_parts(self._list.next_spans, raw):
-            span, = offsets.in_characters([(start, end)])
-            assert span is not None
-            yield number, span
+        offsets = offsets_in(string, raw)
+        return ((number, (start, end) if offsets is None else offsets.span(start, end))
+                for number, start, end in self._list.spans(raw))
 
     def matches(self, string: str) -> List[int]:
         """The numbers of the patterns that match somewhere, in order."""

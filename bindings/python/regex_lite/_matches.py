@@ -2,11 +2,11 @@
 
 from __future__ import annotations
 
-from itertools import accumulate
-from typing import TYPE_CHECKING, Dict, List, Optional, Sequence, Tuple, Union
+from typing import TYPE_CHECKING, Dict, Optional, Tuple, Union
 
-from ._library import Span
+from ._library import Row
 from ._templates import expanded, parts_of
+from ._texts import Offsets
 
 if TYPE_CHECKING:
     from ._patterns import Pattern
@@ -14,38 +14,23 @@ if TYPE_CHECKING:
 Group = Union[int, str]
 
 
-class Offsets:
-    """From offsets in bytes to offsets in characters. In an ASCII text they are the same."""
-
-    def __init__(self, text: str, raw: bytes) -> None:
-        self._before: Optional[List[int]] = None
-        if len(text) != len(raw):
-            # How many characters begin before each byte.
-            self._before = [0, *accumulate(int(byte & 0xC0 != 0x80) for byte in raw)]
-
-    def in_characters(self, spans: Sequence[Span]) -> Sequence[Span]:
-        """The spans in characters of spans in bytes, which are between characters."""
-        at = self._before
-        if at is None:
-            return spans
-        return [None if span is None else (at[span[0]], at[span[1]]) for span in spans]
-
-    def bytes(self, text: str, offset: int) -> int:
-        """The offset in bytes of an offset in characters."""
-        return offset if self._before is None else len(text[:offset].encode())
-
-
 class Match:
     """A match of a pattern in a string."""
 
-    def __init__(self, pattern: Pattern, string: str, spans: Sequence[Span]) -> None:
-        self.re = pattern
-        self.string = string
-        self._spans = tuple(spans)
+    __slots__ = ('re', 'string', '_row', '_offsets')
+    re: Pattern
+    string: str
+    _row: Row  # in bytes
+    _offsets: Optional[Offsets]  # none for an ASCII string
 
     def span(self, group: Group = 0) -> Tuple[int, int]:
         """Where the group starts and ends; (-1, -1) where it took no part."""
-        return self._spans[self._index(group)] or (-1, -1)
+        row, at = self._row, 0 if group == 0 else self._at(group)
+        if not row[at]:
+            return -1, -1
+        if self._offsets is None:
+            return row[at + 1], row[at + 2]
+        return self._offsets.span(row[at + 1], row[at + 2])
 
     def start(self, group: Group = 0) -> int:
         """Where the group starts; -1 where it took no part."""
@@ -56,8 +41,12 @@ class Match:
         return self.span(group)[1]
 
     def __getitem__(self, group: Group) -> Optional[str]:
-        span = self._spans[self._index(group)]
-        return None if span is None else self.string[span[0]:span[1]]
+        row, at = self._row, 0 if group == 0 else self._at(group)
+        if not row[at]:
+            return None
+        if self._offsets is None:
+            return self.string[row[at + 1]:row[at + 2]]
+        return self._offsets.raw[row[at + 1]:row[at + 2]].decode()
 
     def group(self, *groups: Group) -> Union[Optional[str], Tuple[Optional[str], ...]]:
         """The text of a group, or those of several."""
@@ -67,7 +56,7 @@ class Match:
 
     def groups(self, default: Optional[str] = None) -> Tuple[Optional[str], ...]:
         """The texts of all groups but the whole match."""
-        texts = [self[i] for i in range(1, len(self._spans))]
+        texts = [self[i] for i in range(1, self.re.groups + 1)]
         return tuple(default if text is None else text for text in texts)
 
     def groupdict(self, default: Optional[str] = None) -> Dict[str, Optional[str]]:
@@ -82,8 +71,20 @@ class Match:
     def __repr__(self) -> str:
         return f'<regex_lite.Match object; span={self.span()}, match={self[0]!r}>'
 
-    def _index(self, group: Group) -> int:
+    def _at(self, group: Group) -> int:
+        """Where in the row the fields of a group begin: whether it took part, and its span."""
         index = self.re.groupindex.get(group, -1) if isinstance(group, str) else group
-        if not 0 <= index < len(self._spans):
+        at = 3 * index
+        if not 0 <= at < len(self._row):
             raise IndexError('no such group')
-        return index
+        return at
+
+
+def match_of(pattern: Pattern, string: str, row: Row, offsets: Optional[Offsets]) -> Match:
+    """The match that has these groups, in bytes. An ASCII string needs no offsets."""
+    found = Match.__new__(Match)  # which takes half the time of a call of `__init__`
+    found.re = pattern
+    found.string = string
+    found._row = row
+    found._offsets = offsets
+    return found

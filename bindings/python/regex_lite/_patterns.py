@@ -1,60 +1,39 @@
-"""Patterns, and the calls of the module."""
+"""Patterns that are ready to be searched for."""
 
 from __future__ import annotations
 
-import enum
-from typing import (Callable, Dict, Iterable, Iterator, List, Optional, Sequence, Tuple, TypeVar,
-                    Union)
+import operator
+import sys
+from itertools import chain
+from typing import (Callable, Dict, Iterable, Iterator, List, Optional, SupportsIndex, Tuple,
+                    Union, cast)
 
-from ._library import Options, Regex, Span, Walk, encoded, escaped
-from ._matches import Match, Offsets
-from ._templates import expanded, parts_of
+from ._flags import NEST_LIMIT, SIZE_LIMIT, Flags, options_of
+from ._library import Regex, Row, Walk, encoded
+from ._matches import Match, match_of
+from ._templates import as_library_has_it, parts_of
+from ._texts import Offsets, offsets_in, part_of, start_in, texts_at
 
-FIRST_ROOM, MOST_ROOM = 16, 1 << 16  # matches that are asked for at once
-T = TypeVar('T')
+SEPARATORS = '\0\1\2\3'  # marks of matches, of which a text seldom holds all
 Replacement = Union[str, Callable[[Match], str]]
 
 
-class Flags(enum.IntFlag):
-    """The flags under which a pattern is read, with the names and the numbers of `re`."""
-
-    IGNORECASE = I = 2
-    MULTILINE = M = 8
-    DOTALL = S = 16
-    VERBOSE = X = 64
-
-
-IGNORECASE = I = Flags.IGNORECASE
-MULTILINE = M = Flags.MULTILINE
-DOTALL = S = Flags.DOTALL
-VERBOSE = X = Flags.VERBOSE
-
-
-def options_of(flags: int, nest_limit: int, size_limit: int) -> Options:
-    """The settings of the library for these flags and limits."""
-    unknown = int(flags) & ~int(I | M | S | X)
-    if unknown:
-        raise ValueError(f'no such flags: {unknown}')
-    return Options(bool(flags & I), bool(flags & M), bool(flags & S), False, False,
-                   bool(flags & X), nest_limit, size_limit)
-
-
-def in_parts(ask: Callable[[bytes, Walk, int], List[T]], raw: bytes) -> Iterator[T]:
-    """What is returned of all matches: at first of a few at a time, then of more."""
-    walk, room = Walk(), FIRST_ROOM
-    while True:
-        some = ask(raw, walk, room)
-        if not some:
-            return
-        yield from some
-        room = min(4 * room, MOST_ROOM)
+def _how_many(count: SupportsIndex) -> int:
+    """How many matches a caller asks for, as an integer that the library can take."""
+    number = operator.index(count)
+    if abs(number) > sys.maxsize:
+        raise OverflowError(f'the count is too large: {number}')
+    return number
 
 
 class Pattern:
-    """A pattern that is ready to be searched for. It is used in the thread that built it."""
+    """A pattern that is ready to be searched for, in any thread."""
 
-    def __init__(self, pattern: str, flags: int = 0, *, nest_limit: int = 50,
-                 size_limit: int = 10485760) -> None:
+    def __init__(self, pattern: str, flags: int = 0, *, nest_limit: int = NEST_LIMIT,
+                 size_limit: int = SIZE_LIMIT) -> None:
+        """Raises `error` for a pattern that is refused, ValueError for flags that there are not and
+        for a negative limit, and OverflowError for a nest_limit from 2**32 on or a size_limit that
+        is no size_t."""
         self._regex = Regex(pattern, options_of(flags, nest_limit, size_limit))
         self.pattern = pattern
         self.flags = Flags(flags)
@@ -65,120 +44,103 @@ class Pattern:
     def search(self, string: str, pos: int = 0) -> Optional[Match]:
         """The first match that starts at this offset or later."""
         raw = encoded(string)
-        offsets = Offsets(string, raw)
-        spans = self._regex.captures(raw, offsets.bytes(string, min(max(pos, 0), len(string))))
-        return None if spans is None else self._match(string, offsets, spans)
+        offsets = None if len(string) == len(raw) else Offsets(raw)
+        row = self._regex.captures(raw, start_in(string, offsets, pos) if pos else 0)
+        return None if row is None else match_of(self, string, row, offsets)
 
     def search_each(self, strings: Iterable[str]) -> List[Optional[Tuple[int, int]]]:
         """The span of the first match in each of the strings. Where they are many and short, it
-        takes about a third of the time of `search`."""
+        takes about half of the time of `search`."""
         every = list(strings)
         raws = [encoded(string) for string in every]
-        return [Offsets(string, raw).in_characters([span])[0]
+        return [span if span is None or len(string) == len(raw) else Offsets(raw).span(*span)
                 for string, raw, span in zip(every, raws, self._regex.find_each(raws))]
 
     def finditer(self, string: str) -> Iterator[Match]:
         """All matches, from left to right."""
         raw = encoded(string)
-        offsets = Offsets(string, raw)
-        for spans in in_parts(self._regex.next_captures, raw):
-            yield self._match(string, offsets, spans)
+        offsets = offsets_in(string, raw)
+        return (match_of(self, string, row, offsets) for row in self._rows(raw))
 
     def findall(self, string: str) -> List[Union[str, Tuple[str, ...]]]:
         """The texts of all matches: of the match, of its group, or of its groups where they are
         several."""
         raw = encoded(string)
-
-        def text(span: Span) -> str:
-            return '' if span is None else raw[span[0]:span[1]].decode()
-
-        if self.groups == 0:
-            return [text(span) for span in in_parts(self._regex.next_spans, raw)]
-        parts = in_parts(self._regex.next_captures, raw)
-        if self.groups == 1:
-            return [text(spans[1]) for spans in parts]
-        return [tuple([text(span) for span in spans[1:]]) for spans in parts]
+        wanted = range(1, self.groups + 1) if self.groups else range(1)
+        found: List[Union[str, Tuple[str, ...]]] = []
+        for rows in self._regex.rows(raw):
+            columns = [texts_at(self._regex.column_in(rows, group), string, raw)
+                       for group in wanted]
+            if len(columns) == 1:
+                found += columns[0]
+            else:
+                found += zip(*columns)
+        return found
 
     def split(self, string: str, maxsplit: int = 0) -> List[Optional[str]]:
         """What stands between the matches, each piece but the last with the groups of the match
-        after it."""
+        after it. At most `maxsplit` matches split the string, or all where that is 0; none where it
+        is negative."""
+        raw, most = encoded(string), _how_many(maxsplit)
+        if self.groups == 0 and most >= 0:
+            # To mark the matches and to split there takes less time than to cut out each piece.
+            for free in SEPARATORS:
+                if free not in string:
+                    joined = self._regex.replaced(raw, free.encode(), most).decode()
+                    return cast(List[Optional[str]], joined.split(free))
+        part, end = part_of(string, raw), 0
         pieces: List[Optional[str]] = []
-        end = 0
-        for i, found in enumerate(self.finditer(string)):
-            if maxsplit and i == maxsplit:
-                break
-            pieces += [string[end:found.start()], *found.groups()]
-            end = found.end()
-        return [*pieces, string[end:]]
+        for row in self._rows(raw, most):
+            pieces.append(part(end, row[1]))
+            pieces += [part(row[i + 1], row[i + 2]) if row[i] else None
+                       for i in range(3, len(row), 3)]
+            end = row[2]
+        return [*pieces, part(end, len(raw))]
 
     def sub(self, repl: Replacement, string: str, count: int = 0) -> str:
-        """The string with its first matches replaced, or all where `count` is 0."""
-        if isinstance(repl, str) and '\\' not in repl:
-            return self._regex.replaced(encoded(string), encoded(repl), count).decode()
-        return self.subn(repl, string, count)[0]
+        """The string with its first `count` matches replaced, or all where that is 0; none where it
+        is negative. A template is read once."""
+        raw, most = encoded(string), _how_many(count)
+        if isinstance(repl, str):
+            return self._by_template(repl, raw, most)
+        return self._by_function(repl, string, raw, most)[0]
 
     def subn(self, repl: Replacement, string: str, count: int = 0) -> Tuple[str, int]:
         """The same, and how many matches were replaced."""
-        parts = parts_of(repl, self) if isinstance(repl, str) else []
-        pieces, end, number = [], 0, 0
-        for found in self.finditer(string):
-            if count and number == count:
-                break
-            new = repl(found) if callable(repl) else expanded(parts, found)
-            pieces += [string[end:found.start()], new]
-            end = found.end()
-            number += 1
-        return ''.join([*pieces, string[end:]]), number
+        raw, most = encoded(string), _how_many(count)
+        if isinstance(repl, str):
+            return self._by_template(repl, raw, most), self._regex.count(raw, Walk(), most)
+        return self._by_function(repl, string, raw, most)
 
     def __repr__(self) -> str:
         return f'regex_lite.compile({self.pattern!r})'
 
-    def _match(self, string: str, offsets: Offsets, spans: Sequence[Span]) -> Match:
-        """The match whose groups have these spans in bytes."""
-        return Match(self, string, offsets.in_characters(spans))
+    def _rows(self, raw: bytes, most: int = 0) -> Iterator[Row]:
+        """The groups of all matches, of the first ones, or of none: as `most` says."""
+        return chain.from_iterable(map(self._regex.matches_in, self._regex.rows(raw, most)))
 
+    def _by_template(self, template: str, raw: bytes, most: int) -> str:
+        """The string with its first matches replaced by what a template gives."""
+        parts = parts_of(template, self)
+        if most < 0:
+            return raw.decode()
+        texts = [part for part in parts if isinstance(part, str)]
+        is_literal = len(texts) == len(parts)
+        new = ''.join(texts) if is_literal else as_library_has_it(parts)
+        return self._regex.replaced(raw, encoded(new), most, is_literal).decode()
 
-def compile(pattern: Union[str, Pattern], flags: int = 0, **limits: int) -> Pattern:
-    """The pattern, ready to be searched for. `nest_limit` and `size_limit` may be given."""
-    if isinstance(pattern, Pattern):
-        return pattern
-    return Pattern(pattern, flags, **limits)
-
-
-def search(pattern: Union[str, Pattern], string: str, flags: int = 0) -> Optional[Match]:
-    """`Pattern.search`."""
-    return compile(pattern, flags).search(string)
-
-
-def finditer(pattern: Union[str, Pattern], string: str, flags: int = 0) -> Iterator[Match]:
-    """`Pattern.finditer`."""
-    return compile(pattern, flags).finditer(string)
-
-
-def findall(pattern: Union[str, Pattern], string: str,
-            flags: int = 0) -> List[Union[str, Tuple[str, ...]]]:
-    """`Pattern.findall`."""
-    return compile(pattern, flags).findall(string)
-
-
-def split(pattern: Union[str, Pattern], string: str, maxsplit: int = 0,
-          flags: int = 0) -> List[Optional[str]]:
-    """`Pattern.split`."""
-    return compile(pattern, flags).split(string, maxsplit)
-
-
-def sub(pattern: Union[str, Pattern], repl: Replacement, string: str, count: int = 0,
-        flags: int = 0) -> str:
-    """`Pattern.sub`."""
-    return compile(pattern, flags).sub(repl, string, count)
-
-
-def subn(pattern: Union[str, Pattern], repl: Replacement, string: str, count: int = 0,
-         flags: int = 0) -> Tuple[str, int]:
-    """`Pattern.subn`."""
-    return compile(pattern, flags).subn(repl, string, count)
-
-
-def escape(text: str) -> str:
-    """The pattern that means this text and nothing else."""
-    return escaped(encoded(text)).decode()
+    def _by_function(self, function: Callable[[Match], str], string: str, raw: bytes,
+                     most: int) -> Tuple[str, int]:
+        """The string with its first matches replaced by what a function returns, and how many were
+        replaced."""
+        if not callable(function):
+            raise TypeError(f'a replacement is a str or a function, not {type(function).__name__}')
+        part, offsets, end = part_of(string, raw), offsets_in(string, raw), 0
+        pieces: List[str] = []
+        for row in self._rows(raw, most):
+            new = function(match_of(self, string, row, offsets))
+            if not isinstance(new, str):
+                raise TypeError(f'the function returned {type(new).__name__}, and not a str')
+            pieces += [part(end, row[1]), new]
+            end = row[2]
+        return ''.join([*pieces, part(end, len(raw))]), len(pieces) // 2

@@ -2,30 +2,34 @@
 
 from __future__ import annotations
 
-from typing import TYPE_CHECKING, List, Union
+import re
+from functools import lru_cache
+from typing import TYPE_CHECKING, List, NamedTuple, Tuple, Union
 
 if TYPE_CHECKING:
     from ._matches import Match
     from ._patterns import Pattern
 
+MOST_READ = 512  # templates that are remembered
 # A text, or the index of a group.
 Part = Union[str, int]
 
 _ESCAPES = {'n': '\n', 't': '\t', 'r': '\r', 'a': '\a', 'b': '\b', 'f': '\f', 'v': '\v',
             '\\': '\\'}
+_BACKSLASH = re.compile(r'\\(?:g<(?P<name>[^>]*)>|(?P<index>[1-9][0-9]?)|(?P<escape>.?))',
+                        re.DOTALL)
+
+
+class Reference(NamedTuple):
+    """The index of a group, written out, or its name."""
+
+    name: str
 
 
 def parts_of(template: str, pattern: Pattern) -> List[Part]:
     """The texts and the groups of a template, in order."""
-    parts: List[Part] = []
-    rest = template
-    while rest:
-        text, backslash, rest = rest.partition('\\')
-        parts.append(text)
-        if backslash:
-            part, rest = _reference(rest, pattern)
-            parts.append(part)
-    return parts
+    return [part if isinstance(part, str) else _index(part.name, pattern)
+            for part in _read(template)]
 
 
 def expanded(parts: List[Part], found: Match) -> str:
@@ -33,17 +37,30 @@ def expanded(parts: List[Part], found: Match) -> str:
     return ''.join(part if isinstance(part, str) else found[part] or '' for part in parts)
 
 
-def _reference(rest: str, pattern: Pattern) -> tuple[Part, str]:
-    """What follows a backslash, and what comes after that."""
-    if rest.startswith('g<') and '>' in rest:
-        name, _, after = rest[2:].partition('>')
-        return _index(name, pattern), after
-    digits = len(rest[:2]) - len(rest[:2].lstrip('0123456789'))
-    if digits and rest[0] != '0':
-        return _index(rest[:digits], pattern), rest[digits:]
-    if rest[:1] in _ESCAPES:
-        return _ESCAPES[rest[0]], rest[1:]
-    raise ValueError(f'no such escape in a template: \\{rest[:1]}')
+def as_library_has_it(parts: List[Part]) -> str:
+    """The parts as a template of the library, where `${1}` is a group and `$$` is a `$`."""
+    return ''.join(part.replace('$', '$$') if isinstance(part, str) else f'${{{part}}}'
+                   for part in parts)
+
+
+@lru_cache(MOST_READ)
+def _read(template: str) -> Tuple[Union[str, Reference], ...]:
+    """The texts and the references of a template, in order. Neighbouring texts are one."""
+    parts: List[Union[str, Reference]] = []
+    texts: List[str] = []
+    end = 0
+    for found in _BACKSLASH.finditer(template):
+        texts.append(template[end:found.start()])
+        end = found.end()
+        escape = found['escape']
+        if escape is None:
+            parts += [''.join(texts), Reference(found['index'] or found['name'])]
+            texts = []
+        elif escape in _ESCAPES:
+            texts.append(_ESCAPES[escape])
+        else:
+            raise ValueError(f'no such escape in a template: \\{escape}')
+    return (*parts, ''.join([*texts, template[end:]]))
 
 
 def _index(name: str, pattern: Pattern) -> int:

@@ -130,7 +130,10 @@ class Refusals(unittest.TestCase):
     def test_templates(self):
         self.assertRaises(IndexError, regex_lite.sub, 'a', r'\1', 'a')
         self.assertRaises(IndexError, regex_lite.sub, 'a', r'\g<x>', 'a')
-        self.assertRaises(ValueError, regex_lite.sub, 'a', r'\q', 'a')
+        for wrong in (r'\q', '\\', r'\g', r'\g<1', r'\g1>'):
+            self.assertRaises(ValueError, regex_lite.sub, '(a)', wrong, 'a')
+        self.assertRaises(IndexError, regex_lite.sub, '(a)', r'\g<>', 'a')
+        self.assertRaises(IndexError, regex_lite.sub, '(a)', r'\2', 'no match')
 
 
 class Lists(unittest.TestCase):
@@ -159,6 +162,34 @@ class Lists(unittest.TestCase):
             for most in (0, 1, 2):
                 self.assertEqual(regex_lite.split(pattern, text, most),
                                  re.split(pattern, text, maxsplit=most))
+
+    def test_split_of_control_characters(self):
+        for text in ('\0a\0b', '\0\1\2\3a\3\2\1\0', 'é\3a\2a\1a\0', 'aaa'):
+            for pattern in ('a', '(a)', '(a)|(b)', '\0', '\3|é', r'\x01'):
+                for most in (-1, 0, 1, 2, 9):
+                    self.assertEqual(regex_lite.split(pattern, text, most),
+                                     re.split(pattern, text, maxsplit=most))
+
+    def test_templates(self):
+        pattern, text = '(?P<x>[a-z])(é)?', 'aéb-c'
+        for new in (r'$\1', r'\1$2', r'${1}\1', r'\g<x>$$\g<2>', r'\g<0>\g<0>', r'\1\n\2', '$1', '$',
+                    r'\\1', r'\\\1', r'\n$1', 'é\\1', r'\2' * 50, r'\g<0>' * 50, '\n',
+                    '\\n' * 99):
+            for count in (-1, 0, 1, 2):
+                self.assertEqual(regex_lite.sub(pattern, new, text, count),
+                                 re.sub(pattern, new, text, count=count))
+                self.assertEqual(regex_lite.subn(pattern, new, text, count),
+                                 re.subn(pattern, new, text, count=count))
+            self.assertEqual(regex_lite.search(pattern, text).expand(new),
+                             re.search(pattern, text).expand(new))
+
+    def test_many_groups(self):
+        pattern = '(a)' * 60 + '(b)?'
+        text = ('a' * 60 + 'b-' + 'a' * 60 + 'é') * 40
+        self.assertEqual(regex_lite.findall(pattern, text), re.findall(pattern, text))
+        self.assertEqual(regex_lite.split(pattern, text), re.split(pattern, text))
+        self.assertEqual([found.groups() for found in regex_lite.finditer(pattern, text)],
+                         [found.groups() for found in re.finditer(pattern, text)])
 
     def test_sub(self):
         for pattern, text in self.CASES:

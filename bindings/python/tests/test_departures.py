@@ -1,124 +1,209 @@
-"""What departs from `re`: each row of the table in README.md, and that all else agrees."""
+"""What departs from `re`: each row of the tables in README.md."""
 
-import random
 import re
+import sys
 import unittest
 import warnings
+from collections.abc import Sequence
 from pathlib import Path
+from typing import Any, Optional
 
 import regex_lite
 
-PAIRS = 2000
 README = Path(__file__).resolve().parent.parent / 'README.md'
+Texts = Sequence[Optional[str]]  # of a match and its groups
+ROW = re.compile(r'^\| .* \| `(test_\w+)` \|$', re.MULTILINE)
 
 
-class Table(unittest.TestCase):
-    """The rows of the table, with what `re` and this module return."""
+class Rows(unittest.TestCase):
+    """The rows of the tables, with what `re` and this module return."""
 
-    def test_empty_matches(self):
+    def setUp(self) -> None:
+        caught = warnings.catch_warnings()
+        caught.__enter__()
+        self.addCleanup(caught.__exit__, None, None, None)
+        warnings.simplefilter('ignore')
+
+    def differ(self, pattern: str, text: str, theirs: Optional[Texts],
+               ours: Optional[Texts], flags: int = 0) -> None:
+        """The texts of the first match and of its groups are these in `re`, and these here."""
+        for module, wanted in ((re, theirs), (regex_lite, ours)):
+            found = module.search(pattern, text, flags)
+            texts = None if found is None else [found.group(), *found.groups()]
+            self.assertEqual(texts, None if wanted is None else list(wanted), (module, pattern))
+
+    def only(self, module: Any, *patterns: str, flags: int = 0) -> None:
+        """Only this one of the two modules accepts these patterns."""
+        other = re if module is regex_lite else regex_lite
+        for pattern in patterns:
+            module.compile(pattern, flags)
+            self.assertRaises(other.error, other.compile, pattern, flags)
+
+    def test_possessive(self) -> None:
+        if sys.version_info < (3, 11):
+            self.only(regex_lite, 'a++', 'a*+', 'a?+', 'a{1,2}+')
+            return
+        self.differ('a++a', 'aaa', None, ['aaa'])
+        self.differ('a*+a', 'aaa', None, ['aaa'])
+        self.differ('a?+a', 'a', None, ['a'])
+        self.differ('a{1,2}+a', 'aa', None, ['aa'])
+        self.differ('a{1,2}+', 'aaa', ['aa'], ['aaa'])
+
+    def test_word_looks(self) -> None:
+        self.differ(r'\<a', 'b<a a', ['<a'], ['a'])
+        self.differ(r'a\>', 'ab a> a', ['a>'], ['a'])
+        self.differ(r'\b{start}a', 'ba a', None, ['a'])
+        self.differ(r'\b{start}a', 'b{start}a', ['{start}a'], ['a'])
+
+    def test_counted(self) -> None:
+        self.differ('a{ 2 }', 'aa', None, ['aa'])
+        self.differ('a{2, 3}', 'aaa a{2, 3}', ['a{2, 3}'], ['aaa'])
+
+    def test_zero(self) -> None:
+        self.differ('(a){0}', 'a', ['', None], [''])
+        self.differ('(a){0}(b)', 'b', ['b', None, 'b'], ['b', None, 'b'])
+
+    def test_named_classes(self) -> None:
+        self.differ('[[:alpha:]]', 'c', None, ['c'])
+        self.differ('[[:alpha:]]', ':]', [':]'], None)
+
+    def test_ranges(self) -> None:
+        self.differ('[--a]', 'Z', ['Z'], None)
+        self.differ('[]-a]', '_', ['_'], None)
+        self.differ('[]-a]', '-', None, ['-'])
+
+    def test_verbose_classes(self) -> None:
+        self.differ('[a b]', ' ', [' '], None, re.VERBOSE)
+        self.differ('[a#b\n]', '#', ['#'], None, re.VERBOSE)
+
+    def test_verbose_space(self) -> None:
+        for char in '\x85\xa0\u2003\u3000':
+            self.differ(f'a{char}b', f'ab a{char}b', [f'a{char}b'], ['ab'], re.VERBOSE)
+
+    def test_verbose_comments(self) -> None:
+        self.differ('a # b \\\nc', 'ac', ['a'], ['ac'], re.VERBOSE)
+        self.differ('a # b \\\\\nc', 'ac', ['ac'], ['ac'], re.VERBOSE)
+        self.only(regex_lite, 'a # b \\', flags=re.VERBOSE)
+
+    def test_directives(self) -> None:
+        if sys.version_info >= (3, 11):
+            self.only(regex_lite, 'a(?i)b')
+        else:
+            self.differ('a(?i)b', 'AB ab', ['AB'], ['ab'])
+        self.assertEqual(regex_lite.findall('a(?i)b', 'AB ab aB'), ['ab', 'aB'])
+
+    def test_empty_matches(self) -> None:
         self.assertEqual(re.findall('a*', 'baac'), ['', 'aa', '', ''])
         self.assertEqual(regex_lite.findall('a*', 'baac'), ['', 'aa', ''])
+        self.assertEqual(re.sub('a*', '-', 'baac'), '-b--c-')
+        self.assertEqual(regex_lite.sub('a*', '-', 'baac'), '-b-c-')
+        self.assertEqual(re.split('a*', 'baac'), ['', 'b', '', 'c', ''])
+        self.assertEqual(regex_lite.split('a*', 'baac'), ['', 'b', 'c', ''])
 
-    def test_end(self):
-        self.assertTrue(re.search('a$', 'a\n'))
-        self.assertIsNone(regex_lite.search('a$', 'a\n'))
+    def test_empty_passes(self) -> None:
+        self.differ('(a*)*', 'a', ['a', ''], ['a', 'a'])
+        self.differ('(a|b*)*', 'aab', ['aab', ''], ['aab', 'b'])
+        self.differ('(?:a*|b)*', 'ab', ['a'], ['ab'])
+
+    def test_end(self) -> None:
+        self.differ('a$', 'a\n', ['a'], None)
+        self.differ('a$', 'a\nb', None, None)
+        self.differ('a$', 'a\nb', ['a'], ['a'], re.MULTILINE)
         self.assertTrue(regex_lite.search(r'a\z', 'a'))
-        self.assertRaises(regex_lite.error, regex_lite.compile, r'a\Z')
+        self.assertIsNone(regex_lite.search(r'a\z', 'a\n'))
 
-    def test_ascii(self):
-        for pattern, text in ((r'\w', 'ü'), (r'\d', '٣'), (r'\s', '\u2003')):
-            self.assertTrue(re.search(pattern, text))
-            self.assertIsNone(regex_lite.search(pattern, text))
-        self.assertTrue(re.search('Ü', 'ü', re.I))
-        self.assertIsNone(regex_lite.search('Ü', 'ü', regex_lite.I))
+    def test_ascii(self) -> None:
+        for pattern, text in ((r'\w', 'ü'), (r'\d', '٣'), (r'\s', '\u2003'), (r'\s', '\x1c')):
+            self.differ(pattern, text, [text], None)
+            self.differ(pattern.upper(), text, None, [text])
+        self.differ(r'\bb', 'üb', None, ['b'])
+        self.differ(r'(?u)\w', 'ü', ['ü'], None)
+        for pattern, text in (('Ü', 'ü'), ('k', '\u212a'), ('s', '\u017f'), ('[j-l]', '\u212a')):
+            self.differ(pattern, text, [text], None, re.IGNORECASE)
 
-    def test_left_out(self):
-        for pattern in (r'(a)\1', '(?=a)', '(?!a)', '(?<=a)', '(?<!a)', '(?P=x)', '(?#a)',
-                        '(?>a)', '(a)?(?(1)b)'):
-            self.assertRaises(regex_lite.error, regex_lite.compile, pattern)
+    def test_empty_text(self) -> None:
+        self.differ(r'\B', '', None if sys.version_info < (3, 14) else [''], [''])
 
-    def test_names(self):
-        self.assertRaises(re.error, re.compile, '(?<x>a)')
-        self.assertEqual(regex_lite.search('(?<x>a)', 'a')['x'], 'a')
+    def test_left_out(self) -> None:
+        self.only(re, r'(a)\1', '(?P<x>a)(?P=x)', r'\07', r'[\07]', r'\123', '(?=a)', '(?!a)',
+                  '(?<=a)', '(?<!a)', '(?#a)', '(a)?(?(1)b)', '(?a)b', '(?a:b)')
+        self.assertRaises(regex_lite.error, regex_lite.compile, '(?L)a')
+        self.assertRaises(regex_lite.error, regex_lite.compile, '(?>a)')
+        if sys.version_info >= (3, 11):
+            self.only(re, '(?>a)')
 
-    def test_calls(self):
+    def test_escapes(self) -> None:
+        self.only(re, r'[\b]', r'\N{DIGIT ONE}', r'a\Z', r'\ud800', '\\ü', '[\\ü]')
+        self.differ(r'[\x08]', '\b', ['\b'], ['\b'])
+
+    def test_classes(self) -> None:
+        self.only(re, '[a&&b]', '[!--]', '[a~~b]', '[[a]', '[a[b]')
+        for written in (r'[a\&&b]', r'[!\--]', r'[a\~~b]', r'[\[a]'):
+            text = written[written.index('\\') + 1]
+            self.differ(written, text, [text], [text])
+
+    def test_braces(self) -> None:
+        self.only(re, 'a{', 'a{x}', '{', 'a{,2}', 'a{,}', r'\b{', r'\b{a}')
+        self.differ(r'a\{', 'a{', ['a{'], ['a{'])
+        self.assertTrue(re.fullmatch('a{,2}', 'aa'))
+        self.differ('a{0,2}', 'aaa', ['aa'], ['aa'])
+
+    def test_flags(self) -> None:
+        self.only(re, '(?ii)a')
+        self.only(regex_lite, '(?-i)a', '(?R)a', '(?U)a', '(?-u:a)')
+        self.assertEqual(regex_lite.findall('(a(?i)b)c', 'aBc abC'), ['aB'])
+        if sys.version_info >= (3, 11):
+            self.only(regex_lite, 'a(?i)b', '(a(?i)b)c', 'a|(?i)b')
+
+    def test_strings(self) -> None:
+        self.assertTrue(re.search(b'a', b'a'))
+        self.assertRaises(TypeError, regex_lite.search, b'a', b'a')
+        self.assertTrue(re.search('.', '\ud800'))
+        self.assertRaises(UnicodeEncodeError, regex_lite.search, '.', '\ud800')
+        self.assertRaises(UnicodeEncodeError, regex_lite.compile, '\ud800')
+
+    def test_none(self) -> None:
+        nothing: Any = lambda _: None
+        self.assertEqual(re.sub('a', nothing, 'ab'), 'b')
+        self.assertRaises(TypeError, regex_lite.sub, 'a', nothing, 'ab')
+
+    def test_limits(self) -> None:
+        self.only(re, 'a{1000000}', '(?:' * 60 + ')' * 60)
+
+    def test_repeats(self) -> None:
+        self.only(regex_lite, 'a**', 'a+*', 'a{2}{3}', 'a+?*', '^*', r'\b+', '$?')
+        self.differ('(?:a{2}){3}', 'a' * 7, ['a' * 6], ['a' * 6])
+        self.assertEqual(regex_lite.findall('a{2}{3}', 'a' * 7), ['a' * 6])
+
+    def test_names(self) -> None:
+        self.only(regex_lite, '(?<x>a)', '(?P<x.y>a)', '(?P<x[0]>a)')
+        self.assertEqual(regex_lite.compile('(?<x>a)').groupindex, {'x': 1})
+        self.differ('(?P<ü>a)', 'a', ['a', 'a'], ['a', 'a'])
+
+    def test_braced_numbers(self) -> None:
+        self.only(regex_lite, r'\x{61}', r'\u{61}', r'\U{61}')
+        self.assertTrue(regex_lite.search(r'\x{61}', 'a'))
+
+    def test_calls(self) -> None:
         for name in ('match', 'fullmatch'):
             self.assertFalse(hasattr(regex_lite, name))
             self.assertFalse(hasattr(regex_lite.compile('a'), name))
 
-    def test_classes(self):
-        with warnings.catch_warnings():
-            warnings.simplefilter('ignore', FutureWarning)
-            self.assertEqual(re.findall('[[a]', '[a'), ['[', 'a'])
-        self.assertRaises(regex_lite.error, regex_lite.compile, '[[a]')
-
-    def test_pos(self):
+    def test_pos(self) -> None:
         for pattern, theirs, ours in (('a[b-a]', 2, 1), ('a{2,1}', 2, 1),
                                       ('a(?P<b>c)(?P<b>d)', 13, 9), ('(?iz)', 3, 0)):
-            self.assertEqual(self.pos(re, pattern), theirs)
-            self.assertEqual(self.pos(regex_lite, pattern), ours)
-
-    def pos(self, module, pattern):
-        """Where a module says that a pattern is at fault."""
-        with self.assertRaises(module.error) as caught:
-            module.compile(pattern)
-        return caught.exception.pos
-
-    def test_each_row_is_tested(self):
-        rows = re.findall(r'^\| .* \| `(test_\w+)` \|$', README.read_text(encoding='utf-8'), re.M)
-        mine = [name for name in dir(self) if name.startswith('test_') and 'each_row' not in name]
-        self.assertEqual(sorted(rows), mine)
+            for module, pos in ((re, theirs), (regex_lite, ours)):
+                with self.assertRaises(module.error) as caught:
+                    module.compile(pattern)
+                self.assertEqual(caught.exception.pos, pos, pattern)
 
 
-class Generator:
-    """Random patterns of the syntax that both have. Nothing that can be empty is repeated."""
+class Tables(unittest.TestCase):
+    """The tables themselves."""
 
-    def __init__(self, seed):
-        self.random = random.Random(seed)
-
-    def pattern(self, depth=3):
-        """A pattern."""
-        branches = [self.branch(depth) for _ in range(self.random.choice((1, 1, 2)))]
-        return '|'.join(branches)
-
-    def branch(self, depth):
-        """A few parts in a row, at least one of which takes a character."""
-        parts = [self.part(depth) for _ in range(self.random.randrange(3))]
-        parts.insert(self.random.randrange(len(parts) + 1), self.atom(depth))
-        return ''.join(parts)
-
-    def part(self, depth):
-        """An atom, repeated or not, or a look."""
-        if self.random.random() < 0.15:
-            return self.random.choice((r'\b', r'\B', '^', '$'))
-        operator = self.random.choice(('', '', '*', '+', '?', '{2}', '{1,2}', '{2,}'))
-        lazy = self.random.choice(('', '', '?')) if operator else ''
-        return self.atom(depth) + operator + lazy
-
-    def atom(self, depth):
-        """What takes at least one character."""
-        if depth and self.random.random() < 0.35:
-            group = self.random.choice(('(', '(?:'))
-            return f'{group}{self.pattern(depth - 1)})'
-        return self.random.choice(('a', 'b', 'c', '.', '[ab]', '[^a]', r'\w', r'\d', 'ü', '-'))
-
-    def text(self):
-        """A text in which such patterns match."""
-        return ''.join(self.random.choice('aabbc1ü -') for _ in range(self.random.randrange(14)))
-
-
-class Agreement(unittest.TestCase):
-    """All else."""
-
-    def test_random_pairs(self):
-        generator, found = Generator(20261125), 0
-        for _ in range(PAIRS):
-            pattern, text = generator.pattern(), generator.text()
-            theirs = [(m.span(), m.groups()) for m in re.finditer(pattern, text, re.ASCII)]
-            ours = [(m.span(), m.groups()) for m in regex_lite.finditer(pattern, text)]
-            self.assertEqual(ours, theirs, (pattern, text))
-            found += bool(ours)
-        self.assertGreater(found, PAIRS // 3)
+    def test_each_row_is_tested(self) -> None:
+        rows = ROW.findall(README.read_text(encoding='utf-8'))
+        self.assertEqual(sorted(set(rows)), [name for name in dir(Rows) if name[:5] == 'test_'])
 
 
 if __name__ == '__main__':

@@ -53,6 +53,14 @@ class Lists(unittest.TestCase):
                   for match in re.finditer('(a)(b)(c)(d)(e)(f)|[a-z]', text)]
         self.assertEqual(ours, theirs)
 
+    def test_many_groups(self):
+        words = regex_lite.RegexList(['[0-9]', '(a)' * 60 + '(b)?'])
+        text = '1' * 7 + ('a' * 60 + '22é' + 'a' * 60 + 'b') * 40
+        theirs = [found.groups() for found in re.finditer('(a)' * 60 + '(b)?|[0-9]', text)]
+        ours = [found.groups() for _, found in words.finditer(text)]
+        self.assertEqual(ours, [groups if groups[0] else () for groups in theirs])
+        self.assertEqual(words.search(text, 7)[1].groups(), theirs[7])
+
     def test_matches(self):
         words = regex_lite.RegexList(['[0-9]+', '[a-z]+', 'sam'])
         self.assertEqual(words.matches('frodo 7'), [0, 1])

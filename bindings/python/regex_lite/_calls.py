@@ -1,0 +1,108 @@
+"""The calls of the module, and the patterns that they remember."""
+
+from __future__ import annotations
+
+import operator
+from typing import Dict, Iterator, List, Optional, Tuple, Union
+
+from ._departures import warn_of_departures
+from ._flags import NEST_LIMIT, SIZE_LIMIT
+from ._library import encoded, escaped
+from ._matches import Match
+from ._patterns import Pattern, Replacement
+
+MOST_CACHED = 512  # patterns
+MOST_OF_CACHED = 4096  # places of a pattern that is remembered, and its characters
+
+# The type is a part of the key, so that text and bytes are never compared.
+Key = Tuple[type, Union[str, Pattern], int]
+_cache: Dict[Key, Pattern] = {}
+
+
+def compile(pattern: Union[str, Pattern], flags: int = 0, *, nest_limit: Optional[int] = None,
+            size_limit: Optional[int] = None) -> Pattern:
+    """The pattern, ready to be searched for. Without limits it may be the one that an earlier call
+    has returned: the last 512 patterns are remembered, but for very large ones.
+
+    `nest_limit` says how deep it may nest, 50 unless given, and `size_limit` how large it may be
+    written out, 10485760 unless given. What `Pattern` raises is raised; TypeError where the pattern
+    is neither a str nor compiled; ValueError for flags or limits with a compiled pattern."""
+    if nest_limit is None and size_limit is None:
+        return _compiled(pattern, flags)
+    if isinstance(pattern, Pattern):
+        raise ValueError('cannot process limits with a compiled pattern')
+    new = Pattern(pattern, flags, nest_limit=NEST_LIMIT if nest_limit is None else nest_limit,
+                  size_limit=SIZE_LIMIT if size_limit is None else size_limit)
+    warn_of_departures(pattern, flags, 2)
+    return new
+
+
+def _compiled(pattern: Union[str, Pattern], flags: int) -> Pattern:
+    """The pattern, ready to be searched for, and remembered. Called by what users call, since a
+    warning points at the caller of that."""
+    if flags.__class__ is not int:
+        flags = int(operator.index(flags))
+    key = (pattern.__class__, pattern, flags)
+    known = _cache.get(key)
+    if known is not None:
+        return known
+    if isinstance(pattern, Pattern):
+        if flags:
+            raise ValueError('cannot process flags argument with a compiled pattern')
+        return pattern
+    new = Pattern(pattern, flags)
+    warn_of_departures(pattern, flags, 3)
+    _remember(key, new)
+    return new
+
+
+def _remember(key: Key, new: Pattern) -> None:
+    """Puts a pattern into the cache, in the place of the oldest one if that is full. Strangers can
+    write patterns that take 10 MB each, so none of these is remembered."""
+    if max(len(new.pattern), new._regex.places) > MOST_OF_CACHED:
+        return
+    if len(_cache) >= MOST_CACHED:
+        try:
+            del _cache[next(iter(_cache))]
+        except (KeyError, RuntimeError, StopIteration):
+            pass  # another thread has changed the cache
+    _cache[key] = new
+
+
+def search(pattern: Union[str, Pattern], string: str, flags: int = 0) -> Optional[Match]:
+    """`Pattern.search`."""
+    return _compiled(pattern, flags).search(string)
+
+
+def finditer(pattern: Union[str, Pattern], string: str, flags: int = 0) -> Iterator[Match]:
+    """`Pattern.finditer`."""
+    return _compiled(pattern, flags).finditer(string)
+
+
+def findall(pattern: Union[str, Pattern], string: str,
+            flags: int = 0) -> List[Union[str, Tuple[str, ...]]]:
+    """`Pattern.findall`."""
+    return _compiled(pattern, flags).findall(string)
+
+
+def split(pattern: Union[str, Pattern], string: str, maxsplit: int = 0,
+          flags: int = 0) -> List[Optional[str]]:
+    """`Pattern.split`."""
+    return _compiled(pattern, flags).split(string, maxsplit)
+
+
+def sub(pattern: Union[str, Pattern], repl: Replacement, string: str, count: int = 0,
+        flags: int = 0) -> str:
+    """`Pattern.sub`."""
+    return _compiled(pattern, flags).sub(repl, string, count)
+
+
+def subn(pattern: Union[str, Pattern], repl: Replacement, string: str, count: int = 0,
+         flags: int = 0) -> Tuple[str, int]:
+    """`Pattern.subn`."""
+    return _compiled(pattern, flags).subn(repl, string, count)
+
+
+def escape(text: str) -> str:
+    """The pattern that means this text and nothing else."""
+    return escaped(encoded(text)).decode()

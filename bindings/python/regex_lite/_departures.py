@@ -1,0 +1,259 @@
+"""Warnings of syntax that `re` accepts too, and reads in another way."""
+
+from __future__ import annotations
+
+import re
+import sys
+import warnings
+from typing import Dict, List, NamedTuple, Optional, Pattern
+
+# What is said of a part of a pattern, after the part itself and its position.
+MEANINGS = {
+    'possessive': 'repeats a repetition here, and is possessive in re',
+    'word': 'is the start or the end of a word here, and a character in re',
+    'boundary': 'is one look here, and in re a word boundary and the text after it',
+    'counted': 'begins a counted operator here, and text in re',
+    'zero': 'takes the last groups out of the pattern here, and in re they are there',
+    'named_class': 'is a named class here, and stands for its characters in re',
+    'dashes': 'are characters of the class here, and in re the second dash makes a range',
+    'bracket': 'are characters of the class here, and a range in re',
+    'class_gap': 'is left out of the class in verbose mode here, and belongs to it in re',
+    'white_space': 'is left out in verbose mode here, and is a character in re',
+    'line_feed': 'is a comment up to the line feed here, and in re up to a later one',
+    'unicode': 'changes nothing here, and in re has classes and case go beyond ASCII',
+    'directive': 'holds from there on here, and in the whole pattern in re',
+}
+# Kinds of parts that may stand between an item and its operator.
+_BETWEEN = ('gap', 'white_space', 'comment')
+
+_OPERATOR = r'(?:[*+?]|\{[0-9]+(?:,[0-9]*)?\})'
+# White space that this library takes for white space in verbose mode, and `re` doesn't.
+_FOREIGN = '[\x85\xa0\u1680\u2000-\u200a\u2028\u2029\u202f\u205f\u3000]'
+# A comment has one end alone, so that no search for what follows a gap tries others.
+_COMMENT = r'\#[^\n]*(?:\n|\Z)'
+_GAP = rf'(?:[ \t\n\r\v\f]|{_FOREIGN}|{_COMMENT})'
+
+# The parts of a pattern outside classes, by their kinds, and those of verbose mode.
+_PARTS = rf'''
+    (?P<word>\\[<>])
+  | (?P<boundary>\\b\{{\s*[a-z-]+\s*\}}?)
+  | (?P<escape>\\.)
+  | (?P<possessive>{_OPERATOR}\+)
+  | (?P<operator>{_OPERATOR}\??)
+  | (?P<counted>\{{)
+  | (?P<klass>\[)
+  | (?P<switch>\(\?(?P<letters>[a-zA-Z-]+)\))
+  | (?P<plain>\(\?(?P<flags>[a-zA-Z-]*:))
+  | (?P<open>\((?:\?P?<[^>(]*>)?)
+  | (?P<close>\))
+  | (?P<text>[^\\*+?{{\[()#\s]+|.)
+'''
+_GAPS = rf'''
+    (?P<gap>[ \t\n\r\v\f]+)
+  | (?P<comment>{_COMMENT})
+  | (?P<white_space>{_FOREIGN})
+  | {_PARTS}
+'''
+
+
+def _compiled(plain: str, verbose: str) -> Dict[bool, Pattern[str]]:
+    """What reads a part outside verbose mode, and in it."""
+    return {False: re.compile(plain, re.VERBOSE | re.DOTALL),
+            True: re.compile(verbose, re.VERBOSE | re.DOTALL)}
+
+
+_PART = _compiled(_PARTS, _GAPS)
+# The beginning of a class, after its bracket, and then one part of it.
+_HEAD = _compiled(r'\^?(?:(?P<dashes>-+)|(?P<bracket>\]))?',
+                  rf'{_GAP}*\^?{_GAP}*(?:(?P<dashes>-(?:{_GAP}*-)*)|(?P<bracket>\]))?')
+_NAMED = r'(?P<end>\]) | (?P<named_class>\[:\^?[a-z]+:\])'
+_ITEM = _compiled(rf'{_NAMED} | (?:\\.|[^\\])(?:-(?:\\.|[^\\\]-]))?',
+                  rf'{_NAMED} | (?P<class_gap>{_GAP})'
+                  r' | (?:\\.|[^\\])(?:-(?:\\.|[^\\\]\s\#-]))?')
+# An accepted pattern without any of these departs in none of these ways. To look for them takes a
+# small part of the time for building the pattern, and to read it all may take more.
+_SIGN = re.compile(r'[*+?}]\+|\\[<>]|\\b\{|\{0|\{[0-9,]*[\s#]|\[:|\[\^?--|\[\^?\]-'
+                   r'|\(\?[a-zA-Z]*u')
+# The same for verbose mode, and for a pattern that may go into it.
+_VERBOSE_SIGN = re.compile(rf'''{_FOREIGN} | \\\n | \\\\\[ | -\[''', re.VERBOSE)
+_CLASS_WITH_GAP = re.compile(r'''\[(?<!\\\[)(?:\^?\])?
+    (?:\\.|[^\]\[\\\s\#])*[\s\#]''', re.VERBOSE | re.DOTALL)
+_VERBOSE_FLAG = re.compile(r'\(\?[a-zA-Z]*x')
+_DIRECTIVE = re.compile(r'\(\?[a-zA-Z]+\)')
+_ZERO = re.compile(r'\{0+(?:,0+)?\}')
+# From this version on `re` refuses a directive that isn't at the start.
+_AT_START_ALONE = sys.version_info >= (3, 11)
+
+
+class DepartureWarning(FutureWarning):
+    """A pattern holds syntax that `re` accepts too, and reads in another way.
+
+    It is a FutureWarning, as are those that `re` itself gives of syntax with two readings: it is
+    meant for the users of a program too, and so Python shows it unless a filter says otherwise."""
+
+
+class Departure:
+    """A part of a pattern, its position, and the key of what is said of it in MEANINGS."""
+
+    def __init__(self, kind: str, pos: int, text: str) -> None:
+        self.kind = kind
+        self.pos = pos
+        self.text = text
+
+    def __str__(self) -> str:
+        return f'{self.text!r} at position {self.pos} {MEANINGS[self.kind]}'
+
+
+class _Open(NamedTuple):
+    """A group that is open."""
+
+    verbose: bool  # as it is outside the group
+    left: int  # the greatest index of a group before it that is left in the pattern
+
+
+class Reader:
+    """Reads an accepted pattern from left to right, as the library does."""
+
+    def __init__(self, pattern: str, flags: int) -> None:
+        self.pattern = pattern
+        self.found: List[Departure] = []
+        self._verbose = bool(flags & re.VERBOSE)
+        self._open: List[_Open] = []
+        self._at_start = True
+        # The number of groups, and the greatest index of one that `{0}` hasn't taken out: as it is,
+        # and as it was before the last item.
+        self._groups = self._left = self._left_before = 0
+        self._zero: Optional[re.Match[str]] = None
+
+    def read(self) -> List[Departure]:
+        """The departures in the pattern."""
+        pos = 0
+        while pos < len(self.pattern):
+            part = _PART[self._verbose].match(self.pattern, pos)
+            if part is None:
+                break  # a backslash at the end, which is refused
+            pos = part.end()
+            if part.lastgroup == 'klass':
+                pos = self._class(pos)
+            else:
+                self._part(part, part.lastgroup or '')
+        if self._zero is not None and self._left < self._groups:
+            self._add('zero', self._zero.start(), self._zero.group())
+        return self.found
+
+    def _part(self, part: re.Match[str], kind: str) -> None:
+        """Notes a part outside classes, if it departs."""
+        if kind in MEANINGS:
+            self._add(kind, part.start(), part.group())
+        if 'u' in (part['letters'] or part['flags'] or '').partition('-')[0]:
+            self._add('unicode', part.start(), part.group())
+        if kind == 'comment':
+            self._comment(part)
+        elif kind == 'switch':
+            self._switch(part)
+        elif kind == 'operator':
+            self._operator(part)
+        elif kind == 'close':
+            self._close()
+        elif kind not in _BETWEEN:
+            self._item(part)
+
+    def _comment(self, part: re.Match[str]) -> None:
+        """Notes a comment whose line feed is escaped."""
+        line = part.group().rpartition('\n')[0]
+        if (len(line) - len(line.rstrip('\\'))) % 2 == 1:
+            self._add('line_feed', part.start(), part.group())
+
+    def _switch(self, part: re.Match[str]) -> None:
+        """Goes on under other flags."""
+        self._verbose = self._with(part['letters'])
+        if not (self._at_start or _AT_START_ALONE):
+            self._add('directive', part.start(), part.group())
+
+    def _operator(self, part: re.Match[str]) -> None:
+        """Takes the groups of the last item out where it is repeated 0 times."""
+        self._at_start = False
+        if _ZERO.match(part.group()):
+            self._left, self._zero = self._left_before, part
+
+    def _close(self) -> None:
+        """Goes out of a group, which is the last item then."""
+        if self._open:
+            self._verbose, self._left_before = self._open.pop()
+
+    def _item(self, part: re.Match[str]) -> None:
+        """Goes over something without groups, or into a group."""
+        self._at_start = False
+        self._left_before = self._left
+        if part['flags']:
+            self._open.append(_Open(self._verbose, self._left))
+            self._verbose = self._with(part['flags'])
+        elif part['open']:
+            self._open.append(_Open(self._verbose, self._left))
+            self._groups += 1
+            self._left = self._groups
+
+    def _with(self, flags: str) -> bool:
+        """Whether verbose mode is on under the flags of a group or a directive."""
+        on, _, off = flags.partition('-')
+        return 'x' in on or 'x' not in off and self._verbose
+
+    def _class(self, start: int) -> int:
+        """Goes over a class, after its bracket, and returns its end."""
+        self._at_start = False
+        self._left_before = self._left
+        head = _HEAD[self._verbose].match(self.pattern, start)
+        assert head is not None  # it may be empty
+        self._head(head)
+        pos = head.end()
+        while pos < len(self.pattern):
+            item = _ITEM[self._verbose].match(self.pattern, pos)
+            if item is None:
+                break  # a backslash at the end, which is refused
+            pos = item.end()
+            if item.lastgroup == 'end':
+                return pos
+            if item.lastgroup:
+                self._add(item.lastgroup, item.start(), item.group())
+        return len(self.pattern)
+
+    def _head(self, head: re.Match[str]) -> None:
+        """Notes what departs in the beginning of a class."""
+        gap = re.search(r'[^\]^-]+', head.group())
+        if gap is not None:
+            self._add('class_gap', head.start() + gap.start(), gap.group())
+        after = self.pattern[head.end():head.end() + 2]
+        dashes = head['dashes'] or ''
+        if dashes and len(dashes) % 2 == 0 and after[:1] != ']':
+            self._add('dashes', head.start('dashes'), dashes + after[:1])
+        elif head['bracket'] and after[:1] == '-' and after[1:] not in ('', '-', ']'):
+            self._add('bracket', head.start('bracket'), ']' + after)
+
+    def _add(self, kind: str, pos: int, text: str) -> None:
+        self.found.append(Departure(kind, pos, text))
+
+
+def _may_depart(pattern: str, flags: int) -> bool:
+    """Whether there is a sign of a departure."""
+    if _SIGN.search(pattern):
+        return True
+    if flags & re.VERBOSE or _VERBOSE_FLAG.search(pattern):
+        if _VERBOSE_SIGN.search(pattern) or _CLASS_WITH_GAP.search(pattern):
+            return True
+    return not _AT_START_ALONE and _DIRECTIVE.search(pattern, 1) is not None
+
+
+def departures_in(pattern: str, flags: int) -> List[Departure]:
+    """The parts of an accepted pattern that `re` reads in another way."""
+    return Reader(pattern, flags).read() if _may_depart(pattern, flags) else []
+
+
+def warn_of_departures(pattern: str, flags: int, stacklevel: int) -> None:
+    """Warns of each way in which `re` would read an accepted pattern otherwise, once for each.
+
+    `stacklevel` means what it would mean in a call of `warnings.warn` by the caller."""
+    kinds: Dict[str, Departure] = {}
+    for departure in departures_in(pattern, flags):
+        kinds.setdefault(departure.kind, departure)
+    for departure in kinds.values():
+        warnings.warn(str(departure), DepartureWarning, stacklevel + 1)
