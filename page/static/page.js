@@ -6,9 +6,11 @@ const MOST_MARKED = 50000;  // characters of the text in which matches are marke
 const MOST_CELL = 200;      // characters of a group that the table shows
 const MOST_AROUND = 100;    // characters of a refused pattern before its fault, in it, and after it
 const MOST_BYTES = 2 << 20; // of a request
+const SOON = 150;           // milliseconds after which a search is shown to run
 const COLOURS = 5;
 
 const field = (name) => document.getElementById(name);
+const main = field('main');
 const pattern = field('pattern');
 const text = field('text');
 const replacement = field('replacement');
@@ -67,7 +69,8 @@ function cell(haystack, group, bytes, index) {
   const shown = haystack.slice(start, Math.min(end, start + MOST_CELL));
   const name = index === 0 ? 'match' : `group${(index - 1) % COLOURS + 1}`;
   const cut = end - start > MOST_CELL ? '…' : '';
-  made.append(element('span', name, shown + cut), ' ', element('small', '', `${bytes[0]}..${bytes[1]}`));
+  made.append(element('span', name, shown + cut), ' ',
+    element('small', '', `${bytes[0]}..${bytes[1]}`));
   return made;
 }
 
@@ -109,6 +112,11 @@ function drawFault(refused, { fault, fault_end: faultEnd }) {
     : `From offset ${number(bytes)} to ${number(endBytes)}: `, shown);
 }
 
+function groupsNote({ groups = 0, names = [null] }) {
+  return groups < names.length ? ''
+    : `The first ${number(names.length - 1)} of ${number(groups)} groups are shown.`;
+}
+
 function summary(answer, haystack) {
   const notes = [counted(answer.count, 'match').replace('matchs', 'matches')];
   if (answer.count > answer.matches.length) {
@@ -126,8 +134,16 @@ function cost(answer) {
     + `${counted(answer.arrows, 'arrow')}.`;
 }
 
+// Keeps what is below the fields as high as it is, or lets it be as high as what it holds.
+function keepHeights(isKept) {
+  for (const part of [field('replaced-part'), field('matches-part')]) {
+    part.style.minHeight = isKept ? `${part.getBoundingClientRect().height}px` : '';
+  }
+}
+
 function show(question, answer) {
   const isRefused = 'refusal' in answer;
+  keepHeights(isRefused);
   pattern.setAttribute('aria-invalid', isRefused);
   field('refusal').textContent = isRefused ? answer.refusal : '';
   drawFault(question.pattern, answer);
@@ -137,6 +153,7 @@ function show(question, answer) {
   field('replaced').textContent = replaced ?? '';
   field('replaced-note').textContent = replaced === null ? 'The replaced text may be too long.'
     : answer.is_cut ? `These are its first ${number(replaced.length)} characters.` : '';
+  field('matches-note').textContent = groupsNote(answer);
   drawMarks(question.text, answer.matches ?? []);
   drawTable(question.text, answer);
 }
@@ -147,29 +164,47 @@ function asked() {
     text: text.value, replacement: replacement.value };
 }
 
-async function answerTo(question) {
+async function answerTo(question, signal) {
   const body = new Blob([JSON.stringify(question)], { type: 'application/json' });
   if (body.size > MOST_BYTES) return { refusal: 'pattern and text have over 2 MB' };
   try {
-    return await (await fetch('search', { method: 'POST', body })).json();
+    return await (await fetch('search', { method: 'POST', body, signal })).json();
   } catch {
     return { refusal: 'the server of this page does not answer' };
   }
 }
 
-// One question at a time: what changes meanwhile is asked after the answer.
-let isWaiting = false;
-let hasChanged = false;
+// That a search runs, and that what is shown is the answer to an earlier question.
+let busyTimer = null;
+let answeredText = '';
+function showBusy() {
+  main.classList.add('busy');
+  field('busy').textContent = 'Searching … What is shown is out of date.';
+}
+
+function endBusy() {
+  clearTimeout(busyTimer);
+  busyTimer = null;
+  main.classList.remove('busy');
+  field('busy').textContent = '';
+}
+
+// The last question alone is of use: the server ends the search for the one before, whose
+// connection is closed.
+let waiting = null;
 async function ask() {
-  hasChanged = true;
-  if (isWaiting) return;
-  isWaiting = true;
-  while (hasChanged) {
-    hasChanged = false;
-    const question = asked();
-    show(question, await answerTo(question));
-  }
-  isWaiting = false;
+  waiting?.abort();
+  const own = new AbortController();
+  waiting = own;
+  busyTimer ??= setTimeout(showBusy, SOON);
+  const question = asked();
+  main.classList.toggle('moved', question.text !== answeredText);
+  const answer = await answerTo(question, own.signal);
+  if (own !== waiting) return;
+  waiting = null;
+  answeredText = question.text;
+  endBusy();
+  show(question, answer);
 }
 
 field('form').addEventListener('input', ask);

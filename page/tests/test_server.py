@@ -1,12 +1,11 @@
-"""What the server answers to requests of the page, and how it refuses others."""
+"""What the server answers to requests of the page."""
 
-import json
+import socket
+import sys
 import time
-from typing import Dict
+from http.client import HTTPConnection
 
-from page.tests.running import WithServer
-
-QUESTION = {'pattern': 'a', 'text': 'a', 'replacement': '', 'flags': ''}
+from page.tests.running import WithServer, ended, started
 
 
 class Answers(WithServer):
@@ -53,6 +52,18 @@ class Answers(WithServer):
         self.assertEqual((len(shown['replaced']), shown['is_cut']), (50_000, True))
         self.assertIsNone(self.ask('a', 'a' * 100_000, '$0' * 500)['replaced'])
 
+    def test_large_texts(self) -> None:
+        self.assertEqual(self.ask('a', 'b' * ((2 << 20) - 100))['count'], 0)
+
+    def test_many_groups(self) -> None:
+        for groups, count in ((100, 1000), (300, 1000), (1000, 200), (20_000, 20)):
+            shown = self.ask('()' * groups + 'a', 'a' * count, '$1')
+            self.assertEqual((shown['groups'], shown['count']), (groups, count))
+            self.assertEqual((len(shown['names']), shown['replaced']), (101, ''))
+            self.assertEqual({len(spans) for spans in shown['matches']}, {101})
+            self.assertEqual(shown['matches'][1], [[1, 2], *[[1, 1]] * 100])
+            self.assertLessEqual(len(shown['matches']) * 101, 5_000)
+
     def test_costs(self) -> None:
         shown = self.ask('(a*)*b', 'a' * 10_000)
         self.assertEqual(shown['count'], 0)
@@ -67,16 +78,8 @@ class Answers(WithServer):
         self.assertEqual(self.ask('a', 'a')['count'], 1)
 
 
-class Requests(WithServer):
-    """Requests that the page doesn't send."""
-
-    def expect(self, status: int, method: str, path: str, body: object = None,
-               **headers: str) -> None:
-        """Sends the request, which is to be refused with this status and a reason."""
-        named = {name.replace('_', '-'): value for name, value in headers.items()}
-        sent, reason, _ = self.send(method, path, body, named)
-        self.assertEqual(sent, status)
-        self.assertTrue(json.loads(reason)['refusal'])
+class Files(WithServer):
+    """The files of the page."""
 
     def test_files(self) -> None:
         for path, kind in (('/', 'text/html'), ('/page.css', 'text/css'),
@@ -85,32 +88,19 @@ class Requests(WithServer):
             self.assertEqual((status, headers['content-type']), (200, f'{kind}; charset=utf-8'))
             self.assertIn("default-src 'none'", headers['content-security-policy'])
 
-    def test_unknown_paths(self) -> None:
-        for path in ('/page', '/../README.md', '/static/page.js', '/%2e%2e/README.md'):
-            self.expect(404, 'GET', path)
-        self.expect(404, 'POST', '/other', QUESTION)
-
-    def test_other_hosts(self) -> None:
-        self.expect(403, 'GET', '/', Host='example.org')
-        self.expect(403, 'POST', '/search', QUESTION, Host=f'example.org:{self.port}')
-        self.expect(403, 'POST', '/search', QUESTION, Origin='http://example.org')
-        self.expect(403, 'POST', '/search', QUESTION, Origin='null')
-        self.expect(403, 'POST', '/search', QUESTION, Origin=f'https://127.0.0.1:{self.port}')
+    def test_names_of_the_server(self) -> None:
         self.assertEqual(self.send('GET', '/', headers={'Host': f'localhost:{self.port}'})[0], 200)
 
-    def test_bad_requests(self) -> None:
-        self.expect(415, 'POST', '/search', QUESTION, Content_Type='text/plain')
-        self.expect(411, 'POST', '/search', QUESTION, Content_Length='-1')
-        for raw in (b'', b'{', b'[]', b'"a"', b'\xff', b'[' * 100_000):
-            self.expect(400, 'POST', '/search', raw)
-        for name, value in (('more', ''), ('text', 1), ('flags', 'z')):
-            fields: Dict[str, object] = {**QUESTION, name: value}
-            self.expect(400, 'POST', '/search', fields)
-        self.expect(400, 'POST', '/search', {})
-
-    def test_large_requests(self) -> None:
-        self.expect(413, 'POST', '/search', {**QUESTION, 'text': 'a' * (2 << 20)})
-        self.assertEqual(self.ask('a', 'b' * ((2 << 20) - 100))['count'], 0)
-
-    def test_other_methods(self) -> None:
-        self.assertEqual(self.send('PUT', '/search', QUESTION)[0], 501)
+    def test_the_port_that_is_left_out(self) -> None:
+        try:
+            socket.create_server(('127.0.0.1', 80)).close()
+        except OSError as fault:
+            self.skipTest(f'port 80 cannot be used: {fault.strerror}')
+        server, port = started([sys.executable, '-m', 'page', '80'], self.log)
+        self.addCleanup(ended, server)
+        for name, value in (('A', 'a'), ('Host', '127.0.0.1:80'), ('Origin', 'http://localhost')):
+            # A client leaves `:80` out where it isn't told otherwise.
+            connection = HTTPConnection('127.0.0.1', port, timeout=10)
+            connection.request('GET', '/', headers={name: value})
+            self.assertEqual(connection.getresponse().status, 200)
+            connection.close()
