@@ -5,10 +5,11 @@ from collections.abc import Iterable, Iterator
 from functools import partial
 from typing import NamedTuple
 
-from answers.make import lists, searches, whole
+from answers.make import lists, pattern_lists, searches, whole
 from answers.make.data import escaped
 from answers.make.dice import Dice
 from answers.make.judge import Case, Found
+from drawing import classes, long_text, shuffled
 
 from .answers import Differ, Regex, Search
 from .calls import Calls
@@ -17,6 +18,15 @@ from .grammar import NEST_LIMIT, Nested, Undecided
 from .ways import TooLarge
 
 LONGEST = 400  # characters of a pattern, since the interpreter recurses on nested patterns
+
+WIDENED = 0.3  # calls over all matches of haystacks with more of them
+TEXT = 60  # characters of these
+LIMITS = 21  # the limits of calls on these are below this
+
+MANY = 0.02  # lists of more patterns than fill a word of bits, or two
+NUMBERS = (63, 64, 65, 127, 128, 129)
+
+LONG = 4_200  # characters: in a haystack of so many bytes iterators remember their turns
 
 
 class Drawn(NamedTuple):
@@ -59,10 +69,20 @@ def searched(letters: str, pattern: str, asked: Iterable[tuple[str, int]]) -> li
 def list_lines(dice: Dice) -> Iterator[Drawn]:
     """The lines of all calls over all matches, on one haystack."""
     for cases in lists.generated(dice):
+        if dice.chance(WIDENED):
+            cases = widened(dice, cases)
         first = cases[0]
         template = next(case.template for case in cases if case.template is not None)
         expand = first._replace(call='expand', limit=None, template=template)
         yield Drawn(first.pattern, partial(listed, first.flags, first.pattern, [*cases, expand]))
+
+
+def widened(dice: Dice, cases: list[Case]) -> list[Case]:
+    """The calls on a haystack in which the old one is repeated, with higher limits."""
+    haystack = (cases[0].haystack * TEXT)[:TEXT]
+    return [case._replace(haystack=haystack,
+                          limit=None if case.limit is None else dice.below(LIMITS))
+            for case in cases]
 
 
 def listed(letters: str, pattern: str, cases: list[Case]) -> list[str]:
@@ -89,10 +109,48 @@ def accepted(letters: str, pattern: str, texts: Iterable[str]) -> list[str]:
     return ['\t'.join([outcome, letters, '-', escaped(pattern), '']) + '\n']
 
 
+def several_lines(dice: Dice) -> Iterator[Drawn]:
+    """The line of a search for several patterns."""
+    cases = pattern_lists.generated(dice)
+    for patterns, text, start in cases:
+        if dice.chance(MANY):
+            wanted = dice.pick(NUMBERS)
+            while len(patterns) < wanted:
+                patterns += next(cases)[0]
+            patterns = patterns[:wanted]
+        yield Drawn(max(patterns, key=len), partial(of_several, patterns, text, start))
+
+
+def of_several(patterns: tuple[str, ...], text: str, start: int) -> list[str]:
+    """The line of a search for these patterns."""
+    answers = [found(Search(Regex(pattern, ()), text), start) for pattern in patterns]
+    return [pattern_lists.line_of((patterns, text, start), pattern_lists.first_of(answers))]
+
+
+def class_lines(dice: Dice) -> Iterator[Drawn]:
+    """The lines of classes of several ranges, in haystacks of the characters at the ends of these
+    and beside them."""
+    for pattern, near in classes(dice):
+        texts = [shuffled(dice, near, count) for count in (4, 24)]
+        yield Drawn(pattern, partial(searched, '-', pattern,
+                                     [(text, start) for text in texts
+                                      for start in searches.starts(dice, text)]))
+
+
+def long_lines(dice: Dice) -> Iterator[Drawn]:
+    """The line of all matches of a pattern with looks in a long haystack."""
+    for family, letters, pattern, asked in searches.generated(dice):
+        if family == 'looks':
+            text = long_text(dice, [text for text, _ in asked], LONG)
+            case = Case('captures_iter', None, letters, pattern, text, None)
+            yield Drawn(pattern, partial(listed, letters, pattern, [case]))
+
+
 def lines(seed: int, number: int) -> tuple[list[str], int]:
     """The lines of as many patterns from the seed, and how many were skipped as too large."""
     makers = [make(Dice(f'interpret {make.__name__} {seed}'))
-              for make in (search_lines, list_lines, whole_lines)]
+              for make in (search_lines, list_lines, whole_lines, several_lines, class_lines)] * 20
+    makers.append(long_lines(Dice(f'interpret {long_lines.__name__} {seed}')))
     made: list[str] = []
     skipped = 0
     for maker in itertools.islice(itertools.cycle(makers), number):
