@@ -133,8 +133,8 @@ def _replaced(regex: Regex, text: bytes, template: bytes, count: int) -> Optiona
     longest = len(text) * (1 + template.count(b'$')) + count * len(template)
     if longest > LONGEST_REPLACED:
         return None
-    replaced: bytes = regex.replaced(text, template, 0, is_literal=False)
-    return replaced.decode()
+    replaced: str = regex.replaced(text, template, 0, is_literal=False)
+    return replaced
 
 
 def _units_before(text: bytes) -> Sequence[int]:

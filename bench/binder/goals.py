@@ -13,6 +13,7 @@ MEGABYTE = 1 << 20
 TEXT = ENGLISH(MEGABYTE)
 ACCENTED = f'{TEXT[:MEGABYTE // 2]}é{TEXT[MEGABYTE // 2 + 1:]}'  # beyond ASCII by one character
 CYRILLIC = ('слово, 2026-11 ' * MEGABYTE)[:MEGABYTE]
+SEPARATORS = (' ', ',', r'\s+', ', *', '[,;]')
 LINE = '2026-11-28 GET /index.html 200 512 bytes in 93 ms'
 RUNS = 9
 LEAST_SECONDS = 0.02  # of a run
@@ -36,6 +37,11 @@ def spans(module: Any, pattern: str, text: str) -> list[tuple[int, int]]:
     return [found.span() for found in module.compile(pattern, flags_of(module)).finditer(text)]
 
 
+def splitting(pattern: str, text: str) -> Callable[[Any], object]:
+    """A call that splits the text at the pattern."""
+    return lambda module: module.split(pattern, text, 0, flags_of(module))
+
+
 def flags_of(module: Any) -> int:
     """The flags under which `re` reads a pattern as ours does."""
     return int(re.ASCII) if module is re else 0
@@ -53,8 +59,8 @@ GOALS = (
          lambda module: spans(module, r'\w+', ACCENTED), ''),
     Goal(r'`finditer("[0-9]+")`, each `span`, Cyrillic',
          lambda module: spans(module, '[0-9]+', CYRILLIC), ''),
-    Goal(r'`split(r"\s+")`', lambda module: module.split(r'\s+', TEXT, 0, flags_of(module)), '2'),
-    Goal('`split(" ")`', lambda module: module.split(' ', TEXT), '2'),
+    *(Goal(f'`split(r"{pattern}")`{of}', splitting(pattern, text), '2')
+      for text, of in ((TEXT, ''), (ACCENTED, ', one `é`')) for pattern in SEPARATORS),
     Goal(r'`sub(r"(\w+)", r"<\1>")`',
          lambda module: module.sub(r'(\w+)', r'<\1>', TEXT, 0, flags_of(module)), '2'),
     Goal(r'`sub(r"(\w+)", function)`',

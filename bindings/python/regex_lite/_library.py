@@ -275,17 +275,19 @@ class Regex:
         _, rows = self._walk_on(text, walk, room, self.groups)
         return [spans_of(row) for row in self.matches_in(rows)]
 
-    def replaced(self, text: bytes, new: bytes, limit: int, is_literal: bool = True) -> bytes:
+    def replaced(self, text: bytes, new: bytes, limit: int, is_literal: bool = True) -> str:
         """The text with its first matches replaced, or all if the limit is 0, by another text or
         by what it gives as a template, where `$1` is a group."""
-        how, size = Replacing(limit, is_literal, 0), 2 * len(text) + len(new)
+        # A single byte makes the text longer only where it replaces an empty match.
+        growth = 1 if len(new) < 2 else 2
+        how, size = Replacing(limit, is_literal, 0), growth * len(text) + len(new)
         answer = NO_ROOM
         while answer == NO_ROOM:
             size = max(size, how.len)
             room = Room(BYTE, size)
             answer = _replace(self._handle, text, len(text), new, len(new), how, room.start, size)
         checked(answer)
-        return bytes(room.first(how.len))
+        return str(room.first(how.len), 'utf-8')
 
     def _walk_on(self, text: bytes, walk: Walk, room: int,
                  groups: int) -> Tuple[int, memoryview]:

@@ -10,6 +10,7 @@ from typing import (Callable, Dict, Iterable, Iterator, List, Optional, Supports
 
 from ._flags import NEST_LIMIT, SIZE_LIMIT, Flags, options_of
 from ._library import Regex, Row, Walk, encoded
+from ._literals import literal_of
 from ._matches import Match, match_of
 from ._templates import as_library_has_it, parts_of
 from ._texts import Offsets, offsets_in, part_of, start_in, texts_at
@@ -37,13 +38,18 @@ class Pattern:
         self._regex = Regex(pattern, options_of(flags, nest_limit, size_limit))
         self.pattern = pattern
         self.flags = Flags(flags)
+        self._literal = literal_of(pattern, flags)
         self.groups = self._regex.groups - 1
         names = {self._regex.name(i): i for i in range(1, self.groups + 1)}
         self.groupindex: Dict[str, int] = {name: i for name, i in names.items() if name is not None}
 
     def search(self, string: str, pos: int = 0) -> Optional[Match]:
         """The first match that starts at this offset or later."""
-        raw = encoded(string)
+        raw, literal = encoded(string), self._literal
+        if literal is not None:
+            start = string.find(literal, max(pos, 0))
+            whole = True, start, start + len(literal)
+            return None if start < 0 else match_of(self, string, whole, None)
         offsets = None if len(string) == len(raw) else Offsets(raw)
         row = self._regex.captures(raw, start_in(string, offsets, pos) if pos else 0)
         return None if row is None else match_of(self, string, row, offsets)
@@ -83,10 +89,12 @@ class Pattern:
         is negative."""
         raw, most = encoded(string), _how_many(maxsplit)
         if self.groups == 0 and most >= 0:
+            if self._literal is not None:
+                return cast(List[Optional[str]], string.split(self._literal, most or -1))
             # To mark the matches and to split there takes less time than to cut out each piece.
             for free in SEPARATORS:
                 if free not in string:
-                    joined = self._regex.replaced(raw, free.encode(), most).decode()
+                    joined = self._regex.replaced(raw, free.encode(), most)
                     return cast(List[Optional[str]], joined.split(free))
         part, end = part_of(string, raw), 0
         pieces: List[Optional[str]] = []
@@ -127,7 +135,7 @@ class Pattern:
         texts = [part for part in parts if isinstance(part, str)]
         is_literal = len(texts) == len(parts)
         new = ''.join(texts) if is_literal else as_library_has_it(parts)
-        return self._regex.replaced(raw, encoded(new), most, is_literal).decode()
+        return self._regex.replaced(raw, encoded(new), most, is_literal)
 
     def _by_function(self, function: Callable[[Match], str], string: str, raw: bytes,
                      most: int) -> Tuple[str, int]:
