@@ -12,3 +12,4 @@ pub mod OutcomeLemmas
 pub mod ListOutcomeLemmas
 pub mod OneStartLemmas
 pub mod PlaceLemmas
+pub mod PrefixLemmas

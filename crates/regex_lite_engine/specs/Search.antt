@@ -18,3 +18,5 @@ pub mod Offers
 pub mod Standing
 pub mod Slots
 pub mod Starts
+pub mod Prefixes
+pub mod OwnFilters

@@ -8,5 +8,7 @@ mod list_skip;
 pub mod one_of_list;
 pub mod one_pattern;
 pub mod outcome;
+pub mod own_filter;
 pub mod patterns;
+pub mod prefix;
 pub(crate) mod skip;

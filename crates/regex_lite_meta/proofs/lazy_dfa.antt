@@ -11,6 +11,7 @@ pub mod RememberedLemmas
 pub mod ResumeLemmas
 pub mod RunLemmas
 pub mod ScanLemmas
+pub mod SpanLemmas
 pub mod SpotLemmas
 pub mod StandsLemmas
 pub mod StoredChangeLemmas

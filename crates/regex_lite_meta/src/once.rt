@@ -1,12 +1,21 @@
 //! Which search is taken for a search by itself.
-ghost use Rattle.std.specs.Prelude.{◌≡◌, ◌<◌, ◌⊎◌, IfOk, IfSome, IsCharBoundary, length};
+ghost use Rattle.std.specs.Prelude.{◌≡◌, ◌<◌, ◌≤◌, ◌⊎◌, ◌↔◌, List, IfOk, IfSome, IsCharBoundary};
+ghost use Rattle.std.specs.Prelude.{IsTrue, chars, length};
 ghost use Rattle.regex_lite_syntax.specs.Tree.{Tree};
 ghost use Rattle.regex_lite_syntax.specs.Tree.Regular.{IsRegular};
 ghost use Rattle.regex_lite_engine.specs.Graph.Renumbered.{IsGraphOf};
+ghost use Rattle.regex_lite_engine.specs.Graph.SideBySide.{AreRegularPatterns};
+ghost use Rattle.regex_lite_engine.specs.Graph.StoredList.{IsGraphOfList};
+ghost use Rattle.regex_lite_engine.specs.Search.AnswerOfList.{AnyMatchesFrom};
+ghost use Rattle.regex_lite_engine.specs.Search.Offsets.{search_start};
 ghost use Rattle.regex_lite_engine.specs.Search.Outcomes.{IsOutcome, IsEndOutcome, HasCost};
+ghost use Rattle.regex_lite_engine.specs.Search.Outcomes.{HasCostOfList, IsOutcomeOfList};
 
-use crate::lazy_dfa::remembering::{pays_from, pays_once};
-use crate::lazy_dfa::single::{search_remembering, search_shortest_remembering};
+use crate::lazy_dfa::remembering::{pays_for_list, pays_for_list_with_slots, pays_from, pays_once};
+use crate::lazy_dfa::single::graph::{search_remembering, search_shortest_remembering};
+use crate::lazy_dfa::single::list::{search_any_remembering, search_list_remembering};
+use crate::list_searcher::ListSearcher;
+use regex_lite_engine::nfa::list::GraphList;
 use regex_lite_engine::pikevm::beginning::Unkept;
 use regex_lite_engine::pikevm::cache::{Cache, cache_for};
 use regex_lite_engine::pikevm::shortest::run_shortest;
@@ -90,4 +99,114 @@ pub fn search_shortest(
     run_shortest(&mut cache, &mut pattern, haystack, start);
     let Cache { walk, best, .. } = cache;
     Ok((best.end(), walk.steps))
+}
+
+/// The match that starts first at or after this offset, of the pattern with the lowest number that
+/// matches there: that number, the most preferred match of the pattern, and what the search did.
+/// The match has this number of slots.
+///
+/// Condition: the start is above the haystack's length or on a character boundary.
+///
+/// # Errors
+///
+/// If memory runs out, which can happen only before the first step.
+pub fn search_list(
+    list: &GraphList,
+    alloc: Global,
+    haystack: &str,
+    start: usize,
+    slots: usize,
+) -> Result<(Option<(usize, Outcome)>, Steps), AllocError>
+    requires { (length haystack.now < start) ⊎ IsCharBoundary haystack.now start }
+    ensures found { IfOk result (λ told. (trees : List Tree) → AreRegularPatterns trees
+        → IsGraphOfList trees list.now → IsOutcomeOfList trees haystack.now start told.0) }
+    ensures slots { IfOk result (λ told. IfSome told.0
+        (λ found. length found.1.slots.items ≡ slots)) }
+    ensures cost { IfOk result (λ told. (trees : List Tree) → IsGraphOfList trees list.now
+        → HasCostOfList trees haystack.now start told.1) }
+    ensures entered { IfOk result (λ told. IfSome told.0 (λ _. 0 < told.1.entered)) }
+{
+    if slots == 0 && may_remember(list, haystack, start) {
+        return search_list_remembering(list, alloc, haystack, start);
+    }
+    // With slots the automaton would find the match and another search its slots: both together
+    // may try more places than are allowed.
+    list.search(alloc, haystack, start, slots)
+}
+
+/// [`search_list`] without its cost. Two searches may then find the match and its slots, where that
+/// pays.
+///
+/// Condition: the start is above the haystack's length or on a character boundary.
+///
+/// # Errors
+///
+/// If memory runs out.
+pub fn search_list_uncounted(
+    list: &GraphList,
+    alloc: Global,
+    haystack: &str,
+    start: usize,
+    slots: usize,
+) -> Result<Option<(usize, Outcome)>, AllocError>
+    requires { (length haystack.now < start) ⊎ IsCharBoundary haystack.now start }
+    ensures found { IfOk result (λ told. (trees : List Tree) → AreRegularPatterns trees
+        → IsGraphOfList trees list.now → IsOutcomeOfList trees haystack.now start told) }
+    ensures slots { IfOk result (λ told. IfSome told
+        (λ found. length found.1.slots.items ≡ slots)) }
+{
+    // A search that doesn't start with the haystack is mostly one of many, and soon over.
+    if start > 0 || !pays_for_list_with_slots(list, haystack.len()) {
+        let (told, _) = search_list(list, alloc, haystack, start, slots)?;
+        return Ok(told);
+    }
+    let mut searcher = ListSearcher::new(alloc, list, slots, haystack.len())?;
+    let Some((number, (from, end))) = searcher.search(haystack, start) else {
+        return Ok(None);
+    };
+    let mut row = Vec::with_capacity(alloc, slots)?;
+    row.extend_from_slice(searcher.slots())?;
+    let outcome = Outcome {
+        start: from,
+        end,
+        slots: row,
+    };
+    Ok(Some((number, outcome)))
+}
+
+/// Whether any pattern matches from a position at or after this offset, and what the search did. It
+/// stops at the first match that it comes to.
+///
+/// Condition: the start is above the haystack's length or on a character boundary.
+///
+/// # Errors
+///
+/// If memory runs out, which can happen only before the first step.
+pub fn search_list_any(
+    list: &GraphList,
+    alloc: Global,
+    haystack: &str,
+    start: usize,
+) -> Result<(bool, Steps), AllocError>
+    requires { (length haystack.now < start) ⊎ IsCharBoundary haystack.now start }
+    ensures found { IfOk result (λ told. (trees : List Tree) → AreRegularPatterns trees
+        → IsGraphOfList trees list.now → (IsTrue told.0
+        ↔ AnyMatchesFrom trees (chars haystack.now) (search_start haystack.now start))) }
+    ensures cost { IfOk result (λ told. (trees : List Tree) → IsGraphOfList trees list.now
+        → HasCostOfList trees haystack.now start told.1) }
+    ensures entered { IfOk result (λ told. IsTrue told.0 → 0 < told.1.entered) }
+{
+    if may_remember(list, haystack, start) {
+        return search_any_remembering(list, alloc, haystack, start);
+    }
+    list.search_any(alloc, haystack, start)
+}
+
+/// Whether there is a pattern and a haystack to search from this offset on, and it pays to remember
+/// turns.
+fn may_remember(list: &GraphList, haystack: &str, start: usize) -> bool
+    ensures places { IsTrue result → 0 < length list.now.places }
+    ensures inside { IsTrue result → start ≤ length haystack.now }
+{
+    list.len() > 0 && start <= haystack.len() && pays_for_list(list, haystack.len() - start)
 }

@@ -1,35 +1,34 @@
 //! Searches in one graph, one after another, in the same working memory.
 ghost use Rattle.std.specs.Prelude.{◌≡◌, ◌<◌, ◌⊎◌, ℕ, IfOk, IfSome, IsCharBoundary, chars, length};
-ghost use Rattle.regex_lite_meta.specs.LazyDfa.Remembering.{FindsSpansIn, IsKnown};
-ghost use Rattle.regex_lite_meta.specs.LazyDfa.Remembering.{RemembersAll};
+ghost use Rattle.regex_lite_meta.specs.LazyDfa.Remembering.{IsKnown, RemembersAll};
+ghost use Rattle.regex_lite_meta.specs.Slots.{FindsSlotsIn};
 ghost use Rattle.regex_lite_syntax.specs.Tree.{Tree};
 ghost use Rattle.regex_lite_syntax.specs.Tree.Regular.{IsRegular};
 ghost use Rattle.regex_lite_engine.specs.Graph.Renumbered.{IsGraphOf};
 ghost use Rattle.regex_lite_engine.specs.Graph.Stored.{table_of};
 ghost use Rattle.regex_lite_engine.specs.Search.NumberedAnswer.{NoneStartsBefore};
-ghost use Rattle.regex_lite_engine.specs.Search.Counting.{IsCountable};
 ghost use Rattle.regex_lite_engine.specs.Search.NumberedOutcomes.{IsNumberedOutcome, best_at};
 ghost use Rattle.regex_lite_engine.specs.Search.Offsets.{position_at};
 ghost use Rattle.regex_lite_engine.specs.Search.Outcomes.{IsSpanOutcome};
-ghost use Rattle.regex_lite_engine.specs.Pikevm.Searching.{IsBetween, IsFresh};
 
 use crate::lazy_dfa::automaton::LazyDfa;
 use crate::lazy_dfa::remembering::{pays, pays_with_slots};
-use crate::lazy_dfa::spans::{Passed, SpanSearcher, find_slots, pass_to_match, weigh};
+use crate::lazy_dfa::spans::{Passed, SpanSearcher, pass_to_match, weigh};
+use crate::slots::{SlotCache, Tried, has_looks};
 use regex_lite_engine::Graph;
-use regex_lite_engine::pikevm::beginning::Origin;
-use regex_lite_engine::pikevm::best::span_of;
-use regex_lite_engine::pikevm::cache::{Cache, cache_for, restart};
-use regex_lite_engine::pikevm::run::run;
-use regex_lite_engine::search::one_pattern::OnePattern;
+use regex_lite_engine::pikevm::cache::restart;
 use std::alloc::{AllocError, Global};
 use std::marker::Model;
+
+/// Where slots are kept, searches of at most this number of pairs of a place and an offset go depth
+/// first between the offsets that an automaton has found.
+const SHORT: usize = 2048;
 
 /// A graph, and the memory in which it is searched, search after search.
 #[derive(Drop)]
 pub struct Searcher<'g> {
     graph: &'g Graph,
-    cache: Cache<Origin>,
+    memory: SlotCache,
     /// What is remembered of the turns of earlier searches, if no slots are kept and it pays.
     dfa: Option<Box<LazyDfa>>,
     /// What passes over the text before a match, if slots are kept and it pays.
@@ -40,23 +39,19 @@ impl<'g> Model for Searcher<'g> {
     ghost use Rattle.std.specs.Prelude.{IfSome, length, option_map};
     ghost use Rattle.regex_lite_meta.specs.LazyDfa.Remembering.{FindsSpansIn, IsRemembering};
     ghost use Rattle.regex_lite_meta.specs.Searching.{Searching};
-    ghost use Rattle.regex_lite_engine.specs.Graph.Stored.{table_of};
-    ghost use Rattle.regex_lite_engine.specs.Search.Counting.{IsCountable};
-    ghost use Rattle.regex_lite_engine.specs.Pikevm.Searching.{IsBetween};
+    ghost use Rattle.regex_lite_meta.specs.Slots.{FindsSlotsIn};
 
     ghost Value = { Searching };
 
     ghost view = { λ searcher. record {
       graph = searcher.graph.now;
-      slots = searcher.cache.best.row;
+      slots = searcher.memory.cache.best.row;
     } };
 
-    ghost invariant = { λ searcher. IsBetween (table_of searcher.graph.now) searcher.cache
-        × IsCountable (table_of searcher.graph.now)
-        × IsRemembering searcher.graph.now (length searcher.cache.best.row)
+    ghost invariant = { λ searcher. FindsSlotsIn searcher.graph.now searcher.memory
+        × IsRemembering searcher.graph.now (length searcher.memory.cache.best.row)
         (option_map (λ dfa. dfa.value) searcher.dfa)
-        × IfSome searcher.spans (λ boxed. FindsSpansIn searcher.graph.now
-        (length searcher.cache.best.row) boxed.value) };
+        × IfSome searcher.spans (λ boxed. FindsSpansIn searcher.graph.now boxed.value) };
 }
 
 impl<'g> Searcher<'g> {
@@ -77,20 +72,26 @@ impl<'g> Searcher<'g> {
         ensures graph { IfOk result (λ searcher. searcher.graph ≡ graph.now) }
         ensures slots { IfOk result (λ searcher. length searcher.slots ≡ slots) }
     {
-        let cache = cache_for(alloc, graph.table(), slots)?;
+        let passes = slots > 0 && pays_with_slots(graph, bytes);
+        let pairs = if passes && !has_looks(graph) {
+            SHORT
+        } else {
+            0
+        };
+        let memory = SlotCache::new(alloc, graph, slots, pairs)?;
         let dfa = if slots == 0 && pays(graph, bytes) {
             automaton_for(alloc, graph)
         } else {
             None
         };
-        let spans = if slots > 0 && pays_with_slots(graph, bytes) {
-            SpanSearcher::for_graph(alloc, graph, slots)
+        let spans = if passes {
+            SpanSearcher::for_graph(alloc, graph)
         } else {
             None
         };
         Ok(Searcher {
             graph,
-            cache,
+            memory,
             dfa,
             spans,
         })
@@ -110,18 +111,15 @@ impl<'g> Searcher<'g> {
         if start > haystack.len() {
             return None;
         }
-        restart(&mut self.cache);
         if let Some(dfa) = &mut self.dfa {
-            return dfa.find_in_graph(self.graph, &mut self.cache, haystack, start);
+            let cache = &mut self.memory.cache;
+            restart(cache);
+            return dfa.find_in_graph(self.graph, cache, haystack, start);
         }
         let passed = pass_to_match(&mut self.spans, self.graph, haystack, start)?;
-        find_passed(
-            &mut self.spans,
-            self.graph,
-            &mut self.cache,
-            haystack,
-            passed,
-        )
+        let found = find_passed(self.graph, &mut self.memory, haystack, passed);
+        weigh(&mut self.spans, found);
+        found.span
     }
 
     /// The slots of the last match that was found, none of them marked before the first. Slots 2k
@@ -129,7 +127,7 @@ impl<'g> Searcher<'g> {
     pub fn slots(&self) -> &[Option<usize>]
         ensures { result.now ≡ self.now.slots }
     {
-        self.cache.best.row()
+        self.memory.cache.best.row()
     }
 }
 
@@ -144,64 +142,24 @@ fn automaton_for(alloc: Global, graph: &Graph) -> Option<Box<LazyDfa>>
     Box::new(alloc, dfa).ok()
 }
 
-/// Where the most preferred match starts and ends, and its slots in the cache's row, if no match
-/// starts before the offset that was passed to. It is found depth first if its end is known and it
-/// is short, and otherwise by ordered sets. The tries are counted for the automaton.
-fn find_passed(
-    spans: &mut Option<Box<SpanSearcher>>,
-    graph: &Graph,
-    cache: &mut Cache<Origin>,
-    haystack: &str,
-    passed: Passed,
-) -> Option<(usize, usize)>
-    requires finds { IfSome spans.old
-        (λ boxed. FindsSpansIn graph.now (length cache.old.best.row) boxed.value) }
-    requires fresh { IsFresh (table_of graph.now) cache.old }
-    requires countable { IsCountable (table_of graph.now) }
+/// Where the most preferred match starts and ends, with its slots in the row, if no match starts
+/// before the offset that was passed to.
+fn find_passed(graph: &Graph, memory: &mut SlotCache, haystack: &str, passed: Passed) -> Tried
+    requires finds { FindsSlotsIn graph.now memory.old }
     requires boundary { IsCharBoundary haystack.now passed.from }
     requires first { (s : ℕ) × NoneStartsBefore (table_of graph.now) (chars haystack.now)
         graph.now.start s (position_at haystack.now passed.from)
         × IsKnown (table_of graph.now) (chars haystack.now) graph.now.start s passed }
-    ensures finds { IfSome spans.new
-        (λ boxed. FindsSpansIn graph.now (length cache.new.best.row) boxed.value) }
+    ensures finds { FindsSlotsIn graph.now memory.new }
     ensures found { (s : ℕ) → NoneStartsBefore (table_of graph.now) (chars haystack.now)
         graph.now.start s (position_at haystack.now passed.from)
         → IsKnown (table_of graph.now) (chars haystack.now) graph.now.start s passed
         → IsNumberedOutcome (table_of graph.now) (chars haystack.now) graph.now.start s
-        (best_at result cache.new.best.row) }
-    ensures between { IsBetween (table_of graph.now) cache.new }
-    ensures width { length cache.new.best.row ≡ length cache.old.best.row }
+        (best_at result.span memory.new.cache.best.row) }
+    ensures width { length memory.new.cache.best.row ≡ length memory.old.cache.best.row }
 {
-    let best = &mut cache.best;
-    if let Some((span, tried)) = find_slots(spans, graph, haystack, passed, best) {
-        weigh(spans, Some(span), tried);
-        return Some(span);
+    match passed.end {
+        Some(end) => memory.find_known(graph, haystack, (passed.from, end)),
+        None => memory.find_from(graph, haystack, passed.from),
     }
-    let found = find_in_step(graph, cache, haystack, passed.from);
-    weigh(spans, found, cache.walk.steps.tried());
-    found
-}
-
-/// Where the most preferred match from the least start at or after this offset starts and ends,
-/// found by ordered sets.
-fn find_in_step(
-    graph: &Graph,
-    cache: &mut Cache<Origin>,
-    haystack: &str,
-    start: usize,
-) -> Option<(usize, usize)>
-    requires fresh { IsFresh (table_of graph.now) cache.old }
-    requires countable { IsCountable (table_of graph.now) }
-    requires boundary { IsCharBoundary haystack.now start }
-    ensures found { IsNumberedOutcome (table_of graph.now) (chars haystack.now) graph.now.start
-        (position_at haystack.now start) (best_at result cache.new.best.row) }
-    ensures between { IsBetween (table_of graph.now) cache.new }
-    ensures width { length cache.new.best.row ≡ length cache.old.best.row }
-{
-    let mut pattern = OnePattern {
-        graph,
-        may_start: false,
-    };
-    run(cache, &mut pattern, haystack, start);
-    span_of(cache.best.found())
 }

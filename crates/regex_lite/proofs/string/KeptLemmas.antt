@@ -1,14 +1,15 @@
 -- What a searcher that callers keep returns of a match, and of its groups.
-use Rattle.regex_lite.proofs.Common.{◌≡◌, ℕ, ◌*◌, ◌≤◌, List, [], length, take, Some, None, IsUtf8}
+use Rattle.regex_lite.proofs.Common.{◌≡◌, ℕ, ◌*◌, ◌≤◌, List, [], length, take, Some, IsUtf8}
 use Rattle.regex_lite.proofs.Common.{Option, option_map, chars, sym, refl, ap, ◌∙◌, subst, arith}
-use Rattle.regex_lite.proofs.Common.{Tree, captures_len, IsGraphOf, Found, offset, position_at}
-use Rattle.regex_lite.proofs.Common.{search_start, HasSlots, IsSpanOutcome, IsWithin, Expression}
+use Rattle.regex_lite.proofs.Common.{Tree, captures_len, IsGraphOf, Found, offset}
+use Rattle.regex_lite.proofs.Common.{search_start, HasSlots, IsSpanOutcome, Expression}
 use Rattle.regex_lite.proofs.Common.{OfTree, spans_of, IsAnswerOf, span_of_match, spans_from}
 use Rattle.regex_lite.proofs.Common.{IsMatchOf, TellsMatch, TellsLocations, all_slots, Match}
 use Rattle.std.proofs.Common.{◌/◌}
-use Rattle.regex_lite_meta.specs.Searching.{Searching}
-use Rattle.regex_lite_engine.proofs.PositionLemmas.{position_of}
-use Rattle.regex_lite_syntax.proofs.OptionLemmas.{not_there, same_some}
+use Rattle.regex_lite_meta.specs.Searching.{FindsSpan, Searching}
+use Rattle.regex_lite_engine.specs.Graph.Stored.{StoredGraph}
+use Rattle.regex_lite_syntax.proofs.OptionLemmas.{same_some}
+use Rattle.regex_lite_syntax.specs.Tree.Regular.{IsRegular}
 use Rattle.regex_lite.specs.Keeping.{SearchesForGroups}
 use Rattle.regex_lite.specs.Searches.{CanRead}
 use Rattle.regex_lite.proofs.string.CapturedLemmas.{held_all}
@@ -44,32 +45,13 @@ module _ (re : Expression) (bytes : List ℕ) (utf8 : IsUtf8 bytes) (start : ℕ
   is_answer : IsAnswerOf re (chars bytes) (search_start bytes start) (Some found)
   is_answer = (tree, own.1, own.2.1)
 
-  within : IsWithin (chars bytes) (search_start bytes start) found
-  within = (regex_lawful re (chars bytes)).within (search_start bytes start) found is_answer
-
-  from : search_start bytes m.start ≡ found.start
-  from =
-      let at = ap (λ (span : ℕ × ℕ). position_at bytes span.0) is_match.span
-      ∙ position_of bytes utf8 found.start (offset (chars bytes) found.start)
-      (omega (arith, within.ordered, within.inside), refl) in
-      omega (arith, at, ap length is_match.haystack, m.lies_in.ordered, m.lies_in.inside)
-
-  -- from where the match begins on it is found again
-  again : IsAnswerOf re (chars bytes) (search_start bytes m.start) (Some found)
-  again = subst (λ s. IsAnswerOf re (chars bytes) s (Some found)) (sym from)
-      ((regex_lawful re (chars bytes)).further (search_start bytes start) found.start found
-      within.from (omega arith) is_answer)
-
-  -- with its slots
-  pub slots_again : (slots : List (Option ℕ)) (told : Option (ℕ × ℕ))
-      → OfTree re (λ tree. IsSpanOutcome tree bytes m.start slots told)
+  -- the slots that a search finds from there are those of the match
+  pub slots_found : (slots : List (Option ℕ)) (span : ℕ × ℕ)
+      → OfTree re (λ tree. IsSpanOutcome tree bytes start slots (Some span))
       → HasSlots (chars bytes) slots found.marks
-  slots_again slots None (other, given, none) =
-      absurd (not_there ((regex_lawful re (chars bytes)).one (search_start bytes m.start) None
-      (Some found) (other, given, none) again))
-  slots_again slots (Some span) (other, given, (second, is, tells)) =
-      let same = same_some ((regex_lawful re (chars bytes)).one (search_start bytes m.start)
-      (Some second) (Some found) (other, given, is) again) in
+  slots_found slots span (other, given, (second, is, tells)) =
+      let same = same_some ((regex_lawful re (chars bytes)).one (search_start bytes start)
+      (Some second) (Some found) (other, given, is) is_answer) in
       subst (λ (f : Found). HasSlots (chars bytes) slots f.marks) same tells.slots
 
   -- its span is the slots of the whole match
@@ -77,6 +59,25 @@ module _ (re : Expression) (bytes : List ℕ) (utf8 : IsUtf8 bytes) (start : ℕ
   slots_of_whole =
       held_all (chars bytes) tree (search_start bytes start) found (re.flags, _, own.1) own.2.1 []
       (span_of_match m) (λ k slot at. absurd cc) is_match.span
+
+  -- a search from there finds it
+  pub finds_span : (graph : StoredGraph)
+      (given : OfTree re (λ tree. IsRegular tree × IsGraphOf tree graph))
+      → FindsSpan given.0 bytes start (span_of_match m)
+  finds_span graph given =
+      subst (λ (t : Tree). FindsSpan t bytes start (span_of_match m))
+      (sym (one_tree re.flags (chars re.pattern) given.0 tree given.1 own.1)) (
+        all_slots [] (span_of_match m),
+        (
+          found,
+          own.2.1,
+          record {
+            start = ap (λ (span : ℕ × ℕ). span.0) is_match.span;
+            end = ap (λ (span : ℕ × ℕ). span.1) is_match.span;
+            slots = slots_of_whole;
+          },
+        ),
+      )
 
   -- these slots hold its groups, two for each
   module _ (slots : List (Option ℕ)) (held : HasSlots (chars bytes) slots found.marks)

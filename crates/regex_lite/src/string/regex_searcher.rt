@@ -6,6 +6,7 @@ ghost use Rattle.regex_lite_syntax.specs.Tree.{Tree};
 ghost use Rattle.regex_lite_syntax.specs.Tree.Regular.{IsRegular};
 ghost use Rattle.regex_lite_engine.specs.Graph.Renumbered.{IsGraphOf};
 ghost use Rattle.regex_lite_engine.specs.Search.Outcomes.{IsSpanOutcome};
+ghost use Rattle.regex_lite_meta.specs.Searching.{FindsSpan};
 ghost use Rattle.regex_lite.specs.Compiled.{SearchesFor};
 ghost use Rattle.regex_lite.specs.Groups.{spans_of};
 ghost use Rattle.regex_lite.specs.Keeping.{SearchesForGroups};
@@ -15,7 +16,7 @@ ghost use Rattle.regex_lite.specs.Searches.{TellsLocations, TellsMatch};
 use crate::string::locations::CaptureLocations;
 use crate::string::matches::Match;
 use crate::string::regex::Regex;
-use regex_lite_meta::Searcher;
+use regex_lite_meta::{Searcher, SlotSearcher};
 use regex_lite_syntax::Error;
 use std::fmt;
 use std::marker::Model;
@@ -41,8 +42,8 @@ pub(crate) const ENDLESS: usize = usize::MAX;
 pub struct RegexSearcher<'r> {
     regex: &'r Regex,
     matches: Searcher<'r>,
-    /// With slots for all groups, where there are more than the whole match.
-    groups: Option<Searcher<'r>>,
+    /// Finds the slots of all groups, where there are more than the whole match.
+    groups: Option<SlotSearcher<'r>>,
 }
 
 impl<'r> Model for RegexSearcher<'r> {
@@ -72,7 +73,7 @@ impl Regex {
         ensures regex { IfOk result (λ searcher. searcher ≡ self.now) }
         ensures refused { IfErr result (λ error. error ≡ out_of_memory) }
     {
-        let matches = self.memory(0, ENDLESS)?;
+        let matches = self.memory_for_matches()?;
         let groups = self.memory_for_groups()?;
         Ok(RegexSearcher {
             regex: self,
@@ -81,19 +82,18 @@ impl Regex {
         })
     }
 
-    /// Memory for searches in haystacks of about `bytes` bytes, whose matches have `slots` slots.
-    fn memory(&self, slots: usize, bytes: usize) -> Result<Searcher<'_>, Error>
+    /// Memory for searches that find matches, without their groups.
+    fn memory_for_matches(&self) -> Result<Searcher<'_>, Error>
         ensures searches { IfOk result (λ searcher. SearchesFor self.now searcher) }
-        ensures slots { IfOk result (λ searcher. length searcher.slots ≡ slots) }
         ensures refused { IfErr result (λ error. error ≡ out_of_memory) }
     {
-        let inner = Searcher::new(self.alloc, &self.compiled.graph, slots, bytes)?;
+        let inner = Searcher::new(self.alloc, &self.compiled.graph, 0, ENDLESS)?;
         Ok(inner)
     }
 
-    /// Memory for searches that find groups, where there are more than the whole match. They begin
-    /// where a match does, so they remember nothing.
-    fn memory_for_groups(&self) -> Result<Option<Searcher<'_>>, Error>
+    /// Memory for searches that find the groups of a match, where there are more than the whole
+    /// match.
+    fn memory_for_groups(&self) -> Result<Option<SlotSearcher<'_>>, Error>
         ensures groups { IfOk result (SearchesForGroups self.now) }
         ensures refused { IfErr result (λ error. error ≡ out_of_memory) }
     {
@@ -101,7 +101,7 @@ impl Regex {
         if slots == 2 {
             return Ok(None);
         }
-        let searcher = self.memory(slots, 0)?;
+        let searcher = SlotSearcher::new(self.alloc, &self.compiled.graph, slots)?;
         Ok(Some(searcher))
     }
 }
@@ -207,30 +207,32 @@ impl<'r> RegexSearcher<'r> {
             locs.write(&[Some(found.start()), Some(found.end())]);
             return;
         };
-        let _ = read_again(groups, haystack, found.start(), locs);
+        read_slots(groups, haystack, (found.start(), found.end()), locs);
     }
 }
 
-/// Finds the match that starts first from this offset on again, now with its slots, and writes its
-/// groups to the locations. Returns its span.
-fn read_again(
-    searcher: &mut Searcher<'_>,
+/// Finds the slots of the match with this span, and writes its groups to the locations.
+///
+/// Condition: a search from some offset finds a match with this span.
+fn read_slots(
+    searcher: &mut SlotSearcher<'_>,
     haystack: &str,
-    start: usize,
+    span: (usize, usize),
     locs: &mut CaptureLocations,
-) -> Option<(usize, usize)>
-    requires start { CanStartAt haystack.now start }
+)
+    requires known { (tree : Tree) × IsRegular tree × IsGraphOf tree searcher.old.graph
+        × ((start : ℕ) × FindsSpan tree haystack.now start span) }
     requires room { length locs.old ≤ length searcher.old.slots / 2 }
     ensures found { (tree : Tree) → IsRegular tree → IsGraphOf tree searcher.old.graph
-        → IsSpanOutcome tree haystack.now start searcher.new.slots result }
+        → (start : ℕ) → FindsSpan tree haystack.now start span
+        → IsSpanOutcome tree haystack.now start searcher.new.slots (Some span) }
     ensures spans { locs.new ≡ take (length locs.old) (spans_of searcher.new.slots) }
     ensures len { length locs.new ≡ length locs.old }
     ensures graph { searcher.new.graph ≡ searcher.old.graph }
     ensures slots { length searcher.new.slots ≡ length searcher.old.slots }
 {
-    let found = searcher.search(haystack, start);
+    searcher.find(haystack, span);
     locs.write(searcher.slots());
-    found
 }
 
 /// Writes the regex as the only field of `RegexSearcher`.

@@ -123,7 +123,12 @@ set_by_mask words count k inside lt =
 -- the pairs that the fields stand for, with the bits of these words
 abbrev pub pairs_of : Inside → List ℕ → Pairs
 pairs_of v words =
-    record { entered = bits_of words v.count; places = v.places; first = v.first }
+    record {
+      entered = bits_of words v.count;
+      places = v.places;
+      first = v.first;
+      room = v.room;
+    }
 
 -- what the fields say of one pair
 module _ (v : Inside) {pairs : Pairs} (same : pairs_of v (words_of v.words) ≡ pairs)
@@ -158,7 +163,8 @@ module _ (v : Inside) {pairs : Pairs} (same : pairs_of v (words_of v.words) ≡ 
     set_in_pairs words' set = ap with_bits set ∙ ap entering of_words
       where
         with_bits : List Bool → Pairs
-        with_bits bits = record { entered = bits; places = v.places; first = v.first }
+        with_bits bits =
+            record { entered = bits; places = v.places; first = v.first; room = v.room }
 
         entering : Pairs → Pairs
         entering p = record p {

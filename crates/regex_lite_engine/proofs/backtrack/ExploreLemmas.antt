@@ -29,6 +29,7 @@ module _ (table : List (Place ℕ)) (haystack : List ℕ) where
       first = more.kept.first ∙ one.kept.first;
       row = more.kept.row ∙ one.kept.row;
       room = more.kept.room ∙ one.kept.room;
+      pairs = more.kept.pairs ∙ one.kept.pairs;
     };
     spent = (let x = one.spent in let y = more.spent in omega (arith, x, y));
     spent_entries =
@@ -52,6 +53,7 @@ module _ (table : List (Place ℕ)) (haystack : List ℕ) where
             first = on.kept.first;
             row = on.kept.row;
             room = on.kept.room;
+            pairs = on.kept.pairs;
           };
           spent = omega (arith, spent);
           spent_entries = on.spent_entries;
@@ -89,7 +91,7 @@ module _ (table : List (Place ℕ)) (haystack : List ℕ) where
               walk_unwinds table
               (searching table haystack s (position_at haystack walk.visited.first) from i)
               walk.visited walk.stack walk'.stack next back w;
-          kept = record { places = refl; first = refl; row = row; room = room };
+          kept = record { places = refl; first = refl; row = row; room = room; pairs = refl };
           spent = omega (arith, explored);
           spent_entries = omega arith;
         };

@@ -38,7 +38,7 @@ module _ (table : List (Place ℕ)) (haystack : List ℕ) (walk : Walk) (q at : 
       record {
         on = record {
           walks = walks;
-          kept = record { places = refl; first = refl; row = refl; room = refl };
+          kept = record { places = refl; first = refl; row = refl; room = refl; pairs = refl };
           spent = omega arith;
           spent_entries = omega arith;
         };
@@ -113,7 +113,13 @@ module _ (table : List (Place ℕ)) (haystack : List ℕ) (walk : Walk) (q at : 
         record {
           on = record {
             walks = walks;
-            kept = record { places = refl; first = refl; row = few.3; room = same };
+            kept = record {
+              places = refl;
+              first = refl;
+              row = few.3;
+              room = same;
+              pairs = refl;
+            };
             spent = omega (arith, arrows_left, few.0);
             spent_entries = omega (arith, lone_left);
           };

@@ -2,17 +2,17 @@
 use Rattle.regex_lite_engine.proofs.Common.{◌≡◌, ℕ, suc, ◌<◌, List, length, IfSome, slice_get, Some}
 use Rattle.regex_lite_engine.proofs.Common.{false, nullable, None, Option, sym, ◌∙◌, inl, inr}
 use Rattle.regex_lite_engine.proofs.Common.{arith, cases_eq, slice_get_within, Text, Tree, Matches}
-use Rattle.regex_lite_engine.proofs.Common.{IsRegular, Address, IsRenumbered, IsNumberOf}
-use Rattle.regex_lite_engine.proofs.Common.{side_by_side, start_of, AreEntries, start_address}
+use Rattle.regex_lite_engine.proofs.Common.{IsRegular, Address, IsRenumbered}
+use Rattle.regex_lite_engine.proofs.Common.{side_by_side, AreEntries, start_address}
 use Rattle.regex_lite_engine.proofs.Common.{written_out, NeverBegins, MayBegin, numbered_step}
 use Rattle.regex_lite_engine.proofs.Common.{IsEntry, IsDeadAt, AreListHeadsOf, Heads, ListHeads}
 use Rattle.regex_lite_engine.proofs.Common.{Starts, pattern_table, pattern_layout}
 use Rattle.std.proofs.Common.{MatchOption}
 use Rattle.regex_lite_engine.specs.Graph.Places.{Place}
 use Rattle.regex_lite_engine.specs.Graph.SideBySide.{AreRegularPatterns}
-use Rattle.regex_lite_engine.specs.Search.Starts.{AreHeadsOf, NoneBeginsAtEnd}
+use Rattle.regex_lite_engine.specs.Search.Starts.{AreFiltersOf, AreHeadsOf, NoneBeginsAtEnd}
 use Rattle.regex_lite_syntax.specs.Prefilter.Heads.{AreSecondOfTree, AreHeadsOfTree}
-use Rattle.regex_lite_syntax.specs.Prefilter.ListHeads.{AreHeadsOfTrees}
+use Rattle.regex_lite_syntax.specs.Prefilter.ListHeads.{AreEachHeadsOf, AreHeadsOfTrees}
 use Rattle.regex_lite_syntax.proofs.prefilter.list_heads.IndexLemmas.{walkable}
 use Rattle.regex_lite_syntax.proofs.prefilter.list_heads.ThirdLemmas.{stuck_matches}
 use Rattle.regex_lite_syntax.proofs.prefilter.list_heads.TreeLemmas.{left_out_matches, none_matches}
@@ -50,22 +50,25 @@ dead_in_pattern tree regular haystack i =
     (whole_part (written_out tree) name table (renumbered tree regular))
     (whole_number name table start_address start (starts_there tree regular)) regular i
 
+-- none matches where the heads rule it out
+never_matches : (tree : Tree) (heads : Heads) → AreHeadsOfTree tree heads → (haystack : Text) (i : ℕ)
+    → NeverBegins heads haystack i → (j : ℕ) → Matches haystack tree i j → ⊥
+never_matches tree heads of_tree haystack i (inl off) j m = off (of_tree.first haystack i j m)
+never_matches tree heads of_tree haystack i (inr off) j m =
+    by_second heads.second of_tree.second off
+  where
+    by_second : (o : Option Starts) → IfSome o (AreSecondOfTree tree)
+        → MatchOption o ⊥ (λ second. ¬ (MayBegin second haystack (suc i))) → ⊥
+    by_second None told off = off
+    by_second (Some second) told off = off (told haystack i j m)
+
 -- the heads of a tree are those of its written-out places
 pub written_heads : (tree : Tree) → IsRegular tree → (table : List (Place ℕ)) (start : ℕ)
     → table ≡ pattern_table tree 0 → start ≡ (pattern_layout tree 0).1 → (heads : Heads)
     → AreHeadsOfTree tree heads → AreHeadsOf table start heads
 written_heads tree regular table start table_is start_is heads of_tree haystack i never =
-    rw (table_is, start_is) (dead_in_pattern tree regular haystack i (none never))
-  where
-    by_second : (o : Option Starts) → IfSome o (AreSecondOfTree tree)
-        → MatchOption o ⊥ (λ second. ¬ (MayBegin second haystack (suc i)))
-        → (j : ℕ) → Matches haystack tree i j → ⊥
-    by_second None told off j m = off
-    by_second (Some second) told off j m = off (told haystack i j m)
-
-    none : NeverBegins heads haystack i → (j : ℕ) → Matches haystack tree i j → ⊥
-    none (inl off) j m = off (of_tree.first haystack i j m)
-    none (inr off) j m = by_second heads.second of_tree.second off j m
+    rw (table_is, start_is) (dead_in_pattern tree regular haystack i
+    (never_matches tree heads of_tree haystack i never))
 
 -- where each match reads a character, none begins at the end
 pub none_at_end : (tree : Tree) → IsRegular tree → (table : List (Place ℕ)) (start : ℕ)
@@ -76,53 +79,62 @@ none_at_end tree regular table start table_is start_is reading haystack =
     (λ j m. let read = reads haystack tree (length haystack) j reading m in
     absurd (omega (arith, read.0, read.1))))
 
--- what the index of several trees says holds for their places in a table
-pub listed_heads : (trees : List Tree) → AreRegularPatterns trees → (name : ℕ → Address)
-    (table : List (Place ℕ)) (entries : List ℕ) → IsRenumbered (side_by_side trees) name table
-    → AreEntries trees name table entries → length entries ≡ length trees → (heads : ListHeads)
-    → AreHeadsOfTrees trees heads → AreListHeadsOf table entries heads
-listed_heads trees regular name table entries written are all heads w = record {
-  count = w.count ∙ sym all;
-  walkable = walkable w.parts heads w.index (w.of_trees.all ∙ sym w.count);
-  any = λ haystack p never number entry is. (
-      let own = own_tree number entry is in
-      let part = own_part number own.0 own.1 in
-      dead number entry is haystack p
-      (none_matches w.parts heads.any part.0 number w.index.any part.1 own.0
-      (w.of_trees.each number own.0 part.0 own.1 part.1) haystack p never));
-  each = λ haystack p number entry is off. (
-      let own = own_tree number entry is in
-      let part = own_part number own.0 own.1 in
-      dead number entry is haystack p
-      (left_out_matches w.parts heads w.index part.0 number part.1
-      (omega (arith, slice_get_within trees number own.0 own.1, w.count)) own.0
-      (w.of_trees.each number own.0 part.0 own.1 part.1) haystack p off));
-  third = λ haystack p number entry is off. (
-      let own = own_tree number entry is in
-      dead number entry is haystack p
-      (stuck_matches heads.thirds number own.0 (λ mask at. w.thirds number own.0 mask own.1 at)
-      haystack p off));
-}
-  where
-    own_tree : (number entry : ℕ) → IsEntry entries number entry
-        → (tree : Tree) × (slice_get trees number ≡ Some tree)
-        × IsNumberOf name table (start_of number) entry
-    own_tree number entry is = are.of_pattern number entry is
+-- the places of several patterns in a table, each of which is entered at a place of its own
+module _ (trees : List Tree) (regular : AreRegularPatterns trees) (name : ℕ → Address)
+    (table : List (Place ℕ)) (entries : List ℕ)
+    (written : IsRenumbered (side_by_side trees) name table)
+    (are : AreEntries trees name table entries) where
+  dead : (number entry : ℕ) (is : IsEntry entries number entry) (haystack : Text) (i : ℕ)
+      → ((j : ℕ) → Matches haystack (are.of_pattern number entry is).0 i j → ⊥)
+      → IsDeadAt table haystack entry i
+  dead number entry is haystack i none =
+      let own = are.of_pattern number entry is in
+      dead_without_match own.0 haystack table entry
+      (name_in_pattern trees number own.0 own.1 name table written)
+      (InPattern trees number own.0 own.1 name table written)
+      (part_of_list trees number own.0 own.1 name table written)
+      (entry_of_part trees number own.0 own.1 name table written entry own.2)
+      (regular number own.0 own.1) i none
 
-    own_part : (number : ℕ) (tree : Tree) → slice_get trees number ≡ Some tree
-        → (part : Heads) × (slice_get w.parts number ≡ Some part)
-    own_part number tree there =
-        there_is w.parts number
-        (omega (arith, slice_get_within trees number tree there, w.of_trees.all))
-
-    dead : (number entry : ℕ) (is : IsEntry entries number entry) (haystack : Text) (i : ℕ)
-        → ((j : ℕ) → Matches haystack (are.of_pattern number entry is).0 i j → ⊥)
-        → IsDeadAt table haystack entry i
-    dead number entry is haystack i none =
+  -- the heads of the trees are those of the places where the patterns are entered
+  pub listed_filters : length entries ≡ length trees → (filters : List Heads)
+      → AreEachHeadsOf trees filters → AreFiltersOf table entries filters
+  listed_filters all filters w = record {
+    all = w.all ∙ sym all;
+    each = λ number entry filter is there haystack i never. (
         let own = are.of_pattern number entry is in
-        dead_without_match own.0 haystack table entry
-        (name_in_pattern trees number own.0 own.1 name table written)
-        (InPattern trees number own.0 own.1 name table written)
-        (part_of_list trees number own.0 own.1 name table written)
-        (entry_of_part trees number own.0 own.1 name table written entry own.2)
-        (regular number own.0 own.1) i none
+        dead number entry is haystack i
+        (never_matches own.0 filter (w.each number own.0 filter own.1 there) haystack i never));
+  }
+
+  -- what the index of several trees says holds for these places
+  pub listed_heads : length entries ≡ length trees → (heads : ListHeads)
+      → AreHeadsOfTrees trees heads → AreListHeadsOf table entries heads
+  listed_heads all heads w = record {
+    count = w.count ∙ sym all;
+    walkable = walkable w.parts heads w.index (w.of_trees.all ∙ sym w.count);
+    any = λ haystack p never number entry is. (
+        let own = are.of_pattern number entry is in
+        let part = own_part number own.0 own.1 in
+        dead number entry is haystack p
+        (none_matches w.parts heads.any part.0 number w.index.any part.1 own.0
+        (w.of_trees.each number own.0 part.0 own.1 part.1) haystack p never));
+    each = λ haystack p number entry is off. (
+        let own = are.of_pattern number entry is in
+        let part = own_part number own.0 own.1 in
+        dead number entry is haystack p
+        (left_out_matches w.parts heads w.index part.0 number part.1
+        (omega (arith, slice_get_within trees number own.0 own.1, w.count)) own.0
+        (w.of_trees.each number own.0 part.0 own.1 part.1) haystack p off));
+    third = λ haystack p number entry is off. (
+        let own = are.of_pattern number entry is in
+        dead number entry is haystack p
+        (stuck_matches heads.thirds number own.0 (λ mask at. w.thirds number own.0 mask own.1 at)
+        haystack p off));
+  }
+    where
+      own_part : (number : ℕ) (tree : Tree) → slice_get trees number ≡ Some tree
+          → (part : Heads) × (slice_get w.parts number ≡ Some part)
+      own_part number tree there =
+          there_is w.parts number
+          (omega (arith, slice_get_within trees number tree there, w.of_trees.all))

@@ -39,6 +39,8 @@ pub record Pairs : Type 0 where
   pub entered : List Bool
   pub places : ℕ
   pub first : ℕ
+  -- how many pairs there may be
+  pub room : ℕ
 
 -- the number of a pair
 abbrev pub pair_number : (places first : ℕ) → (place at : ℕ) → ℕ

@@ -91,6 +91,7 @@ module _ (table : List (Place ℕ)) (haystack : List ℕ) where
     pub first : walk'.visited.first ≡ walk.visited.first
     pub row : length walk'.stack.row ≡ length walk.stack.row
     pub room : walk'.stack.room ≡ walk.stack.room
+    pub pairs : walk'.visited.room ≡ walk.visited.room
 
   abbrev pub searching : (entry first from start : ℕ) → SearchFrom
   searching entry first from start = record {

@@ -10,6 +10,6 @@ pub record SearchesShort (graph : StoredGraph) (searcher : ShortSearcher) : Type
   pub room :
       sum_by (kept_back_with (length searcher.walk.stack.row)) (table_of graph) * searcher.offsets
       ≤ searcher.walk.stack.room
-  -- a bit for each pair of a place and an offset, in words that need no allocation
-  pub few_pairs : length (table_of graph) * searcher.offsets ≤ 2048
+  -- a bit for each pair of a place and an offset
+  pub pairs : length (table_of graph) * searcher.offsets ≤ searcher.walk.visited.room
   pub countable : IsCountable (table_of graph)

@@ -40,7 +40,6 @@ module _ (table : List (Place ℕ)) (haystack : Text) (starts : List ℕ) (first
         cache.walk.steps.tried + length cache.walk.memory.threads
         ≤ (arrows_of table + length starts) * (p - first)
     pub entries : cache.walk.steps.entered ≤ length table * (p - first)
-    pub own : (low len : ℕ) → IsOwnPart table starts low len → HasSpentWithin low len p cache
     pub rounds : cache.walk.memory.now < 2 ^ 63 + (p - first)
 
   -- it has gone over a position that is not before p
@@ -52,3 +51,5 @@ module _ (table : List (Place ℕ)) (haystack : Text) (starts : List ℕ) (first
         (best_of cache.best)
     pub ends : EndsAt here.at (best_of cache.best) (best_of cache'.best)
     pub after : IsUnderWay (q + 1) cache'
+    pub own : (low len : ℕ) → IsOwnPart table starts low len → HasSpentWithin low len p cache
+        → HasSpentWithin low len (q + 1) cache'

@@ -1,6 +1,6 @@
 -- Where a match can begin in a graph, and the positions that a search passes over.
 use Rattle.std.specs.Prelude.{◌≡◌, ◌≤◌, ◌<◌, ◌^◌, ◌⊎◌, ℕ, suc, false, All}
-use Rattle.std.specs.Prelude.{List, [], ◌∷◌, length, slice_index}
+use Rattle.std.specs.Prelude.{List, [], ◌∷◌, length, slice_get, slice_index, Some}
 use Rattle.regex_lite_syntax.specs.Text.{Text, after}
 use Rattle.regex_lite_syntax.specs.declared.prefilter.heads.Heads.{Heads}
 use Rattle.regex_lite_syntax.specs.declared.prefilter.list_heads.ListHeads.{ListHeads}
@@ -59,6 +59,13 @@ pub record AreAllStarts (table : List (Place ℕ)) (entries : List ℕ) (starts 
 abbrev pub AreHeadsOf : List (Place ℕ) → (start : ℕ) → Heads → Type 0
 AreHeadsOf table start heads =
     (haystack : Text) (i : ℕ) → NeverBegins heads haystack i → IsDeadAt table haystack start i
+
+-- of each of several patterns these are the heads
+pub record AreFiltersOf (table : List (Place ℕ)) (entries : List ℕ) (filters : List Heads) : Type 0
+  where
+    pub all : length filters ≡ length entries
+    pub each : (number entry : ℕ) (filter : Heads) → IsEntry entries number entry
+        → slice_get filters number ≡ Some filter → AreHeadsOf table entry filter
 
 -- no way from the start leads to a complete match at the haystack's end
 abbrev pub NoneBeginsAtEnd : List (Place ℕ) → (start : ℕ) → Type 0

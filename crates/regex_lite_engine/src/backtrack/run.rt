@@ -29,6 +29,7 @@ pub fn run(walk: &mut Walk, graph: &Graph, haystack: &str, first: Here) -> Optio
     ensures entry { IfSome result (λ _. 0 < walk.new.steps.entered) }
     ensures width { length walk.new.stack.row ≡ length walk.old.stack.row }
     ensures room { walk.new.stack.room ≡ walk.old.stack.room }
+    ensures pairs { walk.new.visited.room ≡ walk.old.visited.room }
 {
     // Its place is one of the graph.
     let _start = graph.start();

@@ -1,5 +1,5 @@
 //! Depth-first searches of short haystacks, all in the same memory.
-ghost use Rattle.std.specs.Prelude.{◌≡◌, ◌-◌, ◌<◌, ◌↔◌, None, IfOk, IfSome, IsTrue};
+ghost use Rattle.std.specs.Prelude.{◌≡◌, ◌-◌, ◌*◌, ◌<◌, ◌↔◌, None, IfOk, IfSome, IsTrue};
 ghost use Rattle.std.specs.Prelude.{IsCharBoundary, chars, length};
 ghost use Rattle.regex_lite_engine.specs.Backtrack.Short.{SearchesShort};
 ghost use Rattle.regex_lite_engine.specs.Graph.Renumbered.{arrows_of};
@@ -17,9 +17,6 @@ use crate::search::here::Here;
 use crate::steps::{Steps, no_steps};
 use std::alloc::{AllocError, Global};
 
-/// A haystack is short if a search of it has at most this number of pairs of a place and an offset.
-const MOST_SHORT: usize = 2048;
-
 /// Searches depth first in short haystacks, one after another, in the same memory.
 #[derive(Drop)]
 pub struct ShortSearcher {
@@ -29,8 +26,9 @@ pub struct ShortSearcher {
 }
 
 impl ShortSearcher {
-    /// One for this graph, whose matches have this number of slots. All its memory is asked for
-    /// here. None if the graph has too many places.
+    /// One for this graph, whose matches have this number of slots. A haystack is short if a search
+    /// of it has at most this number of pairs of a place and an offset. All memory for them is asked
+    /// for here. None if the graph has so many places that no haystack of a byte is short.
     ///
     /// # Errors
     ///
@@ -39,13 +37,15 @@ impl ShortSearcher {
         alloc: Global,
         graph: &Graph,
         slots: usize,
+        pairs: usize,
     ) -> Result<Option<ShortSearcher>, AllocError>
         ensures searches { IfOk result (λ made. IfSome made (SearchesShort graph.now)) }
         ensures width { IfOk result (λ made. IfSome made
             (λ searcher. length searcher.walk.stack.row ≡ slots)) }
-        ensures none { IfOk result (λ made. made ≡ None → 1024 < length (table_of graph.now)) }
+        ensures none { IfOk result (λ made. made ≡ None
+            → pairs < length (table_of graph.now) * 2) }
     {
-        let offsets = MOST_SHORT / graph.places();
+        let offsets = pairs / graph.places();
         if offsets < 2 {
             return Ok(None);
         }
@@ -54,7 +54,7 @@ impl ShortSearcher {
             .checked_mul(offsets)
             .ok_or(AllocError)?;
         let walk = Walk {
-            visited: Visited::few(graph.places(), 0, 0),
+            visited: Visited::with_room(alloc, pairs)?,
             stack: Stack::blank(alloc, room, slots)?,
             steps: no_steps(),
         };
@@ -87,7 +87,9 @@ impl ShortSearcher {
             (chars haystack.now) (position_at haystack.now start) self.new.walk.steps.tried
             self.new.walk.steps.entered self.new.walk.steps.looked }
     {
-        self.walk.visited = Visited::few(graph.places(), start, haystack.len());
+        self.walk
+            .visited
+            .restart(graph.places(), start, haystack.len());
         self.walk.stack.clear();
         self.walk.steps = no_steps();
         run(&mut self.walk, graph, haystack, Here::at(haystack, start))

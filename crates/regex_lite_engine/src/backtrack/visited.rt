@@ -28,6 +28,8 @@ pub struct Visited {
     words: Words,
     /// The number of pairs.
     count: usize,
+    /// There is memory for this number of pairs.
+    room: usize,
     places: usize,
     /// The offset of the first pairs.
     first: usize,
@@ -48,6 +50,17 @@ impl Words {
         let words = Vec::with_capacity(alloc, count.div_ceil(64))?;
         Ok(Words::Many(words))
     }
+
+    /// Makes all words 0. Their memory is kept.
+    fn clear(&mut self)
+        ensures none { (count : ℕ) → bits_of (words_of self.new) count ≡ replicate count false }
+        ensures room { room_of self.old ≤ room_of self.new }
+    {
+        match self {
+            Words::Few(words) => words.fill(0),
+            Words::Many(words) => words.clear(),
+        }
+    }
 }
 
 impl Model for Visited {
@@ -61,9 +74,11 @@ impl Model for Visited {
       entered = bits_of (words_of visited.words) visited.count;
       places = visited.places;
       first = visited.first;
+      room = visited.room;
     } };
 
-    ghost invariant = { λ visited. visited.count ≤ 64 * room_of visited.words };
+    ghost invariant = { λ visited. (visited.count ≤ visited.room)
+        × (visited.room ≤ 64 * room_of visited.words) };
 }
 
 impl Visited {
@@ -85,28 +100,42 @@ impl Visited {
         Ok(Visited {
             words: Words::for_pairs(alloc, count)?,
             count,
+            room: count,
             places,
             first,
         })
     }
 
-    /// Like `none`, for so few pairs that no memory is needed for them.
-    // Inlined, since the words would otherwise be copied.
-    #[inline(always)]
-    pub fn few(places: usize, first: usize, last: usize) -> Visited
+    /// Memory for this number of pairs, of which none is there yet.
+    pub fn with_room(alloc: Global, pairs: usize) -> Result<Visited, AllocError>
+        ensures { IfOk result (λ visited. visited.room ≡ pairs) }
+    {
+        Ok(Visited {
+            words: Words::for_pairs(alloc, pairs)?,
+            count: 0,
+            room: pairs,
+            places: 0,
+            first: 0,
+        })
+    }
+
+    /// Goes on with the pairs of this number of places and the offsets from `first` to `last`, none
+    /// of which is entered yet. The memory is kept.
+    ///
+    /// Condition: there is memory for them.
+    pub fn restart(&mut self, places: usize, first: usize, last: usize)
         requires from { first ≤ last }
         requires some { 0 < places }
-        requires few { places * (last - first + 1) ≤ 2048 }
-        ensures none { result.entered ≡ replicate (places * (last - first + 1)) false }
-        ensures places { result.places ≡ places }
-        ensures first { result.first ≡ first }
+        requires room { places * (last - first + 1) ≤ self.old.room }
+        ensures none { self.new.entered ≡ replicate (places * (last - first + 1)) false }
+        ensures places { self.new.places ≡ places }
+        ensures first { self.new.first ≡ first }
+        ensures room { self.new.room ≡ self.old.room }
     {
-        Visited {
-            words: Words::Few([0; FEW]),
-            count: places * (last - first + 1),
-            places,
-            first,
-        }
+        self.words.clear();
+        self.count = places * (last - first + 1);
+        self.places = places;
+        self.first = first;
     }
 
     /// Adds the pair, and returns whether it is new.

@@ -1,17 +1,19 @@
 //! The graph of several patterns: one table of places, with an entry and a match for each pattern.
 ghost use Rattle.std.specs.Prelude.{◌≡◌, ◌^◌, ◌<◌, ◌≤◌, ◌⊎◌, ℕ, All, IfOk};
-ghost use Rattle.std.specs.Prelude.{IfErr, map, length, slice_get, Some};
+ghost use Rattle.std.specs.Prelude.{IfErr, map, length, slice_get, slice_index, Some};
 ghost use Rattle.regex_lite_syntax.specs.declared.error.ErrorKind.TheVariants.{Places};
 ghost use Rattle.regex_lite_syntax.specs.Errors.{kind_of, out_of_memory};
 ghost use Rattle.regex_lite_syntax.specs.Tree.Regular.{IsRegular};
 ghost use Rattle.regex_lite_syntax.specs.Tree.Views.{tree_of};
+ghost use Rattle.regex_lite_syntax.specs.Prefilter.ListHeads.{AreEachHeadsOf};
 ghost use Rattle.regex_lite_engine.specs.Graph.PlaceCounts.{whole_places};
 ghost use Rattle.regex_lite_engine.specs.Graph.Renumbered.{arrows_of};
 ghost use Rattle.regex_lite_engine.specs.Graph.SideBySide.{AreRegularPatterns, places_of_all};
 ghost use Rattle.regex_lite_engine.specs.Graph.Size.{Fits, IsDueToTree};
 ghost use Rattle.regex_lite_engine.specs.Graph.StoredList.{HasGroupsOfList, IsGraphOfList};
 ghost use Rattle.regex_lite_engine.specs.Graph.StoredList.{TellGroupsOf, table_of_list};
-ghost use Rattle.regex_lite_engine.specs.Search.Starts.{AreListHeadsOf};
+ghost use Rattle.regex_lite_engine.specs.Search.OwnFilters.{heads_of};
+ghost use Rattle.regex_lite_engine.specs.Search.Starts.{AreHeadsOf, AreListHeadsOf};
 
 use crate::count::Counts;
 use crate::count::measured::Measured;
@@ -19,6 +21,7 @@ use crate::count::totals::Totals;
 use crate::nfa::groups::Groups;
 use crate::nfa::table::Table;
 use crate::nfa::write::write_all;
+use crate::search::own_filter::OwnFilter;
 use regex_lite_syntax::prefilter::ListHeads;
 use regex_lite_syntax::{Error, Hir};
 use std::alloc::{AllocError, Global};
@@ -33,15 +36,18 @@ pub struct GraphList {
     entries: Vec<u32>,
     /// By the number of the pattern.
     groups: Vec<Groups>,
+    /// Where a match of each pattern can begin, by its number.
+    filters: Vec<OwnFilter>,
     /// Which patterns may start at a position.
     heads: ListHeads,
 }
 
 impl Model for GraphList {
-    ghost use Rattle.std.specs.Prelude.{◌<◌, ◌^◌, All, length};
+    ghost use Rattle.std.specs.Prelude.{◌<◌, ◌^◌, All, length, map};
     ghost use Rattle.regex_lite_engine.specs.Graph.Stored.{places_of};
     ghost use Rattle.regex_lite_engine.specs.Graph.StoredList.{StoredList};
-    ghost use Rattle.regex_lite_engine.specs.Search.Starts.{AreListHeadsOf};
+    ghost use Rattle.regex_lite_engine.specs.Search.OwnFilters.{heads_of};
+    ghost use Rattle.regex_lite_engine.specs.Search.Starts.{AreFiltersOf, AreListHeadsOf};
 
     ghost Value = { StoredList };
 
@@ -55,7 +61,9 @@ impl Model for GraphList {
     ghost invariant = { λ list.
         All (λ entry. entry < length list.table.places) list.entries.items
         × (length list.entries.items < 2 ^ 32)
-        × AreListHeadsOf (places_of list.table) list.entries.items list.heads };
+        × AreListHeadsOf (places_of list.table) list.entries.items list.heads
+        × AreFiltersOf (places_of list.table) list.entries.items
+        (map heads_of list.filters.items) };
 }
 
 impl GraphList {
@@ -99,11 +107,13 @@ impl GraphList {
         let groups = groups_of(alloc, hirs)?;
         let (places, entries) = write_all(alloc, hirs, totals.places)?;
         let table = Table::new(places, totals.arrows, totals.reading);
+        let filters = filters_of(alloc, hirs)?;
         let heads = ListHeads::of(alloc, hirs)?;
         Ok(GraphList {
             table,
             entries,
             groups,
+            filters,
             heads,
         })
     }
@@ -132,6 +142,18 @@ impl GraphList {
         ensures { AreListHeadsOf (table_of_list self.now) self.now.entries result.now }
     {
         &self.heads
+    }
+
+    /// Where a match of the pattern with this number can begin.
+    ///
+    /// Condition: the list has more patterns than this number.
+    pub fn filter(&self, number: usize) -> &OwnFilter
+        requires { number < length self.now.entries }
+        ensures all { AreHeadsOf (table_of_list self.now) (slice_index self.now.entries number)
+            (heads_of result.now) }
+        ensures inside { slice_index self.now.entries number < length (table_of_list self.now) }
+    {
+        &self.filters[number]
     }
 
     /// How many patterns there are. Each has places.
@@ -186,4 +208,20 @@ fn groups_of(alloc: Global, hirs: &[Measured]) -> Result<Vec<Groups>, AllocError
         groups.push(Groups::of(alloc, hir.hir(), hir.counts())?)?;
     }
     Ok(groups)
+}
+
+/// The filter of each of these trees, in their order.
+///
+/// # Errors
+///
+/// If memory runs out.
+fn filters_of(alloc: Global, hirs: &[Measured]) -> Result<Vec<OwnFilter>, AllocError>
+    ensures { IfOk result (λ filters. AreEachHeadsOf (map tree_of hirs.now)
+        (map heads_of filters.items)) }
+{
+    let mut filters = Vec::with_capacity(alloc, hirs.len())?;
+    for hir in hirs {
+        filters.push(OwnFilter::of(alloc, hir.hir())?)?;
+    }
+    Ok(filters)
 }

@@ -15,6 +15,8 @@ use crate::search::patterns::Patterns;
 impl<S: Beginning> Cache<S> {
     /// Goes on from here to the next position at which there is something to do, and over it.
     /// Returns that position.
+    // Inlined with all that it calls, as `turn` is, since several loops go over the same patterns.
+    #[inline(always)]
     pub fn pass<P: Patterns>(&mut self, patterns: &mut P, haystack: &str, here: Here) -> Here
         requires { (s p : ℕ) × IsHere (chars haystack.now) p here
             × CanCount (P.table patterns.old) (length (P.entries patterns.old))
@@ -41,6 +43,7 @@ impl<S: Beginning> Cache<S> {
 
     /// Where the search goes on: where it is while there is a thread or a match, and else at the
     /// next position at which a match can start, or at the haystack's end.
+    #[inline(always)]
     fn next_start<P: Patterns>(&self, patterns: &P, haystack: &str, here: Here) -> Here
         requires { (p : ℕ) × IsHere (chars haystack.now) p here }
         ensures { (p : ℕ) → IsHere (chars haystack.now) p here

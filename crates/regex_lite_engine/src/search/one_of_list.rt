@@ -1,9 +1,5 @@
 //! One of several patterns, which is searched for by itself.
-ghost use Rattle.std.specs.Prelude.{◌≡◌, ◌<◌, ℕ, IsSome, false, chars, length, slice_index};
-ghost use Rattle.regex_lite_engine.specs.Graph.StoredList.{table_of_list};
-ghost use Rattle.regex_lite_engine.specs.Search.Standing.{IsHere};
-ghost use Rattle.regex_lite_engine.specs.Search.Starts.{PassesTo};
-ghost use Rattle.regex_lite_engine.specs.Search.Starts.{IsDeadAt};
+ghost use Rattle.std.specs.Prelude.{◌≡◌, ◌<◌, length};
 
 use crate::nfa::list::GraphList;
 use crate::nfa::table::Table;
@@ -54,15 +50,15 @@ impl<'g> Patterns for OneOfList<'g> {
     }
 
     fn pass_over(&self, haystack: &str, here: Here) -> Here {
-        pass_over_one(self.list, self.number, haystack, here)
+        self.list.filter(self.number).pass_over(haystack, here)
     }
 
     fn has_prefilter(&self) -> bool {
-        false
+        self.list.filter(self.number).has_prefilter()
     }
 
-    fn come_to(&mut self, haystack: &str, here: Here) {
-        self.may_start = may_start(self.list, self.number, haystack, here);
+    fn come_to(&mut self, _: &str, here: Here) {
+        self.may_start = self.list.filter(self.number).may_begin(here);
     }
 
     fn len(&self) -> usize {
@@ -75,38 +71,4 @@ impl<'g> Patterns for OneOfList<'g> {
             place: self.list.entries()[self.number],
         }
     }
-}
-
-/// The next position from here on at which the pattern may start, or the haystack's end.
-fn pass_over_one(list: &GraphList, number: usize, haystack: &str, here: Here) -> Here
-    requires here { (p : ℕ) × IsHere (chars haystack.now) p here }
-    requires number { number < length list.now.entries }
-    ensures { (p : ℕ) → IsHere (chars haystack.now) p here → PassesTo
-        (IsDeadAt (table_of_list list.now) (chars haystack.now)
-        (slice_index list.now.entries number)) (chars haystack.now) p result }
-{
-    let mut here = here;
-    'passed: while !may_start(list, number, haystack, here) {
-        here = here.next(haystack);
-    }
-    here
-}
-
-/// Whether the pattern may start here. At the haystack's end any may.
-fn may_start(list: &GraphList, number: usize, haystack: &str, here: Here) -> bool
-    requires here { (p : ℕ) × IsHere (chars haystack.now) p here }
-    requires number { number < length list.now.entries }
-    ensures dead { (p : ℕ) → IsHere (chars haystack.now) p here → result ≡ false
-        → IsDeadAt (table_of_list list.now) (chars haystack.now)
-        (slice_index list.now.entries number) p }
-    ensures before_end { result ≡ false → IsSome here.after }
-    ensures inside { slice_index list.now.entries number < length (table_of_list list.now) }
-{
-    // Known to be that of a place.
-    let _entry = list.entries()[number];
-    let Some(first) = here.after else {
-        return true;
-    };
-    let second = here.next(haystack).after;
-    list.heads().may_start(here.before, first, second, number)
 }

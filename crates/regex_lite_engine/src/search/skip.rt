@@ -15,7 +15,7 @@ const BLOCK: usize = 32;
 
 /// How many bytes are looked at one by one before that. Where a match may begin so near, a block
 /// would be compared for nothing.
-const NEAR: usize = 16;
+pub(super) const NEAR: usize = 16;
 
 /// The next position from here on at which a match can begin, or the haystack's end.
 pub fn pass_over(filter: &Filter, haystack: &str, here: Here) -> Here
@@ -105,7 +105,7 @@ fn next_first(heads: &Heads, prefilter: &Option<Prefilter>, bytes: &[u8], from: 
 
 /// The first offset from this one on, block by block, of a block in which a match may begin, or of
 /// the bytes after the last.
-fn next_block(prefilter: Prefilter, bytes: &[u8], from: usize) -> usize
+pub(super) fn next_block(prefilter: Prefilter, bytes: &[u8], from: usize) -> usize
     requires { from ≤ length bytes.now }
     ensures low { from ≤ result }
     ensures high { result ≤ length bytes.now }

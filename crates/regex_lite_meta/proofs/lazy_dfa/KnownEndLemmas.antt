@@ -5,8 +5,8 @@ use Rattle.regex_lite_meta.proofs.Common.{length, take, drop, ◌==◌, slice_ge
 use Rattle.regex_lite_meta.proofs.Common.{Option, option_map, chars, IsCharBoundary, sym, refl, ap}
 use Rattle.regex_lite_meta.proofs.Common.{◌∙◌, subst, inl, inr, arith, cases_lt, length-take-le}
 use Rattle.regex_lite_meta.proofs.Common.{len_utf8, Text, HasNoLooks, Found, IsNumberedFound}
-use Rattle.regex_lite_meta.proofs.Common.{best_at, with_start_kept, IsBestOutcomeOf, offset}
-use Rattle.regex_lite_meta.proofs.Common.{IsOffset, position_at, Row, span_told}
+use Rattle.regex_lite_meta.proofs.Common.{best_at, with_start_kept, offset}
+use Rattle.regex_lite_meta.proofs.Common.{IsOffset, position_at, Row}
 use Rattle.regex_lite_engine.specs.Graph.Places.{Place, with_arrows, step}
 use Rattle.std.proofs.Common.{unwrap_or, if◌then◌else◌, sum_by, slice_range}
 use Rattle.regex_lite_engine.specs.Search.Offsets.{HasSlots}
@@ -27,7 +27,6 @@ use Rattle.regex_lite_engine.proofs.laws.answer.OrderLemmas as order
 use Rattle.regex_lite_engine.proofs.laws.answer.ReachLemmas.{walk_inside}
 use Rattle.regex_lite_engine.proofs.laws.search.ShorterHaystackLemmas.{leads_onward, same_marks}
 use Rattle.regex_lite_engine.proofs.laws.search.ShorterHaystackLemmas.{way_in_whole, way_up_to}
-use Rattle.regex_lite_engine.proofs.pikevm.EndLemmas.{one_best}
 
 -- up to the end, offsets are the same
 same_offset : (haystack : Text) (end p : ℕ) → p ≤ end
@@ -199,11 +198,8 @@ module _ (table : List (Place ℕ)) (no_looks : HasNoLooks table) where
 
   -- the same of a match whose offsets are known
   module _ (bytes : List ℕ) (utf8 : IsUtf8 bytes) (start s from end : ℕ)
-      (known : IsBestOutcomeOf table (chars bytes) (start ∷ []) s (span_told (Some (from, end))))
+      (outcome : IsNumberedOutcome table (chars bytes) start s (best_at (Some (from, end)) []))
     where
-      abbrev outcome : IsBestOutcome table (chars bytes) start s (span_told (Some (from, end)))
-      outcome = one_best table (chars bytes) start s (span_told (Some (from, end))) known
-
       abbrev first : ℕ
       first = outcome.0.start
 

@@ -1,6 +1,6 @@
 -- Where no place looks at its neighbours, no arrow requires a look.
 use Rattle.regex_lite_meta.proofs.Common.{◌≡◌, ℕ, zero, suc, true, false, List, [], ◌∷◌, map}
-use Rattle.regex_lite_meta.proofs.Common.{slice_get, Some, sym, ap, ◌∙◌, subst, HasNoLooks}
+use Rattle.regex_lite_meta.proofs.Common.{slice_get, Some, sym, refl, ap, ◌∙◌, subst, HasNoLooks}
 use Rattle.regex_lite_meta.proofs.Common.{place_of, Automaton, Intervals, IsBoundedPlace}
 use Rattle.regex_lite_meta.proofs.Common.{AreIntervalsOf}
 use Rattle.regex_lite_meta.specs.LazyDfa.Automaton.{State}
@@ -11,37 +11,46 @@ use Rattle.regex_lite_meta.specs.LazyDfa.Intervals.{AreIntervalsFor}
 use Rattle.regex_lite_meta.specs.LazyDfa.Remembering.{RemembersFor}
 use Rattle.regex_lite_meta.proofs.lazy_dfa.AlikeLemmas.{alike_at}
 use Rattle.regex_lite_syntax.proofs.OptionLemmas.{not_there, same_some}
+use Rattle.regex_lite_syntax.specs.declared.hir.look.Look.{Look}
 use Rattle.regex_lite_engine.proofs.laws.search.NoLookLemmas.{free_arrows}
+
+-- where no place requires a look, the table requires none
+pub each_no_look : (places : List code.Place)
+    → ((q : ℕ) (place : code.Place) → slice_get places q ≡ Some place
+    → RequiresNoLook (place_of place))
+    → HasNoLooks (map place_of places)
+each_no_look [] each q place e = absurd (not_there e)
+each_no_look (first ∷ places) each zero place e =
+    subst RequiresNoLook (same_some e) (each zero first (λ t. Some first))
+each_no_look (first ∷ places) each (suc q) place e =
+    each_no_look places (λ r next at. each (suc r) next at) q place e
+
+-- a place that is no look requires none
+pub not_look : (place : code.Place) → ((test : Look) (to : ℕ) → place ≡ stored.Look test to → ⊥)
+    → RequiresNoLook (place_of place)
+not_look (stored.Empty to) other = (tt, tt)
+not_look (stored.Char c to) other = (tt, tt)
+not_look (stored.Class to []) other = tt
+not_look (stored.Class to (range ∷ ranges)) other = (tt, tt)
+not_look (stored.Look test to) other = absurd (other test to refl)
+not_look (stored.Slot slot to) other = (tt, tt)
+not_look (stored.Choice first second) other = (tt, (tt, tt))
+not_look (stored.Branches entries) other = free_arrows entries.items
+not_look stored.Match other = tt
 
 module _ (intervals : Intervals) (none : intervals.looks ≡ false) where
   no_look : (place : code.Place) → IsBoundedPlace intervals place
       → RequiresNoLook (place_of place)
-  no_look (stored.Empty to) bounded = (tt, tt)
-  no_look (stored.Char c to) bounded = (tt, tt)
-  no_look (stored.Class to []) bounded = tt
-  no_look (stored.Class to (range ∷ ranges)) bounded = (tt, tt)
-  no_look (stored.Look test to) bounded = absurd (apart (sym none ∙ bounded))
+  no_look place bounded =
+      not_look place (λ test to same. apart (sym none ∙ subst (IsBoundedPlace intervals) same bounded))
     where
       apart : false ≡ true → ⊥
       apart e = cc
-  no_look (stored.Slot slot to) bounded = (tt, tt)
-  no_look (stored.Choice first second) bounded = (tt, (tt, tt))
-  no_look (stored.Branches entries) bounded = free_arrows entries.items
-  no_look stored.Match bounded = tt
-
-  each_no_look : (places : List code.Place)
-      → ((q : ℕ) (place : code.Place) → slice_get places q ≡ Some place
-      → IsBoundedPlace intervals place)
-      → HasNoLooks (map place_of places)
-  each_no_look [] each q place e = absurd (not_there e)
-  each_no_look (first ∷ places) each zero place e =
-      subst RequiresNoLook (same_some e) (no_look first (each zero first (λ t. Some first)))
-  each_no_look (first ∷ places) each (suc q) place e =
-      each_no_look places (λ r next at. each (suc r) next at) q place e
 
 no_looks : (places : List code.Place) (intervals : Intervals)
     → AreIntervalsOf places intervals → intervals.looks ≡ false → HasNoLooks (map place_of places)
-no_looks places intervals are none = each_no_look intervals none places are.each
+no_looks places intervals are none =
+    each_no_look places (λ q place at. no_look intervals none place (are.each q place at))
 
 -- what no place distinguishes, the table doesn't
 pub intervals_for : (places : List code.Place) (intervals : Intervals)

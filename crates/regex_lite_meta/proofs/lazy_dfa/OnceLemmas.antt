@@ -1,10 +1,12 @@
 -- A search that gets an automaton on its way.
-use Rattle.regex_lite_meta.proofs.Common.{◌≡◌, ℕ, false, List, [], Some, None, Option, MatchOption}
+use Rattle.regex_lite_meta.proofs.Common.{◌≡◌, ℕ, false, List, [], length, Some, None, Option}
+use Rattle.regex_lite_meta.proofs.Common.{MatchOption}
 use Rattle.regex_lite_meta.proofs.Common.{sym, ap, ◌∙◌, subst, nil_from_length, Text, best_of}
 use Rattle.regex_lite_meta.proofs.Common.{best_at, with_start_kept, best_kept, span_of}
 use Rattle.regex_lite_meta.proofs.Common.{IsBestOutcomeOf, Row, Origin, Cache, Automaton, IsIn}
 use Rattle.regex_lite_meta.proofs.Common.{IsOnItsWay, Stands, best_told}
 use Rattle.regex_lite_engine.specs.Graph.Places.{Place}
+use Rattle.regex_lite_engine.specs.Pikevm.Passing.{IsUnderWay}
 use Rattle.regex_lite_meta.specs.declared.lazy_dfa.run.Progress.{Progress}
 
 -- one that remembers nothing
@@ -28,15 +30,44 @@ module _ (table : List (Place ℕ)) (h : Text) (entries : List ℕ) (s : ℕ) wh
         state = state_known;
       })
 
-  -- what is known is the best match
-  pub found_told : (p : ℕ) (cache : Cache Origin) (known : Option (Origin × ℕ))
-      → IsOnItsWay table h entries s p cache
-      → best_of cache.best ≡ best_kept known cache.best.row →
-      IsBestOutcomeOf table h entries s (best_of cache.best)
+  -- what is known is the best match, and no slots are kept
+  pub found_told : {S : Type 0} (cache : Cache S) (known : Option (Origin × ℕ))
+      → length cache.best.row ≡ 0 → best_of cache.best ≡ best_kept known cache.best.row
+      → IsBestOutcomeOf table h entries s (best_of cache.best)
       → IsBestOutcomeOf table h entries s (best_told known)
-  found_told p cache known on is found =
-      let row = nil_from_length cache.best.row (on.ready.best_width ∙ on.width) in
-      subst (IsBestOutcomeOf table h entries s) (is ∙ ap (best_kept known) row) found
+  found_told cache known width is found =
+      subst (IsBestOutcomeOf table h entries s)
+      (is ∙ ap (best_kept known) (nil_from_length cache.best.row width)) found
+
+  -- a search that has come to position p, with and without what it keeps of slots
+  pub under_way : {S : Type 0} {p : ℕ} {cache : Cache S} → IsOnItsWay table h entries s p cache
+      → IsUnderWay table h entries s p cache
+  under_way on = record {
+    low = on.low;
+    ready = on.ready;
+    coming = on.coming;
+    tries = on.tries;
+    entries = on.entries_left;
+    rounds = on.rounds;
+  }
+
+  pub on_its_way : {S : Type 0} {p : ℕ} {cache : Cache S} → IsUnderWay table h entries s p cache
+      → length cache.walk.memory.row ≡ 0 → IsOnItsWay table h entries s p cache
+  on_its_way on width = record {
+    low = on.low;
+    ready = on.ready;
+    coming = on.coming;
+    tries = on.tries;
+    entries_left = on.entries;
+    rounds = on.rounds;
+    width = width;
+  }
+
+-- that is said of the same patterns
+pub under_as : {S : Type 0} {table table' : List (Place ℕ)} {h : Text} {entries entries' : List ℕ}
+    {s p : ℕ} {cache : Cache S} → table' ≡ table → entries' ≡ entries
+    → IsUnderWay table' h entries' s p cache → IsUnderWay table h entries s p cache
+under_as same_table same_entries on = rw (same_table, same_entries) at on
 
 -- where the best match starts and ends, without the number of its pattern
 pub spanned : (table : List (Place ℕ)) (h : Text) (entries : List ℕ) (s : ℕ)

@@ -5,8 +5,6 @@ use Rattle.regex_lite_meta.specs.declared.lazy_dfa.list_spans.ListSpanSearcher.{
 use Rattle.regex_lite_meta.specs.declared.lazy_dfa.spans.Passed.{Passed}
 use Rattle.regex_lite_meta.specs.declared.lazy_dfa.spans.SpanSearcher.{SpanSearcher}
 use Rattle.regex_lite_engine.specs.declared.pikevm.beginning.Origin.{Origin}
-use Rattle.regex_lite_engine.specs.Backtrack.Short.{SearchesShort}
-use Rattle.regex_lite_engine.specs.Graph.NoLooks.{HasNoLooks}
 use Rattle.regex_lite_engine.specs.Graph.Places.{Place}
 use Rattle.regex_lite_engine.specs.Graph.Stored.{StoredGraph, table_of}
 use Rattle.regex_lite_engine.specs.Graph.StoredList.{StoredList, table_of_list}
@@ -37,15 +35,12 @@ IsRememberingList list slots automaton =
     IfSome automaton (λ automaton.
     RemembersFor (table_of_list list) list.entries automaton × (slots ≡ 0))
 
--- searches for matches of the graph go on in its memory, which has no slots, and searches for this
--- many slots of a short match in the memory beside it
-pub record FindsSpansIn (graph : StoredGraph) (slots : ℕ) (spans : SpanSearcher) : Type 0 where
+-- searches for matches of the graph go on in its memory, which has no slots
+pub record FindsSpansIn (graph : StoredGraph) (spans : SpanSearcher) : Type 0 where
   pub remembers : RemembersAll graph spans.dfa
   pub between : IsBetween (table_of graph) spans.cache
   pub width : length spans.cache.walk.memory.row ≡ 0
   pub countable : IsCountable (table_of graph)
-  pub short : IfSome spans.short (λ short. SearchesShort graph short
-      × (length short.walk.stack.row ≡ slots) × HasNoLooks (table_of graph))
 
 -- searches for matches of any pattern of the list go on in its memory, which has no slots
 pub record FindsSpansInList (list : StoredList) (spans : ListSpanSearcher) : Type 0 where

@@ -8,9 +8,10 @@ ghost use Rattle.regex_lite_meta.specs.LazyDfa.Intervals.{classes_in};
 ghost use Rattle.regex_lite_meta.specs.LazyDfa.Stored.{hit_in, known_hit, way_in};
 
 use crate::lazy_dfa::classes::Classes;
+use crate::lazy_dfa::lookup::Lookup;
 use crate::lazy_dfa::room::{MOST_STATES, Room};
 use crate::lazy_dfa::side::Side;
-use crate::lazy_dfa::state::{Effect, Hit, StoredState, StoredWay, Target, are_same};
+use crate::lazy_dfa::state::{Effect, Hit, StoredState, StoredWay, Target};
 use std::alloc::{AllocError, Global};
 use std::marker::Model;
 
@@ -34,8 +35,10 @@ pub(crate) struct LazyDfa {
     ways: Vec<StoredWay>,
     /// How many of them belong to states.
     used: usize,
+    /// Where the numbers of states are looked up.
+    pub(super) lookup: Lookup,
     /// How many turns have found no room.
-    not_kept: usize,
+    pub(super) not_kept: usize,
     /// Over this number of bytes searches may go without it.
     spare: usize,
 }
@@ -77,6 +80,7 @@ impl LazyDfa {
         let states = Vec::with_capacity(alloc, room.states)?;
         let targets = Vec::with_capacity(alloc, room.targets)?;
         let ways = Vec::with_capacity(alloc, room.ways)?;
+        let lookup = Lookup::new(alloc, room.states)?;
         let width = classes.len();
         Ok(LazyDfa {
             classes,
@@ -85,6 +89,7 @@ impl LazyDfa {
             width,
             ways,
             used: 0,
+            lookup,
             not_kept: 0,
             spare,
         })
@@ -133,28 +138,6 @@ impl LazyDfa {
         self.ways.truncate(self.used);
     }
 
-    /// The state that has the pending ways and these properties, if it is there or there is room
-    /// for it.
-    #[tactic(auto, using(crate::proofs::lazy_dfa::StoredStateLemmas::length_states))]
-    pub(crate) fn settle(&mut self, searching: bool, before: Side, hit: Hit) -> Option<u16>
-        ensures state { IfSome result (λ y.
-            IsState self.new y self.old.pending searching before (hit_in hit)) }
-        ensures extends { Extends self.old self.new }
-        ensures none_pending { self.new.pending ≡ [] }
-    {
-        if let Some(y) = self.find_state(searching, before, hit) {
-            self.drop_pending();
-            return Some(y);
-        }
-        let y = self.states.len();
-        if !self.has_room() || !self.add(searching, before, hit) {
-            self.drop_pending();
-            self.not_kept = self.not_kept.saturating_add(1);
-            return None;
-        }
-        Some(y as u16)
-    }
-
     /// Whether there is room for another state.
     #[tactic(auto, using(crate::proofs::lazy_dfa::StoredStateLemmas::length_states))]
     pub(super) fn has_room(&self) -> bool
@@ -164,28 +147,8 @@ impl LazyDfa {
             && self.targets.len() + self.classes.len() <= self.targets.capacity()
     }
 
-    /// The state that has the pending ways and these properties.
-    #[tactic(auto, using(crate::proofs::lazy_dfa::StoredStateLemmas::length_states))]
-    fn find_state(&self, searching: bool, before: Side, hit: Hit) -> Option<u16>
-        ensures { IfSome result (λ y.
-            IsState self.now y self.now.pending searching before (hit_in hit)) }
-    {
-        let len = self.pending().len();
-        'states: for y in 0..self.states.len() {
-            let state = &self.states[y];
-            // Most states differ in how many ways they have.
-            if state.len == len
-                && state.is_like(searching, before, hit)
-                && are_same(self.ways(y), self.pending())
-            {
-                return Some(y as u16);
-            }
-        }
-        None
-    }
-
     /// Adds a state with the pending ways and these properties. Returns whether there was memory.
-    fn add(&mut self, searching: bool, before: Side, hit: Hit) -> bool
+    pub(super) fn add(&mut self, searching: bool, before: Side, hit: Hit) -> bool
         requires { length self.old.states < 256 }
         ensures state { result ≡ true → IsState self.new (length self.old.states)
             self.old.pending searching before (hit_in hit) }
@@ -286,7 +249,7 @@ impl LazyDfa {
     }
 
     /// The pending ways.
-    fn pending(&self) -> &[StoredWay]
+    pub(super) fn pending(&self) -> &[StoredWay]
         ensures { map way_in result.now ≡ self.now.pending }
     {
         &self.ways[self.used..]

@@ -17,97 +17,52 @@ use crate::lazy_dfa::automaton::LazyDfa;
 use crate::lazy_dfa::learn::Taken;
 use crate::lazy_dfa::run::{Progress, go_over, next_position};
 use crate::lazy_dfa::scan::{Scanned, Standing};
-use crate::lazy_dfa::turns::take_turns;
 use regex_lite_engine::pikevm::beginning::Origin;
 use regex_lite_engine::pikevm::cache::Cache;
-use regex_lite_engine::pikevm::run::is_over;
+use regex_lite_engine::pikevm::run::{is_over, run_on};
 use regex_lite_engine::search::patterns::Patterns;
 
 impl LazyDfa {
     /// Where the most preferred match starts and ends, from the least start at or after this
-    /// offset. No turn is looked up before the search has entered this many places, none or one:
-    /// before the first turn, a new automaton has none.
+    /// offset, with the number of its pattern.
     // Not inlined, so that a search without an automaton costs no more than the test for it.
     #[inline(never)]
     pub(crate) fn find<P: Patterns>(
         &mut self,
-        patterns: &P,
+        patterns: &mut P,
         cache: &mut Cache<Origin>,
         haystack: &str,
         start: usize,
-        least: u128,
     ) -> Option<(Origin, usize)>
-        requires all { AreAllStarts (P.table patterns.now) (P.entries patterns.now)
-            (P.starts patterns.now) }
+        requires all { AreAllStarts (P.table patterns.old) (P.entries patterns.old)
+            (P.starts patterns.old) }
         requires boundary { IsCharBoundary haystack.now start }
-        requires remembers { Remembers (P.table patterns.now) (P.entries patterns.now) self.old }
+        requires remembers { Remembers (P.table patterns.old) (P.entries patterns.old) self.old }
         requires none_pending { self.old.pending ≡ [] }
-        requires fresh { IsFresh (P.table patterns.now) cache.old }
-        requires counts { CanCount (P.table patterns.now) (length (P.entries patterns.now))
+        requires fresh { IsFresh (P.table patterns.old) cache.old }
+        requires counts { CanCount (P.table patterns.old) (length (P.entries patterns.old))
             (characters_left (chars haystack.now) (position_at haystack.now start)) }
         requires width { length cache.old.walk.memory.row ≡ 0 }
-        requires least { least ≤ 1 }
-        ensures found { IsBestOutcomeOf (P.table patterns.now) (chars haystack.now)
-            (P.entries patterns.now) (position_at haystack.now start) (best_told result) }
-        ensures bounded { IsBoundedBy (length (P.table patterns.now))
-            (arrows_of (P.table patterns.now) + length (P.entries patterns.now))
-            (chars haystack.now) (position_at haystack.now start) cache.new.walk.steps.tried
-            cache.new.walk.steps.entered cache.new.walk.steps.looked }
-        ensures entered { IfSome result (λ _. least ≤ cache.new.walk.steps.entered) }
-        ensures remembers { Remembers (P.table patterns.now) (P.entries patterns.now) self.new }
+        ensures found { IsBestOutcomeOf (P.table patterns.old) (chars haystack.now)
+            (P.entries patterns.old) (position_at haystack.now start) (best_told result) }
+        ensures remembers { Remembers (P.table patterns.old) (P.entries patterns.old) self.new }
         ensures none_pending { self.new.pending ≡ [] }
-        ensures between { IsBetween (P.table patterns.now) cache.new }
+        ensures between { IsBetween (P.table patterns.old) cache.new }
         ensures width { length cache.new.walk.memory.row ≡ 0 }
     {
-        let at = Progress::begun(haystack, start);
-        self.find_from(patterns, cache, haystack, at, least)
-    }
-
-    /// The same from where a search stands.
-    pub(super) fn find_from<P: Patterns>(
-        &mut self,
-        patterns: &P,
-        cache: &mut Cache<Origin>,
-        haystack: &str,
-        from: Progress,
-        least: u128,
-    ) -> Option<(Origin, usize)>
-        requires all { AreAllStarts (P.table patterns.now) (P.entries patterns.now)
-            (P.starts patterns.now) }
-        requires remembers { Remembers (P.table patterns.now) (P.entries patterns.now) self.old }
-        requires none_pending { self.old.pending ≡ [] }
-        requires stands { (s : ℕ)
-            × CanCount (P.table patterns.now) (length (P.entries patterns.now))
-            (characters_left (chars haystack.now) s)
-            × Stands (P.table patterns.now) (chars haystack.now) (P.entries patterns.now) s self.old
-            from cache.old }
-        requires least { least ≤ 1 }
-        ensures found { (s : ℕ) → Stands (P.table patterns.now) (chars haystack.now)
-            (P.entries patterns.now) s self.old from cache.old
-            → IsBestOutcomeOf (P.table patterns.now) (chars haystack.now) (P.entries patterns.now) s
-            (best_told result) }
-        ensures bounded { (s : ℕ) → Stands (P.table patterns.now) (chars haystack.now)
-            (P.entries patterns.now) s self.old from cache.old
-            → IsBoundedBy (length (P.table patterns.now))
-            (arrows_of (P.table patterns.now) + length (P.entries patterns.now))
-            (chars haystack.now) s cache.new.walk.steps.tried cache.new.walk.steps.entered
-            cache.new.walk.steps.looked }
-        ensures entered { IfSome result (λ _. least ≤ cache.new.walk.steps.entered) }
-        ensures remembers { Remembers (P.table patterns.now) (P.entries patterns.now) self.new }
-        ensures none_pending { self.new.pending ≡ [] }
-        ensures between { IsBetween (P.table patterns.now) cache.new }
-        ensures width { length cache.new.walk.memory.row ≡ 0 }
-    {
-        match self.find_while_it_pays(patterns, cache, haystack, from, least) {
+        let begun = Progress::begun(haystack, start);
+        match self.find_while_it_pays(patterns, cache, haystack, begun, 0) {
             Ok(found) => found,
             Err(at) => {
-                take_turns(cache, patterns, haystack, at, None);
+                run_on(cache, patterns, haystack, at.here, None);
                 cache.best.found()
             }
         }
     }
 
-    /// The same, unless too many turns find no room: then it returns where the search stands.
+    /// The same from where a search stands, unless too many turns find no room: then it returns
+    /// where the search stands. No turn is looked up before the search has entered this many
+    /// places, none or one: before the first turn, a new automaton has none.
     pub(crate) fn find_while_it_pays<P: Patterns>(
         &mut self,
         patterns: &P,
@@ -167,6 +122,7 @@ impl LazyDfa {
 
     /// Remembers the turn, if the state from which it was taken is known, unless the last scan went
     /// on by it. Returns the state that the search is in.
+    #[inline(always)]
     pub(super) fn learn_at<P: Patterns>(
         &mut self,
         patterns: &P,
@@ -198,6 +154,7 @@ impl LazyDfa {
 
     /// Goes by turns that are remembered, if the search has entered this many places. Returns the
     /// answer where they lead to it. Else the search goes on where they end, or where it was.
+    #[inline(always)]
     fn look_ahead<P: Patterns>(
         &self,
         patterns: &P,

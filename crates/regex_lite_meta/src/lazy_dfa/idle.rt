@@ -26,6 +26,7 @@ const NEAR: usize = 4;
 impl LazyDfa {
     /// Where there is neither a thread nor a match, passes over positions at which no match can
     /// begin, unless turns are faster.
+    #[inline(always)]
     pub(super) fn at_idle<P: Patterns>(
         &mut self,
         patterns: &P,

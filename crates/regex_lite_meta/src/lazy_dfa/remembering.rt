@@ -7,6 +7,7 @@ ghost use Rattle.regex_lite_engine.specs.Graph.StoredList.{table_of_list};
 use crate::lazy_dfa::automaton::LazyDfa;
 use crate::lazy_dfa::classes::Classes;
 use crate::lazy_dfa::room::Room;
+use crate::slots::has_looks;
 use regex_lite_engine::Graph;
 use regex_lite_engine::backtrack::MOST_PAIRS;
 use regex_lite_engine::nfa::list::GraphList;
@@ -66,9 +67,14 @@ pub(crate) fn pays_from(graph: &Graph, start: usize, bytes: usize) -> bool {
 }
 
 /// Whether it pays if slots are kept. The automaton then finds where matches start and end, and
-/// another search their slots. In a graph of few places the memory for both stays small.
+/// another search their slots. In a graph of few places the memory for both stays small. Where one
+/// of a few bytes begins each match, it pays if slots are searched for up to the match's end: a URL
+/// with three groups took 50 instructions a byte instead of 113. It doesn't if looks may see beyond
+/// that: `\b(t\w+)\b` on sentences took 51 instead of 42.
 pub(crate) fn pays_with_slots(graph: &Graph, bytes: usize) -> bool {
-    bytes >= LONG_BETWEEN_MATCHES && graph.places() <= MOST_PLACES
+    bytes >= LONG_BETWEEN_MATCHES
+        && graph.places() <= MOST_PLACES
+        && !(begins_rarely(graph) && has_looks(graph))
 }
 
 /// Whether it pays to remember the turns of searches for the patterns of this list. By measurement
@@ -85,11 +91,8 @@ pub(crate) fn pays_for_list_with_slots(list: &GraphList, bytes: usize) -> bool {
     list.table().places() <= MOST_PLACES_OF_LIST && pays_for_list(list, bytes)
 }
 
-/// Whether one of a few bytes begins each match. If slots are then searched for by ordered sets, an
-/// automaton doesn't pay: `\b(t\w+)\b` on sentences took 51 instructions a byte instead of 42. If
-/// they are searched for up to the match's end, it does: a URL with three groups took 50 instead of
-/// 113.
-pub(super) fn begins_rarely(graph: &Graph) -> bool {
+/// Whether one of a few bytes begins each match.
+fn begins_rarely(graph: &Graph) -> bool {
     match graph.filter().prefilter() {
         None | Some(Prefilter::Range(_, _)) => false,
         Some(_) => true,
@@ -98,35 +101,33 @@ pub(super) fn begins_rarely(graph: &Graph) -> bool {
 
 impl LazyDfa {
     /// One for the table of this number of patterns, which remembers nothing yet. None where there
-    /// are too many classes, or if memory runs out: turns are then taken anew.
-    pub(crate) fn for_table(
-        alloc: Global,
-        table: &Table,
-        patterns: usize,
-        spare: usize,
-    ) -> Option<LazyDfa>
+    /// are too many classes, or if memory runs out: turns are then taken anew. That of one pattern
+    /// is never given up, since a turn costs no more with it. That of several is given up if too
+    /// many turns find no room: there each pattern is tried, and without it those alone that may
+    /// start.
+    pub(crate) fn for_table(alloc: Global, table: &Table, patterns: usize) -> Option<LazyDfa>
         ensures { (entries : List ℕ) → IfSome result (RemembersFor (places_of table.now) entries) }
     {
         let classes = Classes::of(table.all())?;
         let room = Room::of(table.reading(), patterns, &classes);
+        let spare = if patterns == 1 { usize::MAX } else { SPARE };
         match LazyDfa::new(alloc, classes, room, spare) {
             Ok(made) => Some(made),
             Err(_) => None,
         }
     }
 
-    /// One for this graph. It is never given up, since a turn costs no more with it.
+    /// One for this graph.
     pub(crate) fn for_graph(alloc: Global, graph: &Graph) -> Option<LazyDfa>
         ensures { IfSome result (RemembersAll graph.now) }
     {
-        LazyDfa::for_table(alloc, graph.table(), 1, usize::MAX)
+        LazyDfa::for_table(alloc, graph.table(), 1)
     }
 
-    /// One for all patterns of this list. It is given up if too many turns find no room: there each
-    /// pattern is tried, and without it those alone that may start.
+    /// One for all patterns of this list.
     pub(crate) fn for_list(alloc: Global, list: &GraphList) -> Option<LazyDfa>
         ensures { IfSome result (RemembersFor (table_of_list list.now) list.now.entries) }
     {
-        LazyDfa::for_table(alloc, list.table(), list.len(), SPARE)
+        LazyDfa::for_table(alloc, list.table(), list.len())
     }
 }

@@ -20,6 +20,7 @@ impl LazyDfa {
     /// Goes on where remembered turns end, if all ways there began at the first start, and no match
     /// was found or a place was entered before; otherwise after the last position at which there
     /// was nothing to go on from, or where the search was.
+    #[inline(always)]
     pub(super) fn resume<P: Patterns>(
         &self,
         patterns: &P,

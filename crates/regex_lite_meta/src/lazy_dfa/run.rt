@@ -1,12 +1,13 @@
 //! Searches that remember their turns, and go by those that they remember.
 ghost use Rattle.std.specs.Prelude.{◌≡◌, [], ◌<◌, ◌≤◌, ◌+◌, ◌⊎◌, ℕ, List};
-ghost use Rattle.std.specs.Prelude.{IsCharBoundary, IsSome, MatchOption, None};
+ghost use Rattle.std.specs.Prelude.{IfSome, IsCharBoundary, IsSome, MatchOption, None};
 ghost use Rattle.std.specs.Prelude.{chars, length, map, slice_index, true};
 ghost use Rattle.regex_lite_meta.specs.LazyDfa.Automaton.{Automaton};
-ghost use Rattle.regex_lite_meta.specs.LazyDfa.Learning.{IsIn};
+ghost use Rattle.regex_lite_meta.specs.LazyDfa.Learning.{IsFirstStart, IsIn};
 ghost use Rattle.regex_lite_meta.specs.LazyDfa.Running.{GoesOnWith, IsOnItsWay};
 ghost use Rattle.regex_lite_meta.specs.LazyDfa.Running.{Stands, started_at, thread_from};
 ghost use Rattle.regex_lite_meta.specs.LazyDfa.Scanning.{best_told};
+ghost use Rattle.regex_lite_syntax.specs.Text.{Text};
 ghost use Rattle.regex_lite_engine.specs.declared.pikevm.beginning.Origin.{Origin};
 ghost use Rattle.regex_lite_engine.specs.Graph.Places.{Place};
 ghost use Rattle.regex_lite_engine.specs.Search.Bounds.{characters_left};
@@ -20,6 +21,7 @@ ghost use Rattle.regex_lite_engine.specs.Pikevm.Turns.{EndsAt, best_of};
 use crate::lazy_dfa::state::StoredWay;
 use regex_lite_engine::pikevm::beginning::Origin;
 use regex_lite_engine::pikevm::cache::Cache;
+use regex_lite_engine::pikevm::memory::Memory;
 use regex_lite_engine::search::here::Here;
 use regex_lite_engine::search::patterns::Patterns;
 
@@ -52,6 +54,22 @@ impl Progress {
         }
     }
 
+    /// Where a search stands that has come here by other turns. None if its first start is unknown.
+    pub(super) fn on_the_way(cache: &Cache<Origin>, here: Here) -> Option<Progress>
+        ensures { (table : List (Place ℕ)) (haystack : Text) (entries : List ℕ) (s p : ℕ)
+            (automaton : Automaton) → IsHere haystack p here
+            → IsOnItsWay table haystack entries s p cache.now
+            → IfSome result (λ at. Stands table haystack entries s automaton at cache.now) }
+    {
+        let first = first_start(&cache.walk.memory, here.at)?;
+        Some(Progress {
+            here,
+            state: None,
+            first,
+            until: 0,
+        })
+    }
+
     /// Whether the last scan went on from here, so that the turn is remembered.
     pub(super) fn was_scanned(&self) -> bool {
         self.here.at.saturating_add(1) < self.until
@@ -75,7 +93,21 @@ impl Progress {
     }
 }
 
+/// The first start of a search that stands at this offset: where the most preferred thread began,
+/// or the offset if there is no thread. None if that thread didn't begin before, which none does.
+fn first_start(memory: &Memory<Origin>, at: usize) -> Option<usize>
+    ensures { IfSome result (λ first.
+        (first ≤ at) × IsFirstStart first at memory.now.threads) }
+{
+    if memory.threads() == 0 {
+        return Some(at);
+    }
+    let (_, start) = memory.thread(0);
+    if start.at < at { Some(start.at) } else { None }
+}
+
 /// Goes on to the next position. The state is the one that the search is in there.
+#[inline(always)]
 pub(super) fn next_position(cache: &Cache<Origin>, haystack: &str, at: Progress) -> Progress
     requires here { (p : ℕ) × IsHere (chars haystack.now) p at.here }
     requires more { IsSome at.here.after }
@@ -98,40 +130,6 @@ pub(super) fn next_position(cache: &Cache<Origin>, haystack: &str, at: Progress)
         here,
         state: at.state,
         first,
-        until: at.until,
-    }
-}
-
-/// Where there is neither a thread nor a match, passes over positions at which no match can
-/// begin. The state isn't known then.
-pub(super) fn pass_idle<P: Patterns>(
-    cache: &Cache<Origin>,
-    patterns: &P,
-    haystack: &str,
-    at: Progress,
-) -> Progress
-    requires { (s : ℕ) × (automaton : Automaton) × Stands (P.table patterns.now)
-        (chars haystack.now) (P.entries patterns.now) s automaton at cache.now }
-    ensures stands { (s : ℕ) (automaton : Automaton) → Stands (P.table patterns.now)
-        (chars haystack.now) (P.entries patterns.now) s automaton at cache.now
-        → Stands (P.table patterns.now) (chars haystack.now) (P.entries patterns.now) s
-        automaton result cache.now }
-    ensures unknown { result.state ≡ None }
-    ensures later { at.here.at ≤ result.here.at }
-{
-    if cache.walk.memory.threads() > 0 || !cache.best.is_none() {
-        return Progress {
-            here: at.here,
-            state: None,
-            first: at.first,
-            until: at.until,
-        };
-    }
-    let here = patterns.pass_over(haystack, at.here);
-    Progress {
-        here,
-        state: None,
-        first: here.at,
         until: at.until,
     }
 }

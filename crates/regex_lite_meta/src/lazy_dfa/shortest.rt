@@ -1,6 +1,6 @@
 //! A search for the least end of any match that remembers its turns.
-ghost use Rattle.std.specs.Prelude.{◌≡◌, ◌+◌, ◌<◌, ◌≤◌, [], ℕ, IfSome};
-ghost use Rattle.std.specs.Prelude.{IsCharBoundary, MatchOption, None, Option, chars, length};
+ghost use Rattle.std.specs.Prelude.{◌≡◌, ◌+◌, ◌<◌, ◌≤◌, [], ℕ, IfErr, IfOk, IfSome};
+ghost use Rattle.std.specs.Prelude.{MatchOption, None, Option, chars, length};
 ghost use Rattle.regex_lite_meta.specs.declared.lazy_dfa.scan.Standing.{Standing};
 ghost use Rattle.regex_lite_syntax.specs.Text.{Text};
 ghost use Rattle.regex_lite_meta.specs.declared.lazy_dfa.shortest.ScannedEnd.TheVariants.{
@@ -14,9 +14,7 @@ ghost use Rattle.regex_lite_engine.specs.declared.search.here.Here.{Here};
 ghost use Rattle.regex_lite_engine.specs.Graph.Renumbered.{arrows_of};
 ghost use Rattle.regex_lite_engine.specs.Search.Starts.{AreAllStarts};
 ghost use Rattle.regex_lite_engine.specs.Search.Bounds.{IsBoundedBy, characters_left};
-ghost use Rattle.regex_lite_engine.specs.Search.Offsets.{position_at};
 ghost use Rattle.regex_lite_engine.specs.Search.Counting.{CanCount};
-ghost use Rattle.regex_lite_engine.specs.Pikevm.Searching.{IsFresh};
 ghost use Rattle.regex_lite_engine.specs.Search.NumberedOutcomes.{IsNumberedEndOf};
 ghost use Rattle.regex_lite_engine.specs.Pikevm.Turns.{best_of};
 
@@ -41,44 +39,16 @@ pub(crate) enum ScannedEnd {
 }
 
 impl LazyDfa {
-    /// The least end of any match that starts at or after this offset. It stops at the first match
-    /// that it comes to.
-    pub(crate) fn find_shortest<P: Patterns>(
-        &mut self,
-        patterns: &P,
-        cache: &mut Cache<Origin>,
-        haystack: &str,
-        start: usize,
-    ) -> Option<usize>
-        requires all { AreAllStarts (P.table patterns.now) (P.entries patterns.now)
-            (P.starts patterns.now) }
-        requires boundary { IsCharBoundary haystack.now start }
-        requires remembers { Remembers (P.table patterns.now) (P.entries patterns.now) self.old }
-        requires none_pending { self.old.pending ≡ [] }
-        requires fresh { IsFresh (P.table patterns.now) cache.old }
-        requires counts { CanCount (P.table patterns.now) (length (P.entries patterns.now))
-            (characters_left (chars haystack.now) (position_at haystack.now start)) }
-        requires width { length cache.old.walk.memory.row ≡ 0 }
-        ensures found { IsNumberedEndOf (P.table patterns.now) (chars haystack.now)
-            (P.entries patterns.now) (position_at haystack.now start) (end_told result) }
-        ensures bounded { IsBoundedBy (length (P.table patterns.now))
-            (arrows_of (P.table patterns.now) + length (P.entries patterns.now))
-            (chars haystack.now) (position_at haystack.now start) cache.new.walk.steps.tried
-            cache.new.walk.steps.entered cache.new.walk.steps.looked }
-        ensures entered { IfSome result (λ _. 0 < cache.new.walk.steps.entered) }
-    {
-        let at = Progress::begun(haystack, start);
-        self.find_shortest_from(patterns, cache, haystack, at)
-    }
-
-    /// The same from where a search stands that has no match yet.
-    pub(super) fn find_shortest_from<P: Patterns>(
+    /// The least end of any match, from where a search stands that has no match yet. It stops at
+    /// the first match that it comes to. Where too many turns find no room, it returns where the
+    /// search stands.
+    pub(super) fn find_shortest_while_it_pays<P: Patterns>(
         &mut self,
         patterns: &P,
         cache: &mut Cache<Origin>,
         haystack: &str,
         from: Progress,
-    ) -> Option<usize>
+    ) -> Result<Option<usize>, Progress>
         requires all { AreAllStarts (P.table patterns.now) (P.entries patterns.now)
             (P.starts patterns.now) }
         requires remembers { Remembers (P.table patterns.now) (P.entries patterns.now) self.old }
@@ -91,25 +61,34 @@ impl LazyDfa {
             from cache.old }
         ensures found { (s : ℕ) → Stands (P.table patterns.now) (chars haystack.now)
             (P.entries patterns.now) s self.old from cache.old
-            → IsNumberedEndOf (P.table patterns.now) (chars haystack.now) (P.entries patterns.now) s
-            (end_told result) }
+            → IfOk result (λ end. IsNumberedEndOf (P.table patterns.now) (chars haystack.now)
+            (P.entries patterns.now) s (end_told end)) }
         ensures bounded { (s : ℕ) → Stands (P.table patterns.now) (chars haystack.now)
             (P.entries patterns.now) s self.old from cache.old
-            → IsBoundedBy (length (P.table patterns.now))
+            → IfOk result (λ _. IsBoundedBy (length (P.table patterns.now))
             (arrows_of (P.table patterns.now) + length (P.entries patterns.now))
             (chars haystack.now) s cache.new.walk.steps.tried cache.new.walk.steps.entered
-            cache.new.walk.steps.looked }
-        ensures entered { IfSome result (λ _. 0 < cache.new.walk.steps.entered) }
+            cache.new.walk.steps.looked) }
+        ensures entered { IfOk result (λ end. IfSome end
+            (λ _. 0 < cache.new.walk.steps.entered)) }
+        ensures stands { (s : ℕ) → Stands (P.table patterns.now) (chars haystack.now)
+            (P.entries patterns.now) s self.old from cache.old
+            → IfErr result (λ at. Stands (P.table patterns.now) (chars haystack.now)
+            (P.entries patterns.now) s self.new at cache.new) }
+        ensures none { IfErr result (λ _. best_of cache.new.best ≡ None) }
     {
         let mut at = from;
         'positions: loop {
             at = self.at_idle(patterns, cache, haystack, at);
             if let Some(end) = self.look_for_end(patterns, cache, haystack, &mut at) {
-                return end;
+                return Ok(end);
+            }
+            if self.is_given_up(at.here.at.saturating_sub(from.here.at)) {
+                return Err(at);
             }
             let hit = go_over(cache, patterns, haystack, at.here);
             if is_known(at.here, &cache.best) {
-                return cache.best.end();
+                return Ok(cache.best.end());
             }
             at.state = self.learn_at(patterns, cache, at, hit);
             at = next_position(cache, haystack, at);

@@ -1,28 +1,30 @@
-//! Searches by themselves that remember their turns.
-ghost use Rattle.std.specs.Prelude.{◌≡◌, ◌<◌, ◌+◌, ◌∷◌, [], IfOk, IfSome};
-ghost use Rattle.std.specs.Prelude.{IsCharBoundary, chars, length};
+//! Searches by themselves that remember their turns, for one pattern or for several.
+ghost use Rattle.std.specs.Prelude.{◌≡◌, ◌<◌, ◌+◌, ℕ, IfErr, IfOk, IfSome};
+ghost use Rattle.std.specs.Prelude.{IsCharBoundary, None, chars, length};
 ghost use Rattle.regex_lite_meta.specs.LazyDfa.Scanning.{best_told, end_told};
-ghost use Rattle.regex_lite_syntax.specs.Tree.{Tree};
-ghost use Rattle.regex_lite_syntax.specs.Tree.Regular.{IsRegular};
-ghost use Rattle.regex_lite_engine.specs.Graph.Renumbered.{IsGraphOf, arrows_of};
-ghost use Rattle.regex_lite_engine.specs.Graph.Stored.{table_of};
+ghost use Rattle.regex_lite_engine.specs.Graph.Renumbered.{arrows_of};
 ghost use Rattle.regex_lite_engine.specs.Search.Bounds.{IsBoundedBy, characters_left};
 ghost use Rattle.regex_lite_engine.specs.Search.Offsets.{position_at};
-ghost use Rattle.regex_lite_engine.specs.Search.Outcomes.{HasCost, IsEndOutcome, IsOutcome};
+ghost use Rattle.regex_lite_engine.specs.Search.Standing.{IsHere};
+ghost use Rattle.regex_lite_engine.specs.Search.Starts.{AreAllStarts};
 ghost use Rattle.regex_lite_engine.specs.Search.Counting.{CanCount};
 ghost use Rattle.regex_lite_engine.specs.Search.NumberedOutcomes.{IsBestOutcomeOf, IsNumberedEndOf};
-ghost use Rattle.regex_lite_engine.specs.Search.NumberedOutcomes.{best_at, match_told, span_of};
+ghost use Rattle.regex_lite_engine.specs.Pikevm.Passing.{IsUnderWay};
 ghost use Rattle.regex_lite_engine.specs.Pikevm.Searching.{IsFresh};
+ghost use Rattle.regex_lite_engine.specs.Pikevm.Turns.{best_of};
 
 use crate::lazy_dfa::automaton::LazyDfa;
 use crate::lazy_dfa::run::Progress;
-use crate::lazy_dfa::turns::{take_turns, take_turns_to_end};
 use regex_lite_engine::pikevm::beginning::Origin;
-use regex_lite_engine::pikevm::cache::{Cache, cache_for};
-use regex_lite_engine::search::one_pattern::OnePattern;
-use regex_lite_engine::search::outcome::Outcome;
-use regex_lite_engine::{Graph, Steps};
-use std::alloc::{AllocError, Global};
+use regex_lite_engine::pikevm::cache::Cache;
+use regex_lite_engine::pikevm::run::run_on;
+use regex_lite_engine::pikevm::shortest::run_shortest_on;
+use regex_lite_engine::search::here::Here;
+use regex_lite_engine::search::patterns::Patterns;
+use std::alloc::Global;
+
+pub(crate) mod graph;
+pub(crate) mod list;
 
 /// A search takes this number of turns before it gets an automaton. A match near the start is found
 /// sooner than one is made, which takes some 2,000 instructions and two or three requests for
@@ -31,138 +33,172 @@ use std::alloc::{AllocError, Global};
 /// search of 1,000 bytes without a match took up to half as much again as with 64.
 const TURNS_WITHOUT: u32 = 64;
 
-/// What `search` returns without slots, by an automaton if it isn't over soon.
-pub(crate) fn search_remembering(
-    graph: &Graph,
-    alloc: Global,
-    haystack: &str,
-    start: usize,
-) -> Result<(Option<Outcome>, Steps), AllocError>
-    requires boundary { IsCharBoundary haystack.now start }
-    ensures found { IfOk result (λ told. (tree : Tree) → IsRegular tree
-        → IsGraphOf tree graph.now → IsOutcome tree haystack.now start told.0) }
-    ensures slots { IfOk result (λ told. IfSome told.0
-        (λ outcome. length outcome.slots.items ≡ 0)) }
-    ensures cost { IfOk result (λ told. (tree : Tree) → IsGraphOf tree graph.now
-        → HasCost tree haystack.now start told.1) }
-    ensures entered { IfOk result (λ told. IfSome told.0 (λ _. 0 < told.1.entered)) }
-{
-    let mut cache = cache_for::<Origin>(alloc, graph.table(), 0)?;
-    let found = find_once(graph, alloc, &mut cache, haystack, start);
-    let Cache { walk, .. } = cache;
-    Ok((without_slots(alloc, found), walk.steps))
-}
-
-/// What `search_shortest` returns, by an automaton if it isn't over soon.
-pub(crate) fn search_shortest_remembering(
-    graph: &Graph,
-    alloc: Global,
-    haystack: &str,
-    start: usize,
-) -> Result<(Option<usize>, Steps), AllocError>
-    requires boundary { IsCharBoundary haystack.now start }
-    ensures found { IfOk result (λ told. (tree : Tree) → IsRegular tree
-        → IsGraphOf tree graph.now → IsEndOutcome tree haystack.now start told.0) }
-    ensures cost { IfOk result (λ told. (tree : Tree) → IsGraphOf tree graph.now
-        → HasCost tree haystack.now start told.1) }
-    ensures entered { IfOk result (λ told. IfSome told.0 (λ _. 0 < told.1.entered)) }
-{
-    let mut cache = cache_for::<Origin>(alloc, graph.table(), 0)?;
-    let end = find_shortest_once(graph, alloc, &mut cache, haystack, start);
-    let Cache { walk, .. } = cache;
-    Ok((end, walk.steps))
-}
-
-/// The start and the end of the match that a search by itself finds. The search gets an
-/// automaton if it isn't over soon.
-fn find_once(
-    graph: &Graph,
+/// The start and the end of the match that a search by itself finds, with the number of its
+/// pattern. It goes on with an automaton if it isn't over soon. `patterns` are those that may start
+/// at a position, and `all` start everywhere.
+pub(super) fn find_once<P: Patterns, A: Patterns>(
+    patterns: &mut P,
+    all: &A,
     alloc: Global,
     cache: &mut Cache<Origin>,
     haystack: &str,
     start: usize,
 ) -> Option<(Origin, usize)>
+    requires all { AreAllStarts (A.table all.now) (A.entries all.now) (A.starts all.now) }
+    requires table { A.table all.now ≡ P.table patterns.old }
+    requires entries { A.entries all.now ≡ P.entries patterns.old }
     requires boundary { IsCharBoundary haystack.now start }
-    requires fresh { IsFresh (table_of graph.now) cache.old }
-    requires counts { CanCount (table_of graph.now) 1
+    requires fresh { IsFresh (P.table patterns.old) cache.old }
+    requires counts { CanCount (P.table patterns.old) (length (P.entries patterns.old))
         (characters_left (chars haystack.now) (position_at haystack.now start)) }
     requires width { length cache.old.walk.memory.row ≡ 0 }
-    ensures found { IsBestOutcomeOf (table_of graph.now) (chars haystack.now)
-        (graph.now.start ∷ []) (position_at haystack.now start) (best_told result) }
-    ensures bounded { IsBoundedBy (length (table_of graph.now))
-        (arrows_of (table_of graph.now) + 1) (chars haystack.now)
+    ensures found { IsBestOutcomeOf (P.table patterns.old) (chars haystack.now)
+        (P.entries patterns.old) (position_at haystack.now start) (best_told result) }
+    ensures bounded { IsBoundedBy (length (P.table patterns.old))
+        (arrows_of (P.table patterns.old) + length (P.entries patterns.old)) (chars haystack.now)
         (position_at haystack.now start) cache.new.walk.steps.tried
         cache.new.walk.steps.entered cache.new.walk.steps.looked }
     ensures entered { IfSome result (λ _. 0 < cache.new.walk.steps.entered) }
 {
-    // Its place is one of the graph.
-    let _start = graph.start();
-    let pattern = OnePattern {
-        graph,
-        may_start: true,
-    };
-    let begun = Progress::begun(haystack, start);
-    let Some(at) = take_turns(cache, &pattern, haystack, begun, Some(TURNS_WITHOUT)) else {
+    let here = Here::at(haystack, start);
+    let Some(here) = run_on(cache, patterns, haystack, here, Some(TURNS_WITHOUT)) else {
         return cache.best.found();
     };
-    let Some(mut dfa) = LazyDfa::for_graph(alloc, graph) else {
-        take_turns(cache, &pattern, haystack, at, None);
-        return cache.best.found();
-    };
-    let state = dfa.state_at(&pattern, at, cache);
-    let known = at.with_state(state);
-    dfa.find_from(&pattern, cache, haystack, known, 1)
+    match find_learning(all, alloc, cache, haystack, here) {
+        Ok(found) => found,
+        Err(here) => {
+            run_on(cache, patterns, haystack, here, None);
+            cache.best.found()
+        }
+    }
 }
 
-/// The end of the first match that a search by itself comes to. The search gets an automaton if
-/// it isn't over soon.
-fn find_shortest_once(
-    graph: &Graph,
+/// Goes on with a new automaton. Returns where the search stands if there is no memory for one, or
+/// if it is given up.
+fn find_learning<A: Patterns>(
+    all: &A,
+    alloc: Global,
+    cache: &mut Cache<Origin>,
+    haystack: &str,
+    from: Here,
+) -> Result<Option<(Origin, usize)>, Here>
+    requires all { AreAllStarts (A.table all.now) (A.entries all.now) (A.starts all.now) }
+    requires on { (s p : ℕ) × IsHere (chars haystack.now) p from
+        × CanCount (A.table all.now) (length (A.entries all.now))
+        (characters_left (chars haystack.now) s)
+        × IsUnderWay (A.table all.now) (chars haystack.now) (A.entries all.now) s p cache.old }
+    requires width { length cache.old.walk.memory.row ≡ 0 }
+    ensures found { (s p : ℕ) → IsHere (chars haystack.now) p from
+        → IsUnderWay (A.table all.now) (chars haystack.now) (A.entries all.now) s p cache.old
+        → IfOk result (λ found. IsBestOutcomeOf (A.table all.now) (chars haystack.now)
+        (A.entries all.now) s (best_told found)) }
+    ensures bounded { (s p : ℕ) → IsHere (chars haystack.now) p from
+        → IsUnderWay (A.table all.now) (chars haystack.now) (A.entries all.now) s p cache.old
+        → IfOk result (λ _. IsBoundedBy (length (A.table all.now))
+        (arrows_of (A.table all.now) + length (A.entries all.now)) (chars haystack.now) s
+        cache.new.walk.steps.tried cache.new.walk.steps.entered cache.new.walk.steps.looked) }
+    ensures entered { IfOk result (λ found. IfSome found
+        (λ _. 0 < cache.new.walk.steps.entered)) }
+    ensures stands { (s p : ℕ) → IsHere (chars haystack.now) p from
+        → IsUnderWay (A.table all.now) (chars haystack.now) (A.entries all.now) s p cache.old
+        → IfErr result (λ here. (q : ℕ) × IsHere (chars haystack.now) q here
+        × IsUnderWay (A.table all.now) (chars haystack.now) (A.entries all.now) s q cache.new) }
+    ensures width { IfErr result (λ _. length cache.new.walk.memory.row ≡ 0) }
+{
+    let Some(mut dfa) = LazyDfa::for_table(alloc, all.table(), all.len()) else {
+        return Err(from);
+    };
+    let Some(at) = Progress::on_the_way(cache, from) else {
+        return Err(from);
+    };
+    let state = dfa.state_at(all, at, cache);
+    match dfa.find_while_it_pays(all, cache, haystack, at.with_state(state), 1) {
+        Ok(found) => Ok(found),
+        Err(at) => Err(at.here),
+    }
+}
+
+/// The end of the first match that a search by itself comes to. It goes on with an automaton if it
+/// isn't over soon. `patterns` are those that may start at a position, and `all` start everywhere.
+pub(super) fn find_shortest_once<P: Patterns, A: Patterns>(
+    patterns: &mut P,
+    all: &A,
     alloc: Global,
     cache: &mut Cache<Origin>,
     haystack: &str,
     start: usize,
 ) -> Option<usize>
+    requires all { AreAllStarts (A.table all.now) (A.entries all.now) (A.starts all.now) }
+    requires table { A.table all.now ≡ P.table patterns.old }
+    requires entries { A.entries all.now ≡ P.entries patterns.old }
     requires boundary { IsCharBoundary haystack.now start }
-    requires fresh { IsFresh (table_of graph.now) cache.old }
-    requires counts { CanCount (table_of graph.now) 1
+    requires fresh { IsFresh (P.table patterns.old) cache.old }
+    requires counts { CanCount (P.table patterns.old) (length (P.entries patterns.old))
         (characters_left (chars haystack.now) (position_at haystack.now start)) }
     requires width { length cache.old.walk.memory.row ≡ 0 }
-    ensures found { IsNumberedEndOf (table_of graph.now) (chars haystack.now)
-        (graph.now.start ∷ []) (position_at haystack.now start) (end_told result) }
-    ensures bounded { IsBoundedBy (length (table_of graph.now))
-        (arrows_of (table_of graph.now) + 1) (chars haystack.now)
+    ensures found { IsNumberedEndOf (P.table patterns.old) (chars haystack.now)
+        (P.entries patterns.old) (position_at haystack.now start) (end_told result) }
+    ensures bounded { IsBoundedBy (length (P.table patterns.old))
+        (arrows_of (P.table patterns.old) + length (P.entries patterns.old)) (chars haystack.now)
         (position_at haystack.now start) cache.new.walk.steps.tried
         cache.new.walk.steps.entered cache.new.walk.steps.looked }
     ensures entered { IfSome result (λ _. 0 < cache.new.walk.steps.entered) }
 {
-    // Its place is one of the graph.
-    let _start = graph.start();
-    let pattern = OnePattern {
-        graph,
-        may_start: true,
-    };
-    let begun = Progress::begun(haystack, start);
-    let Some(at) = take_turns_to_end(cache, &pattern, haystack, begun, Some(TURNS_WITHOUT)) else {
+    let here = Here::at(haystack, start);
+    let Some(here) = run_shortest_on(cache, patterns, haystack, here, Some(TURNS_WITHOUT)) else {
         return cache.best.end();
     };
-    let Some(mut dfa) = LazyDfa::for_graph(alloc, graph) else {
-        take_turns_to_end(cache, &pattern, haystack, at, None);
-        return cache.best.end();
-    };
-    let state = dfa.state_at(&pattern, at, cache);
-    let known = at.with_state(state);
-    dfa.find_shortest_from(&pattern, cache, haystack, known)
+    match find_shortest_learning(all, alloc, cache, haystack, here) {
+        Ok(end) => end,
+        Err(here) => {
+            run_shortest_on(cache, patterns, haystack, here, None);
+            cache.best.end()
+        }
+    }
 }
 
-/// The match that starts and ends there.
-fn without_slots(alloc: Global, found: Option<(Origin, usize)>) -> Option<Outcome>
-    ensures told { match_told result ≡ best_at (span_of found) [] }
+/// Goes on with a new automaton to the first match that ends. Returns where the search stands if
+/// there is no memory for one, or if it is given up.
+fn find_shortest_learning<A: Patterns>(
+    all: &A,
+    alloc: Global,
+    cache: &mut Cache<Origin>,
+    haystack: &str,
+    from: Here,
+) -> Result<Option<usize>, Here>
+    requires all { AreAllStarts (A.table all.now) (A.entries all.now) (A.starts all.now) }
+    requires on { (s p : ℕ) × IsHere (chars haystack.now) p from
+        × CanCount (A.table all.now) (length (A.entries all.now))
+        (characters_left (chars haystack.now) s)
+        × IsUnderWay (A.table all.now) (chars haystack.now) (A.entries all.now) s p cache.old }
+    requires none { best_of cache.old.best ≡ None }
+    requires width { length cache.old.walk.memory.row ≡ 0 }
+    ensures found { (s p : ℕ) → IsHere (chars haystack.now) p from
+        → IsUnderWay (A.table all.now) (chars haystack.now) (A.entries all.now) s p cache.old
+        → IfOk result (λ end. IsNumberedEndOf (A.table all.now) (chars haystack.now)
+        (A.entries all.now) s (end_told end)) }
+    ensures bounded { (s p : ℕ) → IsHere (chars haystack.now) p from
+        → IsUnderWay (A.table all.now) (chars haystack.now) (A.entries all.now) s p cache.old
+        → IfOk result (λ _. IsBoundedBy (length (A.table all.now))
+        (arrows_of (A.table all.now) + length (A.entries all.now)) (chars haystack.now) s
+        cache.new.walk.steps.tried cache.new.walk.steps.entered cache.new.walk.steps.looked) }
+    ensures entered { IfOk result (λ end. IfSome end
+        (λ _. 0 < cache.new.walk.steps.entered)) }
+    ensures stands { (s p : ℕ) → IsHere (chars haystack.now) p from
+        → IsUnderWay (A.table all.now) (chars haystack.now) (A.entries all.now) s p cache.old
+        → IfErr result (λ here. (q : ℕ) × IsHere (chars haystack.now) q here
+        × IsUnderWay (A.table all.now) (chars haystack.now) (A.entries all.now) s q cache.new) }
+    ensures none { IfErr result (λ _. best_of cache.new.best ≡ None) }
 {
-    let (origin, end) = found?;
-    Some(Outcome {
-        start: origin.at,
-        end,
-        slots: Vec::new(alloc),
-    })
+    let Some(mut dfa) = LazyDfa::for_table(alloc, all.table(), all.len()) else {
+        return Err(from);
+    };
+    let Some(at) = Progress::on_the_way(cache, from) else {
+        return Err(from);
+    };
+    let state = dfa.state_at(all, at, cache);
+    match dfa.find_shortest_while_it_pays(all, cache, haystack, at.with_state(state)) {
+        Ok(end) => Ok(end),
+        Err(at) => Err(at.here),
+    }
 }

@@ -80,6 +80,11 @@ pub(crate) fn are_same(ways: &[StoredWay], others: &[StoredWay]) -> bool
 }
 
 impl StoredWay {
+    /// A number that is different for each way.
+    pub(super) fn bits(self) -> u64 {
+        (self.number as u64) << 33 | (self.place as u64) << 1 | self.is_first as u64
+    }
+
     /// Whether they are the same.
     fn is(self, other: StoredWay) -> bool
         ensures { result ≡ true → self ≡ other }

@@ -11,6 +11,7 @@ use crate::string::matches::Match;
 use crate::string::slots::{slots_with, whole_slots};
 use crate::string::source::Source;
 use regex_lite_engine::{Outcome, Steps};
+use regex_lite_meta::{search_list, search_list_any};
 use regex_lite_syntax::Error;
 
 /// The number of places of the written-out patterns that a search tries is at most the number of
@@ -36,7 +37,7 @@ impl RegexList {
         ensures refused { IfErr result (λ error. error ≡ out_of_memory) }
     {
         let graph = &self.compiled.graph;
-        let told = graph.search_any(self.alloc, haystack, start)?;
+        let told = search_list_any(graph, self.alloc, haystack, start)?;
         Ok(told)
     }
 
@@ -59,7 +60,7 @@ impl RegexList {
         ensures refused { IfErr result (λ error. error ≡ out_of_memory) }
     {
         let graph = &self.compiled.graph;
-        let (told, steps) = graph.search(self.alloc, haystack, start, 0)?;
+        let (told, steps) = search_list(graph, self.alloc, haystack, start, 0)?;
         let Some((number, outcome)) = told else {
             return Ok((None, steps));
         };
@@ -90,7 +91,7 @@ impl RegexList {
         let count = self.compiled.kept_slots;
         let whole = whole_slots(self.alloc, count)?;
         let graph = &self.compiled.graph;
-        let (told, steps) = graph.search(self.alloc, haystack, start, count)?;
+        let (told, steps) = search_list(graph, self.alloc, haystack, start, count)?;
         let Some((number, Outcome { start, end, slots })) = told else {
             return Ok((None, steps));
         };

@@ -9,6 +9,10 @@ ghost use Rattle.regex_lite.specs.Searches.{CanStartAt};
 use crate::string::captures::Captures;
 use crate::string::list::RegexList;
 use crate::string::locations::CaptureLocations;
+use crate::string::slots::{slots_with, whole_slots};
+use crate::string::source::Source;
+use regex_lite_engine::Outcome;
+use regex_lite_meta::search_list_uncounted;
 use regex_lite_syntax::Error;
 
 impl RegexList {
@@ -58,8 +62,19 @@ impl RegexList {
         ensures of_match { IfOk result (λ found. IfSome found (AreOfPattern self.now)) }
         ensures refused { IfErr result (λ error. error ≡ out_of_memory) }
     {
-        let (found, _) = self.captures_counted_at(haystack, start)?;
-        Ok(found)
+        let count = self.compiled.kept_slots;
+        let whole = whole_slots(self.alloc, count)?;
+        let graph = &self.compiled.graph;
+        let told = search_list_uncounted(graph, self.alloc, haystack, start, count)?;
+        let Some((number, Outcome { start, end, slots })) = told else {
+            return Ok(None);
+        };
+        let mut slots = slots_with(slots, whole, (start, end));
+        let source = Source::of_listed(self.compiled.clone()?, number);
+        // A search keeps slots for the pattern with the most groups. This one may have fewer.
+        slots.truncate(source.slots());
+        let caps = Captures::new(haystack, slots, source);
+        Ok(Some((number, caps)))
     }
 
     /// Locations with as many groups as the pattern that has the most, none of which took part in a

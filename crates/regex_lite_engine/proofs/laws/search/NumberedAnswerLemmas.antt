@@ -71,6 +71,30 @@ module _ (tree : Tree) (haystack : Text) (table : List (Place ℕ)) (start : ℕ
         (sym (begins tree haystack table start name Part r first found.start));
   }
 
+  -- what is found of the tree is found over numbers
+  pub found_in_part : (s : ℕ) (found : Found) → IsAnswer tree haystack s (Some found)
+      → IsNumberedAnswer table haystack start s (Some found)
+  found_in_part s found is =
+      let numbered =
+      in_numbers tree haystack table start name Part r first found.start found.end is.way
+      is.most_preferred.is_way in
+      record {
+        from = is.from;
+        inside = is.inside;
+        least = λ i q j way m. is.least i j (match_of_numbers s i q j way m);
+        way = is.way;
+        last = numbered.0;
+        is_way = numbered.1;
+        preferred = λ other q j p.
+            is.most_preferred.preferred other j
+            (in_addresses tree haystack table start name Part r first found.start q j other p);
+        marks = is.marks
+            ∙ ap (λ n. marks_along haystack (place_of_pattern tree) (Some n) is.way)
+            (begins tree haystack table start name Part r first found.start)
+            ∙ marks_named tree haystack table start name Part r first is.way (start, found.start)
+            first.inside;
+      }
+
   pub shortest_of_part : (s : ℕ) (answer : Option ℕ)
       → IsNumberedShortest table haystack start s answer → IsShortest tree haystack s answer
   shortest_of_part s None none = λ (i, j, m). (
@@ -90,6 +114,14 @@ module _ (tree : Tree) (haystack : Text) (table : List (Place ℕ)) (start : ℕ
       → IsNumberedAnswer table haystack start s answer → IsAnswer tree haystack s answer
   answer_of_numbers =
       answer_of_part tree haystack table start name (λ q. q < length table)
+      (whole_part (written_out tree) name table r)
+      (whole_number name table start_address start first)
+      regular
+
+  pub found_in_numbers : (s : ℕ) (found : Found) → IsAnswer tree haystack s (Some found)
+      → IsNumberedAnswer table haystack start s (Some found)
+  found_in_numbers =
+      found_in_part tree haystack table start name (λ q. q < length table)
       (whole_part (written_out tree) name table r)
       (whole_number name table start_address start first)
       regular

@@ -31,6 +31,7 @@ starts-init c =
           a.walk.now c.requires.counts c.requires.fresh;
       width = refl;
       room = refl;
+      pairs = refl;
       counts = counted_at_first;
     }
 
@@ -108,5 +109,6 @@ starts-preserved c =
           c.explore.new.self w.passed explored;
       width = explored.on.kept.row ∙ v.width;
       room = explored.on.kept.room ∙ v.room;
+      pairs = explored.on.kept.pairs ∙ v.pairs;
       counts = still_counted v.counts c.explore.ensures.counts;
     }

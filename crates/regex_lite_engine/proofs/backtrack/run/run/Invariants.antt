@@ -11,6 +11,7 @@ invariant-starts l = record {
   under_way : IsUnderWay (table_of l.graph) l.haystack l.fn.first.at l.graph.start p l.walk;
   width : length l.walk.stack.row ≡ length l.fn.walk.stack.row;
   room : l.walk.stack.room ≡ l.fn.walk.stack.room;
+  pairs : l.walk.visited.room ≡ l.fn.walk.visited.room;
   counts : StaysCounted l.fn.walk.steps l.walk.steps;
 }
 

@@ -1,93 +1,117 @@
-use Rattle.regex_lite_meta.proofs.Common.{[], ◌∷◌, refl, arith, best_of, position_at}
-use Rattle.regex_lite_meta.proofs.lazy_dfa.OnceLemmas.{empty, found_told, known_stands}
-use Rattle.regex_lite_meta.proofs.lazy_dfa.RunLemmas.{all_of_one, bounded_on, match_counted}
+use Rattle.regex_lite_meta.proofs.Common.{refl, sym, ◌∙◌, arith, best_of, position_at}
+use Rattle.regex_lite_engine.proofs.pikevm.PassLemmas.{begun}
+use Rattle.regex_lite_meta.proofs.lazy_dfa.OnceLemmas.{found_told, under_as}
+use Rattle.regex_lite_meta.proofs.lazy_dfa.RunLemmas.{match_counted}
 use Rattle.regex_lite_meta.proofs.lazy_dfa.single.find_once.Goals as goal
 
-pub take_turns-requires : goal.take_turns-requires
-take_turns-requires c =
+pub run_on-requires : goal.run_on-requires
+run_on-requires g c =
     let s = position_at c.args.haystack.now c.args.start in
-    let begun = c.begun-begun.ensures _ (c.args.graph.now.start ∷ []) empty _ c.requires.fresh
-    c.requires.width in
     record {
-      all = all_of_one c.args.graph.now c.start-start.result c.start-start.ensures.same
-          c.start-start.ensures.inside;
-      stands = (s, empty, c.requires.counts, begun);
+      on = (
+        s,
+        s,
+        c.at-here.ensures.here,
+        c.requires.counts,
+        begun _ _ _ s c.args.cache.now c.requires.fresh,
+      );
     }
 
 pub returns-in_default : goal.returns-in_default
-returns-in_default c =
+returns-in_default g c =
     let s = position_at c.args.haystack.now c.args.start in
-    let now = c.take_turns.new.cache in
-    let begun = c.begun-begun.ensures _ (c.args.graph.now.start ∷ []) empty _ c.requires.fresh
-    c.requires.width in
-    let on = c.in_default.ensures.on s empty begun in
+    let now = c.run_on.new.cache in
+    let begun = begun _ _ _ s c.args.cache.now c.requires.fresh in
+    let width = c.run_on.ensures.width ∙ c.requires.fresh.between.best_width ∙ c.requires.width in
     record {
-      found =
-          found_told _ _ _ _ _ _ c.found.result on.2 c.found.ensures
-          (c.in_default.ensures.over s empty begun refl);
-      bounded = bounded_on _ _ _ _ _ _ (omega (arith, begun.on.low, begun.is.inside)) on.1 on.2;
+      found = found_told _ _ _ s now c.found.result width c.found.ensures
+          (c.in_default.ensures.found s s c.at-here.ensures.here begun refl);
+      bounded = c.in_default.ensures.bounded s s c.at-here.ensures.here begun refl;
       entered =
           match_counted (best_of now.best) c.found.result now.best.row now.walk.steps.entered 1
-          c.found.ensures on.2.ready.match_entered (omega arith);
+          c.found.ensures c.run_on.ensures.between.match_entered (omega arith);
     }
 
-pub take_turns-requires-in_default-for_graph : goal.take_turns-requires-in_default-for_graph
-take_turns-requires-in_default-for_graph c =
+pub find_learning-requires : goal.find_learning-requires
+find_learning-requires g c =
     let s = position_at c.args.haystack.now c.args.start in
-    let stands = c.in-Some.ensures.stands s empty
-    (c.begun-begun.ensures _ _ empty _ c.requires.fresh c.requires.width) in
+    let begun = begun _ _ _ s c.args.cache.now c.requires.fresh in
+    let stands = c.in-Some.ensures.stands s s c.at-here.ensures.here begun in
     record {
-      all = all_of_one c.args.graph.now c.start-start.result c.start-start.ensures.same
-          c.start-start.ensures.inside;
-      stands = (s, empty, c.requires.counts, stands);
+      all = c.requires.all;
+      on = (
+        s,
+        stands.0,
+        stands.1,
+        rw (c.requires.table, c.requires.entries) c.requires.counts,
+        rw (c.requires.table, c.requires.entries) stands.2,
+      );
+      width =
+          sym c.run_on.ensures.between.best_width
+          ∙ (c.run_on.ensures.width ∙ c.requires.fresh.between.best_width ∙ c.requires.width);
     }
 
-pub returns-in_default-for_graph : goal.returns-in_default-for_graph
-returns-in_default-for_graph c =
+pub returns-in-Ok-clause-found : goal.returns-in-Ok-clause-found
+returns-in-Ok-clause-found g c =
     let s = position_at c.args.haystack.now c.args.start in
-    let stands = c.in-Some.ensures.stands s empty
-    (c.begun-begun.ensures _ _ empty _ c.requires.fresh c.requires.width) in
-    let turns = c.take_turns-in_default-for_graph.ensures in
-    let now = c.take_turns-in_default-for_graph.new.cache in
-    let span = c.found-in_default-for_graph in
-    let on = turns.on s empty stands in
+    let begun = begun _ _ _ s c.args.cache.now c.requires.fresh in
+    let stands = c.in-Some.ensures.stands s s c.at-here.ensures.here begun in
+    rw (c.requires.table, c.requires.entries)
+    at (c.in-Ok.ensures.found s stands.0 stands.1
+    (rw (c.requires.table, c.requires.entries) stands.2))
+
+pub returns-in-Ok-clause-bounded : goal.returns-in-Ok-clause-bounded
+returns-in-Ok-clause-bounded g c =
+    let s = position_at c.args.haystack.now c.args.start in
+    let begun = begun _ _ _ s c.args.cache.now c.requires.fresh in
+    let stands = c.in-Some.ensures.stands s s c.at-here.ensures.here begun in
+    rw (c.requires.table, c.requires.entries)
+    at (c.in-Ok.ensures.bounded s stands.0 stands.1
+    (rw (c.requires.table, c.requires.entries) stands.2))
+
+pub run_on-requires-in-Err : goal.run_on-requires-in-Err
+run_on-requires-in-Err g c =
+    let s = position_at c.args.haystack.now c.args.start in
+    let begun = begun _ _ _ s c.args.cache.now c.requires.fresh in
+    let stands = c.in-Some.ensures.stands s s c.at-here.ensures.here begun in
+    let on = c.in-Err.ensures.stands s stands.0 stands.1
+    (rw (c.requires.table, c.requires.entries) stands.2) in
     record {
-      found =
-          found_told _ _ _ _ _ _ span.result on.2 span.ensures
-          (turns.over s empty stands (turns.all refl));
-      bounded = bounded_on _ _ _ _ _ _ (omega (arith, stands.on.low, stands.is.inside)) on.1 on.2;
-      entered =
-          match_counted (best_of now.best) span.result now.best.row now.walk.steps.entered 1
-          span.ensures on.2.ready.match_entered (omega arith);
+      on = (
+        s,
+        on.0,
+        on.1,
+        rw (c.run_on.ensures.table, c.run_on.ensures.entries) c.requires.counts,
+        under_as (sym c.run_on.ensures.table) (sym c.run_on.ensures.entries)
+            (under_as c.requires.table c.requires.entries on.2),
+      );
     }
 
-pub state_at-state-requires-clause-between : goal.state_at-state-requires-clause-between
-state_at-state-requires-clause-between c =
+pub returns-in-Err-clause-found : goal.returns-in-Err-clause-found
+returns-in-Err-clause-found g c =
     let s = position_at c.args.haystack.now c.args.start in
-    let stands = c.in-Some.ensures.stands s empty
-    (c.begun-begun.ensures _ _ empty _ c.requires.fresh c.requires.width) in
-    stands.on.ready
+    let begun = begun _ _ _ s c.args.cache.now c.requires.fresh in
+    let stands = c.in-Some.ensures.stands s s c.at-here.ensures.here begun in
+    let on = c.in-Err.ensures.stands s stands.0 stands.1
+    (rw (c.requires.table, c.requires.entries) stands.2) in
+    found_told _ _ _ s c.run_on-in-Err.new.cache c.found-in-Err.result
+    (c.run_on-in-Err.ensures.width ∙ on.2.ready.best_width ∙ c.in-Err.ensures.width)
+    c.found-in-Err.ensures
+    (rw (c.run_on.ensures.table, c.run_on.ensures.entries)
+    at (c.run_on-in-Err.ensures.found s on.0 on.1
+    (under_as (sym c.run_on.ensures.table) (sym c.run_on.ensures.entries)
+    (under_as c.requires.table c.requires.entries on.2))
+    (c.run_on-in-Err.ensures.all refl)))
 
-pub find_from-requires-clause-stands : goal.find_from-requires-clause-stands
-find_from-requires-clause-stands c =
+pub returns-in-Err-clause-bounded : goal.returns-in-Err-clause-bounded
+returns-in-Err-clause-bounded g c =
     let s = position_at c.args.haystack.now c.args.start in
-    let stands = c.in-Some.ensures.stands s empty
-    (c.begun-begun.ensures _ _ empty _ c.requires.fresh c.requires.width) in
-    let known = known_stands _ _ _ _ _ _ _ _ _ _ stands c.with_state-known.ensures
-    c.state_at-state.ensures.state in
-    (s, c.requires.counts, known)
-
-pub returns : goal.returns
-returns c =
-    let s = position_at c.args.haystack.now c.args.start in
-    let stands = c.in-Some.ensures.stands s empty
-    (c.begun-begun.ensures _ _ empty _ c.requires.fresh c.requires.width) in
-    let known = known_stands _ _ _ _ _ _ _ _ _ _ stands c.with_state-known.ensures
-    c.state_at-state.ensures.state in
-    let end = c.find_from.ensures in
-    record { found = end.found s known; bounded = end.bounded s known; entered = end.entered }
-
-pub find_from-requires-clause-all : goal.find_from-requires-clause-all
-find_from-requires-clause-all c =
-    all_of_one c.args.graph.now c.start-start.result c.start-start.ensures.same
-    c.start-start.ensures.inside
+    let begun = begun _ _ _ s c.args.cache.now c.requires.fresh in
+    let stands = c.in-Some.ensures.stands s s c.at-here.ensures.here begun in
+    let on = c.in-Err.ensures.stands s stands.0 stands.1
+    (rw (c.requires.table, c.requires.entries) stands.2) in
+    rw (c.run_on.ensures.table, c.run_on.ensures.entries)
+    at (c.run_on-in-Err.ensures.bounded s on.0 on.1
+    (under_as (sym c.run_on.ensures.table) (sym c.run_on.ensures.entries)
+    (under_as c.requires.table c.requires.entries on.2))
+    (c.run_on-in-Err.ensures.all refl))

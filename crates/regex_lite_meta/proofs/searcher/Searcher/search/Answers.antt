@@ -3,7 +3,7 @@ use Rattle.regex_lite_meta.proofs.Common.{subst, nil_from_length, table_of, posi
 use Rattle.regex_lite_meta.proofs.Common.{span_told}
 use Rattle.std.proofs.lemmas.Grind.{common_steps}
 use Rattle.regex_lite_engine.specs.Graph.Renumbered.{IsGraphOf}
-use Rattle.regex_lite_meta.specs.LazyDfa.Remembering.{FindsSpansIn}
+use Rattle.regex_lite_meta.specs.Slots.{FindsShortSlots}
 use Rattle.regex_lite_meta.specs.Searching.{Searching}
 use Rattle.regex_lite_engine.proofs.pikevm.EndLemmas.{one_best}
 use Rattle.regex_lite_engine.proofs.search.OutcomeLemmas as outcome
@@ -28,14 +28,10 @@ returns-in-Some c = record {
   graph = ap (λ (z : Searching). z.graph) c.self.view_is;
   slots =
       let told = c.find_in_graph.ensures in
-      let before = rw c.in-Some.is at c.self.invariant.2 in
+      let before = rw c.in-Some.is at c.self.invariant.1 in
       told.between.best_width ∙ told.width ∙ sym before.1
       ∙ ap (λ (z : Searching). length z.slots) c.self.view_is;
 }
-
-pub pass_to_match-requires-clause-finds : goal.pass_to_match-requires-clause-finds
-pass_to_match-requires-clause-finds c =
-    (length c.self.inside.cache.best.row, c.self.invariant.3)
 
 pub returns-in_err-passed-clause-found : goal.returns-in_err-passed-clause-found
 returns-in_err-passed-clause-found c = λ tree regular is.
@@ -46,8 +42,8 @@ returns-in_err-passed-clause-found c = λ tree regular is.
     (outcome.span_told tree regular graph of_graph haystack c.args.start c.if-start-haystack.false
     None [] (c.in_err-passed.ensures.none refl))
 
-pub find_passed-requires-clause-first : goal.find_passed-requires-clause-first
-find_passed-requires-clause-first c = (
+pub find_passed-found-requires-clause-first : goal.find_passed-found-requires-clause-first
+find_passed-found-requires-clause-first c = (
   position_at c.args.haystack.now c.args.start,
   c.in_ok-passed.ensures.first,
   c.in_ok-passed.ensures.known,
@@ -59,12 +55,12 @@ returns c = record {
       let haystack = c.args.haystack.now in
       let of_graph = subst (λ (z : Searching). IsGraphOf tree z.graph) (sym c.self.view_is) is in
       outcome.span_told tree regular c.self.inside.graph.now of_graph haystack c.args.start
-      c.if-start-haystack.false c.find_passed.result c.find_passed.new.cache.best.row
-      (c.find_passed.ensures.found (position_at haystack c.args.start) c.in_ok-passed.ensures.first
+      c.if-start-haystack.false c.find_passed-found.result.span
+      c.find_passed-found.new.memory.cache.best.row
+      (c.find_passed-found.ensures.found (position_at haystack c.args.start) c.in_ok-passed.ensures.first
       c.in_ok-passed.ensures.known);
   slots =
-      c.find_passed.ensures.width ∙ (c.restart.ensures.width
-      ∙ ap (λ (z : Searching). length z.slots) c.self.view_is);
+      c.find_passed-found.ensures.width ∙ ap (λ (z : Searching). length z.slots) c.self.view_is;
   graph = ap (λ (z : Searching). z.graph) c.self.view_is;
 }
 
@@ -74,48 +70,35 @@ returns-then-start-haystack-clause-found c = grind (arith, common_steps)
 
 pub find_in_graph-requires-clause-fresh : goal.find_in_graph-requires-clause-fresh
 find_in_graph-requires-clause-fresh c =
-    c.restart.ensures.fresh (table_of c.self.inside.graph.now) c.self.invariant.0
-
-pub find_passed-requires-clause-fresh : goal.find_passed-requires-clause-fresh
-find_passed-requires-clause-fresh c =
-    c.restart.ensures.fresh (table_of c.self.inside.graph.now) c.self.invariant.0
+    c.restart.ensures.fresh (table_of c.self.inside.graph.now) c.self.invariant.0.between
 
 pub invariant_of-self : goal.invariant_of-self
 invariant_of-self c =
     let graph = c.self.inside.graph.now in
     let told = c.find_in_graph.ensures in
     let width = told.between.best_width ∙ told.width in
-    let before = rw c.in-Some.is at c.self.invariant.2 in (
-      told.between,
-      c.self.invariant.1,
+    let before = rw c.in-Some.is at c.self.invariant.1 in (
+      record {
+        between = told.between;
+        countable = c.self.invariant.0.countable;
+        short =
+            subst (λ slots. IfSome c.self.inside.memory.short
+            (λ boxed. FindsShortSlots graph slots boxed.value))
+            (before.1 ∙ sym width) c.self.invariant.0.short;
+      },
       (told.remembers, width),
-      subst (λ slots. IfSome c.self.inside.spans (λ boxed. FindsSpansIn graph slots boxed.value))
-          (before.1 ∙ sym width) c.self.invariant.3,
-    )
-
-pub invariant_of-self-in_err-passed : goal.invariant_of-self-in_err-passed
-invariant_of-self-in_err-passed c =
-    let graph = c.self.inside.graph.now in
-    let width = sym c.restart.ensures.width in (
-      (c.restart.ensures.fresh (table_of graph) c.self.invariant.0).between,
-      c.self.invariant.1,
-      rw c.restart.ensures.width c.self.invariant.2,
-      subst (λ slots. IfSome c.pass_to_match.new.spans
-          (λ boxed. FindsSpansIn graph slots boxed.value)) width
-          (c.pass_to_match.ensures.finds (length c.self.inside.cache.best.row) c.self.invariant.3),
+      c.self.invariant.2,
     )
 
 pub invariant_of-self-2 : goal.invariant_of-self-2
 invariant_of-self-2 c = (
-  c.find_passed.ensures.between,
-  c.self.invariant.1,
-  rw (c.find_passed.ensures.width ∙ c.restart.ensures.width) c.self.invariant.2,
-  c.find_passed.ensures.finds,
+  c.find_passed-found.ensures.finds,
+  rw c.find_passed-found.ensures.width c.self.invariant.1,
+  c.weigh.ensures c.self.inside.graph.now c.pass_to_match.ensures.finds,
 )
 
 pub returns-in_err-passed-clause-slots : goal.returns-in_err-passed-clause-slots
-returns-in_err-passed-clause-slots c =
-    c.restart.ensures.width ∙ ap (λ (z : Searching). length z.slots) c.self.view_is
+returns-in_err-passed-clause-slots c = ap (λ (z : Searching). length z.slots) c.self.view_is
 
 pub find_in_graph-requires-clause-boundary : goal.find_in_graph-requires-clause-boundary
 find_in_graph-requires-clause-boundary c = on_boundary _ _ c.requires c.if-start-haystack.false

@@ -2,10 +2,12 @@ use Rattle.regex_lite.proofs.Common.{◌≡◌, ℕ, ◌*◌, [], ◌∷◌, len
 use Rattle.regex_lite.proofs.Common.{subst, captures_len, IsSpanOutcome, Expression, OfTree}
 use Rattle.regex_lite.proofs.Common.{span_of_match, all_slots}
 use Rattle.regex_lite.specs.Keeping.{SearchesForGroups}
-use Rattle.regex_lite.proofs.string.KeptLemmas.{locations_read, room_for, room_read}
-use Rattle.regex_lite.proofs.string.KeptLemmas.{slots_again, slots_of_whole, still_searches}
+use Rattle.regex_lite.proofs.string.KeptLemmas.{finds_span, locations_read, room_for}
+use Rattle.regex_lite.proofs.string.KeptLemmas.{room_read, slots_found, slots_of_whole}
+use Rattle.regex_lite.proofs.string.KeptLemmas.{still_searches}
+use Rattle.regex_lite_meta.specs.Searching.{FindsSpan}
 use Rattle.regex_lite.proofs.string.SlotLemmas.{resized_few}
-use Rattle.regex_lite.proofs.string.ToldLemmas.{same_pair, span_of}
+use Rattle.regex_lite.proofs.string.ToldLemmas.{same_pair}
 use Rattle.regex_lite.proofs.string.regex_searcher.RegexSearcher.read.Goals as goal
 
 pub returns-in_default-clause-locations : goal.returns-in_default-clause-locations
@@ -28,8 +30,27 @@ returns-in_default-clause-locations c = λ start told.
     ∙ ap (λ (span : ℕ × ℕ). take (length a.locs.now) (Some span ∷ []))
     (same_pair c.start.ensures c.end.ensures))
 
-pub read_again-requires-clause-room : goal.read_again-requires-clause-room
-read_again-requires-clause-room c =
+pub read_slots-requires-clause-known : goal.read_slots-requires-clause-known
+read_slots-requires-clause-known c =
+    let a = c.args in
+    let told = c.requires.found in
+    let own =
+    subst (λ (re : Expression). SearchesForGroups re (Some c.in-Some.groups)) c.self.view_is
+    (subst (SearchesForGroups c.self.inside.regex.now) c.in-Some.is c.self.invariant.1) in (
+      own.0.0,
+      own.0.2.0,
+      own.0.2.1,
+      (
+        told.0,
+        subst (FindsSpan own.0.0 a.haystack.now told.0)
+            (sym (same_pair c.start-2.ensures c.end-2.ensures))
+            (finds_span a.self.now a.haystack.now c.utf8.haystack told.0 a.found.now told.1
+            c.in-Some.groups.graph own.0),
+      ),
+    )
+
+pub read_slots-requires-clause-room : goal.read_slots-requires-clause-room
+read_slots-requires-clause-room c =
     let own =
     subst (λ (re : Expression). SearchesForGroups re (Some c.in-Some.groups)) c.self.view_is
     (subst (SearchesForGroups c.self.inside.regex.now) c.in-Some.is c.self.invariant.1) in
@@ -40,8 +61,8 @@ invariant_of-self-2 c =
     let re = c.self.inside.regex.now in
     let own = subst (SearchesForGroups re) c.in-Some.is c.self.invariant.1 in (
       c.self.invariant.0,
-      still_searches re c.in-Some.groups c.read_again.new.searcher own c.read_again.ensures.graph
-          c.read_again.ensures.slots,
+      still_searches re c.in-Some.groups c.read_slots.new.searcher own c.read_slots.ensures.graph
+          c.read_slots.ensures.slots,
     )
 
 pub returns-clause-locations : goal.returns-clause-locations
@@ -50,16 +71,17 @@ returns-clause-locations c = λ start told.
     let re = a.self.now in
     let bytes = a.haystack.now in
     let m = a.found.now in
-    let slots = c.read_again.new.searcher.slots in
-    let span = c.read_again.result in
+    let slots = c.read_slots.new.searcher.slots in
+    let span : ℕ × ℕ = (c.start-2.result, c.end-2.result) in
     let own =
     subst (λ (re : Expression). SearchesForGroups re (Some c.in-Some.groups)) c.self.view_is
     (subst (SearchesForGroups c.self.inside.regex.now) c.in-Some.is c.self.invariant.1) in
-    let outcome = subst (λ at. OfTree re (λ tree. IsSpanOutcome tree bytes at slots span))
-    c.start-2.ensures
-    (span_of re c.in-Some.groups bytes c.start-2.result slots span own.0 c.read_again.ensures.found)
-    in
-    locations_read re bytes c.utf8.haystack start m told slots
-    (slots_again re bytes c.utf8.haystack start m told slots span outcome)
-    (own.1.0, own.1.1, c.read_again.ensures.slots ∙ own.1.2) (length a.locs.now)
-    c.read_again.new.locs c.read_again.ensures.spans
+    let finds = subst (FindsSpan own.0.0 bytes start)
+    (sym (same_pair c.start-2.ensures c.end-2.ensures))
+    (finds_span re bytes c.utf8.haystack start m told c.in-Some.groups.graph own.0) in
+    let outcome : OfTree re (λ tree. IsSpanOutcome tree bytes start slots (Some span))
+    = (own.0.0, own.0.1, c.read_slots.ensures.found own.0.0 own.0.2.0 own.0.2.1 start finds) in
+    let held = slots_found re bytes c.utf8.haystack start m told slots span outcome in
+    locations_read re bytes c.utf8.haystack start m told slots held
+    (own.1.0, own.1.1, c.read_slots.ensures.slots ∙ own.1.2) (length a.locs.now)
+    c.read_slots.new.locs c.read_slots.ensures.spans

@@ -21,12 +21,12 @@ pub run-requires-clause-fresh : goal.run-requires-clause-fresh
 run-requires-clause-fresh c =
     let a = c.args in
     let old = a.self.now.walk.stack in
-    let few = c.few.ensures in
+    let restarted = c.restart.ensures in
     let offsets = length a.haystack.now - a.start + 1 in
     let places : c.places.result ≡ length (table_of a.graph.now)
     = c.places.ensures.same ∙ sym (length-map a.graph.now.places place_of) in
-    let none : c.few.result.entered ≡ replicate (length (table_of a.graph.now) * offsets) false
-    = few.none ∙ ap (λ n. replicate (n * offsets) false) places in
+    let none : c.restart.new.self.entered ≡ replicate (length (table_of a.graph.now) * offsets) false
+    = restarted.none ∙ ap (λ n. replicate (n * offsets) false) places in
     let row : c.clear.new.self.row ≡ replicate (length old.row) None
     = ap (λ held. held.row) c.clear.ensures in
     let width : length c.clear.new.self.row ≡ length old.row
@@ -36,19 +36,19 @@ run-requires-clause-fresh c =
     let fits : kept * offsets ≤ kept * a.self.now.offsets
     = mul-le-mul_left kept (omega (arith, c.requires.short)) in
     let walk : Walk
-    = record { visited = c.few.result; stack = c.clear.new.self; steps = c.no_steps-self.result } in
+    = record { visited = c.restart.new.self; stack = c.clear.new.self; steps = c.no_steps-self.result } in
     subst (λ (z : ℕ). IsFresh (table_of c.args.graph.now) a.haystack.now z walk)
     (sym c.at.ensures.at)
     (record {
       all = record {
-        places = few.places ∙ places;
-        boundary = subst (IsCharBoundary a.haystack.now) (sym few.first) c.requires.boundary;
+        places = restarted.places ∙ places;
+        boundary = subst (IsCharBoundary a.haystack.now) (sym restarted.first) c.requires.boundary;
         all = ap length none
             ∙ length-replicate (length (table_of a.graph.now) * offsets) false
             ∙ ap (λ z. length (table_of a.graph.now) * (length a.haystack.now - z + 1))
-            (sym few.first);
+            (sym restarted.first);
       };
-      first = few.first;
+      first = restarted.first;
       none = none;
       frames = ap (λ held. held.frames) c.clear.ensures;
       blank = subst IsBlank (sym row) (blank_row (length old.row));
@@ -68,18 +68,30 @@ returns-clause-searches c =
     ∙ length-replicate (length old.walk.stack.row) None in
     let room : c.run.new.walk.stack.room ≡ old.walk.stack.room
     = c.run.ensures.room ∙ ap (λ held. held.room) c.clear.ensures in
+    let pairs : c.run.new.walk.visited.room ≡ old.walk.visited.room
+    = c.run.ensures.pairs ∙ c.restart.ensures.room in
     record {
       room = subst (λ (z : ℕ). sum_by (kept_back_with z) (table_of c.args.graph.now) * old.offsets
           ≤ c.run.new.walk.stack.room) (sym width)
           (omega (arith, room, c.requires.searches.room));
-      few_pairs = c.requires.searches.few_pairs;
+      pairs = omega (arith, pairs, c.requires.searches.pairs);
       countable = c.requires.searches.countable;
     }
 
+-- there is memory for the pairs of a haystack that is short enough
+pub restart-requires-clause-room : goal.restart-requires-clause-room
+restart-requires-clause-room c =
+    let a = c.args in
+    let table = table_of a.graph.now in
+    let places : c.places.result ≡ length table
+    = c.places.ensures.same ∙ sym (length-map a.graph.now.places place_of) in
+    let fits : length table * (length a.haystack.now - a.start + 1)
+    ≤ length table * a.self.now.offsets
+    = mul-le-mul_left (length table) (omega (arith, c.requires.short)) in
+    subst (λ (z : ℕ). z * (length a.haystack.now - a.start + 1) ≤ a.self.now.walk.visited.room)
+    (sym places) (omega (arith, fits, c.requires.searches.pairs))
+
 -- The goals from here on need no lemma of their own. They have answers because the prover would
 -- try other calls first, which takes long
-pub few-requires-clause-few : goal.few-requires-clause-few
-few-requires-clause-few c = grind (arith, common_steps)
-
 pub returns-clause-width : goal.returns-clause-width
 returns-clause-width c = grind (arith, common_steps)

@@ -15,7 +15,7 @@ stays : (table : List (Place ℕ)) (haystack : List ℕ) (walk : Walk)
     → GoesOn table haystack walk walk None
 stays table haystack walk = record {
   walks = λ entry from start walking. walking;
-  kept = record { places = refl; first = refl; row = refl; room = refl };
+  kept = record { places = refl; first = refl; row = refl; room = refl; pairs = refl };
   spent = omega arith;
   spent_entries = omega arith;
 }

@@ -2,10 +2,11 @@ use Rattle.regex_lite_engine.proofs.Common.{◌≡◌, ◌^◌, ◌<◌, map, le
 use Rattle.regex_lite_engine.proofs.Common.{tree_of, arrows_of, places_of_all, places_of}
 use Rattle.regex_lite_engine.proofs.Common.{patterns_table, length-map}
 use Rattle.regex_lite_engine.specs.Graph.Stored.{StoredTable}
+use Rattle.regex_lite_engine.specs.Search.OwnFilters.{heads_of}
 use Rattle.regex_lite_engine.proofs.nfa.list.TableLemmas.{closed, name, written, entered}
 use Rattle.regex_lite_engine.proofs.nfa.list.TableLemmas.{entries_inside, parted, entry_for_each}
 use Rattle.regex_lite_engine.proofs.nfa.list.TableLemmas.{few_entries}
-use Rattle.regex_lite_engine.proofs.nfa.WayLemmas.{listed_heads}
+use Rattle.regex_lite_engine.proofs.nfa.WayLemmas.{listed_filters, listed_heads}
 use Rattle.regex_lite_engine.proofs.nfa.write.SeveralRowLemmas.{arrows_add_up}
 use Rattle.regex_lite_engine.proofs.nfa.list.GraphList.new.Goals as goal
 
@@ -48,6 +49,11 @@ invariant_of-result c =
           (entered trees regular places table_is entries entries_are)
           (ap length entries_are ∙ entry_for_each trees 0) c.in_ok-heads.heads
           c.in_ok-heads.ensures.ok,
+      listed_filters trees regular (name trees regular places table_is)
+          (places_of c.new-table.result) entries (written trees regular places table_is)
+          (entered trees regular places table_is entries entries_are)
+          (ap length entries_are ∙ entry_for_each trees 0)
+          (map heads_of c.in_ok-filters.filters.items) c.in_ok-filters.ensures,
     )
 
 pub returns-clause-ok : goal.returns-clause-ok

@@ -1,18 +1,40 @@
-use Rattle.regex_lite_meta.proofs.Common.{position_at}
+use Rattle.regex_lite_meta.proofs.Common.{refl, sym, ◌∙◌, position_at}
+use Rattle.regex_lite_meta.proofs.lazy_dfa.OnceLemmas.{found_told, under_way}
 use Rattle.regex_lite_meta.proofs.lazy_dfa.automaton.LazyDfa.find.Goals as goal
 
-pub find_from-requires-clause-stands : goal.find_from-requires-clause-stands
-find_from-requires-clause-stands g c = (
+pub find_while_it_pays-requires-clause-stands : goal.find_while_it_pays-requires-clause-stands
+find_while_it_pays-requires-clause-stands g c = (
   position_at c.args.haystack.now c.args.start,
   c.requires.counts,
-  c.begun-at.ensures _ _ c.args.self.now c.args.cache.now c.requires.fresh c.requires.width,
+  c.begun-begun.ensures _ _ c.args.self.now c.args.cache.now c.requires.fresh c.requires.width,
 )
 
-pub returns-clause-found : goal.returns-clause-found
-returns-clause-found g c = c.find_from.ensures.found (position_at c.args.haystack.now c.args.start)
-    (c.begun-at.ensures _ _ c.args.self.now c.args.cache.now c.requires.fresh c.requires.width)
+pub run_on-requires : goal.run_on-requires
+run_on-requires g c =
+    let s = position_at c.args.haystack.now c.args.start in
+    let stands = c.in-Err.ensures.stands s
+    (c.begun-begun.ensures _ _ c.args.self.now c.args.cache.now c.requires.fresh c.requires.width)
+    in
+    record { on = (s, stands.p, stands.is, c.requires.counts, under_way _ _ _ s stands.on) }
 
-pub returns-clause-bounded : goal.returns-clause-bounded
-returns-clause-bounded g c =
-    c.find_from.ensures.bounded (position_at c.args.haystack.now c.args.start)
-    (c.begun-at.ensures _ _ c.args.self.now c.args.cache.now c.requires.fresh c.requires.width)
+pub returns-in-Err : goal.returns-in-Err
+returns-in-Err g c =
+    let s = position_at c.args.haystack.now c.args.start in
+    let stands = c.in-Err.ensures.stands s
+    (c.begun-begun.ensures _ _ c.args.self.now c.args.cache.now c.requires.fresh c.requires.width)
+    in
+    let width = c.run_on.ensures.width ∙ stands.on.ready.best_width ∙ stands.on.width in
+    record {
+      found = found_told _ _ _ s c.run_on.new.cache c.found.result width c.found.ensures
+          (c.run_on.ensures.found s stands.p stands.is (under_way _ _ _ s stands.on)
+          (c.run_on.ensures.all refl));
+      remembers = c.find_while_it_pays.ensures.remembers;
+      none_pending = c.find_while_it_pays.ensures.none_pending;
+      between = c.run_on.ensures.between;
+      width = sym c.run_on.ensures.between.best_width ∙ width;
+    }
+
+pub returns-in-Ok-clause-found : goal.returns-in-Ok-clause-found
+returns-in-Ok-clause-found g c =
+    c.in-Ok.ensures.found (position_at c.args.haystack.now c.args.start)
+    (c.begun-begun.ensures _ _ c.args.self.now c.args.cache.now c.requires.fresh c.requires.width)

@@ -1,4 +1,4 @@
-use Rattle.regex_lite_meta.proofs.Common.{◌+◌, chars, arith, rules, best_of}
+use Rattle.regex_lite_meta.proofs.Common.{chars, ◌∙◌, arith, rules, best_of}
 use Rattle.regex_lite_meta.proofs.lazy_dfa.OnceLemmas.{found_told}
 use Rattle.regex_lite_meta.proofs.lazy_dfa.RunLemmas.{match_counted}
 use Rattle.regex_lite_meta.proofs.lazy_dfa.StandsLemmas.{all_ended, bounded_after, bounded_there}
@@ -45,8 +45,9 @@ returns-then-is_over-clause-found g c = λ s begun.
     let stands = c.in_default.ensures.stands s idle in
     let on = c.go_over-hit.ensures.on _ _ stands.is stands.on in
     found_told (g.P.Patterns.table c.args.patterns.now) (chars c.args.haystack.now)
-    (g.P.Patterns.entries c.args.patterns.now) s (stands.p + 1) c.go_over-hit.new.cache
-    c.found.result on c.found.ensures (all_ended stands on (c.is_over.ensures.over (search rules)))
+    (g.P.Patterns.entries c.args.patterns.now) s c.go_over-hit.new.cache c.found.result
+    (on.ready.best_width ∙ on.width) c.found.ensures
+    (all_ended stands on (c.is_over.ensures.over (search rules)))
 
 pub returns-then-is_over-clause-between : goal.returns-then-is_over-clause-between
 returns-then-is_over-clause-between g c =

@@ -1,0 +1,29 @@
+use Rattle.regex_lite_engine.proofs.Common.{◌≡◌, ℕ, ◌-◌, length, chars, None, StaysCounted}
+use Rattle.regex_lite_engine.proofs.Common.{IsHere, IsOwnPart, best_of}
+use Rattle.regex_lite_engine.specs.Pikevm.Passing.{HasSpentWithin, IsUnderWay}
+use Rattle.regex_lite_engine.proofs.pikevm.shortest.run_shortest_on.Given as goal
+
+abbrev pub invariant-positions : goal.invariant-positions
+invariant-positions g l = record {
+  under_way : (s p : ℕ) → IsHere (chars l.haystack) p l.fn.from
+      → IsUnderWay (g.P.Patterns.table l.fn.patterns) (chars l.haystack)
+      (g.P.Patterns.entries l.fn.patterns) s p l.initial.cache
+      → (q : ℕ) × IsHere (chars l.haystack) q l.here
+      × IsUnderWay (g.P.Patterns.table l.fn.patterns) (chars l.haystack)
+      (g.P.Patterns.entries l.fn.patterns) s q l.cache
+      × ((low len : ℕ) → IsOwnPart (g.P.Patterns.table l.fn.patterns)
+      (g.P.Patterns.entries l.fn.patterns) low len
+      → HasSpentWithin (g.P.Patterns.table l.fn.patterns) (chars l.haystack)
+      (g.P.Patterns.entries l.fn.patterns) s low len p l.initial.cache
+      → HasSpentWithin (g.P.Patterns.table l.fn.patterns) (chars l.haystack)
+      (g.P.Patterns.entries l.fn.patterns) s low len q l.cache);
+  none : best_of l.cache.best ≡ None;
+  table : g.P.Patterns.table l.patterns ≡ g.P.Patterns.table l.fn.patterns;
+  entries : g.P.Patterns.entries l.patterns ≡ g.P.Patterns.entries l.fn.patterns;
+  all : l.fn.most ≡ None → l.left ≡ None;
+  width : length l.cache.best.row ≡ length l.initial.cache.best.row;
+  counts : StaysCounted l.initial.cache.walk.steps l.cache.walk.steps;
+}
+
+abbrev pub decreases-positions : goal.decreases-positions
+decreases-positions g l = length l.haystack - l.here.at

@@ -1,0 +1,21 @@
+-- Where a match can begin whose first two characters are known.
+use Rattle.std.specs.Prelude.{ℕ, true, false, Some, map, nat_eq}
+use Rattle.std.specs.List.{range_with_len}
+use Rattle.regex_lite_syntax.specs.declared.prefilter.heads.Heads.{Heads}
+use Rattle.regex_lite_syntax.specs.declared.prefilter.starts.Starts.{Starts}
+
+-- a match can begin with the ASCII character of this code alone
+abbrev pub just_starts : (code : ℕ) → Starts
+just_starts code = record {
+  any = true;
+  ascii = map (λ c. nat_eq c code) (range_with_len 0 128);
+  others = false;
+  at_start = false;
+}
+
+-- a match begins with these two ASCII characters
+abbrev pub prefix_heads : (first second : ℕ) → Heads
+prefix_heads first second = record {
+  first = just_starts first;
+  second = Some (just_starts second);
+}

@@ -1,0 +1,89 @@
+//! Searches for one pattern by themselves that remember their turns.
+ghost use Rattle.std.specs.Prelude.{◌≡◌, ◌<◌, [], IfOk, IfSome, IsCharBoundary, length};
+ghost use Rattle.regex_lite_syntax.specs.Tree.{Tree};
+ghost use Rattle.regex_lite_syntax.specs.Tree.Regular.{IsRegular};
+ghost use Rattle.regex_lite_engine.specs.Graph.Renumbered.{IsGraphOf};
+ghost use Rattle.regex_lite_engine.specs.Search.Outcomes.{HasCost, IsEndOutcome, IsOutcome};
+ghost use Rattle.regex_lite_engine.specs.Search.NumberedOutcomes.{best_at, match_told, span_of};
+
+use crate::lazy_dfa::single::{find_once, find_shortest_once};
+use regex_lite_engine::pikevm::beginning::Origin;
+use regex_lite_engine::pikevm::cache::{Cache, cache_for};
+use regex_lite_engine::search::one_pattern::OnePattern;
+use regex_lite_engine::search::outcome::Outcome;
+use regex_lite_engine::{Graph, Steps};
+use std::alloc::{AllocError, Global};
+
+/// What `search` returns without slots, by an automaton if it isn't over soon.
+pub(crate) fn search_remembering(
+    graph: &Graph,
+    alloc: Global,
+    haystack: &str,
+    start: usize,
+) -> Result<(Option<Outcome>, Steps), AllocError>
+    requires boundary { IsCharBoundary haystack.now start }
+    ensures found { IfOk result (λ told. (tree : Tree) → IsRegular tree
+        → IsGraphOf tree graph.now → IsOutcome tree haystack.now start told.0) }
+    ensures slots { IfOk result (λ told. IfSome told.0
+        (λ outcome. length outcome.slots.items ≡ 0)) }
+    ensures cost { IfOk result (λ told. (tree : Tree) → IsGraphOf tree graph.now
+        → HasCost tree haystack.now start told.1) }
+    ensures entered { IfOk result (λ told. IfSome told.0 (λ _. 0 < told.1.entered)) }
+{
+    let mut cache = cache_for::<Origin>(alloc, graph.table(), 0)?;
+    // Its place is one of the graph.
+    let _start = graph.start();
+    let mut pattern = OnePattern {
+        graph,
+        may_start: false,
+    };
+    let all = OnePattern {
+        graph,
+        may_start: true,
+    };
+    let found = find_once(&mut pattern, &all, alloc, &mut cache, haystack, start);
+    let Cache { walk, .. } = cache;
+    Ok((without_slots(alloc, found), walk.steps))
+}
+
+/// What `search_shortest` returns, by an automaton if it isn't over soon.
+pub(crate) fn search_shortest_remembering(
+    graph: &Graph,
+    alloc: Global,
+    haystack: &str,
+    start: usize,
+) -> Result<(Option<usize>, Steps), AllocError>
+    requires boundary { IsCharBoundary haystack.now start }
+    ensures found { IfOk result (λ told. (tree : Tree) → IsRegular tree
+        → IsGraphOf tree graph.now → IsEndOutcome tree haystack.now start told.0) }
+    ensures cost { IfOk result (λ told. (tree : Tree) → IsGraphOf tree graph.now
+        → HasCost tree haystack.now start told.1) }
+    ensures entered { IfOk result (λ told. IfSome told.0 (λ _. 0 < told.1.entered)) }
+{
+    let mut cache = cache_for::<Origin>(alloc, graph.table(), 0)?;
+    // Its place is one of the graph.
+    let _start = graph.start();
+    let mut pattern = OnePattern {
+        graph,
+        may_start: false,
+    };
+    let all = OnePattern {
+        graph,
+        may_start: true,
+    };
+    let end = find_shortest_once(&mut pattern, &all, alloc, &mut cache, haystack, start);
+    let Cache { walk, .. } = cache;
+    Ok((end, walk.steps))
+}
+
+/// The match that starts and ends there.
+fn without_slots(alloc: Global, found: Option<(Origin, usize)>) -> Option<Outcome>
+    ensures told { match_told result ≡ best_at (span_of found) [] }
+{
+    let (origin, end) = found?;
+    Some(Outcome {
+        start: origin.at,
+        end,
+        slots: Vec::new(alloc),
+    })
+}

@@ -1,0 +1,89 @@
+//! Searches for several patterns by themselves that remember their turns.
+ghost use Rattle.std.specs.Prelude.{◌≡◌, ◌<◌, ◌↔◌, List, IfOk, IfSome, IsCharBoundary, IsTrue};
+ghost use Rattle.std.specs.Prelude.{chars, length};
+ghost use Rattle.regex_lite_meta.specs.LazyDfa.Scanning.{best_told};
+ghost use Rattle.regex_lite_syntax.specs.Tree.{Tree};
+ghost use Rattle.regex_lite_engine.specs.Graph.SideBySide.{AreRegularPatterns};
+ghost use Rattle.regex_lite_engine.specs.Graph.StoredList.{IsGraphOfList};
+ghost use Rattle.regex_lite_engine.specs.Search.AnswerOfList.{AnyMatchesFrom};
+ghost use Rattle.regex_lite_engine.specs.Search.NumberedOutcomes.{numbered_told};
+ghost use Rattle.regex_lite_engine.specs.Search.NumberedOutcomes.{with_origin_kept};
+ghost use Rattle.regex_lite_engine.specs.Search.Offsets.{search_start};
+ghost use Rattle.regex_lite_engine.specs.Search.Outcomes.{HasCostOfList, IsOutcomeOfList};
+
+use crate::lazy_dfa::single::{find_once, find_shortest_once};
+use regex_lite_engine::Steps;
+use regex_lite_engine::nfa::list::GraphList;
+use regex_lite_engine::pikevm::beginning::Origin;
+use regex_lite_engine::pikevm::cache::{Cache, cache_for};
+use regex_lite_engine::search::all_of_list::AllOfList;
+use regex_lite_engine::search::list_patterns::ListPatterns;
+use regex_lite_engine::search::outcome::Outcome;
+use std::alloc::{AllocError, Global};
+
+/// What `search_list` returns without slots, by an automaton if it isn't over soon.
+pub(crate) fn search_list_remembering(
+    list: &GraphList,
+    alloc: Global,
+    haystack: &str,
+    start: usize,
+) -> Result<(Option<(usize, Outcome)>, Steps), AllocError>
+    requires boundary { IsCharBoundary haystack.now start }
+    requires places { 0 < length list.now.places }
+    ensures found { IfOk result (λ told. (trees : List Tree) → AreRegularPatterns trees
+        → IsGraphOfList trees list.now → IsOutcomeOfList trees haystack.now start told.0) }
+    ensures slots { IfOk result (λ told. IfSome told.0
+        (λ found. length found.1.slots.items ≡ 0)) }
+    ensures cost { IfOk result (λ told. (trees : List Tree) → IsGraphOfList trees list.now
+        → HasCostOfList trees haystack.now start told.1) }
+    ensures entered { IfOk result (λ told. IfSome told.0 (λ _. 0 < told.1.entered)) }
+{
+    let mut patterns = ListPatterns::new(alloc, list)?;
+    let mut cache = cache_for::<Origin>(alloc, list.table(), 0)?;
+    // Each place is one of the graph.
+    let _entries = list.entries();
+    let all = AllOfList { list };
+    let found = find_once(&mut patterns, &all, alloc, &mut cache, haystack, start);
+    let Cache { walk, .. } = cache;
+    Ok((without_slots(alloc, found), walk.steps))
+}
+
+/// What `search_list_any` returns, by an automaton if it isn't over soon.
+pub(crate) fn search_any_remembering(
+    list: &GraphList,
+    alloc: Global,
+    haystack: &str,
+    start: usize,
+) -> Result<(bool, Steps), AllocError>
+    requires boundary { IsCharBoundary haystack.now start }
+    requires places { 0 < length list.now.places }
+    ensures found { IfOk result (λ told. (trees : List Tree) → AreRegularPatterns trees
+        → IsGraphOfList trees list.now → (IsTrue told.0
+        ↔ AnyMatchesFrom trees (chars haystack.now) (search_start haystack.now start))) }
+    ensures cost { IfOk result (λ told. (trees : List Tree) → IsGraphOfList trees list.now
+        → HasCostOfList trees haystack.now start told.1) }
+    ensures entered { IfOk result (λ told. IsTrue told.0 → 0 < told.1.entered) }
+{
+    let mut patterns = ListPatterns::new(alloc, list)?;
+    let mut cache = cache_for::<Origin>(alloc, list.table(), 0)?;
+    // Each place is one of the graph.
+    let _entries = list.entries();
+    let all = AllOfList { list };
+    let end = find_shortest_once(&mut patterns, &all, alloc, &mut cache, haystack, start);
+    let Cache { walk, .. } = cache;
+    Ok((end.is_some(), walk.steps))
+}
+
+/// The match that starts and ends there, with the number of its pattern.
+fn without_slots(alloc: Global, found: Option<(Origin, usize)>) -> Option<(usize, Outcome)>
+    ensures told { best_told found ≡ with_origin_kept (numbered_told result) }
+    ensures slots { IfSome result (λ told. length told.1.slots.items ≡ 0) }
+{
+    let (origin, end) = found?;
+    let outcome = Outcome {
+        start: origin.at,
+        end,
+        slots: Vec::new(alloc),
+    };
+    Some((origin.number as usize, outcome))
+}
