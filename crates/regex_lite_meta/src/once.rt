@@ -88,15 +88,15 @@ pub fn search_shortest(
     if pays_once(graph, haystack.len() - start) {
         return search_shortest_remembering(graph, alloc, haystack, start);
     }
-    if graph.has_no_start(haystack, start) {
+    let Some(first) = graph.first_start(haystack, start) else {
         return Ok((None, no_steps()));
-    }
+    };
     let mut cache = cache_for::<Unkept>(alloc, graph.table(), 0)?;
     let mut pattern = OnePattern {
         graph,
         may_start: false,
     };
-    run_shortest(&mut cache, &mut pattern, haystack, start);
+    run_shortest(&mut cache, &mut pattern, haystack, first.at);
     let Cache { walk, best, .. } = cache;
     Ok((best.end(), walk.steps))
 }

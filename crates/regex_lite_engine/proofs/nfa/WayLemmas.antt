@@ -6,11 +6,16 @@ use Rattle.regex_lite_engine.proofs.Common.{IsRegular, Address, IsRenumbered}
 use Rattle.regex_lite_engine.proofs.Common.{side_by_side, AreEntries, start_address}
 use Rattle.regex_lite_engine.proofs.Common.{written_out, NeverBegins, MayBegin, numbered_step}
 use Rattle.regex_lite_engine.proofs.Common.{IsEntry, IsDeadAt, AreListHeadsOf, Heads, ListHeads}
-use Rattle.regex_lite_engine.proofs.Common.{Starts, pattern_table, pattern_layout}
+use Rattle.regex_lite_engine.proofs.Common.{Starts, pattern_table, pattern_layout, map, subst, ap}
+use Rattle.regex_lite_engine.proofs.Common.{range_with_len, slice_get-map}
+use Rattle.std.specs.List.{All, filter}
+use Rattle.std.specs.Prelude.{option_map}
+use Rattle.std.proofs.lemmas.Option.{get_or_from_slice_get}
 use Rattle.std.proofs.Common.{MatchOption}
 use Rattle.regex_lite_engine.specs.Graph.Places.{Place}
 use Rattle.regex_lite_engine.specs.Graph.SideBySide.{AreRegularPatterns}
 use Rattle.regex_lite_engine.specs.Search.Starts.{AreFiltersOf, AreHeadsOf, NoneBeginsAtEnd}
+use Rattle.regex_lite_engine.specs.Search.Starts.{AreAllAtEnd, may_be_empty}
 use Rattle.regex_lite_syntax.specs.Prefilter.Heads.{AreSecondOfTree, AreHeadsOfTree}
 use Rattle.regex_lite_syntax.specs.Prefilter.ListHeads.{AreEachHeadsOf, AreHeadsOfTrees}
 use Rattle.regex_lite_syntax.proofs.prefilter.list_heads.IndexLemmas.{walkable}
@@ -26,6 +31,8 @@ use Rattle.regex_lite_engine.proofs.laws.PatternWayLemmas.{walk_match, one_or_tw
 use Rattle.regex_lite_engine.proofs.laws.search.NumberedWayLemmas.{IsPart, IsPartNumber, whole_part}
 use Rattle.regex_lite_engine.proofs.laws.search.NumberedWayLemmas.{whole_number, in_addresses}
 use Rattle.regex_lite_syntax.proofs.LookupLemmas.{there_is}
+use Rattle.regex_lite_syntax.proofs.prefilter.list_heads.WalkLemmas.{filter_at_most}
+use Rattle.regex_lite_engine.proofs.search.list_patterns.ListStartLemmas.{all_below, tested_start}
 
 pub dead_without_match : (tree : Tree) (haystack : Text) (table : List (Place ℕ)) (start : ℕ)
     (name : ℕ → Address) (Part : ℕ → Type 0) → IsPart (written_out tree) name table Part
@@ -51,8 +58,8 @@ dead_in_pattern tree regular haystack i =
     (whole_number name table start_address start (starts_there tree regular)) regular i
 
 -- none matches where the heads rule it out
-never_matches : (tree : Tree) (heads : Heads) → AreHeadsOfTree tree heads → (haystack : Text) (i : ℕ)
-    → NeverBegins heads haystack i → (j : ℕ) → Matches haystack tree i j → ⊥
+never_matches : (tree : Tree) (heads : Heads) → AreHeadsOfTree tree heads → (haystack : Text)
+    (i : ℕ) → NeverBegins heads haystack i → (j : ℕ) → Matches haystack tree i j → ⊥
 never_matches tree heads of_tree haystack i (inl off) j m = off (of_tree.first haystack i j m)
 never_matches tree heads of_tree haystack i (inr off) j m =
     by_second heads.second of_tree.second off
@@ -78,6 +85,13 @@ none_at_end tree regular table start table_is start_is reading haystack =
     rw (table_is, start_is) (dead_in_pattern tree regular haystack (length haystack)
     (λ j m. let read = reads haystack tree (length haystack) j reading m in
     absurd (omega (arith, read.0, read.1))))
+
+-- whether a pattern of several may be empty
+pub empty_at : (trees : List Tree) (number : ℕ) (tree : Tree) → slice_get trees number ≡ Some tree
+    → may_be_empty trees number ≡ nullable tree
+empty_at trees number tree there =
+    get_or_from_slice_get (map nullable trees) number (nullable tree) false
+    (slice_get-map nullable trees number ∙ ap (option_map nullable) there)
 
 -- the places of several patterns in a table, each of which is entered at a place of its own
 module _ (trees : List Tree) (regular : AreRegularPatterns trees) (name : ℕ → Address)
@@ -106,6 +120,31 @@ module _ (trees : List Tree) (regular : AreRegularPatterns trees) (name : ℕ �
         dead number entry is haystack i
         (never_matches own.0 filter (w.each number own.0 filter own.1 there) haystack i never));
   }
+
+  -- of those alone that may be empty a match begins at the end
+  pub listed_ends : length entries ≡ length trees → (numbers : List ℕ)
+      → numbers ≡ filter (may_be_empty trees) (range_with_len 0 (length trees))
+      → AreAllAtEnd table entries numbers
+  listed_ends all numbers told =
+      let test = may_be_empty trees in
+      let n = length entries in
+      let listed : numbers ≡ filter test (range_with_len 0 n) =
+      told ∙ ap (λ k. filter test (range_with_len 0 k)) (sym all) in
+      let size = ap length listed in
+      let most = filter_at_most test 0 n in
+      record {
+        starts = λ haystack.
+            tested_start table haystack entries (length haystack) test
+            (λ number entry is off. (
+            let own = are.of_pattern number entry is in
+            let reading = sym (empty_at trees number own.0 own.1) ∙ off in
+            dead number entry is haystack (length haystack)
+            (λ j m. let read = reads haystack own.0 (length haystack) j reading m in
+            absurd (omega (arith, read.0, read.1))))) numbers listed;
+        inside = subst (All (λ number. number < n)) (sym listed)
+            (all_below test 0 n n (omega arith));
+        few = omega (arith, size, most);
+      }
 
   -- what the index of several trees says holds for these places
   pub listed_heads : length entries ≡ length trees → (heads : ListHeads)

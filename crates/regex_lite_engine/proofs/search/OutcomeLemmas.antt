@@ -9,6 +9,7 @@ use Rattle.regex_lite_engine.proofs.Common.{IsNumberedOutcome, position_at, sear
 use Rattle.regex_lite_engine.proofs.Common.{offset}
 use Rattle.regex_lite_engine.specs.Graph.Stored.{StoredGraph}
 use Rattle.regex_lite_engine.specs.Search.Counting.{IsCountable}
+use Rattle.regex_lite_engine.specs.Search.NumberedAnswer.{NoneStartsBefore}
 use Rattle.regex_lite_engine.specs.Search.NumberedOutcomes.{best_at, match_told}
 use Rattle.regex_lite_engine.specs.Search.Outcomes.{IsEndOutcome, IsSpanOutcome, IsOutcome}
 use Rattle.std.proofs.lemmas.Str.{length-le-encodes}
@@ -29,6 +30,40 @@ IsNumberedEnd table haystack start s None = IsNumberedShortest table haystack st
 IsNumberedEnd table haystack start s (Some best) =
     (end : ℕ) × IsNumberedShortest table haystack start s (Some end)
     × (best.1 ≡ offset haystack end)
+
+-- the least end from a later start, before which no match starts, is the least end from here
+pub end_from : (table : List (Place ℕ)) (haystack : Text) (start s m : ℕ)
+    → NoneStartsBefore table haystack start s m → (best : Best)
+    → IsNumberedEnd table haystack start m best → IsNumberedEnd table haystack start s best
+end_from table haystack start s m before None none = λ i q j way is.
+    none i q j way (record {
+      from = before.least i q j way is;
+      inside = is.inside;
+      leads = is.leads;
+    })
+end_from table haystack start s m before (Some best) (end, ((i, q, way, is), least), at) =
+    let low = before.from in
+    let high = is.from in (
+      end,
+      (
+        (
+          i,
+          q,
+          way,
+          record {
+            from = omega (arith, low, high);
+            inside = is.inside;
+            leads = is.leads;
+          },
+        ),
+        λ i' q' j way' other. least i' q' j way' (record {
+          from = before.least i' q' j way' other;
+          inside = other.inside;
+          leads = other.leads;
+        }),
+      ),
+      at,
+    )
 
 -- there are no more characters than bytes
 pub few_chars : (bytes : List ℕ) → IsUtf8 bytes → length (chars bytes) ≤ length bytes

@@ -1,7 +1,10 @@
 -- Where a match can begin in a graph, and the positions that a search passes over.
-use Rattle.std.specs.Prelude.{◌≡◌, ◌≤◌, ◌<◌, ◌^◌, ◌⊎◌, ℕ, suc, false, All}
-use Rattle.std.specs.Prelude.{List, [], ◌∷◌, length, slice_get, slice_index, Some}
+use Rattle.std.specs.Prelude.{◌≡◌, ◌≤◌, ◌<◌, ◌^◌, ◌⊎◌, ℕ, suc, Bool, false, All}
+use Rattle.std.specs.Prelude.{List, [], ◌∷◌, length, map, slice_get, slice_index, slice_index_or}
+use Rattle.std.specs.Prelude.{Some}
 use Rattle.regex_lite_syntax.specs.Text.{Text, after}
+use Rattle.regex_lite_syntax.specs.Tree.{Tree}
+use Rattle.regex_lite_syntax.specs.Tree.Properties.{nullable}
 use Rattle.regex_lite_syntax.specs.declared.prefilter.heads.Heads.{Heads}
 use Rattle.regex_lite_syntax.specs.declared.prefilter.list_heads.ListHeads.{ListHeads}
 use Rattle.regex_lite_engine.specs.declared.search.here.Here.{Here}
@@ -103,3 +106,14 @@ pub record AreListHeadsOf (table : List (Place ℕ)) (entries : List ℕ) (heads
 -- the pattern with this number, and the place where it is entered
 abbrev pub start_numbered : (entries : List ℕ) → (number : ℕ) → Start
 start_numbered entries number = record { number = number; place = slice_index entries number }
+
+-- whether the pattern with this number may match without reading a character
+abbrev pub may_be_empty : List Tree → (number : ℕ) → Bool
+may_be_empty trees number = slice_index_or (map nullable trees) number false
+
+-- at the haystack's end no match can start but of the patterns with these numbers
+pub record AreAllAtEnd (table : List (Place ℕ)) (entries numbers : List ℕ) : Type 0 where
+  pub starts : (haystack : Text)
+      → AreStartsAt table haystack entries (length haystack) (map (start_numbered entries) numbers)
+  pub inside : All (λ number. number < length entries) numbers
+  pub few : length numbers ≤ length entries

@@ -1,6 +1,7 @@
 //! The graph of several patterns: one table of places, with an entry and a match for each pattern.
 ghost use Rattle.std.specs.Prelude.{◌≡◌, ◌^◌, ◌<◌, ◌≤◌, ◌⊎◌, ℕ, All, IfOk};
-ghost use Rattle.std.specs.Prelude.{IfErr, map, length, slice_get, slice_index, Some};
+ghost use Rattle.std.specs.Prelude.{IfErr, filter, map, length, slice_get, slice_index, Some};
+ghost use Rattle.std.specs.List.{range_with_len};
 ghost use Rattle.regex_lite_syntax.specs.declared.error.ErrorKind.TheVariants.{Places};
 ghost use Rattle.regex_lite_syntax.specs.Errors.{kind_of, out_of_memory};
 ghost use Rattle.regex_lite_syntax.specs.Tree.Regular.{IsRegular};
@@ -13,7 +14,8 @@ ghost use Rattle.regex_lite_engine.specs.Graph.Size.{Fits, IsDueToTree};
 ghost use Rattle.regex_lite_engine.specs.Graph.StoredList.{HasGroupsOfList, IsGraphOfList};
 ghost use Rattle.regex_lite_engine.specs.Graph.StoredList.{TellGroupsOf, table_of_list};
 ghost use Rattle.regex_lite_engine.specs.Search.OwnFilters.{heads_of};
-ghost use Rattle.regex_lite_engine.specs.Search.Starts.{AreHeadsOf, AreListHeadsOf};
+ghost use Rattle.regex_lite_engine.specs.Search.Starts.{AreAllAtEnd, AreHeadsOf, AreListHeadsOf};
+ghost use Rattle.regex_lite_engine.specs.Search.Starts.{may_be_empty};
 
 use crate::count::Counts;
 use crate::count::measured::Measured;
@@ -40,6 +42,8 @@ pub struct GraphList {
     filters: Vec<OwnFilter>,
     /// Which patterns may start at a position.
     heads: ListHeads,
+    /// The numbers of those that may match without reading a character, in order.
+    at_end: Vec<u32>,
 }
 
 impl Model for GraphList {
@@ -47,7 +51,8 @@ impl Model for GraphList {
     ghost use Rattle.regex_lite_engine.specs.Graph.Stored.{places_of};
     ghost use Rattle.regex_lite_engine.specs.Graph.StoredList.{StoredList};
     ghost use Rattle.regex_lite_engine.specs.Search.OwnFilters.{heads_of};
-    ghost use Rattle.regex_lite_engine.specs.Search.Starts.{AreFiltersOf, AreListHeadsOf};
+    ghost use Rattle.regex_lite_engine.specs.Search.Starts.{AreAllAtEnd, AreFiltersOf};
+    ghost use Rattle.regex_lite_engine.specs.Search.Starts.{AreListHeadsOf};
 
     ghost Value = { StoredList };
 
@@ -63,7 +68,8 @@ impl Model for GraphList {
         × (length list.entries.items < 2 ^ 32)
         × AreListHeadsOf (places_of list.table) list.entries.items list.heads
         × AreFiltersOf (places_of list.table) list.entries.items
-        (map heads_of list.filters.items) };
+        (map heads_of list.filters.items)
+        × AreAllAtEnd (places_of list.table) list.entries.items list.at_end.items };
 }
 
 impl GraphList {
@@ -109,12 +115,14 @@ impl GraphList {
         let table = Table::new(places, totals.arrows, totals.reading);
         let filters = filters_of(alloc, hirs)?;
         let heads = ListHeads::of(alloc, hirs)?;
+        let at_end = that_may_be_empty(alloc, hirs)?;
         Ok(GraphList {
             table,
             entries,
             groups,
             filters,
             heads,
+            at_end,
         })
     }
 
@@ -142,6 +150,13 @@ impl GraphList {
         ensures { AreListHeadsOf (table_of_list self.now) self.now.entries result.now }
     {
         &self.heads
+    }
+
+    /// The numbers of the patterns of which a match can begin at the haystack's end, in order.
+    pub(crate) fn at_end(&self) -> &[u32]
+        ensures { AreAllAtEnd (table_of_list self.now) self.now.entries result.now }
+    {
+        &self.at_end
     }
 
     /// Where a match of the pattern with this number can begin.
@@ -224,4 +239,23 @@ fn filters_of(alloc: Global, hirs: &[Measured]) -> Result<Vec<OwnFilter>, AllocE
         filters.push(OwnFilter::of(alloc, hir.hir())?)?;
     }
     Ok(filters)
+}
+
+/// The numbers of the trees that may match without reading a character, in order.
+///
+/// # Errors
+///
+/// If memory runs out.
+fn that_may_be_empty(alloc: Global, hirs: &[Measured]) -> Result<Vec<u32>, AllocError>
+    requires { length hirs.now < 2 ^ 32 }
+    ensures { IfOk result (λ numbers. numbers.items
+        ≡ filter (may_be_empty (map tree_of hirs.now)) (range_with_len 0 (length hirs.now))) }
+{
+    let mut numbers = Vec::new(alloc);
+    for k in 0..hirs.len() {
+        if hirs[k].counts().properties.nullable {
+            numbers.push(k as u32)?;
+        }
+    }
+    Ok(numbers)
 }

@@ -14,9 +14,11 @@ use crate::search::skip::pass_over;
 impl Graph {
     /// The first position from this offset on at which a match may begin. None if there is none. A
     /// search from the haystack's end is begun there, since that is its only start.
+    ///
+    /// Condition: the offset is on a character boundary.
     // Inlined, since many searches end at their first start.
     #[inline(always)]
-    pub(crate) fn first_start(&self, haystack: &str, start: usize) -> Option<Here>
+    pub fn first_start(&self, haystack: &str, start: usize) -> Option<Here>
         requires { IsCharBoundary haystack.now start }
         ensures first { IfSome result (PassesTo
             (IsDeadAt (table_of self.now) (chars haystack.now) self.now.start)
@@ -29,18 +31,6 @@ impl Graph {
             return Some(here);
         }
         self.start_from(haystack, here)
-    }
-
-    /// Whether it is known that no match begins at this offset or later. It is looked for only if
-    /// no character begins a match: otherwise most searches would look for a start twice.
-    ///
-    /// Condition: the offset is on a character boundary.
-    pub fn has_no_start(&self, haystack: &str, start: usize) -> bool
-        requires { IsCharBoundary haystack.now start }
-        ensures { IsTrue result → AreDeadFrom (table_of self.now) (chars haystack.now)
-            self.now.start (position_at haystack.now start) }
-    {
-        !self.filter().heads().first.any && self.first_start(haystack, start).is_none()
     }
 
     /// The first such position after this one.

@@ -1,13 +1,15 @@
 //! Several patterns, which are searched for at once.
 ghost use Prim.{hlevel};
 ghost use Rattle.std.specs.Prelude.{◌≡◌, ◌^◌, ◌≤◌, ◌<◌, ℕ, suc, All, IfOk};
-ghost use Rattle.std.specs.Prelude.{chars, filter, length, vec_capacity};
+ghost use Rattle.std.specs.Prelude.{None, Some, chars, filter, length, map, vec_capacity};
 ghost use Rattle.std.specs.List.{range_with_len};
 ghost use Rattle.std.proofs.Props.{props};
-ghost use Rattle.regex_lite_syntax.specs.Text.{after};
+ghost use Rattle.regex_lite_syntax.specs.Text.{Text, after};
 ghost use Rattle.regex_lite_syntax.specs.Prefilter.ListHeads.{is_candidate_at, IsWalkable};
 ghost use Rattle.regex_lite_syntax.specs.Prefilter.Thirds.{may_go_on};
+ghost use Rattle.regex_lite_engine.specs.Graph.StoredList.{table_of_list};
 ghost use Rattle.regex_lite_engine.specs.Search.Standing.{IsHere};
+ghost use Rattle.regex_lite_engine.specs.Search.Starts.{AreStartsAt, start_numbered};
 
 use crate::nfa::list::GraphList;
 use crate::nfa::table::Table;
@@ -71,7 +73,7 @@ impl<'g> Patterns for ListPatterns<'g> {
     fn come_to(&mut self, haystack: &str, here: Here) {
         // Each has a number of 32 bits, since there are no more.
         let _entries = self.list.entries();
-        list_starts(self.list.heads(), haystack, here, &mut self.numbers);
+        list_starts(self.list, haystack, here, &mut self.numbers);
     }
 
     fn len(&self) -> usize {
@@ -88,8 +90,60 @@ impl<'g> Patterns for ListPatterns<'g> {
 }
 
 /// Lists the patterns that may start here, in the order of their numbers.
-fn list_starts(heads: &ListHeads, haystack: &str, here: Here, numbers: &mut Vec<u32>)
+fn list_starts(list: &GraphList, haystack: &str, here: Here, numbers: &mut Vec<u32>)
     requires here { (p : ℕ) × IsHere (chars haystack.now) p here }
+    requires room { length list.now.entries ≤ vec_capacity numbers.old }
+    ensures starts { (p : ℕ) → IsHere (chars haystack.now) p here
+        → AreStartsAt (table_of_list list.now) (chars haystack.now) list.now.entries p
+        (map (start_numbered list.now.entries) numbers.new.items) }
+    ensures inside { All (λ n. n < length list.now.entries) numbers.new.items }
+    ensures few { length numbers.new.items ≤ length list.now.entries }
+    ensures capacity { vec_capacity numbers.old ≤ vec_capacity numbers.new }
+{
+    let Some(first) = here.after else {
+        list_at_end(list, here, numbers);
+        return;
+    };
+    // Each has a number of 32 bits, since there are no more.
+    let _entries = list.entries();
+    list_by_index(list.heads(), haystack, here, first, numbers);
+}
+
+/// Lists those that may start at the haystack's end: if it is empty all of them, since a search has
+/// no other start there, and else those that may match without reading a character.
+fn list_at_end(list: &GraphList, here: Here, numbers: &mut Vec<u32>)
+    requires end { here.after ≡ None }
+    requires room { length list.now.entries ≤ vec_capacity numbers.old }
+    ensures starts { (haystack : Text) (p : ℕ) → IsHere haystack p here
+        → AreStartsAt (table_of_list list.now) haystack list.now.entries p
+        (map (start_numbered list.now.entries) numbers.new.items) }
+    ensures inside { All (λ n. n < length list.now.entries) numbers.new.items }
+    ensures few { length numbers.new.items ≤ length list.now.entries }
+    ensures capacity { vec_capacity numbers.old ≤ vec_capacity numbers.new }
+{
+    if here.before.is_some() {
+        copy_numbers(list.at_end(), numbers);
+        return;
+    }
+    // Each has a number of 32 bits, since there are no more.
+    let _entries = list.entries();
+    list.heads().list_all(numbers);
+}
+
+/// Copies the numbers. There is room for them.
+fn copy_numbers(from: &[u32], numbers: &mut Vec<u32>)
+    requires { length from.now ≤ vec_capacity numbers.old }
+    ensures copied { numbers.new.items ≡ from.now }
+    ensures capacity { vec_capacity numbers.old ≤ vec_capacity numbers.new }
+{
+    numbers.clear();
+    let _ = numbers.extend_from_slice(from);
+}
+
+/// Lists the patterns that may start here, before this character, in the order of their numbers.
+fn list_by_index(heads: &ListHeads, haystack: &str, here: Here, first: char, numbers: &mut Vec<u32>)
+    requires here { (p : ℕ) × IsHere (chars haystack.now) p here }
+    requires first { here.after ≡ Some first }
     requires walkable { IsWalkable heads.now }
     requires few { heads.now.count < 2 ^ 32 }
     requires room { heads.now.count ≤ vec_capacity numbers.old }
@@ -98,14 +152,9 @@ fn list_starts(heads: &ListHeads, haystack: &str, here: Here, numbers: &mut Vec<
         (range_with_len 0 heads.now.count) }
     ensures capacity { vec_capacity numbers.old ≤ vec_capacity numbers.new }
 {
-    match here.after {
-        None => heads.list_all(numbers),
-        Some(first) => {
-            let second = here.next(haystack);
-            heads.list(here.before, first, second.after, numbers);
-            keep_by_third(heads, haystack, second, numbers);
-        }
-    }
+    let second = here.next(haystack);
+    heads.list(here.before, first, second.after, numbers);
+    keep_by_third(heads, haystack, second, numbers);
 }
 
 /// Keeps only those of these patterns that may start by their third character too: the one after

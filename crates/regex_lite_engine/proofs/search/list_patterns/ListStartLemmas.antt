@@ -95,20 +95,39 @@ places_inside entries numbers end all inside k d lt =
     subst (λ (start : Start). start.place < end) (sym is)
     (all (get_or numbers k 0) 0 (inside k 0 within))
 
-pub listed_start : (table : List (Place ℕ)) (haystack : Text) (entries : List ℕ) (heads : ListHeads)
-    → AreListHeadsOf table entries heads → (p : ℕ) (numbers : List ℕ)
-    → numbers ≡ filter (is_candidate_at heads haystack p) (range_with_len 0 (length entries))
+-- the patterns that pass a test may start where each other is dead
+pub tested_start : (table : List (Place ℕ)) (haystack : Text) (entries : List ℕ) (p : ℕ)
+    (test : ℕ → Bool)
+    → ((number entry : ℕ) → IsEntry entries number entry → test number ≡ false
+    → IsDeadAt table haystack entry p) → (numbers : List ℕ)
+    → numbers ≡ filter test (range_with_len 0 (length entries))
     → AreStartsAt table haystack entries p (map (start_numbered entries) numbers)
-listed_start table haystack entries heads w p numbers listed =
+tested_start table haystack entries p test dead numbers listed =
     subst (λ z. AreStartsAt table haystack entries p
     (map (start_numbered entries) z)) (sym listed) (record {
       in_order = in_order entries test 0 (length entries) (omega arith);
       each = λ number entry is. by_test number entry is (test number) refl;
     })
   where
-    test : ℕ → Bool
-    test = is_candidate_at heads haystack p
+    by_test : (number entry : ℕ) → IsEntry entries number entry → (b : Bool) → test number ≡ b
+        → IsAmong number entry
+        (map (start_numbered entries) (filter test (range_with_len 0 (length entries))))
+        ⊎ IsDeadAt table haystack entry p
+    by_test number entry is true may =
+        let within = slice_get_within entries number entry is in
+        inl (among entries test 0 (length entries) number entry (omega arith)
+        (omega (arith, within)) may (get_or_from_slice_get entries number entry 0 is))
+    by_test number entry is false off = inr (dead number entry is off)
 
+pub listed_start : (table : List (Place ℕ)) (haystack : Text) (entries : List ℕ) (heads : ListHeads)
+    → AreListHeadsOf table entries heads → (p : ℕ) (numbers : List ℕ)
+    → numbers ≡ filter (is_candidate_at heads haystack p) (range_with_len 0 (length entries))
+    → AreStartsAt table haystack entries p (map (start_numbered entries) numbers)
+listed_start table haystack entries heads w p numbers listed =
+    tested_start table haystack entries p (is_candidate_at heads haystack p)
+    (λ number entry is off. by_part number entry is (may_start_at heads haystack p number)
+    (may_go_on heads.thirds (after haystack (suc (suc p))) number) refl refl off) numbers listed
+  where
     by_part : (number entry : ℕ) → IsEntry entries number entry → (a b : Bool)
         → may_start_at heads haystack p number ≡ a
         → may_go_on heads.thirds (after haystack (suc (suc p))) number ≡ b
@@ -118,23 +137,14 @@ listed_start table haystack entries heads w p numbers listed =
         w.third haystack p number entry is by_third
     by_part number entry is true true by_two by_third off = absurd cc
 
-    by_test : (number entry : ℕ) → IsEntry entries number entry → (b : Bool) → test number ≡ b
-        → IsAmong number entry
-        (map (start_numbered entries)
-        (filter (is_candidate_at heads haystack p) (range_with_len 0 (length entries))))
-        ⊎ IsDeadAt table haystack entry p
-    by_test number entry is true may =
-        let within = slice_get_within entries number entry is in
-        inl (among entries (is_candidate_at heads haystack p) 0 (length entries) number entry
-        (omega arith)
-        (omega (arith, within)) may (get_or_from_slice_get entries number entry 0 is))
-    by_test number entry is false off =
-        inr (by_part number entry is (may_start_at heads haystack p number)
-        (may_go_on heads.thirds (after haystack (suc (suc p))) number) refl refl off)
-
 filter_all : (numbers : List ℕ) → filter (λ _. true) numbers ≡ numbers
 filter_all [] = refl
 filter_all (number ∷ numbers) = ap (λ rest. number ∷ rest) (filter_all numbers)
+
+-- each of the numbers below the end is
+pub all_inside : (n : ℕ) → All (λ number. number < n) (range_with_len 0 n)
+all_inside n = subst (All (λ number. number < n)) (filter_all (range_with_len 0 n))
+    (all_below (λ _. true) 0 n n (omega arith))
 
 -- all patterns may start anywhere
 all_start : (table : List (Place ℕ)) (entries : List ℕ)

@@ -4,63 +4,79 @@ use Rattle.regex_lite_meta.proofs.Common.{arrows_of}
 use Rattle.std.proofs.lemmas.Grind.{common_steps}
 use Rattle.regex_lite_engine.specs.Search.Outcomes.{IsEndOutcome}
 use Rattle.regex_lite_engine.proofs.pikevm.ShortestLemmas.{one_end}
-use Rattle.regex_lite_engine.proofs.search.FirstStartLemmas.{none_from, none_tried}
-use Rattle.regex_lite_engine.proofs.search.OutcomeLemmas.{can_count, cost_told, end_told}
+use Rattle.regex_lite_engine.proofs.search.FirstStartLemmas.{bounded_from, first_boundary}
+use Rattle.regex_lite_engine.proofs.search.FirstStartLemmas.{none_before_first, none_from}
+use Rattle.regex_lite_engine.proofs.search.FirstStartLemmas.{none_tried}
+use Rattle.regex_lite_engine.proofs.search.OutcomeLemmas.{can_count, cost_told, end_from, end_told}
 use Rattle.regex_lite_engine.proofs.nfa.BoundaryLemmas.{on_boundary}
 use Rattle.regex_lite_meta.proofs.once.search_shortest.Goals as goal
+
+pub first_start-requires : goal.first_start-requires
+first_start-requires c = on_boundary _ _ c.requires c.if-start-haystack.false
 
 pub run_shortest-requires : goal.run_shortest-requires
 run_shortest-requires c = record {
   counts =
       let short : length c.args.haystack.now < 2 ^ 63 = search rules in
       can_count (table_of c.args.graph.now) c.args.haystack.now
-      (position_at c.args.haystack.now c.args.start) c.utf8.haystack short
+      (position_at c.args.haystack.now c.in-Some.first.at) c.utf8.haystack short
       (rw (ap places_of c.table.ensures.same) at c.in_ok-cache.ensures.countable) 1 (omega arith);
   fresh = rw (ap places_of c.table.ensures.same) at c.in_ok-cache.ensures.fresh;
-  boundary = on_boundary _ _ c.requires c.if-start-haystack.false;
+  boundary = first_boundary (table_of c.args.graph.now) c.args.haystack.now c.utf8.haystack
+      c.args.graph.now.start (position_at c.args.haystack.now c.args.start) c.in-Some.first
+      (rw c.in-Some.is at c.first_start.ensures.first);
 }
 
 pub returns-clause-found : goal.returns-clause-found
 returns-clause-found c = λ tree regular is. (
     let over = c.if-start-haystack.false in
+    let table = table_of c.args.graph.now in
+    let s = position_at c.args.haystack.now c.args.start in
+    let m = position_at c.args.haystack.now c.in-Some.first.at in
+    let best = best_of c.run_shortest.new.cache.best in
     subst (λ z. IsEndOutcome tree c.args.haystack.now c.args.start z) (sym c.end.ensures)
     (end_told tree regular c.args.graph.now is c.args.haystack.now c.args.start
-    (omega (arith, over))
-    (best_of c.run_shortest.new.cache.best)
-    (one_end (table_of c.args.graph.now) (chars c.args.haystack.now) c.args.graph.now.start
-    (position_at c.args.haystack.now c.args.start)
-    (best_of c.run_shortest.new.cache.best) c.run_shortest.ensures.found)))
+    (omega (arith, over)) best
+    (end_from table (chars c.args.haystack.now) c.args.graph.now.start s m
+    (none_before_first table c.args.haystack.now c.utf8.haystack c.args.graph.now.start s
+    c.in-Some.first (rw c.in-Some.is at c.first_start.ensures.first)) best
+    (one_end table (chars c.args.haystack.now) c.args.graph.now.start m best
+    c.run_shortest.ensures.found))))
 
 pub returns-clause-cost : goal.returns-clause-cost
 returns-clause-cost c = λ tree is.
     let over = c.if-start-haystack.false in
+    let graph = c.args.graph.now in
     let steps = c.run_shortest.new.cache.walk.steps in
-    cost_told tree c.args.graph.now is c.args.haystack.now c.args.start
-    (omega (arith, over)) steps.tried steps.entered steps.looked c.run_shortest.ensures.bounded
+    let s = position_at c.args.haystack.now c.args.start in
+    let m = position_at c.args.haystack.now c.in-Some.first.at in
+    let before = none_before_first (table_of graph) c.args.haystack.now c.utf8.haystack
+    graph.start s c.in-Some.first (rw c.in-Some.is at c.first_start.ensures.first) in
+    cost_told tree graph is c.args.haystack.now c.args.start
+    (omega (arith, over)) steps.tried steps.entered steps.looked
+    (bounded_from (length (table_of graph)) (arrows_of (table_of graph))
+    (chars c.args.haystack.now) s m steps.tried steps.entered steps.looked before.from
+    c.run_shortest.ensures.bounded)
 
-pub has_no_start-requires : goal.has_no_start-requires
-has_no_start-requires c = on_boundary _ _ c.requires c.if-start-haystack.false
-
-pub returns-then-has_no_start-clause-found : goal.returns-then-has_no_start-clause-found
-returns-then-has_no_start-clause-found c = λ tree regular is. (
+pub returns-in_default-clause-found : goal.returns-in_default-clause-found
+returns-in_default-clause-found c = λ tree regular is. (
     let over = c.if-start-haystack.false in
     end_told tree regular c.args.graph.now is c.args.haystack.now c.args.start (omega (arith, over))
     None
     (none_from (table_of c.args.graph.now) (chars c.args.haystack.now) c.args.graph.now.start
-    (position_at c.args.haystack.now c.args.start)
-    (c.has_no_start.ensures c.if-has_no_start.true)))
+    (position_at c.args.haystack.now c.args.start) (c.first_start.ensures.none c.in_default.is)))
 
-pub returns-then-has_no_start-clause-cost : goal.returns-then-has_no_start-clause-cost
-returns-then-has_no_start-clause-cost c = λ tree is.
+pub returns-in_default-clause-cost : goal.returns-in_default-clause-cost
+returns-in_default-clause-cost c = λ tree is.
     let over = c.if-start-haystack.false in
     let graph = c.args.graph.now in
-    let steps = c.no_steps-then-has_no_start.result in
+    let steps = c.no_steps-in_default.result in
     cost_told tree graph is c.args.haystack.now c.args.start (omega (arith, over)) steps.tried
     steps.entered steps.looked
     (none_tried (length (table_of graph)) (arrows_of (table_of graph)) (chars c.args.haystack.now)
     (position_at c.args.haystack.now c.args.start) steps.tried steps.entered steps.looked
-    c.no_steps-then-has_no_start.ensures.tried c.no_steps-then-has_no_start.ensures.entered
-    c.no_steps-then-has_no_start.ensures.looked)
+    c.no_steps-in_default.ensures.tried c.no_steps-in_default.ensures.entered
+    c.no_steps-in_default.ensures.looked)
 
 -- It has an answer because the prover would try other calls first, which takes long
 pub returns-then-start-haystack-clause-found : goal.returns-then-start-haystack-clause-found

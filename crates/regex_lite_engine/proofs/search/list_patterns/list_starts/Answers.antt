@@ -1,40 +1,48 @@
-use Rattle.regex_lite_engine.proofs.Common.{◌≡◌, ℕ, suc, ◌+◌, ◌&&◌, List, Some, Option, chars, sym}
-use Rattle.regex_lite_engine.proofs.Common.{ap, ◌∙◌, arith, range_with_len, after, may_start}
-use Rattle.regex_lite_engine.proofs.Common.{is_candidate_at, may_go_on}
-use Rattle.regex_lite_syntax.specs.Prefilter.ListHeads.{may_start_at}
-use Rattle.std.specs.List.{filter}
-use Rattle.regex_lite_syntax.specs.Text.{before}
-use Rattle.regex_lite_syntax.proofs.prefilter.list_heads.NumberLemmas.{filter_all}
-use Rattle.regex_lite_syntax.proofs.prefilter.list_heads.ThirdLemmas.{filter_twice, none_later}
+use Rattle.regex_lite_engine.proofs.Common.{◌<◌, length, chars, sym, ap, ◌∙◌, subst, arith}
+use Rattle.regex_lite_engine.proofs.Common.{range_with_len, table_of_list, is_candidate_at}
+use Rattle.std.specs.List.{All, filter}
+use Rattle.regex_lite_syntax.proofs.prefilter.list_heads.WalkLemmas.{filter_at_most}
+use Rattle.regex_lite_engine.proofs.search.list_patterns.ListStartLemmas.{all_below, listed_start}
 use Rattle.regex_lite_engine.proofs.search.list_patterns.list_starts.Goals as goal
 
-pub returns-in-None-clause-listed : goal.returns-in-None-clause-listed
-returns-in-None-clause-listed c p is =
-    let h = chars c.args.haystack.now in
-    let heads = c.args.heads.now in
-    let end = sym is.ahead ∙ c.in-None.is in
-    c.list_all.ensures.listed
-    ∙ sym (filter_all (is_candidate_at heads h p) 0 heads.count
-    (λ k. ap (λ o. may_start heads (before h p) o (after h (suc p)) k
-    && may_go_on heads.thirds (after h (suc (suc p))) k) end
-    ∙ ap (λ o. may_go_on heads.thirds o k) (none_later h (suc p) (none_later h p end))))
+pub list_at_end-requires-clause-room : goal.list_at_end-requires-clause-room
+list_at_end-requires-clause-room c = c.requires.room
 
-pub returns-in-Some-clause-listed : goal.returns-in-Some-clause-listed
-returns-in-Some-clause-listed c p is =
-    let h = chars c.args.haystack.now in
-    let heads = c.args.heads.now in
-    let later = c.next-second.ensures p is in
-    let next : p + 1 ≡ suc p = omega arith in
-    let listed : (b a s : Option ℕ) → List ℕ
-    = λ b a s. filter (may_start heads b a s) (range_with_len 0 heads.count) in
-    let by_two : c.list.new.numbers.items
-    ≡ filter (may_start_at heads h p) (range_with_len 0 heads.count) =
-    c.list.ensures.listed
-    ∙ ap (λ b. listed b (Some c.in-Some.first) c.next-second.result.after) is.behind
-    ∙ ap (λ a. listed (before h p) a c.next-second.result.after) (sym c.in-Some.is ∙ is.ahead)
-    ∙ ap (listed (before h p) (after h p)) (later.ahead ∙ ap (after h) next) in
-    c.keep_by_third.ensures.kept (p + 1) later
-    ∙ ap (λ q. filter (may_go_on heads.thirds (after h (suc q))) c.list.new.numbers.items) next
-    ∙ ap (filter (may_go_on heads.thirds (after h (suc (suc p))))) by_two
-    ∙ filter_twice (may_start_at heads h p) (may_go_on heads.thirds (after h (suc (suc p))))
-    (range_with_len 0 heads.count)
+pub returns-in_default-clause-starts : goal.returns-in_default-clause-starts
+returns-in_default-clause-starts c p is =
+    c.list_at_end.ensures.starts (chars c.args.haystack.now) p is
+
+pub list_by_index-requires-clause-few : goal.list_by_index-requires-clause-few
+list_by_index-requires-clause-few c =
+    let same = ap length c.entries-entries.ensures.same in
+    omega (arith, c.heads.ensures.count, same, c.entries-entries.ensures.few)
+
+pub list_by_index-requires-clause-room : goal.list_by_index-requires-clause-room
+list_by_index-requires-clause-room c = omega (arith, c.heads.ensures.count, c.requires.room)
+
+pub returns-clause-starts : goal.returns-clause-starts
+returns-clause-starts c p is =
+    let list = c.args.list.now in
+    let haystack = chars c.args.haystack.now in
+    listed_start (table_of_list list) haystack list.entries c.heads.result.now c.heads.ensures p
+    c.list_by_index.new.numbers.items
+    (c.list_by_index.ensures.listed p is
+    ∙ ap (λ n. filter (is_candidate_at c.heads.result.now haystack p) (range_with_len 0 n))
+    c.heads.ensures.count)
+
+pub returns-clause-inside : goal.returns-clause-inside
+returns-clause-inside c =
+    let n = length c.args.list.now.entries in
+    let heads = c.heads.result.now in
+    subst (All (λ number. number < n))
+    (sym (c.list_by_index.ensures.listed c.requires.here.0 c.requires.here.1))
+    (all_below (is_candidate_at heads (chars c.args.haystack.now) c.requires.here.0) 0 heads.count
+    n (omega (arith, c.heads.ensures.count)))
+
+pub returns-clause-few : goal.returns-clause-few
+returns-clause-few c =
+    let heads = c.heads.result.now in
+    let listed = ap length (c.list_by_index.ensures.listed c.requires.here.0 c.requires.here.1) in
+    let most = filter_at_most
+    (is_candidate_at heads (chars c.args.haystack.now) c.requires.here.0) 0 heads.count in
+    omega (arith, listed, most, c.heads.ensures.count)

@@ -1,12 +1,14 @@
 use Rattle.regex_lite_engine.proofs.Common.{◌≡◌, ◌^◌, ◌<◌, map, length, sym, ap, ◌∙◌, arith}
 use Rattle.regex_lite_engine.proofs.Common.{tree_of, arrows_of, places_of_all, places_of}
-use Rattle.regex_lite_engine.proofs.Common.{patterns_table, length-map}
+use Rattle.regex_lite_engine.proofs.Common.{patterns_table, length-map, range_with_len}
+use Rattle.std.specs.List.{filter}
+use Rattle.regex_lite_engine.specs.Search.Starts.{may_be_empty}
 use Rattle.regex_lite_engine.specs.Graph.Stored.{StoredTable}
 use Rattle.regex_lite_engine.specs.Search.OwnFilters.{heads_of}
 use Rattle.regex_lite_engine.proofs.nfa.list.TableLemmas.{closed, name, written, entered}
 use Rattle.regex_lite_engine.proofs.nfa.list.TableLemmas.{entries_inside, parted, entry_for_each}
 use Rattle.regex_lite_engine.proofs.nfa.list.TableLemmas.{few_entries}
-use Rattle.regex_lite_engine.proofs.nfa.WayLemmas.{listed_filters, listed_heads}
+use Rattle.regex_lite_engine.proofs.nfa.WayLemmas.{listed_ends, listed_filters, listed_heads}
 use Rattle.regex_lite_engine.proofs.nfa.write.SeveralRowLemmas.{arrows_add_up}
 use Rattle.regex_lite_engine.proofs.nfa.list.GraphList.new.Goals as goal
 
@@ -28,6 +30,23 @@ pub new-table-requires-clause-each_arrow : goal.new-table-requires-clause-each_a
 new-table-requires-clause-each_arrow c =
     ap arrows_of c.in_ok-places.ensures.written
     ∙ arrows_add_up (map tree_of c.args.hirs.now) 0 ∙ sym c.in_ok-totals.ensures.ok.arrows
+
+pub that_may_be_empty-requires : goal.that_may_be_empty-requires
+that_may_be_empty-requires c =
+    let trees = map tree_of c.args.hirs.now in
+    let regular = c.requires.regular in
+    let places = c.new-table.result.places in
+    let entries = c.in_ok-places.entries.items in
+    let entries_are = c.in_ok-places.ensures.entries in
+    let table_is : places_of c.new-table.result ≡ patterns_table trees 0
+    = ap places_of c.new-table.ensures ∙ c.in_ok-places.ensures.written in
+    omega (
+      arith,
+      few_entries trees regular places table_is entries entries_are,
+      c.in_ok-totals.ensures.ok.places,
+      ap length entries_are ∙ entry_for_each trees 0,
+      length-map c.args.hirs.now tree_of,
+    )
 
 pub invariant_of-result : goal.invariant_of-result
 invariant_of-result c =
@@ -54,6 +73,13 @@ invariant_of-result c =
           (entered trees regular places table_is entries entries_are)
           (ap length entries_are ∙ entry_for_each trees 0)
           (map heads_of c.in_ok-filters.filters.items) c.in_ok-filters.ensures,
+      listed_ends trees regular (name trees regular places table_is)
+          (places_of c.new-table.result) entries (written trees regular places table_is)
+          (entered trees regular places table_is entries entries_are)
+          (ap length entries_are ∙ entry_for_each trees 0) c.in_ok-at_end.at_end.items
+          (c.in_ok-at_end.ensures
+          ∙ ap (λ n. filter (may_be_empty trees) (range_with_len 0 n))
+          (sym (length-map c.args.hirs.now tree_of))),
     )
 
 pub returns-clause-ok : goal.returns-clause-ok
