@@ -73,6 +73,8 @@ WORKLOADS = [
     Workload('loop of a or aa, then b', '(?:a|aa)+b', over_and_over('a'), 'ab'),
     Workload('30 times a?, 30 times a', '(?:a?){30}a{30}', over_and_over('a' * 29 + 'b'),
              'a' * 30),
+    Workload('30 times a?, 30 times a, then b', '(?:a?){30}a{30}b', over_and_over('a'),
+             'a' * 30 + 'b'),
     Workload('no turn comes twice', '(?:a|b)*a(?:a|b){14}c',
              of_pieces(lambda dice: dice.one_of('ab'), 77), 'a' * 16 + 'c'),
     Workload('Cyrillic words', '[а-яё]{4,}',

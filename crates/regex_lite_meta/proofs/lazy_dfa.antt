@@ -1,5 +1,6 @@
 -- lemmas that several proofs here share
 pub mod AheadLemmas
+pub mod AnewLemmas
 pub mod BoundaryLemmas
 pub mod IntervalLemmas
 pub mod KnownEndLemmas
@@ -7,6 +8,7 @@ pub mod LeapLemmas
 pub mod LearnLemmas
 pub mod NoLookLemmas
 pub mod OnwardLemmas
+pub mod ReachLemmas
 pub mod RememberedLemmas
 pub mod ResumeLemmas
 pub mod RunLemmas

@@ -9,6 +9,7 @@ mod interval;
 pub(crate) mod learn;
 pub(crate) mod list_spans;
 pub(crate) mod lookup;
+pub(crate) mod reach;
 pub(crate) mod remembering;
 mod resume;
 mod room;

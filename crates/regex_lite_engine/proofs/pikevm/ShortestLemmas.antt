@@ -98,7 +98,8 @@ module _ (table : List (Place ℕ)) (haystack : Text) where
               let rest = (leads_onward ks (entry, i) n along).0 in omega (arith, le, same, rest)
 
     -- then each match ends at the position or later
-    ends_later : (p : ℕ) (threads : List Thread) → Coming p threads None → (i k : ℕ)
+    pub ends_later : (p : ℕ) (threads : List Thread)
+        → IsComing table haystack entries s (length haystack) p threads None → (i k : ℕ)
         (way : List ℕ) (q j : ℕ) → IsMatchOfAny table haystack entries s i k way q j → p ≤ j
     ends_later p threads u i k way q j m =
         later_than_start p u.from u.recorded u.coming

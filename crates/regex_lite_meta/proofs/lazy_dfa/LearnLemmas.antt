@@ -23,7 +23,12 @@ pub remembers_pending : (table : List (Place ℕ)) (entries : List ℕ) (automat
     → Remembers table entries automaton
     → Remembers table entries (record automaton { pending = pending })
 remembers_pending table entries automaton pending remembers =
-    record { intervals = remembers.intervals; leads = remembers.leads; fit = remembers.fit }
+    record {
+      intervals = remembers.intervals;
+      reach = remembers.reach;
+      leads = remembers.leads;
+      fit = remembers.fit;
+    }
 
 -- the ways of threads fit where the threads do
 pub ways_fit : (table : List (Place ℕ)) (first : ℕ) (threads : List Thread)

@@ -2,8 +2,8 @@
 use Rattle.regex_lite_meta.proofs.Common.{◌≡◌, ℕ, zero, suc, true, false, List, [], ◌∷◌, map}
 use Rattle.regex_lite_meta.proofs.Common.{slice_get, Some, sym, refl, ap, ◌∙◌, subst, HasNoLooks}
 use Rattle.regex_lite_meta.proofs.Common.{place_of, Automaton, Intervals, IsBoundedPlace}
-use Rattle.regex_lite_meta.proofs.Common.{AreIntervalsOf}
-use Rattle.regex_lite_meta.specs.LazyDfa.Automaton.{State}
+use Rattle.regex_lite_meta.proofs.Common.{AreIntervalsOf, IfSome}
+use Rattle.regex_lite_meta.specs.LazyDfa.Automaton.{ReadsAtMost, State}
 use Rattle.regex_lite_engine.specs.Graph.NoLooks.{RequiresNoLook}
 use Rattle.regex_lite_engine.specs.declared.nfa.place.Place as code
 use Rattle.regex_lite_engine.specs.declared.nfa.place.Place.TheVariants as stored
@@ -42,7 +42,8 @@ module _ (intervals : Intervals) (none : intervals.looks ≡ false) where
   no_look : (place : code.Place) → IsBoundedPlace intervals place
       → RequiresNoLook (place_of place)
   no_look place bounded =
-      not_look place (λ test to same. apart (sym none ∙ subst (IsBoundedPlace intervals) same bounded))
+      not_look place (λ test to same. apart (sym none ∙ subst (IsBoundedPlace intervals) same
+      bounded))
     where
       apart : false ≡ true → ⊥
       apart e = cc
@@ -63,11 +64,14 @@ intervals_for places intervals are = record {
 
 -- an automaton without states remembers no turn that another search would not take
 pub remembers_none : (places : List code.Place) (automaton : Automaton)
-    → AreIntervalsOf places automaton.intervals → automaton.states ≡ [] → automaton.pending ≡ []
-    → (entries : List ℕ) → RemembersFor (map place_of places) entries automaton
-remembers_none places automaton are empty none entries = record {
+    → AreIntervalsOf places automaton.intervals
+    → IfSome automaton.reach (ReadsAtMost (map place_of places)) → automaton.states ≡ []
+    → automaton.pending ≡ [] → (entries : List ℕ) → RemembersFor (map place_of places) entries
+    automaton
+remembers_none places automaton are reach empty none entries = record {
   remembers = record {
     intervals = intervals_for places automaton.intervals are;
+    reach = reach;
     leads = λ x from class at. absurd (nothing x from at);
     fit = λ x state at. absurd (nothing x state at);
   };

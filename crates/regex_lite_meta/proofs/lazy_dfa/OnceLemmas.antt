@@ -11,7 +11,12 @@ use Rattle.regex_lite_meta.specs.declared.lazy_dfa.run.Progress.{Progress}
 
 -- one that remembers nothing
 pub empty : Automaton
-empty = record { intervals = record { boundaries = []; looks = false }; states = []; pending = [] }
+empty = record {
+  intervals = record { boundaries = []; looks = false };
+  reach = None;
+  states = [];
+  pending = [];
+}
 
 module _ (table : List (Place ℕ)) (h : Text) (entries : List ℕ) (s : ℕ) where
   -- where the search stands, its state is known
@@ -24,6 +29,9 @@ module _ (table : List (Place ℕ)) (h : Text) (entries : List ℕ) (s : ℕ) wh
       subst (λ z. Stands table h entries s automaton z cache) (sym is) (record {
         p = stands.p;
         is = stands.is;
+        from = stands.from;
+        begun = stands.begun;
+        own_from = stands.own_from;
         on = stands.on;
         first = stands.first;
         own = stands.own;
@@ -40,7 +48,7 @@ module _ (table : List (Place ℕ)) (h : Text) (entries : List ℕ) (s : ℕ) wh
       (is ∙ ap (best_kept known) (nil_from_length cache.best.row width)) found
 
   -- a search that has come to position p, with and without what it keeps of slots
-  pub under_way : {S : Type 0} {p : ℕ} {cache : Cache S} → IsOnItsWay table h entries s p cache
+  pub under_way : {S : Type 0} {p : ℕ} {cache : Cache S} → IsOnItsWay table h entries s s p cache
       → IsUnderWay table h entries s p cache
   under_way on = record {
     low = on.low;
@@ -52,9 +60,10 @@ module _ (table : List (Place ℕ)) (h : Text) (entries : List ℕ) (s : ℕ) wh
   }
 
   pub on_its_way : {S : Type 0} {p : ℕ} {cache : Cache S} → IsUnderWay table h entries s p cache
-      → length cache.walk.memory.row ≡ 0 → IsOnItsWay table h entries s p cache
+      → length cache.walk.memory.row ≡ 0 → IsOnItsWay table h entries s s p cache
   on_its_way on width = record {
     low = on.low;
+    after = on.low;
     ready = on.ready;
     coming = on.coming;
     tries = on.tries;
@@ -62,6 +71,16 @@ module _ (table : List (Place ℕ)) (h : Text) (entries : List ℕ) (s : ℕ) wh
     rounds = on.rounds;
     width = width;
   }
+
+-- where a search stands that did not begin anew
+pub stands_under_way : {table : List (Place ℕ)} {h : Text} {entries : List ℕ} {s : ℕ}
+    {automaton : Automaton} {at : Progress} {S : Type 0} {cache : Cache S}
+    (stands : Stands table h entries s automaton at cache) → at.anew ≡ false
+    → IsUnderWay table h entries s stands.p cache
+stands_under_way {table} {h} {entries} {s} {cache = cache} stands own =
+    under_way table h entries s
+    (subst (λ from. IsOnItsWay table h entries s from stands.p cache) (stands.own_from own)
+    stands.on)
 
 -- that is said of the same patterns
 pub under_as : {S : Type 0} {table table' : List (Place ℕ)} {h : Text} {entries entries' : List ℕ}

@@ -7,9 +7,10 @@ use Rattle.regex_lite_meta.proofs.Common.{IsComing, Best, IsHere, Cache, Here, A
 use Rattle.regex_lite_meta.proofs.Common.{classes_in, unknown, told_by, threads_of, ways_of}
 use Rattle.regex_lite_meta.proofs.Common.{best_left, searching_after, Suits, LeadsOn, FitsTable}
 use Rattle.regex_lite_meta.proofs.Common.{Remembers, Extends, Intervals, class_of, side_of}
-use Rattle.regex_lite_meta.proofs.Common.{IsFirstStart}
+use Rattle.regex_lite_meta.proofs.Common.{IfSome, IsFirstStart}
 use Rattle.regex_lite_engine.specs.Graph.Places.{Place}
-use Rattle.regex_lite_meta.specs.LazyDfa.Automaton.{State, Sees, began, hit_of, origin_of, told_if}
+use Rattle.regex_lite_meta.specs.LazyDfa.Automaton.{ReadsAtMost, State, Sees, began, hit_of}
+use Rattle.regex_lite_meta.specs.LazyDfa.Automaton.{origin_of, told_if}
 use Rattle.std.proofs.lemmas.Bool.{cases_eq}
 use Rattle.regex_lite_engine.specs.Pikevm.Again.{retold, all_retold, best_again}
 use Rattle.regex_lite_engine.specs.Search.Beginnings.{Told, TellsStart, IsTold}
@@ -174,6 +175,7 @@ module _ (table : List (Place ℕ)) (entries : List ℕ) where
       → FitsTable table old.pending → Remembers table entries new
   still_remembers old new remembers extends fits = record {
     intervals = subst (λ z. AreIntervalsFor table z) (sym extends.intervals) remembers.intervals;
+    reach = subst (λ z. IfSome z (ReadsAtMost table)) (sym extends.reach) remembers.reach;
     leads = λ x from class at inside known.
         by_age x from class at inside known (slice_get old.states x) refl;
     fit = λ x state at. fit_by_age x state at (slice_get old.states x) refl;
@@ -223,6 +225,7 @@ module _ (table : List (Place ℕ)) (entries : List ℕ) where
       })
   remembers_more old remembers x from class y to from_at to_at leads = record {
     intervals = remembers.intervals;
+    reach = remembers.reach;
     leads = λ k was c at inside known.
         led k was c (set_cases old.states x now k was at) inside known;
     fit = λ k state at. fitting k state (set_cases old.states x now k state at);

@@ -6,10 +6,10 @@ use Rattle.regex_lite_meta.proofs.Common.{inr, arith, nat_tests, length-map, Tex
 use Rattle.regex_lite_meta.proofs.Common.{IsComing, Best, offset, Row, Cache, Here, Way, Automaton}
 use Rattle.regex_lite_meta.proofs.Common.{told_by, threads_of, ways_of, Suits, FitsTable}
 use Rattle.regex_lite_meta.proofs.Common.{IsFirstStart, IsIn, IsOnItsWay, Stands, best_told}
-use Rattle.regex_lite_meta.proofs.Common.{IsIdleAt, IsScanning, way_in, Standing, StoredWay}
+use Rattle.regex_lite_meta.proofs.Common.{IsHere, IsIdleAt, IsScanning, way_in, Standing, StoredWay}
 use Rattle.regex_lite_engine.specs.Graph.Places.{Place, reading_of}
 use Rattle.regex_lite_meta.specs.LazyDfa.Automaton.{IsEmptyState, began, origin_of, told_if}
-use Rattle.regex_lite_meta.specs.LazyDfa.Running.{thread_from, GoesOnWith}
+use Rattle.regex_lite_meta.specs.LazyDfa.Running.{GoesOnWith, NoneStartsBeforeOf, thread_from}
 use Rattle.std.proofs.Common.{is_some, IsSome, ⊎_elim, true≢false}
 use Rattle.regex_lite_engine.specs.Pikevm.Machine.{thread_at}
 use Rattle.regex_lite_engine.specs.Pikevm.Room.{ThreadsBelow}
@@ -21,6 +21,7 @@ use Rattle.regex_lite_engine.specs.Search.Offers.{Node, Offer}
 use Rattle.regex_lite_meta.proofs.lazy_dfa.RunLemmas.{maybe_in_empty, moved_on, own_first}
 use Rattle.regex_lite_syntax.proofs.OptionLemmas.{not_there}
 use Rattle.regex_lite_engine.proofs.ReadingCountLemmas.{reads_within}
+use Rattle.regex_lite_engine.proofs.pikevm.ComingLemmas.{none_coming}
 
 eq_there : (a b : ℕ) → (a == b) ≡ true → a ≡ b
 eq_there a b e = grind (arith, nat_tests)
@@ -139,8 +140,11 @@ below_at n first ws ways e below =
     from_stored (w ∷ ws) below (suc k) lt =
         from_stored ws (λ j way at. below (suc j) way at) k (omega (arith, lt))
 
-module _ (table : List (Place ℕ)) (h : Text) (entries : List ℕ) (s p : ℕ) (automaton : Automaton)
-    {S : Type 0} (old new : Cache S) (on : IsOnItsWay table h entries s p old)
+module _ (table : List (Place ℕ)) (h : Text) (entries : List ℕ) (s from p : ℕ)
+    (automaton : Automaton)
+    {S : Type 0} (old new : Cache S) (on : IsOnItsWay table h entries s from p old)
+    (begun : NoneStartsBeforeOf table h entries s from) (anew : Bool)
+    (own_from : anew ≡ false → from ≡ s)
     (kept : GoesOnWith old new) where
   between_again : ((best_of new.best ≡ None → ⊥) → 0 < new.walk.steps.entered)
       → length new.walk.memory.threads ≤ reading_of table
@@ -163,7 +167,7 @@ module _ (table : List (Place ℕ)) (h : Text) (entries : List ℕ) (s p : ℕ) 
   }
 
   -- it goes on with the ways of the state, and with the match that was found
-  module _ (q : ℕ) (stuck : Standing) (scanning : IsScanning table entries h s q automaton stuck)
+  module _ (q : ℕ) (stuck : Standing) (scanning : IsScanning table entries h from q automaton stuck)
       (later : p < q) (ws : List StoredWay) (ways : map way_in ws ≡ scanning.state.ways)
       (all : All (λ way. way.is_first ≡ true) ws) (fits : FitsTable table scanning.state.ways)
       (best : best_of new.best ≡ best_told stuck.best)
@@ -181,19 +185,22 @@ module _ (table : List (Place ℕ)) (h : Text) (entries : List ℕ) (s p : ℕ) 
         let w = ap (λ (xs : List Way). length xs) ways in let few = fits.few in
         omega (arith, same, n, m, w, few)
 
-    taken_up : IsOnItsWay table h entries s q new
+    taken_up : IsOnItsWay table h entries s from q new
     taken_up =
-        moved_on table h entries s p q old new on
+        moved_on table h entries s from p q old new on
         (between_again match_entered few_threads (subst (ThreadsBelow (length table)) (sym threads)
         (below_at (length table) stuck.first ws scanning.state.ways ways fits.below)))
-        kept.steps kept.now later (let few = few_threads in let more = reads_within table in
+        kept.steps kept.now later scanning.later (let few = few_threads in let more = reads_within
+        table in
         omega (arith, few, more)) kept.row
-        (subst (λ ts. IsComing table h entries s (length h) q ts (best_of new.best)) (sym threads)
-        (subst (λ b. IsComing table h entries s (length h) q (map (thread_from stuck.first) ws) b)
+        (subst (λ ts. IsComing table h entries from (length h) q ts (best_of new.best)) (sym
+        threads)
+        (subst (λ b. IsComing table h entries from (length h) q (map (thread_from stuck.first) ws)
+        b)
         (sym best)
-        (subst (λ ts. IsComing table h entries s (length h) q ts (best_told stuck.best))
+        (subst (λ ts. IsComing table h entries from (length h) q ts (best_told stuck.best))
         (threads_first stuck.first ws all)
-        (subst (λ xs. IsComing table h entries s (length h) q (threads_of stuck.first xs)
+        (subst (λ xs. IsComing table h entries from (length h) q (threads_of stuck.first xs)
         (best_told stuck.best)) (sym ways) scanning.coming))))
 
     is_in_stuck : IsIn automaton stuck.state stuck.first stuck.here.before new
@@ -230,10 +237,14 @@ module _ (table : List (Place ℕ)) (h : Text) (entries : List ℕ) (s p : ℕ) 
           state = Some stuck.state;
           first = stuck.first;
           until = until;
+          anew = anew;
         }) new
     stands_stuck before until = let first = first_stuck before in record {
       p = q;
       is = scanning.is;
+      from = from;
+      begun = begun;
+      own_from = own_from;
       on = taken_up;
       first = first.0;
       own = first.1;
@@ -241,32 +252,71 @@ module _ (table : List (Place ℕ)) (h : Text) (entries : List ℕ) (s p : ℕ) 
     }
 
   -- or from nothing
-  let_gone : (here : Here) (idle : IsIdleAt table entries h s p here) → p < idle.r
+  let_gone : (here : Here) (idle : IsIdleAt table entries h from p here) → p < idle.r
       → best_of new.best ≡ None → new.walk.memory.threads ≡ []
-      → IsOnItsWay table h entries s idle.r new
+      → IsOnItsWay table h entries s from idle.r new
   let_gone here idle later none threads =
-      moved_on table h entries s p idle.r old new on
+      moved_on table h entries s from p idle.r old new on
       (between_again (λ some. absurd (some none))
       (let n = ap (λ (ts : List Thread). length ts) threads in omega (arith, n))
       (subst (ThreadsBelow (length table)) (sym threads) (λ k lt. absurd (omega (arith, lt)))))
-      kept.steps kept.now later
+      kept.steps kept.now later (let after = on.after in omega (arith, after, later))
       (let n = ap (λ (ts : List Thread). length ts) threads in omega (arith, n)) kept.row
-      (subst (λ ts. IsComing table h entries s (length h) idle.r ts (best_of new.best))
+      (subst (λ ts. IsComing table h entries from (length h) idle.r ts (best_of new.best))
       (sym threads)
-      (subst (λ b. IsComing table h entries s (length h) idle.r [] b) (sym none) idle.coming))
+      (subst (λ b. IsComing table h entries from (length h) idle.r [] b) (sym none) idle.coming))
 
-  pub stands_gone : (here : Here) (idle : IsIdleAt table entries h s p here) → p < idle.r
+  pub stands_gone : (here : Here) (idle : IsIdleAt table entries h from p here) → p < idle.r
       → best_of new.best ≡ None → new.walk.memory.threads ≡ [] → (state : Option ℕ)
       → MatchOption state (Unit {0}) (λ y. IsEmptyState automaton y here.before) → (until : ℕ) →
       Stands table h entries s automaton
-      (record { here = here; state = state; first = here.at; until = until }) new
+      (record {
+        here = here;
+        state = state;
+        first = here.at;
+        until = until;
+        anew = anew;
+      }) new
   stands_gone here idle later none threads state empty until = record {
     p = idle.r;
     is = idle.is;
+    from = from;
+    begun = begun;
+    own_from = own_from;
     on = let_gone here idle later none threads;
     first = omega arith;
     own = own_first here.at new.walk.memory.threads threads;
     state = maybe_in_empty automaton state here.at here.before new empty threads none;
+  }
+
+  -- or anew from a later start, before which no match starts
+  pub stands_anew : (r : ℕ) (here : Here) → IsHere h r here → p < r
+      → NoneStartsBeforeOf table h entries s r → best_of new.best ≡ None
+      → new.walk.memory.threads ≡ [] → (until : ℕ) →
+      Stands table h entries s automaton (record {
+        here = here;
+        state = None;
+        first = here.at;
+        until = until;
+        anew = true;
+      }) new
+  stands_anew r here is later before none threads until = record {
+    p = r;
+    is = is;
+    from = r;
+    begun = before;
+    own_from = λ e. absurd (true≢false e);
+    on = moved_on table h entries s r p r old new on
+        (between_again (λ some. absurd (some none))
+        (let n = ap (λ (ts : List Thread). length ts) threads in omega (arith, n))
+        (subst (ThreadsBelow (length table)) (sym threads) (λ k lt. absurd (omega (arith, lt)))))
+        kept.steps kept.now later (omega arith)
+        (let n = ap (λ (ts : List Thread). length ts) threads in omega (arith, n)) kept.row
+        (subst (λ b. IsComing table h entries r (length h) r new.walk.memory.threads b) (sym none)
+        (none_coming table h entries r (length h) new.walk.memory.threads threads));
+    first = omega arith;
+    own = own_first here.at new.walk.memory.threads threads;
+    state = tt;
   }
 
 pub none_by : {A : Type 0} (o : Option A) (told : Bool) → is_some o ≡ not told → told ≡ true

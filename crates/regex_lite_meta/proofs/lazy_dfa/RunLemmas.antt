@@ -15,7 +15,7 @@ use Rattle.std.proofs.Math.Nat.{mul-le-mul_left, mul-suc}
 use Rattle.regex_lite_engine.specs.Pikevm.Searching.{IsBetween, IsFresh}
 use Rattle.regex_lite_engine.specs.Search.NumberedList.{IsEntry}
 use Rattle.regex_lite_engine.specs.Search.Starts.{IsAmong, AreStartsAt, AreAllStarts}
-use Rattle.regex_lite_engine.proofs.OffsetLemmas.{offset_less}
+use Rattle.regex_lite_engine.proofs.OffsetLemmas.{offset_grows, offset_less}
 use Rattle.regex_lite_syntax.proofs.OptionLemmas.{not_there, same_some}
 use Rattle.regex_lite_engine.proofs.search.OneStartLemmas.{one_inside}
 use Rattle.regex_lite_engine.proofs.pikevm.PassLemmas.{begun}
@@ -53,14 +53,16 @@ more_bound m p r s low later =
     let le : m * suc (p - s) ≤ m * (r - s) = mul-le-mul_left m (omega (arith, low, later)) in
     omega (arith, e, le)
 
-module _ (table : List (Place ℕ)) (h : Text) (entries : List ℕ) (s : ℕ) {S : Type 0} where
+module _ (table : List (Place ℕ)) (h : Text) (entries : List ℕ) (s from : ℕ) {S : Type 0} where
   -- positions are passed over at which no match can begin
-  pub passed_over : (p : ℕ) (cache : Cache S) (here : Here) → IsOnItsWay table h entries s p cache
+  pub passed_over : (p : ℕ) (cache : Cache S) (here : Here)
+      → IsOnItsWay table h entries s from p cache
       → cache.walk.memory.threads ≡ [] → best_of cache.best ≡ None →
       (passes : PassesTo (AreDeadAt table h entries) h p here)
-      → IsOnItsWay table h entries s passes.q cache
+      → IsOnItsWay table h entries s from passes.q cache
   passed_over p cache here on idle none passes =
-      let low = on.low in let later = passes.later in let tries = on.tries in
+      let low = on.low in let after = on.after in let later = passes.later in let tries = on.tries
+      in
       let entered = on.entries_left in let rounds = on.rounds in
       let most : (arrows_of table + length entries) * (p - s)
       ≤ (arrows_of table + length entries) * (passes.q - s) =
@@ -69,14 +71,16 @@ module _ (table : List (Place ℕ)) (h : Text) (entries : List ℕ) (s : ℕ) {S
       mul-le-mul_left (length table) (omega (arith, low, later)) in
       record {
         low = omega (arith, low, later);
+        after = omega (arith, after, later);
         ready = on.ready;
         coming =
-            subst (λ b. IsComing table h entries s (length h) passes.q cache.walk.memory.threads b)
+            subst
+            (λ b. IsComing table h entries from (length h) passes.q cache.walk.memory.threads b)
             (sym none)
-            (jumped table h entries s
+            (jumped table h entries from
             (length h) p passes.q cache.walk.memory.threads idle later passes.passed
-            (subst (λ b. IsComing table h entries s (length h) p cache.walk.memory.threads b) none
-            on.coming));
+            (subst (λ b. IsComing table h entries from (length h) p cache.walk.memory.threads b)
+            none on.coming));
         tries = omega (arith, tries, most);
         entries_left = omega (arith, entered, most_entered);
         rounds = omega (arith, rounds, low, later);
@@ -84,14 +88,15 @@ module _ (table : List (Place ℕ)) (h : Text) (entries : List ℕ) (s : ℕ) {S
       }
 
   -- the search is taken up at a later position, with no more threads than arrows
-  pub moved_on : (p r : ℕ) (cache now : Cache S) → IsOnItsWay table h entries s p cache
+  pub moved_on : {before : ℕ} (p r : ℕ) (cache now : Cache S)
+      → IsOnItsWay table h entries s before p cache
       → IsBetween table now → now.walk.steps ≡ cache.walk.steps → now.walk.memory.now < 2 ^ 63
-      → p < r →
+      → p < r → from ≤ r →
       length now.walk.memory.threads ≤ arrows_of table
       → length now.walk.memory.row ≡ length cache.walk.memory.row →
-      IsComing table h entries s (length h) r now.walk.memory.threads (best_of now.best)
-      → IsOnItsWay table h entries s r now
-  moved_on p r cache now on ready steps fresh later few width coming =
+      IsComing table h entries from (length h) r now.walk.memory.threads (best_of now.best)
+      → IsOnItsWay table h entries s from r now
+  moved_on p r cache now on ready steps fresh later after few width coming =
       let low = on.low in let tries = on.tries in let entered = on.entries_left in
       let same_tried : now.walk.steps.tried ≡ cache.walk.steps.tried =
       ap (λ (c : StepCounts). c.tried) steps in
@@ -101,6 +106,7 @@ module _ (table : List (Place ℕ)) (h : Text) (entries : List ℕ) (s : ℕ) {S
       let most_entered = more_bound (length table) p r s low later in
       record {
         low = omega (arith, low, later);
+        after = after;
         ready = ready;
         coming = coming;
         tries = omega (arith, tries, same_tried, few, most);
@@ -110,12 +116,12 @@ module _ (table : List (Place ℕ)) (h : Text) (entries : List ℕ) (s : ℕ) {S
       }
 
 -- a search on its way in the haystack did no more than is allowed
-pub bounded_on : (table : List (Place ℕ)) (h : Text) (entries : List ℕ) (s p : ℕ) {S : Type 0}
-    (cache : Cache S)
-    → s ≤ length h → p ≤ length h + 1 → IsOnItsWay table h entries s p cache →
+pub bounded_on : (table : List (Place ℕ)) (h : Text) (entries : List ℕ) (s from p : ℕ)
+    {S : Type 0} (cache : Cache S)
+    → s ≤ length h → p ≤ length h + 1 → IsOnItsWay table h entries s from p cache →
     IsBoundedBy (length table) (arrows_of table + length entries) h s cache.walk.steps.tried
     cache.walk.steps.entered cache.walk.steps.looked
-bounded_on table h entries s p cache inside most on =
+bounded_on table h entries s from p cache inside most on =
     let low = on.low in let tries = on.tries in let all_entered = on.entries_left in
     let entered = on.ready.entered_tried in let looked = on.ready.looked_entered in
     let all_tries = mul-le-mul_left (arrows_of table + length entries) (within low) in
@@ -200,14 +206,25 @@ other_at h p q a b is js le other = elim (cases_lt p q) [
       (other (js.bytes ∙ ap (offset h) (let e : q ≡ p = omega (arith, le, ge) in e) ∙ sym is.bytes))
 ]
 
+-- higher offsets are those of later positions
+pub position_later : (h : Text) (p q : ℕ) (a b : Here) → IsHere h p a → IsHere h q b → a.at < b.at
+    → p < q
+position_later h p q a b is js less = elim (cases_lt p q) [
+  | inl lt ↦ lt
+  | inr ge ↦ (let grows = offset_grows h q p ge in
+      absurd (omega (arith, grows, is.bytes, js.bytes, less)))
+]
+
 -- a search that has not begun is on its way
 pub begun_on : (table : List (Place ℕ)) (h : Text) (entries : List ℕ) (s : ℕ) {S : Type 0}
     (cache : Cache S)
-    → IsFresh table cache → length cache.walk.memory.row ≡ 0 → IsOnItsWay table h entries s s cache
+    → IsFresh table cache → length cache.walk.memory.row ≡ 0
+    → IsOnItsWay table h entries s s s cache
 begun_on table h entries s cache fresh width =
     let u = begun table h entries s cache fresh in
     record {
       low = u.low;
+      after = u.low;
       ready = u.ready;
       coming = u.coming;
       tries = u.tries;

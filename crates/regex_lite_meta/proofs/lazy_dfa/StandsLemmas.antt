@@ -16,6 +16,7 @@ use Rattle.regex_lite_meta.specs.LazyDfa.Running.{started_at}
 use Rattle.regex_lite_engine.specs.Pikevm.Searching.{IsHit, TurnsAgain}
 use Rattle.regex_lite_engine.specs.Pikevm.Turns.{EndsAt}
 use Rattle.regex_lite_engine.specs.Search.Starts.{AreAllStarts}
+use Rattle.regex_lite_meta.proofs.lazy_dfa.AnewLemmas.{end_from, outcome_from}
 use Rattle.regex_lite_meta.proofs.lazy_dfa.ResumeLemmas.{coming_less}
 use Rattle.regex_lite_meta.proofs.lazy_dfa.RunLemmas.{at_later, bounded_on, maybe_in_empty}
 use Rattle.regex_lite_meta.proofs.lazy_dfa.RunLemmas.{own_first, passed_over}
@@ -28,22 +29,26 @@ module _ {table : List (Place ℕ)} {h : Text} {entries : List ℕ} {s : ℕ} {a
     (stands : Stands table h entries s automaton at cache) where
   -- where its state is known, it may go by remembered turns
   pub scanning_there : {x : ℕ} → at.state ≡ Some x → (best : Option (Origin × ℕ))
-      → best_of cache.best ≡ best_told best → IsScanning table entries h s stands.p automaton
+      → best_of cache.best ≡ best_told best → IsScanning table entries h stands.from stands.p
+      automaton
       (record { here = at.here; state = x; first = at.first; best = best })
   scanning_there {x} known best same = record {
     state = is_in.state;
     is_state = is_in.is_state;
     is = stands.is;
-    later = stands.on.low;
+    later = stands.on.after;
     own = λ none. first_of cache.walk.memory.threads stands.own (is_in.ways ∙ none);
     suits = subst (Suits is_in.state.searching) same is_in.suits;
     sees = is_in.sees;
     coming =
-        subst (λ ways. IsComing table h entries s (length h) stands.p (threads_of at.first ways)
+        subst (λ ways. IsComing table h entries stands.from (length h) stands.p (threads_of at.first
+        ways)
         (best_told best)) is_in.ways
-        (coming_less at.first table h entries s (length h) stands.p cache.walk.memory.threads
+        (coming_less at.first table h entries stands.from (length h) stands.p
+        cache.walk.memory.threads
         (best_told best)
-        (subst (IsComing table h entries s (length h) stands.p cache.walk.memory.threads) same
+        (subst (IsComing table h entries stands.from (length h) stands.p cache.walk.memory.threads)
+        same
         stands.on.coming));
   }
     where
@@ -66,7 +71,7 @@ module _ {table : List (Place ℕ)} {h : Text} {entries : List ℕ} {s : ℕ} {a
       ∙ ap (best_kept best)
       (nil_from_length cache.best.row (stands.on.ready.best_width ∙ stands.on.width))
 
-  pub way_there : (p : ℕ) × (p ≤ length h + 1) × IsOnItsWay table h entries s p cache
+  pub way_there : (p : ℕ) × (p ≤ length h + 1) × IsOnItsWay table h entries s stands.from p cache
   way_there = let inside = stands.is.inside in (stands.p, omega (arith, inside), stands.on)
 
   pub bounded_there : (now : Cache S) → now ≡ cache →
@@ -75,8 +80,9 @@ module _ {table : List (Place ℕ)} {h : Text} {entries : List ℕ} {s : ℕ} {a
   bounded_there now same =
       let low = stands.on.low in
       let inside = stands.is.inside in
-      bounded_on table h entries s stands.p now (omega (arith, low, inside)) (omega (arith, inside))
-      (subst (IsOnItsWay table h entries s stands.p) (sym same) stands.on)
+      bounded_on table h entries s stands.from stands.p now (omega (arith, low, inside)) (omega
+      (arith, inside))
+      (subst (IsOnItsWay table h entries s stands.from stands.p) (sym same) stands.on)
 
   -- positions are passed over at which no match can begin
   module _ {here : Here} (passes : PassesTo (AreDeadAt table h entries) h stands.p here) where
@@ -87,19 +93,29 @@ module _ {table : List (Place ℕ)} {h : Text} {entries : List ℕ} {s : ℕ} {a
         → (now : Automaton) (state : Option ℕ)
         → MatchOption state (Unit {0}) (λ y. IsEmptyState now y here.before) → (until : ℕ) →
         Stands table h entries s now
-        (record { here = here; state = state; first = here.at; until = until }) cache
+        (record {
+          here = here;
+          state = state;
+          first = here.at;
+          until = until;
+          anew = at.anew;
+        }) cache
     passed_there none no_match now state empty until = record {
       p = passes.q;
       is = passes.is;
-      on = passed_over table h entries s stands.p cache here stands.on none no_match passes;
+      from = stands.from;
+      begun = stands.begun;
+      own_from = stands.own_from;
+      on = passed_over table h entries s stands.from stands.p cache here stands.on none no_match
+          passes;
       first = omega arith;
       own = own_first here.at cache.walk.memory.threads none;
       state = maybe_in_empty now state here.at here.before cache empty none no_match;
     }
 
   -- after the turn
-  module _ {new : Cache S} (on : IsOnItsWay table h entries s (stands.p + 1) new) where
-    pub way_after : (p : ℕ) × (p ≤ length h + 1) × IsOnItsWay table h entries s p new
+  module _ {new : Cache S} (on : IsOnItsWay table h entries s stands.from (stands.p + 1) new) where
+    pub way_after : (p : ℕ) × (p ≤ length h + 1) × IsOnItsWay table h entries s stands.from p new
     way_after = let inside = stands.is.inside in (stands.p + 1, omega (arith, inside), on)
 
     pub bounded_after :
@@ -108,7 +124,7 @@ module _ {table : List (Place ℕ)} {h : Text} {entries : List ℕ} {s : ℕ} {a
     bounded_after =
         let low = stands.on.low in
         let inside = stands.is.inside in
-        bounded_on table h entries s (stands.p + 1) new (omega (arith, low, inside))
+        bounded_on table h entries s stands.from (stands.p + 1) new (omega (arith, low, inside))
         (omega (arith, inside)) on
 
     -- nothing is left to do
@@ -116,8 +132,9 @@ module _ {table : List (Place ℕ)} {h : Text} {entries : List ℕ} {s : ℕ} {a
         ⊎ ((best_of new.best ≡ None → ⊥) × (length new.walk.memory.threads ≡ 0)))
         → IsBestOutcomeOf table h entries s (best_of new.best)
     all_ended over =
-        ended_all table h entries s stands.p new.walk.memory.threads (best_of new.best)
-        stands.on.low stands.is.inside (over_at h stands.p at.here stands.is over) on.coming
+        outcome_from table h entries s stands.from stands.begun (best_of new.best)
+        (ended_all table h entries stands.from stands.p new.walk.memory.threads (best_of new.best)
+        stands.on.after stands.is.inside (over_at h stands.p at.here stands.is over) on.coming)
 
     -- the first match that ends is known
     pub end_known : best_of cache.best ≡ None
@@ -125,10 +142,11 @@ module _ {table : List (Place ℕ)} {h : Text} {entries : List ℕ} {s : ℕ} {a
         → ((at.here.after ≡ None) ⊎ (best_of new.best ≡ None → ⊥))
         → IsNumberedEndOf table h entries s (best_of new.best)
     end_known none ends known =
-        shortest_known table h entries s stands.p at.here.at cache.walk.memory.threads
-        new.walk.memory.threads (best_of cache.best) (best_of new.best) stands.on.low
+        end_from table h entries s stands.from stands.begun (best_of new.best)
+        (shortest_known table h entries stands.from stands.p at.here.at cache.walk.memory.threads
+        new.walk.memory.threads (best_of cache.best) (best_of new.best) stands.on.after
         stands.is.inside none stands.is.bytes ends (over_at h stands.p at.here stands.is known)
-        stands.on.coming on.coming
+        stands.on.coming on.coming)
 
     -- the turn was taken from its state, if that is known
     pub turned_there : {starts : List Start} (hit : Bool) → AreAllStarts table entries starts

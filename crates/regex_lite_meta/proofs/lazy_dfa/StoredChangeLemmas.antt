@@ -126,40 +126,55 @@ pending_more used ways way fits =
     ap (map way_in) (drop-append-le used ways (way ∷ []) fits)
     ∙ map-append way_in (drop used ways) (way ∷ [])
 
-module _ (intervals : Intervals) (states : List StoredState) (targets : List Target) (used : ℕ)
-    (ways : List StoredWay) (within : LieWithin used states) (fits : used ≤ length ways) where
+module _ (intervals : Intervals) (reach : Option ℕ) (states : List StoredState)
+    (targets : List Target) (used : ℕ) (ways : List StoredWay) (within : LieWithin used states)
+    (fits : used ≤ length ways) where
   abbrev now : List State
   now = states_in ways (classes_in intervals) targets states
 
-  pub seen_pushed : (automaton : Automaton) → seen intervals states targets used ways ≡ automaton
+  pub seen_pushed : (automaton : Automaton) → seen intervals reach states targets used ways ≡
+      automaton
       → (way : StoredWay) (more : List StoredWay) → more ≡ ways ++ way ∷ [] →
-      seen intervals states targets used more
+      seen intervals reach states targets used more
       ≡ record automaton { pending = automaton.pending ++ way_in way ∷ [] }
   seen_pushed automaton view way more e =
-      ap (seen intervals states targets used) e
+      ap (seen intervals reach states targets used) e
       ∙ ap (λ ss. record {
         intervals = intervals;
+        reach = reach;
         states = ss;
         pending = map way_in (drop used (ways ++ way ∷ []));
       }) (states_same states used ways (way ∷ []) (classes_in intervals) targets within fits)
-      ∙ ap (λ more. record { intervals = intervals; states = now; pending = more })
+      ∙ ap (λ more. record {
+        intervals = intervals;
+        reach = reach;
+        states = now;
+        pending = more;
+      })
       (pending_more used ways way fits)
       ∙ ap (λ (z : Automaton). record z { pending = z.pending ++ way_in way ∷ [] }) view
 
   pub seen_cut : (less : List StoredWay) → less ≡ take used ways →
-      seen intervals states targets used less ≡ record {
+      seen intervals reach states targets used less ≡ record {
         intervals = intervals;
+        reach = reach;
         states = states_in ways (classes_in intervals) targets states;
         pending = [];
       }
   seen_cut less e =
-      ap (seen intervals states targets used) e
+      ap (seen intervals reach states targets used) e
       ∙ ap (λ ss. record {
         intervals = intervals;
+        reach = reach;
         states = ss;
         pending = map way_in (drop used (take used ways));
       }) (states_cut states used ways (classes_in intervals) targets within fits)
-      ∙ ap (λ none. record { intervals = intervals; states = now; pending = map way_in none })
+      ∙ ap (λ none. record {
+        intervals = intervals;
+        reach = reach;
+        states = now;
+        pending = map way_in none;
+      })
       (none_left used ways)
     where
       none_left : {A : Type 0} (n : ℕ) (xs : List A) → drop n (take n xs) ≡ []
@@ -173,28 +188,32 @@ module _ (intervals : Intervals) (states : List StoredState) (targets : List Tar
       → (rows more : List Target) → rows ≡ targets ++ more
       → length targets ≡ length states * classes_in intervals
       → length more ≡ classes_in intervals →
-      seen intervals all rows (length ways) ways ≡ record {
+      seen intervals reach all rows (length ways) ways ≡ record {
         intervals = intervals;
+        reach = reach;
         states =
             states_in ways (classes_in intervals) targets states
             ++ record (state_in ways more s) { ways = map way_in (drop used ways) } ∷ [];
         pending = [];
       }
   seen_added s from len all e rows more f full row =
-      ap (λ ss. seen intervals ss rows (length ways) ways) e
-      ∙ ap (λ ts. seen intervals (states ++ s ∷ []) ts (length ways) ways) f
+      ap (λ ss. seen intervals reach ss rows (length ways) ways) e
+      ∙ ap (λ ts. seen intervals reach (states ++ s ∷ []) ts (length ways) ways) f
       ∙ ap (λ ss. record {
         intervals = intervals;
+        reach = reach;
         states = ss;
         pending = map way_in (drop (length ways) ways);
       }) (states_added states ways (classes_in intervals) targets more s full row)
       ∙ ap (λ own. record {
         intervals = intervals;
+        reach = reach;
         states = now ++ record (state_in ways more s) { ways = map way_in own } ∷ [];
         pending = map way_in (drop (length ways) ways);
       }) own_ways
       ∙ ap (λ none. record {
         intervals = intervals;
+        reach = reach;
         states =
             now ++ record (state_in ways more s) { ways = map way_in (drop used ways) } ∷ [];
         pending = map way_in none;
@@ -207,7 +226,7 @@ module _ (intervals : Intervals) (states : List StoredState) (targets : List Tar
 
 -- the added state, beside those that there were
 pub added_is : (old new : Automaton) (state : State)
-    → new ≡ record { intervals = old.intervals; states = old.states ++ state ∷ []; pending = [] } →
+    → new ≡ record old { states = old.states ++ state ∷ []; pending = [] } →
     IsState new (length old.states) state.ways state.searching state.before state.hit
 added_is old new state e = record {
   state = state;
@@ -221,12 +240,13 @@ added_is old new state e = record {
 }
 
 pub added_extends : (old new : Automaton) (state : State)
-    → new ≡ record { intervals = old.intervals; states = old.states ++ state ∷ []; pending = [] } →
+    → new ≡ record old { states = old.states ++ state ∷ []; pending = [] } →
     state.ways ≡ old.pending
     → ((class : ℕ) → class < classes_in old.intervals → slice_index state.next class ≡ unknown)
     → Extends old new
 added_extends old new state e own none = record {
   intervals = ap (λ (z : Automaton). z.intervals) e;
+  reach = ap (λ (z : Automaton). z.reach) e;
   kept = λ x s at.
       ap (λ (z : Automaton). slice_get z.states x) e ∙ still_there old.states (state ∷ []) x s at;
   fresh = λ x s at other.
@@ -287,9 +307,10 @@ blank_row classes class blank none lt =
 
 -- it extends what has the same states
 pub extends_same : (old new : Automaton) → new.intervals ≡ old.intervals
-    → new.states ≡ old.states → Extends old new
-extends_same old new intervals same = record {
+    → new.reach ≡ old.reach → new.states ≡ old.states → Extends old new
+extends_same old new intervals reach same = record {
   intervals = intervals;
+  reach = reach;
   kept = λ x s at. ap (λ states. slice_get states x) same ∙ at;
   fresh = λ x s at other. absurd (other (ap (λ states. slice_get states x) (sym same) ∙ at));
 }
@@ -299,6 +320,7 @@ pub extends_pending : (old new : Automaton) (pending : List Way)
     → Extends old new → Extends old (record new { pending = pending })
 extends_pending old new pending extends = record {
   intervals = extends.intervals;
+  reach = extends.reach;
   kept = extends.kept;
   fresh = extends.fresh;
 }

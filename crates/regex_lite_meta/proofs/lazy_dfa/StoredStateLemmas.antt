@@ -79,10 +79,11 @@ length_states (s ∷ states) ways classes targets =
     ap suc (length_states states ways classes (drop classes targets))
 
 -- what the automaton stands for that stores these
-abbrev pub seen : Intervals → List StoredState → List Target → (used : ℕ) → List StoredWay
-    → Automaton
-seen intervals states targets used ways = record {
+abbrev pub seen : Intervals → (reach : Option ℕ) → List StoredState → List Target → (used : ℕ)
+    → List StoredWay → Automaton
+seen intervals reach states targets used ways = record {
   intervals = intervals;
+  reach = reach;
   states = states_in ways (classes_in intervals) targets states;
   pending = map way_in (drop used ways);
 }
@@ -146,9 +147,9 @@ module _ (states : List StoredState) (used : ℕ) (ways : List StoredWay) (class
         ap (λ (z : StoredState). (state_in ways [] z).hit) own ∙ own_ways.same,
       )
 
-module _ (intervals : Intervals) (states : List StoredState) (targets : List Target) (used : ℕ)
-    (ways : List StoredWay) (automaton : Automaton)
-    (view : seen intervals states targets used ways ≡ automaton) where
+module _ (intervals : Intervals) (reach : Option ℕ) (states : List StoredState)
+    (targets : List Target) (used : ℕ) (ways : List StoredWay) (automaton : Automaton)
+    (view : seen intervals reach states targets used ways ≡ automaton) where
   pub stored_within : (x : ℕ) → x < length automaton.states → x < length states
   stored_within x inside =
       let n = ap (λ (z : Automaton). length z.states) view in

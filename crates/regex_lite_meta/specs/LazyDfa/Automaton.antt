@@ -1,13 +1,15 @@
 -- The states of the lazy automaton, and the turns that lead from one to another.
 use Rattle.std.specs.Prelude.{◌≡◌, ◌+◌, ◌<◌, ◌≤◌, ◌==◌, ℕ, Bool, true, false, List, []}
-use Rattle.std.specs.Prelude.{map, length, slice_get, slice_index, Option, Some, None}
+use Rattle.std.specs.Prelude.{map, length, slice_get, slice_index, IfSome, Option, Some, None}
 use Rattle.regex_lite_syntax.specs.Text.{Text}
 use Rattle.regex_lite_meta.specs.declared.lazy_dfa.side.Side.{Side}
 use Rattle.regex_lite_engine.specs.declared.search.here.Here.{Here}
 use Rattle.regex_lite_engine.specs.Graph.Places.{Place, reading_of}
+use Rattle.regex_lite_engine.specs.Graph.Ways.{Leads}
 use Rattle.regex_lite_meta.specs.LazyDfa.Intervals.{AreIntervalsFor, Intervals, class_of}
 use Rattle.regex_lite_meta.specs.LazyDfa.Intervals.{classes_in, side_of}
 use Rattle.regex_lite_engine.specs.Search.Beginnings.{Told}
+use Rattle.regex_lite_engine.specs.Search.NumberedAnswer.{numbered_step}
 use Rattle.regex_lite_engine.specs.Pikevm.Machine.{Thread}
 use Rattle.regex_lite_engine.specs.Search.Standing.{IsHere}
 use Rattle.regex_lite_engine.specs.Pikevm.Turns.{IsComing}
@@ -38,6 +40,8 @@ pub record State : Type 0 where
 
 pub record Automaton : Type 0 where
   pub intervals : Intervals
+  -- how many characters a way reads at most, if that is known
+  pub reach : Option ℕ
   pub states : List State
   -- the ways of a state that is to come
   pub pending : List Way
@@ -128,10 +132,17 @@ pub record FitsTable (table : List (Place ℕ)) (ways : List Way) : Type 0 where
   pub below : (k : ℕ) (way : Way) → slice_get ways k ≡ Some way → way.place < length table
   pub few : length ways ≤ reading_of table
 
+-- no way from any place reads more characters than these, whatever the haystack
+abbrev pub ReadsAtMost : (table : List (Place ℕ)) → (most : ℕ) → Type 0
+ReadsAtMost table most =
+    (haystack : Text) (q i : ℕ) (way : List ℕ) (r j : ℕ)
+    → Leads (ℕ × ℕ) (numbered_step table haystack) (q, i) way (r, j) → j ≤ i + most
+
 -- all turns that are remembered are those of searches in this table
 pub record Remembers (table : List (Place ℕ)) (entries : List ℕ) (automaton : Automaton)
     : Type 0 where
   pub intervals : AreIntervalsFor table automaton.intervals
+  pub reach : IfSome automaton.reach (ReadsAtMost table)
   pub leads : (x : ℕ) (from : State) (class : ℕ) → slice_get automaton.states x ≡ Some from
       → class < classes_in automaton.intervals → (slice_index from.next class ≡ unknown → ⊥)
       → (to : State) × (slice_get automaton.states (slice_index from.next class) ≡ Some to)

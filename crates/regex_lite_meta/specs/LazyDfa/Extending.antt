@@ -18,6 +18,7 @@ pub record IsState (automaton : Automaton) (y : ℕ) (all : List Way) (goes_on :
 -- all states are still there, and no turn is known from a new one
 pub record Extends (old new : Automaton) : Type 0 where
   pub intervals : new.intervals ≡ old.intervals
+  pub reach : new.reach ≡ old.reach
   pub kept : (x : ℕ) (state : State) → slice_get old.states x ≡ Some state
       → slice_get new.states x ≡ Some state
   pub fresh : (x : ℕ) (state : State) → slice_get new.states x ≡ Some state

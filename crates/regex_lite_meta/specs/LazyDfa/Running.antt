@@ -1,28 +1,35 @@
 -- A search that remembers its turns and goes by those that it remembers.
 use Rattle.std.specs.Prelude.{◌≡◌, ◌+◌, ◌-◌, ◌*◌, ◌^◌, ◌≤◌, ◌<◌, ℕ, List, []}
-use Rattle.std.specs.Prelude.{MatchOption, Some, length, slice_index}
+use Rattle.std.specs.Prelude.{MatchOption, Some, false, length, slice_index}
 use Rattle.regex_lite_syntax.specs.Text.{Text}
 use Rattle.regex_lite_meta.specs.declared.lazy_dfa.run.Progress.{Progress}
 use Rattle.regex_lite_meta.specs.declared.lazy_dfa.state.StoredWay.{StoredWay}
-use Rattle.regex_lite_engine.specs.declared.search.here.Here.{Here}
 use Rattle.regex_lite_engine.specs.declared.pikevm.cache.Cache.{Cache}
 use Rattle.regex_lite_engine.specs.Graph.Places.{Place}
 use Rattle.regex_lite_engine.specs.Graph.Renumbered.{arrows_of}
 use Rattle.regex_lite_meta.specs.LazyDfa.Automaton.{Automaton, IsEmptyState}
 use Rattle.regex_lite_meta.specs.LazyDfa.Learning.{IsFirstStart, IsIn}
 use Rattle.regex_lite_engine.specs.Search.Beginnings.{Told}
+use Rattle.regex_lite_engine.specs.Search.NumberedList.{IsMatchOfAny}
 use Rattle.regex_lite_engine.specs.Pikevm.Machine.{Thread}
 use Rattle.regex_lite_engine.specs.Pikevm.Searching.{IsBetween}
 use Rattle.regex_lite_engine.specs.Search.Standing.{IsHere}
 use Rattle.regex_lite_engine.specs.Pikevm.Turns.{best_of, IsComing}
 
 module _ (table : List (Place ℕ)) (haystack : Text) (entries : List ℕ) (s : ℕ) where
-  -- a search from position s on has come to position p
-  pub record IsOnItsWay {S : Type 0} (p : ℕ) (cache : Cache S) : Type 0 where
+  -- position m is s or a later one, and no match of any pattern from s on starts before it
+  pub record NoneStartsBeforeOf (m : ℕ) : Type 0 where
+    pub from : s ≤ m
+    pub least : (i k : ℕ) (way : List ℕ) (q j : ℕ)
+        → IsMatchOfAny table haystack entries s i k way q j → m ≤ i
+
+  -- a search from position s on, which began or began anew at this one, has come to position p
+  pub record IsOnItsWay {S : Type 0} (from p : ℕ) (cache : Cache S) : Type 0 where
     pub low : s ≤ p
+    pub after : from ≤ p
     pub ready : IsBetween table cache
-    pub coming : IsComing table haystack entries s (length haystack) p cache.walk.memory.threads
-        (best_of cache.best)
+    pub coming : IsComing table haystack entries from (length haystack) p
+        cache.walk.memory.threads (best_of cache.best)
     pub tries :
         cache.walk.steps.tried + length cache.walk.memory.threads
         ≤ (arrows_of table + length entries) * (p - s)
@@ -35,7 +42,10 @@ module _ (table : List (Place ℕ)) (haystack : Text) (entries : List ℕ) (s : 
       : Type 0 where
     pub p : ℕ
     pub is : IsHere haystack p at.here
-    pub on : IsOnItsWay p cache
+    pub from : ℕ
+    pub begun : NoneStartsBeforeOf from
+    pub own_from : at.anew ≡ false → from ≡ s
+    pub on : IsOnItsWay from p cache
     pub first : at.first ≤ at.here.at
     pub own : IsFirstStart at.first at.here.at cache.walk.memory.threads
     pub state : MatchOption at.state (Unit {0})
@@ -62,7 +72,8 @@ pub record GoesOnWith {S : Type 0} (old new : Cache S) : Type 0 where
   pub best_row : length new.best.row ≡ length old.best.row
 
 -- that is where it stands, in the state without ways, if that is known
-pub record StandsIdle (automaton : Automaton) (here : Here) (at : Progress) : Type 0 where
-  pub here_is : at.here ≡ here
+pub record StandsIdle (automaton : Automaton) (before at : Progress) : Type 0 where
+  pub here_is : at.here ≡ before.here
+  pub same : at.anew ≡ before.anew
   pub first : at.first ≡ at.here.at
   pub state : MatchOption at.state (Unit {0}) (λ x. IsEmptyState automaton x at.here.before)

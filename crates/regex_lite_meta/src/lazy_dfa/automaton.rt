@@ -1,7 +1,7 @@
 //! What a lazy automaton remembers.
 ghost use Rattle.std.specs.Prelude.{◌≡◌, ◌+◌, ◌*◌, ◌≤◌, ◌<◌, ◌++◌, ◌∷◌, [], IfOk, IfSome};
 ghost use Rattle.std.specs.Prelude.{Option, Some, length, map, slice_get, slice_index, slice_set};
-ghost use Rattle.std.specs.Prelude.{true};
+ghost use Rattle.std.specs.Prelude.{false, true};
 ghost use Rattle.regex_lite_meta.specs.LazyDfa.Automaton.{KeptOrigin, State, unknown};
 ghost use Rattle.regex_lite_meta.specs.LazyDfa.Extending.{Extends, IsState};
 ghost use Rattle.regex_lite_meta.specs.LazyDfa.Intervals.{classes_in};
@@ -10,6 +10,7 @@ ghost use Rattle.regex_lite_meta.specs.LazyDfa.Stored.{hit_in, known_hit, way_in
 use crate::lazy_dfa::classes::Classes;
 use crate::lazy_dfa::lookup::Lookup;
 use crate::lazy_dfa::room::{MOST_STATES, Room};
+use crate::lazy_dfa::run::Progress;
 use crate::lazy_dfa::side::Side;
 use crate::lazy_dfa::state::{Effect, Hit, StoredState, StoredWay, Target};
 use std::alloc::{AllocError, Global};
@@ -41,6 +42,8 @@ pub(crate) struct LazyDfa {
     pub(super) not_kept: usize,
     /// Over this number of bytes searches may go without it.
     spare: usize,
+    /// How many characters a match has at most, if that is known.
+    reach: Option<usize>,
 }
 
 impl Model for LazyDfa {
@@ -54,6 +57,7 @@ impl Model for LazyDfa {
 
     ghost view = { λ dfa. record {
       intervals = dfa.classes;
+      reach = dfa.reach;
       states = states_in dfa.ways.items (classes_in dfa.classes) dfa.targets.items dfa.states.items;
       pending = map way_in (drop dfa.used dfa.ways.items);
     } };
@@ -72,8 +76,10 @@ impl LazyDfa {
         classes: Classes,
         room: Room,
         spare: usize,
+        reach: Option<usize>,
     ) -> Result<LazyDfa, AllocError>
         ensures intervals { IfOk result (λ dfa. dfa.intervals ≡ classes) }
+        ensures reach { IfOk result (λ dfa. dfa.reach ≡ reach) }
         ensures states { IfOk result (λ dfa. dfa.states ≡ []) }
         ensures pending { IfOk result (λ dfa. dfa.pending ≡ []) }
     {
@@ -92,13 +98,17 @@ impl LazyDfa {
             lookup,
             not_kept: 0,
             spare,
+            reach,
         })
     }
 
-    /// Whether too many turns have found no room for a search that has gone over this number of
-    /// bytes.
-    pub(super) fn is_given_up(&self, went: usize) -> bool {
-        self.not_kept.saturating_mul(BYTES_FOR_ONE) > self.spare.saturating_add(went)
+    /// Whether too many turns have found no room for a search that stands here and began at this
+    /// offset. One that began anew goes on with the automaton, which is that of one pattern.
+    pub(super) fn is_given_up(&self, at: Progress, from: usize) -> bool
+        ensures { result ≡ true → at.anew ≡ false }
+    {
+        let went = at.here.at.saturating_sub(from);
+        !at.anew && self.not_kept.saturating_mul(BYTES_FOR_ONE) > self.spare.saturating_add(went)
     }
 
     /// Counts the bytes that a search has gone over.
@@ -113,6 +123,13 @@ impl LazyDfa {
         ensures { result ≡ self.now.intervals.looks }
     {
         self.classes.looks()
+    }
+
+    /// How many characters a way reads at most, if that is known.
+    pub(super) fn reach(&self) -> Option<usize>
+        ensures { result ≡ self.now.reach }
+    {
+        self.reach
     }
 
     /// Adds a pending way. Returns whether there was room.

@@ -1,6 +1,6 @@
 //! A whole search that remembers its turns, and goes by those that it remembers.
 ghost use Rattle.std.specs.Prelude.{◌≡◌, ◌+◌, ◌≤◌, [], ℕ, IfErr, IfOk, IfSome, IsCharBoundary};
-ghost use Rattle.std.specs.Prelude.{MatchOption, chars, length};
+ghost use Rattle.std.specs.Prelude.{MatchOption, chars, false, length};
 ghost use Rattle.regex_lite_meta.specs.LazyDfa.Automaton.{Remembers};
 ghost use Rattle.regex_lite_meta.specs.LazyDfa.Learning.{HasTurned, IsIn};
 ghost use Rattle.regex_lite_meta.specs.LazyDfa.Running.{Stands};
@@ -97,6 +97,7 @@ impl LazyDfa {
             (P.entries patterns.now) s self.old from cache.old
             → IfErr result (λ at. Stands (P.table patterns.now) (chars haystack.now)
             (P.entries patterns.now) s self.new at cache.new) }
+        ensures own { IfErr result (λ at. at.anew ≡ false) }
         ensures remembers { Remembers (P.table patterns.now) (P.entries patterns.now) self.new }
         ensures none_pending { self.new.pending ≡ [] }
         ensures between { IsBetween (P.table patterns.now) cache.new }
@@ -108,7 +109,7 @@ impl LazyDfa {
             if let Some(found) = self.look_ahead(patterns, cache, haystack, &mut at, least) {
                 return Ok(found);
             }
-            if self.is_given_up(at.here.at.saturating_sub(from.here.at)) {
+            if self.is_given_up(at, from.here.at) {
                 return Err(at);
             }
             let hit = go_over(cache, patterns, haystack, at.here);
@@ -194,6 +195,7 @@ impl LazyDfa {
             Scanned::Found(best) => Some(best),
             Scanned::Stuck { at: stuck, idle } => {
                 self.resume(patterns, cache, at, stuck, idle);
+                self.begin_anew(patterns, cache, haystack, at, stuck);
                 None
             }
         }

@@ -59,6 +59,7 @@ impl LazyDfa {
             state,
             first: here.at,
             until: at.until,
+            anew: at.anew,
         }
     }
 
@@ -77,7 +78,7 @@ impl LazyDfa {
 
     /// The same position in the state without ways, if a turn from there is remembered.
     pub(super) fn stay_idle<P: Patterns>(&self, patterns: &P, at: Progress) -> Option<Progress>
-        ensures { IfSome result (StandsIdle self.now at.here) }
+        ensures { IfSome result (StandsIdle self.now at) }
     {
         // A prefilter is faster than turns.
         if patterns.has_prefilter() {
@@ -92,6 +93,7 @@ impl LazyDfa {
             state: Some(state),
             first: at.here.at,
             until: at.until,
+            anew: at.anew,
         })
     }
 

@@ -6,6 +6,7 @@ ghost use Rattle.regex_lite_engine.specs.Graph.StoredList.{table_of_list};
 
 use crate::lazy_dfa::automaton::LazyDfa;
 use crate::lazy_dfa::classes::Classes;
+use crate::lazy_dfa::reach::reach_for;
 use crate::lazy_dfa::room::Room;
 use crate::slots::has_looks;
 use regex_lite_engine::Graph;
@@ -109,9 +110,10 @@ impl LazyDfa {
         ensures { (entries : List ℕ) → IfSome result (RemembersFor (places_of table.now) entries) }
     {
         let classes = Classes::of(table.all())?;
-        let room = Room::of(table.reading(), patterns, &classes);
         let spare = if patterns == 1 { usize::MAX } else { SPARE };
-        match LazyDfa::new(alloc, classes, room, spare) {
+        let reach = reach_for(table, patterns);
+        let room = Room::of(table.reading(), patterns, &classes);
+        match LazyDfa::new(alloc, classes, room, spare, reach) {
             Ok(made) => Some(made),
             Err(_) => None,
         }

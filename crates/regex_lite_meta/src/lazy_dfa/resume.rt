@@ -1,13 +1,15 @@
 //! How a search goes on where the turns that it remembers end.
-ghost use Rattle.std.specs.Prelude.{◌≡◌, ◌<◌, ◌≤◌, ◌⊎◌, [], ℕ, All, None, length, true};
+ghost use Rattle.std.specs.Prelude.{◌≡◌, ◌<◌, ◌≤◌, ◌⊎◌, [], ℕ, All, None, chars};
+ghost use Rattle.std.specs.Prelude.{length, true};
 ghost use Rattle.regex_lite_meta.specs.declared.lazy_dfa.scan.Scanned.TheVariants.{Stuck};
 ghost use Rattle.regex_lite_meta.specs.LazyDfa.Automaton.{Remembers};
-ghost use Rattle.regex_lite_meta.specs.LazyDfa.Running.{Stands};
-ghost use Rattle.regex_lite_meta.specs.LazyDfa.Scanning.{ScansTo};
+ghost use Rattle.regex_lite_meta.specs.LazyDfa.Running.{NoneStartsBeforeOf, Stands};
+ghost use Rattle.regex_lite_meta.specs.LazyDfa.Scanning.{IsScanning, ScansTo};
 ghost use Rattle.regex_lite_syntax.specs.Text.{Text};
 ghost use Rattle.regex_lite_engine.specs.Pikevm.Turns.{best_of};
 
 use crate::lazy_dfa::automaton::LazyDfa;
+use crate::lazy_dfa::reach::back;
 use crate::lazy_dfa::run::{Progress, let_go, may_have, take_up_ways};
 use crate::lazy_dfa::scan::Standing;
 use crate::lazy_dfa::state::StoredWay;
@@ -34,12 +36,12 @@ impl LazyDfa {
         requires stands { (haystack : Text) × (s : ℕ)
             × (stands : Stands (P.table patterns.now) haystack (P.entries patterns.now) s self.now
             at.old cache.old)
-            × ScansTo (P.table patterns.now) (P.entries patterns.now) haystack s stands.p self.now
-            (Stuck stuck idle) }
+            × ScansTo (P.table patterns.now) (P.entries patterns.now) haystack stands.from stands.p
+            self.now (Stuck stuck idle) }
         ensures stands { (haystack : Text) (s : ℕ) → (stands : Stands (P.table patterns.now)
             haystack (P.entries patterns.now) s self.now at.old cache.old)
-            → ScansTo (P.table patterns.now) (P.entries patterns.now) haystack s stands.p self.now
-            (Stuck stuck idle)
+            → ScansTo (P.table patterns.now) (P.entries patterns.now) haystack stands.from stands.p
+            self.now (Stuck stuck idle)
             → Stands (P.table patterns.now) haystack (P.entries patterns.now) s self.now at.new
             cache.new }
         ensures none { stuck.best ≡ None → best_of cache.old.best ≡ None
@@ -67,6 +69,51 @@ impl LazyDfa {
                 at.here = here;
             }
         }
+    }
+
+    /// Begins anew as many characters before the end of remembered turns as a way reads at most, if
+    /// that is known and after where the search is: no match starts before that isn't complete
+    /// where they end, and none is.
+    pub(super) fn begin_anew<P: Patterns>(
+        &self,
+        patterns: &P,
+        cache: &mut Cache<Origin>,
+        haystack: &str,
+        at: &mut Progress,
+        stuck: Standing,
+    )
+        requires remembers { Remembers (P.table patterns.now) (P.entries patterns.now) self.now }
+        requires stands { (s low q : ℕ) × Stands (P.table patterns.now) (chars haystack.now)
+            (P.entries patterns.now) s self.now at.old cache.old
+            × NoneStartsBeforeOf (P.table patterns.now) (chars haystack.now)
+            (P.entries patterns.now) s low
+            × IsScanning (P.table patterns.now) (P.entries patterns.now) (chars haystack.now) low q
+            self.now stuck }
+        ensures stands { (s low q : ℕ) → Stands (P.table patterns.now) (chars haystack.now)
+            (P.entries patterns.now) s self.now at.old cache.old
+            → NoneStartsBeforeOf (P.table patterns.now) (chars haystack.now)
+            (P.entries patterns.now) s low
+            → IsScanning (P.table patterns.now) (P.entries patterns.now) (chars haystack.now) low q
+            self.now stuck
+            → Stands (P.table patterns.now) (chars haystack.now) (P.entries patterns.now) s self.now
+            at.new cache.new }
+        ensures none { best_of cache.old.best ≡ None → best_of cache.new.best ≡ None }
+        ensures later { at.old.here.at ≤ at.new.here.at }
+    {
+        let Some(reach) = self.reach() else {
+            return;
+        };
+        if stuck.best.is_some() {
+            return;
+        }
+        let Some(here) = back(haystack, stuck.here, reach, at.here.at) else {
+            return;
+        };
+        let_go(cache);
+        at.state = None;
+        at.first = here.at;
+        at.here = here;
+        at.anew = true;
     }
 }
 

@@ -1,10 +1,10 @@
 //! Searches that remember their turns, and go by those that they remember.
 ghost use Rattle.std.specs.Prelude.{◌≡◌, [], ◌<◌, ◌≤◌, ◌+◌, ◌⊎◌, ℕ, List};
 ghost use Rattle.std.specs.Prelude.{IfSome, IsCharBoundary, IsSome, MatchOption, None};
-ghost use Rattle.std.specs.Prelude.{chars, length, map, slice_index, true};
+ghost use Rattle.std.specs.Prelude.{chars, false, length, map, slice_index, true};
 ghost use Rattle.regex_lite_meta.specs.LazyDfa.Automaton.{Automaton};
 ghost use Rattle.regex_lite_meta.specs.LazyDfa.Learning.{IsFirstStart, IsIn};
-ghost use Rattle.regex_lite_meta.specs.LazyDfa.Running.{GoesOnWith, IsOnItsWay};
+ghost use Rattle.regex_lite_meta.specs.LazyDfa.Running.{GoesOnWith, IsOnItsWay, NoneStartsBeforeOf};
 ghost use Rattle.regex_lite_meta.specs.LazyDfa.Running.{Stands, started_at, thread_from};
 ghost use Rattle.regex_lite_meta.specs.LazyDfa.Scanning.{best_told};
 ghost use Rattle.regex_lite_syntax.specs.Text.{Text};
@@ -34,6 +34,8 @@ pub(crate) struct Progress {
     pub first: usize,
     /// Up to this offset turns were looked up before.
     pub until: usize,
+    /// Whether it began anew on the way, at a later start.
+    pub anew: bool,
 }
 
 impl Progress {
@@ -51,6 +53,7 @@ impl Progress {
             state: None,
             first: here.at,
             until: 0,
+            anew: false,
         }
     }
 
@@ -58,7 +61,7 @@ impl Progress {
     pub(super) fn on_the_way(cache: &Cache<Origin>, here: Here) -> Option<Progress>
         ensures { (table : List (Place ℕ)) (haystack : Text) (entries : List ℕ) (s p : ℕ)
             (automaton : Automaton) → IsHere haystack p here
-            → IsOnItsWay table haystack entries s p cache.now
+            → IsOnItsWay table haystack entries s s p cache.now
             → IfSome result (λ at. Stands table haystack entries s automaton at cache.now) }
     {
         let first = first_start(&cache.walk.memory, here.at)?;
@@ -67,6 +70,7 @@ impl Progress {
             state: None,
             first,
             until: 0,
+            anew: false,
         })
     }
 
@@ -89,6 +93,7 @@ impl Progress {
             state,
             first: self.first,
             until: self.until,
+            anew: self.anew,
         }
     }
 }
@@ -113,8 +118,10 @@ pub(super) fn next_position(cache: &Cache<Origin>, haystack: &str, at: Progress)
     requires more { IsSome at.here.after }
     requires first { at.first ≤ at.here.at }
     ensures stands { (table : List (Place ℕ)) (entries : List ℕ) (automaton : Automaton)
-        (s p : ℕ) → IsHere (chars haystack.now) p at.here
-        → IsOnItsWay table (chars haystack.now) entries s (p + 1) cache.now
+        (s from p : ℕ) → IsHere (chars haystack.now) p at.here
+        → NoneStartsBeforeOf table (chars haystack.now) entries s from
+        → (at.anew ≡ false → from ≡ s)
+        → IsOnItsWay table (chars haystack.now) entries s from (p + 1) cache.now
         → MatchOption at.state (Unit {0})
         (λ y. IsIn automaton y at.first at.here.after cache.now)
         → Stands table (chars haystack.now) entries s automaton result cache.now }
@@ -131,6 +138,7 @@ pub(super) fn next_position(cache: &Cache<Origin>, haystack: &str, at: Progress)
         state: at.state,
         first,
         until: at.until,
+        anew: at.anew,
     }
 }
 
@@ -144,15 +152,15 @@ pub(super) fn go_over<P: Patterns>(
 ) -> bool
     requires all { AreAllStarts (P.table patterns.now) (P.entries patterns.now)
         (P.starts patterns.now) }
-    requires on { (s p : ℕ) × IsHere (chars haystack.now) p here
+    requires on { (s from p : ℕ) × IsHere (chars haystack.now) p here
         × CanCount (P.table patterns.now) (length (P.entries patterns.now))
         (characters_left (chars haystack.now) s)
-        × IsOnItsWay (P.table patterns.now) (chars haystack.now) (P.entries patterns.now) s p
+        × IsOnItsWay (P.table patterns.now) (chars haystack.now) (P.entries patterns.now) s from p
         cache.old }
-    ensures on { (s p : ℕ) → IsHere (chars haystack.now) p here
-        → IsOnItsWay (P.table patterns.now) (chars haystack.now) (P.entries patterns.now) s p
+    ensures on { (s from p : ℕ) → IsHere (chars haystack.now) p here
+        → IsOnItsWay (P.table patterns.now) (chars haystack.now) (P.entries patterns.now) s from p
         cache.old
-        → IsOnItsWay (P.table patterns.now) (chars haystack.now) (P.entries patterns.now) s
+        → IsOnItsWay (P.table patterns.now) (chars haystack.now) (P.entries patterns.now) s from
         (p + 1) cache.new }
     ensures again { TurnsAgain (P.table patterns.now)
         (P.starts patterns.now) here (started_at here.at) cache.old cache.new result }

@@ -1,6 +1,6 @@
 //! A search for the least end of any match that remembers its turns.
 ghost use Rattle.std.specs.Prelude.{◌≡◌, ◌+◌, ◌<◌, ◌≤◌, [], ℕ, IfErr, IfOk, IfSome};
-ghost use Rattle.std.specs.Prelude.{MatchOption, None, Option, chars, length};
+ghost use Rattle.std.specs.Prelude.{MatchOption, None, Option, chars, false, length};
 ghost use Rattle.regex_lite_meta.specs.declared.lazy_dfa.scan.Standing.{Standing};
 ghost use Rattle.regex_lite_syntax.specs.Text.{Text};
 ghost use Rattle.regex_lite_meta.specs.declared.lazy_dfa.shortest.ScannedEnd.TheVariants.{
@@ -75,6 +75,7 @@ impl LazyDfa {
             (P.entries patterns.now) s self.old from cache.old
             → IfErr result (λ at. Stands (P.table patterns.now) (chars haystack.now)
             (P.entries patterns.now) s self.new at cache.new) }
+        ensures own { IfErr result (λ at. at.anew ≡ false) }
         ensures none { IfErr result (λ _. best_of cache.new.best ≡ None) }
     {
         let mut at = from;
@@ -83,7 +84,7 @@ impl LazyDfa {
             if let Some(end) = self.look_for_end(patterns, cache, haystack, &mut at) {
                 return Ok(end);
             }
-            if self.is_given_up(at.here.at.saturating_sub(from.here.at)) {
+            if self.is_given_up(at, from.here.at) {
                 return Err(at);
             }
             let hit = go_over(cache, patterns, haystack, at.here);
@@ -136,6 +137,7 @@ impl LazyDfa {
             ScannedEnd::Known(end) => Some(end),
             ScannedEnd::Unknown { at: stuck, idle } => {
                 self.resume(patterns, cache, at, stuck, idle);
+                self.begin_anew(patterns, cache, haystack, at, stuck);
                 None
             }
         }

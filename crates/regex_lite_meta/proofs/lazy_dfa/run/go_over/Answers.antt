@@ -17,7 +17,7 @@ pub turn-requires-clause-inside : goal.turn-requires-clause-inside
 turn-requires-clause-inside g c = c.requires.all.inside
 
 pub returns-clause-on : goal.returns-clause-on
-returns-clause-on g c = λ s p is on.
+returns-clause-on g c = λ s from p is on.
     let a = c.args in
     let table = g.P.Patterns.table a.patterns.now in
     let entries = g.P.Patterns.entries a.patterns.now in
@@ -26,15 +26,17 @@ returns-clause-on g c = λ s p is on.
     let new = c.turn.new.self in
     let all = c.requires.all in
     let low = on.low in
+    let after = on.after in
     let now = c.turn.ensures.round in
     let rounds = on.rounds in
     let tries = c.turn.ensures.tries in
     let few = all.few in
     record {
       low = omega (arith, low);
+      after = omega (arith, after);
       ready = c.turn.ensures.ready;
       coming =
-          c.turn.ensures.comes h entries p s (length h) is low is.inside (all.at_each h p)
+          c.turn.ensures.comes h entries p from (length h) is after is.inside (all.at_each h p)
           on.coming;
       tries =
           bound_on table h entries s (old.walk.steps.tried + length old.walk.memory.threads)
@@ -50,7 +52,7 @@ returns-clause-on g c = λ s p is on.
     }
 
 pub turn-requires-clause-ready : goal.turn-requires-clause-ready
-turn-requires-clause-ready g c = c.requires.on.4.ready
+turn-requires-clause-ready g c = c.requires.on.5.ready
 
 pub returns-clause-again : goal.returns-clause-again
 returns-clause-again g c = c.turn.ensures.again
@@ -65,16 +67,16 @@ pub turn-requires-clause-few_tries : goal.turn-requires-clause-few_tries
 turn-requires-clause-few_tries g c =
     let told = c.requires.on in
     let few = c.requires.all.few in
-    let fits = next_fits (length (chars c.args.haystack.now)) told.0 told.1
+    let fits = next_fits (length (chars c.args.haystack.now)) told.0 told.2
     (arrows_of (g.P.Patterns.table c.args.patterns.now)
     + length (g.P.Patterns.entries c.args.patterns.now)) (2 ^ 127)
-    (c.args.cache.now.walk.steps.tried + length c.args.cache.now.walk.memory.threads) told.4.low
-    told.2.inside told.3.tries told.4.tries in
+    (c.args.cache.now.walk.steps.tried + length c.args.cache.now.walk.memory.threads) told.5.low
+    told.3.inside told.4.tries told.5.tries in
     omega (arith, fits, few)
 
 pub turn-requires-clause-few_entries : goal.turn-requires-clause-few_entries
 turn-requires-clause-few_entries g c =
     let told = c.requires.on in
-    next_fits (length (chars c.args.haystack.now)) told.0 told.1
+    next_fits (length (chars c.args.haystack.now)) told.0 told.2
     (length (g.P.Patterns.table c.args.patterns.now)) (2 ^ 127) c.args.cache.now.walk.steps.entered
-    told.4.low told.2.inside told.3.entries told.4.entries_left
+    told.5.low told.3.inside told.4.entries told.5.entries_left

@@ -5,7 +5,8 @@ use Rattle.regex_lite_meta.proofs.lazy_dfa.ScanLemmas.{next_before}
 use Rattle.regex_lite_meta.proofs.lazy_dfa.run.next_position.Goals as goal
 
 pub returns-then-threads-eq0-clause-stands : goal.returns-then-threads-eq0-clause-stands
-returns-then-threads-eq0-clause-stands c = λ table entries automaton s p is on known.
+returns-then-threads-eq0-clause-stands c = λ table entries automaton s from p is begun own_from on
+    known.
     let at = c.args.at in
     let now = c.next-here.result in
     let next = c.next-here.ensures p is in
@@ -14,6 +15,9 @@ returns-then-threads-eq0-clause-stands c = λ table entries automaton s p is on 
     record {
       p = p + 1;
       is = next;
+      from = from;
+      begun = begun;
+      own_from = own_from;
       on = on;
       first = omega arith;
       own = own_first now.at c.args.cache.now.walk.memory.threads none;
@@ -29,7 +33,8 @@ returns-then-threads-eq0-clause-later c =
     (c.next-here.ensures from.0 from.1)
 
 pub returns-else-threads-eq0-clause-stands : goal.returns-else-threads-eq0-clause-stands
-returns-else-threads-eq0-clause-stands c = λ table entries automaton s p is on known.
+returns-else-threads-eq0-clause-stands c = λ table entries automaton s from p is begun own_from on
+    known.
     let at = c.args.at in
     let now = c.next-here.result in
     let next = c.next-here.ensures p is in
@@ -38,6 +43,9 @@ returns-else-threads-eq0-clause-stands c = λ table entries automaton s p is on 
     record {
       p = p + 1;
       is = next;
+      from = from;
+      begun = begun;
+      own_from = own_from;
       on = on;
       first = omega (arith, so_far, less);
       own =

@@ -1,4 +1,5 @@
-use Rattle.regex_lite_meta.proofs.lazy_dfa.OnceLemmas.{empty, known_stands, on_its_way, under_way}
+use Rattle.regex_lite_meta.proofs.lazy_dfa.OnceLemmas.{empty, known_stands, on_its_way}
+use Rattle.regex_lite_meta.proofs.lazy_dfa.OnceLemmas.{stands_under_way}
 use Rattle.regex_lite_meta.proofs.lazy_dfa.single.find_shortest_learning.Goals as goal
 
 pub state_at-state-requires-clause-remembers : goal.state_at-state-requires-clause-remembers
@@ -43,4 +44,4 @@ returns-clause-stands g c = λ s p is on.
     (on_its_way _ _ _ s on c.requires.width) in
     let there = c.in-Err.ensures.stands s
     (known_stands _ _ _ _ _ _ _ _ _ _ stands c.with_state.ensures c.state_at-state.ensures.state)
-    in (there.p, there.is, under_way _ _ _ s there.on)
+    in (there.p, there.is, stands_under_way there c.in-Err.ensures.own)

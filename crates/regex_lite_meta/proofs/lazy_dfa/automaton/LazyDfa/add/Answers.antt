@@ -92,10 +92,9 @@ new_state c = record {
 added : (c : After-len-self-inside) →
     c.resize.new.self.items
     ≡ c.self.inside.targets.items ++ replicate (classes_in c.self.inside.classes) blank →
-    seen c.self.inside.classes c.push.new.self.items c.resize.new.self.items
+    seen c.self.inside.classes c.self.inside.reach c.push.new.self.items c.resize.new.self.items
     c.len-self-inside.result c.self.inside.ways.items
-    ≡ record {
-      intervals = c.args.self.now.intervals;
+    ≡ record c.args.self.now {
       states = c.args.self.now.states ++ new_state c ∷ [];
       pending = [];
     }
@@ -104,14 +103,13 @@ added c all =
     let v = c.self.invariant in
     let n = classes_in i.classes in
     let count : vec_len i.ways ≡ length i.ways.items = search rules in
-    ap (λ k. seen i.classes c.push.new.self.items c.resize.new.self.items k i.ways.items)
+    ap (λ k. seen i.classes i.reach c.push.new.self.items c.resize.new.self.items k i.ways.items)
     (c.len-self-inside.ensures ∙ count)
-    ∙ seen_added i.classes i.states.items i.targets.items i.used i.ways.items v.0 v.1 _ refl
+    ∙ seen_added i.classes i.reach i.states.items i.targets.items i.used i.ways.items v.0 v.1 _ refl
     (ap (λ k. k - i.used) (c.len.ensures ∙ count)) c.push.new.self.items
     c.in-Ok-push.ensures.items c.resize.new.self.items (replicate n blank) all v.4
     (length-replicate n blank)
-    ∙ ap (λ (z : Automaton). record {
-      intervals = z.intervals;
+    ∙ ap (λ (z : Automaton). record z {
       states = z.states ++ record (new_state c) { ways = z.pending } ∷ [];
       pending = [];
     }) c.self.view_is
@@ -172,12 +170,13 @@ pub returns-in-Err-clause-extends : goal.returns-in-Err-clause-extends
 returns-in-Err-clause-extends c =
     let i = c.self.inside in
     let at = goal.at.returns-in-Err-clause-extends c in
-    let same : seen i.classes c.push.new.self.items c.truncate.new.self.items i.used i.ways.items
+    let same : seen i.classes i.reach c.push.new.self.items c.truncate.new.self.items i.used
+    i.ways.items
     ≡ c.args.self.now =
-    ap (λ all. seen i.classes all c.truncate.new.self.items i.used i.ways.items)
+    ap (λ all. seen i.classes i.reach all c.truncate.new.self.items i.used i.ways.items)
     c.in-Err.ensures.items
-    ∙ ap (λ all. seen i.classes i.states.items all i.used i.ways.items)
+    ∙ ap (λ all. seen i.classes i.reach i.states.items all i.used i.ways.items)
     (targets_left at.After-truncate (rows at.In-Ok))
     ∙ c.self.view_is in
     extends_same c.args.self.now _ (ap (λ (z : Automaton). z.intervals) same)
-    (ap (λ (z : Automaton). z.states) same)
+    (ap (λ (z : Automaton). z.reach) same) (ap (λ (z : Automaton). z.states) same)

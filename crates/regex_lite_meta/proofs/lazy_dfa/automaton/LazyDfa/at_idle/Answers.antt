@@ -1,4 +1,4 @@
-use Rattle.regex_lite_meta.proofs.Common.{◌≡◌, None, chars, sym, subst, arith, rules}
+use Rattle.regex_lite_meta.proofs.Common.{◌≡◌, None, chars, sym, ◌∙◌, subst, arith, rules}
 use Rattle.regex_lite_meta.proofs.Common.{nil_from_length, best_of, IsHere, IsFirstStart}
 use Rattle.regex_lite_meta.proofs.lazy_dfa.RunLemmas.{maybe_in_empty, own_first}
 use Rattle.regex_lite_meta.proofs.lazy_dfa.StandsLemmas.{later_there, passed_there}
@@ -22,6 +22,9 @@ returns-in-Some-clause-stands g c = λ s stands.
     record {
       p = stands.p;
       is = subst (IsHere (chars a.haystack.now) stands.p) (sym own.here_is) stands.is;
+      from = stands.from;
+      begun = stands.begun;
+      own_from = λ e. stands.own_from (sym own.same ∙ e);
       on = stands.on;
       first = omega (arith, first);
       own = subst (λ z. IsFirstStart z idle.here.at a.cache.now.walk.memory.threads) (sym own.first)

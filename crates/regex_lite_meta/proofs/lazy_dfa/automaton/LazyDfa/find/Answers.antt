@@ -1,5 +1,5 @@
 use Rattle.regex_lite_meta.proofs.Common.{refl, sym, ◌∙◌, position_at}
-use Rattle.regex_lite_meta.proofs.lazy_dfa.OnceLemmas.{found_told, under_way}
+use Rattle.regex_lite_meta.proofs.lazy_dfa.OnceLemmas.{found_told, stands_under_way}
 use Rattle.regex_lite_meta.proofs.lazy_dfa.automaton.LazyDfa.find.Goals as goal
 
 pub find_while_it_pays-requires-clause-stands : goal.find_while_it_pays-requires-clause-stands
@@ -15,7 +15,16 @@ run_on-requires g c =
     let stands = c.in-Err.ensures.stands s
     (c.begun-begun.ensures _ _ c.args.self.now c.args.cache.now c.requires.fresh c.requires.width)
     in
-    record { on = (s, stands.p, stands.is, c.requires.counts, under_way _ _ _ s stands.on) }
+    record {
+      on = (
+        s,
+        stands.p,
+        stands.is,
+        c.requires.counts,
+        stands_under_way stands
+            c.in-Err.ensures.own,
+      );
+    }
 
 pub returns-in-Err : goal.returns-in-Err
 returns-in-Err g c =
@@ -26,7 +35,8 @@ returns-in-Err g c =
     let width = c.run_on.ensures.width ∙ stands.on.ready.best_width ∙ stands.on.width in
     record {
       found = found_told _ _ _ s c.run_on.new.cache c.found.result width c.found.ensures
-          (c.run_on.ensures.found s stands.p stands.is (under_way _ _ _ s stands.on)
+          (c.run_on.ensures.found s stands.p stands.is (stands_under_way stands
+          c.in-Err.ensures.own)
           (c.run_on.ensures.all refl));
       remembers = c.find_while_it_pays.ensures.remembers;
       none_pending = c.find_while_it_pays.ensures.none_pending;

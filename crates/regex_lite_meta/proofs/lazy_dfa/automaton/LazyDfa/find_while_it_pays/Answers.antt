@@ -27,7 +27,17 @@ go_over-hit-requires g c =
     let from = c.requires.stands in
     let idle = c.at_idle-at.ensures.stands _ (c.positions.invariant.stands _ from.2) in
     let stands = c.in_default.ensures.stands _ idle in
-    record { all = c.requires.all; on = (from.0, stands.p, stands.is, from.1, stands.on) }
+    record {
+      all = c.requires.all;
+      on = (
+        from.0,
+        stands.from,
+        stands.p,
+        stands.is,
+        from.1,
+        stands.on,
+      );
+    }
 
 pub returns-in-Some-clause-found : goal.returns-in-Some-clause-found
 returns-in-Some-clause-found g c = λ s begun.
@@ -43,7 +53,7 @@ pub returns-then-is_over-clause-found : goal.returns-then-is_over-clause-found
 returns-then-is_over-clause-found g c = λ s begun.
     let idle = c.at_idle-at.ensures.stands s (c.positions.invariant.stands s begun) in
     let stands = c.in_default.ensures.stands s idle in
-    let on = c.go_over-hit.ensures.on _ _ stands.is stands.on in
+    let on = c.go_over-hit.ensures.on _ _ _ stands.is stands.on in
     found_told (g.P.Patterns.table c.args.patterns.now) (chars c.args.haystack.now)
     (g.P.Patterns.entries c.args.patterns.now) s c.go_over-hit.new.cache c.found.result
     (on.ready.best_width ∙ on.width) c.found.ensures
@@ -53,25 +63,25 @@ pub returns-then-is_over-clause-between : goal.returns-then-is_over-clause-betwe
 returns-then-is_over-clause-between g c =
     let at = c.positions.invariant.stands _ c.requires.stands.2 in
     let stands = c.in_default.ensures.stands _ (c.at_idle-at.ensures.stands _ at) in
-    (c.go_over-hit.ensures.on _ _ stands.is stands.on).ready
+    (c.go_over-hit.ensures.on _ _ _ stands.is stands.on).ready
 
 pub returns-then-is_over-clause-width : goal.returns-then-is_over-clause-width
 returns-then-is_over-clause-width g c =
     let at = c.positions.invariant.stands _ c.requires.stands.2 in
     let stands = c.in_default.ensures.stands _ (c.at_idle-at.ensures.stands _ at) in
-    (c.go_over-hit.ensures.on _ _ stands.is stands.on).width
+    (c.go_over-hit.ensures.on _ _ _ stands.is stands.on).width
 
 pub learn_at-at-requires-clause-between : goal.learn_at-at-requires-clause-between
 learn_at-at-requires-clause-between g c =
     let at = c.positions.invariant.stands _ c.requires.stands.2 in
     let stands = c.in_default.ensures.stands _ (c.at_idle-at.ensures.stands _ at) in
-    (c.go_over-hit.ensures.on _ _ stands.is stands.on).ready
+    (c.go_over-hit.ensures.on _ _ _ stands.is stands.on).ready
 
 pub learn_at-at-requires-clause-turned : goal.learn_at-at-requires-clause-turned
 learn_at-at-requires-clause-turned g c =
     let at = c.positions.invariant.stands _ c.requires.stands.2 in
     let stands = c.in_default.ensures.stands _ (c.at_idle-at.ensures.stands _ at) in
-    turned_there stands (c.go_over-hit.ensures.on _ _ stands.is stands.on) c.go_over-hit.result
+    turned_there stands (c.go_over-hit.ensures.on _ _ _ stands.is stands.on) c.go_over-hit.result
     c.requires.all c.go_over-hit.ensures.again c.go_over-hit.ensures.hit
 
 pub next_position-at-requires-clause-first : goal.next_position-at-requires-clause-first
@@ -89,8 +99,9 @@ pub positions-smaller : goal.positions-smaller
 positions-smaller g c =
     let at = c.positions.invariant.stands _ c.requires.stands.2 in
     let stands = c.in_default.ensures.stands _ (c.at_idle-at.ensures.stands _ at) in
-    let on = c.go_over-hit.ensures.on _ _ stands.is stands.on in
-    let next = c.next_position-at.ensures.stands _ _ _ _ _ stands.is on c.learn_at-at.ensures.state
+    let on = c.go_over-hit.ensures.on _ _ _ stands.is stands.on in
+    let next = c.next_position-at.ensures.stands _ _ _ _ _ _ stands.is stands.begun
+    stands.own_from on c.learn_at-at.ensures.state
     in
     let most = at_most c.args.haystack.now next.p c.next_position-at.result.here c.utf8.haystack
     next.is in
@@ -106,8 +117,9 @@ positions-preserved g c = record {
   stands = λ s begun.
       let idle = c.at_idle-at.ensures.stands s (c.positions.invariant.stands s begun) in
       let stands = c.in_default.ensures.stands s idle in
-      let on = c.go_over-hit.ensures.on _ _ stands.is stands.on in
-      c.next_position-at.ensures.stands _ _ c.learn_at-at.new.self _ _ stands.is on
+      let on = c.go_over-hit.ensures.on _ _ _ stands.is stands.on in
+      c.next_position-at.ensures.stands _ _ c.learn_at-at.new.self _ _ _ stands.is stands.begun
+      stands.own_from on
       c.learn_at-at.ensures.state;
 }
 
@@ -123,10 +135,10 @@ returns-then-is_over-clause-entered g c =
     let cache = c.go_over-hit.new.cache in
     match_counted (best_of cache.best) c.found.result cache.best.row cache.walk.steps.entered
     c.args.least c.found.ensures
-    (c.go_over-hit.ensures.on _ _ stands.is stands.on).ready.match_entered c.requires.least
+    (c.go_over-hit.ensures.on _ _ _ stands.is stands.on).ready.match_entered c.requires.least
 
 pub returns-then-is_over-clause-bounded : goal.returns-then-is_over-clause-bounded
 returns-then-is_over-clause-bounded g c = λ s begun.
     let idle = c.at_idle-at.ensures.stands s (c.positions.invariant.stands s begun) in
     let stands = c.in_default.ensures.stands s idle in
-    bounded_after stands (c.go_over-hit.ensures.on _ _ stands.is stands.on)
+    bounded_after stands (c.go_over-hit.ensures.on _ _ _ stands.is stands.on)

@@ -7,6 +7,6 @@ use Rattle.regex_lite_meta.proofs.lazy_dfa.automaton.LazyDfa.hit.Goals as goal
 pub returns : goal.returns
 returns c = λ state at.
     let i = c.self.inside in
-    let own = is_stored i.classes i.states.items i.targets.items i.used i.ways.items
+    let own = is_stored i.classes i.reach i.states.items i.targets.items i.used i.ways.items
     c.args.self.now c.self.view_is c.args.x c.index.result.now c.index.ensures c.requires in
     ap (λ (s : State). s.hit) (same_some (sym own ∙ at))

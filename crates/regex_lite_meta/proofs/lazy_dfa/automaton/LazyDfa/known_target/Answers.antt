@@ -15,7 +15,7 @@ use Rattle.regex_lite_meta.proofs.lazy_dfa.automaton.LazyDfa.known_target.Goals.
 pub index-target-requires : goal.index-target-requires
 index-target-requires c =
     let i = c.self.inside in
-    let inside = cell_within i.classes i.states.items i.targets.items i.used i.ways.items
+    let inside = cell_within i.classes i.reach i.states.items i.targets.items i.used i.ways.items
     c.args.self.now c.self.view_is c.self.invariant.4 c.args.x c.args.class c.requires.state
     c.requires.class in
     search (inside, rules)
@@ -29,7 +29,7 @@ effect c hit told =
     let i = c.self.inside in
     let v = c.self.invariant in
     let target : Target = c.index-target.result.now in
-    let inside = cell_within i.classes i.states.items i.targets.items i.used i.ways.items
+    let inside = cell_within i.classes i.reach i.states.items i.targets.items i.used i.ways.items
     c.args.self.now c.self.view_is v.4 c.args.x c.args.class c.requires.state c.requires.class in
     let agrees = subst (Agrees i.states.items) (sym c.index-target.ensures)
     (v.3 c.cell.result target (search (inside, rules))) in
@@ -59,7 +59,7 @@ leads : (c : After-index-target) (state : State) →
     slice_index state.next c.args.class ≡ c.index-target.result.now.state
 leads c state at =
     let i = c.self.inside in
-    target_is i.classes i.states.items i.targets.items i.used i.ways.items c.args.self.now
+    target_is i.classes i.reach i.states.items i.targets.items i.used i.ways.items c.args.self.now
     c.self.view_is c.self.invariant.4 c.args.x c.args.class c.requires.state c.requires.class
     c.cell.result c.cell.ensures c.index-target.result.now c.index-target.ensures state at
 

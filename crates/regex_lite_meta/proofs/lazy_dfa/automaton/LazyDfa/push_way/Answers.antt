@@ -12,7 +12,7 @@ returns-clause-pushed c = λ told.
     let way : StoredWay = c.args.way in
     elim c.match-push.branch [
       | in-Ok w ↦
-          seen_pushed i.classes i.states.items i.targets.items i.used i.ways.items v.0 v.1
+          seen_pushed i.classes i.reach i.states.items i.targets.items i.used i.ways.items v.0 v.1
           c.args.self.now c.self.view_is way c.push.new.self.items w.in-Ok.ensures.items
       | in-Err w ↦ absurd (true≢false (sym told ∙ w.result-is))
     ]
@@ -32,10 +32,10 @@ returns-clause-same c =
     elim c.match-push.branch [
       | in-Ok w ↦
           but_for_pending c.args.self.now _ _
-          (seen_pushed i.classes i.states.items i.targets.items i.used i.ways.items v.0 v.1
+          (seen_pushed i.classes i.reach i.states.items i.targets.items i.used i.ways.items v.0 v.1
           c.args.self.now c.self.view_is way c.push.new.self.items w.in-Ok.ensures.items)
       | in-Err w ↦
           but_for_pending c.args.self.now _ c.args.self.now.pending
-          (ap (λ items. seen i.classes i.states.items i.targets.items i.used items)
+          (ap (λ items. seen i.classes i.reach i.states.items i.targets.items i.used items)
           w.in-Err.ensures.items ∙ c.self.view_is)
     ]

@@ -15,7 +15,7 @@ invariant_of-self c =
     let v = c.self.invariant in
     let to : StoredState = c.index.result.now in
     let target : Target = record { state = c.args.y; effect = c.effect.result } in
-    let inside = stored_within i.classes i.states.items i.targets.items i.used i.ways.items
+    let inside = stored_within i.classes i.reach i.states.items i.targets.items i.used i.ways.items
     c.args.self.now c.self.view_is c.args.y c.requires.target in (
       v.0,
       v.1,
@@ -40,6 +40,7 @@ returns c = λ state at.
     let there = ap (λ (z : Automaton). slice_get z.states c.args.x) c.self.view_is ∙ at in
     ap (λ states. record {
       intervals = i.classes;
+      reach = i.reach;
       states = states;
       pending = map way_in (drop i.used i.ways.items);
     })
@@ -56,14 +57,14 @@ returns c = λ state at.
 pub index-requires : goal.index-requires
 index-requires c =
     let i = c.self.inside in
-    let inside = stored_within i.classes i.states.items i.targets.items i.used i.ways.items
+    let inside = stored_within i.classes i.reach i.states.items i.targets.items i.used i.ways.items
     c.args.self.now c.self.view_is c.args.y c.requires.target in
     search (inside, rules)
 
 pub index_mut-requires : goal.index_mut-requires
 index_mut-requires c =
     let i = c.self.inside in
-    let inside = cell_within i.classes i.states.items i.targets.items i.used i.ways.items
+    let inside = cell_within i.classes i.reach i.states.items i.targets.items i.used i.ways.items
     c.args.self.now c.self.view_is c.self.invariant.4 c.args.x c.args.class c.requires.state
     c.requires.class in
     search (inside, rules)

@@ -24,8 +24,9 @@ returns-then-may_have-clause-stands g c = λ haystack s stands scanned.
     let ways = c.ways-ways.ensures scanning.state scanning.is_state in
     let fits = c.requires.remembers.fit stuck.state scanning.state scanning.is_state in
     stands_stuck (g.P.Patterns.table c.args.patterns.now) haystack
-    (g.P.Patterns.entries c.args.patterns.now) s stands.p c.args.self.now c.args.cache.now
-    c.take_up_ways.new.cache stands.on c.take_up_ways.ensures.kept q stuck scanning later
+    (g.P.Patterns.entries c.args.patterns.now) s stands.from stands.p c.args.self.now
+    c.args.cache.now c.take_up_ways.new.cache stands.on stands.begun c.args.at.now.anew
+    stands.own_from c.take_up_ways.ensures.kept q stuck scanning later
     c.ways-ways.result.now ways (c.if-may_take_up.ensures.all refl) fits
     c.take_up_ways.ensures.best (c.if-may_have.ensures refl) c.take_up_ways.ensures.threads
     (c.if-may_take_up.ensures.before refl) c.args.at.now.until
@@ -43,13 +44,14 @@ returns-then-here-at-clause-stands g c = λ haystack s stands scanned.
     let here = c.in-Some.here in
     let idle = subst (λ o. IfSome o
     (IsIdleAt (g.P.Patterns.table c.args.patterns.now) (g.P.Patterns.entries c.args.patterns.now)
-    haystack s stands.p))
+    haystack stands.from stands.p))
     c.in-Some.is scanned.1 in
     let more = c.if-here-at.true in
     let later =
     other_at haystack stands.p idle.r c.args.at.now.here here stands.is idle.is idle.later
     (λ e. omega (arith, e, more)) in
     stands_gone (g.P.Patterns.table c.args.patterns.now) haystack
-    (g.P.Patterns.entries c.args.patterns.now) s stands.p c.args.self.now c.args.cache.now
-    c.let_go.new.cache stands.on c.let_go.ensures.kept here idle later c.let_go.ensures.none
+    (g.P.Patterns.entries c.args.patterns.now) s stands.from stands.p c.args.self.now
+    c.args.cache.now c.let_go.new.cache stands.on stands.begun c.args.at.now.anew
+    stands.own_from c.let_go.ensures.kept here idle later c.let_go.ensures.none
     c.let_go.ensures.threads c.empty_state-at.result c.empty_state-at.ensures _

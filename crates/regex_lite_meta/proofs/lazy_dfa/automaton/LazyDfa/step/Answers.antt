@@ -8,7 +8,7 @@ use Rattle.regex_lite_meta.proofs.lazy_dfa.automaton.LazyDfa.step.Goals.{After-i
 pub index-requires : goal.index-requires
 index-requires g c =
     let i = c.self.inside in
-    let inside = turn_stored i.classes i.states.items i.targets.items i.used i.ways.items
+    let inside = turn_stored i.classes i.reach i.states.items i.targets.items i.used i.ways.items
     c.args.self.now c.self.view_is (g.P.Patterns.table c.args.patterns.now)
     (g.P.Patterns.entries c.args.patterns.now) c.requires.remembers c.args.at.state
     c.class-class.result c.in_ok-to.field-0.state c.requires.state c.class-class.ensures.few
@@ -22,7 +22,7 @@ led : (g : given.Over) (c : After-index g) →
     (hit_in c.index.result.now.hit)
 led g c =
     let i = c.self.inside in
-    turn_led i.classes i.states.items i.targets.items i.used i.ways.items c.args.self.now
+    turn_led i.classes i.reach i.states.items i.targets.items i.used i.ways.items c.args.self.now
     c.self.view_is (g.P.Patterns.table c.args.patterns.now)
     (g.P.Patterns.entries c.args.patterns.now) c.requires.remembers c.args.at.state
     c.class-class.result c.in_ok-to.field-0.state c.requires.state c.class-class.ensures.few

@@ -9,7 +9,7 @@ pub returns-clause-turn : goal.returns-clause-turn
 returns-clause-turn g c =
     let i = c.self.inside in
     let class = c.in-Some.field-0.class in
-    let turn = known_turn i.classes i.states.items i.targets.items i.used i.ways.items
+    let turn = known_turn i.classes i.reach i.states.items i.targets.items i.used i.ways.items
     c.args.self.now c.self.view_is (g.P.Patterns.table c.args.patterns.now)
     (g.P.Patterns.entries c.args.patterns.now) c.requires.remembers c.args.spot.state class
     c.in_ok-target.target.state c.requires.state c.in-Some.ensures.few

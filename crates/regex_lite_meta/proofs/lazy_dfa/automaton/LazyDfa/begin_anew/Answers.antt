@@ -1,0 +1,40 @@
+use Rattle.regex_lite_meta.proofs.Common.{◌≡◌, None, IfSome, chars, length, sym, subst, arith}
+use Rattle.regex_lite_meta.proofs.Common.{rules, best_told, IsComing, threads_of}
+use Rattle.regex_lite_meta.specs.LazyDfa.Automaton.{ReadsAtMost}
+use Rattle.regex_lite_meta.proofs.lazy_dfa.AnewLemmas.{anew}
+use Rattle.regex_lite_meta.proofs.lazy_dfa.ResumeLemmas.{stands_anew}
+use Rattle.regex_lite_meta.proofs.lazy_dfa.RunLemmas.{position_later}
+use Rattle.regex_lite_meta.proofs.lazy_dfa.automaton.LazyDfa.begin_anew.Goals as goal
+
+pub back-requires : goal.back-requires
+back-requires g c =
+    let from = c.requires.stands in
+    (from.2, from.5.is)
+
+pub returns-clause-stands : goal.returns-clause-stands
+returns-clause-stands g c = λ s low q stands before scanning.
+    let table = g.P.Patterns.table c.args.patterns.now in
+    let h = chars c.args.haystack.now in
+    let entries = g.P.Patterns.entries c.args.patterns.now in
+    let stuck = c.args.stuck in
+    let none : stuck.best ≡ None = search rules in
+    let reads = subst (λ o. IfSome o (ReadsAtMost table)) (sym c.in-Some.ensures)
+    c.requires.remembers.reach in
+    let coming = subst
+    (λ best. IsComing table h entries low (length h) q
+    (threads_of stuck.first scanning.state.ways) (best_told best)) none scanning.coming in
+    let there = c.in-Some-back.ensures.here q scanning.is in
+    let all = there.2 in
+    let later = position_later h stands.p there.0 c.args.at.now.here c.in-Some-back.here stands.is
+    there.1 c.in-Some-back.ensures.later in
+    let low_there = stands.on.low in
+    stands_anew table h entries s stands.from stands.p c.args.self.now c.args.cache.now
+    c.let_go.new.cache stands.on stands.begun c.args.at.now.anew stands.own_from
+    c.let_go.ensures.kept there.0 c.in-Some-back.here there.1 later
+    (anew table h entries s low before c.in-Some.reach q there.0
+    (threads_of stuck.first scanning.state.ways) reads coming (omega (arith, all))
+    (omega (arith, low_there, later)))
+    c.let_go.ensures.none c.let_go.ensures.threads c.args.at.now.until
+
+pub returns-clause-later : goal.returns-clause-later
+returns-clause-later g c = let later = c.in-Some-back.ensures.later in omega (arith, later)
