@@ -8,12 +8,12 @@ pub mod Faults
 pub mod ListBuilding
 pub mod Spans
 pub mod ListSpans
+pub mod Kinds
 pub mod Rooms
 pub mod Costs
 pub mod Names
 pub mod Replacing
 pub mod Walks
-pub mod ListWalks
 pub mod GroupWalks
 pub mod ListGroupWalks
 pub mod Cuts

@@ -6,7 +6,7 @@ ghost use Rattle.regex_lite_c.specs.Building.{IsBuildAnswer, IsMessage};
 ghost use Rattle.regex_lite_c.specs.Options.{flags_of, settings_of};
 
 use crate::answer::{NOT_TEXT, YES, number_of};
-use crate::handle::Handle;
+use crate::handle::{Handle, Holds};
 use crate::room;
 use crate::types::Options;
 use regex_lite::{Error, Regex, RegexBuilder};

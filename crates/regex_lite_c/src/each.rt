@@ -3,7 +3,7 @@ ghost use Rattle.std.specs.Prelude.{◌≡◌, ◌↔◌, ◌≤◌, IfSome, IsT
 ghost use Rattle.regex_lite_c.specs.Each.{AreFoundEach, AreTextLengths, IsEachAnswer};
 
 use crate::answer::{BAD_OFFSET, NO_ROOM, NOT_TEXT, NOTHING_HELD, OUT_OF_MEMORY, YES};
-use crate::handle::Handle;
+use crate::handle::{Handle, Holds};
 use crate::types::Span;
 use regex_lite::{Regex, RegexSearcher};
 use std::alloc::Global;

@@ -6,7 +6,7 @@ ghost use Rattle.regex_lite_c.specs.Walks.{walk_room};
 
 use crate::answer::{NO, NO_ROOM, NOTHING_HELD, OUT_OF_MEMORY, YES};
 use crate::groups::put_groups;
-use crate::handle::Handle;
+use crate::handle::{Handle, Holds};
 use crate::text::text_from;
 use crate::types::{Span, Walk};
 use regex_lite::{CaptureMatches, Regex};

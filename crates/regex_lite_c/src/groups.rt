@@ -3,7 +3,7 @@ ghost use Rattle.std.specs.Prelude.{◌≡◌, ◌+◌, ◌<◌, ◌≤◌, IfSo
 ghost use Rattle.regex_lite_c.specs.Spans.{AreWritten, AreWrittenAt, IsGroupsAnswer};
 
 use crate::answer::{NO, NO_ROOM, NOTHING_HELD, OUT_OF_MEMORY, YES};
-use crate::handle::Handle;
+use crate::handle::{Handle, Holds};
 use crate::text::text_from;
 use crate::types::Span;
 use regex_lite::{Captures, Regex};

@@ -1,10 +1,13 @@
-//! What C holds: the place of a regex on the heap, or null.
-ghost use Rattle.std.specs.Prelude.{◌≡◌, Option, None, Some, MatchOption};
+//! What C holds: the place of a regex or of a list of patterns on the heap, or null.
+ghost use Rattle.std.specs.Prelude.{◌≡◌, List, Option, None, Some, MatchOption};
 ghost use Rattle.std.specs.Coded.{coded_option};
+ghost use Rattle.std.specs.Fn.{FnOnceReturnsAt};
 ghost use Rattle.regex_lite.specs.Expression.{Expression};
-ghost use Rattle.regex_lite.specs.contracts.string.regex.Regex.{the_row};
+ghost use Rattle.regex_lite.specs.contracts.string.list.RegexList as patterns;
+ghost use Rattle.regex_lite.specs.contracts.string.regex.Regex as regex;
 
-use regex_lite::{Regex, Unboxed};
+use crate::place::Place;
+use regex_lite::{Regex, RegexList, Unboxed};
 use std::alloc::Global;
 use std::marker::Model;
 
@@ -16,7 +19,7 @@ use std::marker::Model;
 #[derive(Drop)]
 pub struct Handle {
     ptr: *mut u8,
-    pub ghost value: { Option Expression } by { coded_option the_row.coded },
+    pub ghost value: { Option Expression } by { coded_option regex.the_row.coded },
 }
 
 impl Model for Handle {
@@ -25,56 +28,121 @@ impl Model for Handle {
     ghost also_owns = { λ handle. holds handle.ptr handle.value };
 }
 
-impl Handle {
-    /// The regex, which the handle no longer holds.
-    pub(crate) fn take(&mut self, alloc: Global) -> Option<Box<Regex, Global>>
-        ensures taken { MatchOption result (self.old.value ≡ None)
-            (λ regex. self.old.value ≡ Some regex.value) }
-        ensures nothing { self.new.value ≡ None }
+/// The place of a list of patterns, or null where there is none.
+///
+/// Its bytes are those of one pointer. A caller who copies them has two owners of one list, which
+/// nothing here can detect.
+#[repr(C)]
+#[derive(Drop)]
+pub struct ListHandle {
+    ptr: *mut u8,
+    pub ghost value: { Option (List Expression) } by { coded_option patterns.the_row.coded },
+}
+
+impl Model for ListHandle {
+    ghost use Rattle.regex_lite_c.specs.Handles.{holds_list};
+
+    ghost also_owns = { λ handle. holds_list handle.ptr handle.value };
+}
+
+/// A handle of either kind. A type that crosses to C has no type parameter, so there are two.
+pub(crate) trait Holds: Drop {
+    /// What is held.
+    type Value: Drop;
+
+    ghost held: { Self → Option Self.Value };
+
+    /// The handle of what is at this place.
+    fn from_place(place: Place<Self::Value>) -> Self
+        ensures { held result ≡ place.value };
+
+    /// The place of what is held.
+    fn into_place(self) -> Place<Self::Value>
+        ensures { result.value ≡ held self };
+
+    /// The value, which the handle no longer holds.
+    final fn take(&mut self, alloc: Global) -> Option<Box<Self::Value, Global>>
+        ensures taken { MatchOption result (held self.old ≡ None)
+            (λ value. held self.old ≡ Some value.value) }
+        ensures nothing { held self.new ≡ None }
     {
-        let old = std::mem::replace(self, Handle::nothing());
-        match old.into_unboxed(alloc) {
-            Some(regex) => Some(regex.into_box()),
+        let old = std::mem::replace(self, Self::from_place(Place::nothing()));
+        match old.into_place().into_unboxed(alloc) {
+            Some(value) => Some(value.into_box()),
             None => None,
         }
     }
 
-    /// Holds this regex.
+    /// Holds this value.
     ///
     /// Condition: nothing is held; otherwise what is held would never be freed.
-    pub(crate) fn put(&mut self, regex: Box<Regex, Global>)
-        requires { self.old.value ≡ None }
-        ensures { self.new.value ≡ Some regex.value }
+    final fn put(&mut self, value: Box<Self::Value, Global>)
+        requires { held self.old ≡ None }
+        ensures { held self.new ≡ Some value.value }
     {
-        *self = Handle::of(Unboxed::of(regex));
+        *self = Self::from_place(Place::of(Unboxed::of(value)));
     }
+}
 
-    /// Holds nothing.
-    fn nothing() -> Handle
-        ensures { result.value ≡ None }
-    {
-        let ptr = std::ptr::null_mut();
-        Handle { ptr }
-    }
+/// What this says of the value that is held, and 0 where nothing is.
+pub(crate) fn ask<H: Holds, F: FnOnce(&H::Value) -> usize>(
+    alloc: Global,
+    handle: &mut H,
+    say: F,
+) -> usize
+    requires { F.IsAlwaysCallable say }
+    ensures same { H.held handle.new ≡ H.held handle.old }
+    ensures said { MatchOption (H.held handle.old) (result ≡ 0)
+        (λ value. FnOnceReturnsAt F.FnOnce say value result) }
+{
+    let Some(value) = handle.take(alloc) else {
+        return 0;
+    };
+    let said = say(&*value);
+    handle.put(value);
+    said
+}
 
-    /// Holds this regex.
-    fn of(regex: Unboxed<Regex, Global>) -> Handle
-        ensures { result.value ≡ Some regex.value }
+impl Holds for Handle {
+    type Value = Regex;
+
+    ghost held = { λ handle. handle.value };
+
+    fn from_place(place: Place<Regex>) -> Handle
+        ensures { result.value ≡ place.value }
     {
-        let Unboxed { ptr, alloc: _ } = regex;
+        let Place { ptr } = place;
         let ptr = ptr as *mut u8;
         Handle { ptr }
     }
 
-    /// The regex, if there is one.
-    fn into_unboxed(self, alloc: Global) -> Option<Unboxed<Regex, Global>>
-        ensures { MatchOption result (self.value ≡ None) (λ regex. self.value ≡ Some regex.value) }
+    fn into_place(self) -> Place<Regex>
+        ensures { result.value ≡ self.value }
     {
         let Handle { ptr } = self;
-        if ptr.is_null() {
-            return None;
-        }
         let ptr = ptr as *mut Regex;
-        Some(Unboxed { ptr, alloc })
+        Place { ptr }
+    }
+}
+
+impl Holds for ListHandle {
+    type Value = RegexList;
+
+    ghost held = { λ handle. handle.value };
+
+    fn from_place(place: Place<RegexList>) -> ListHandle
+        ensures { result.value ≡ place.value }
+    {
+        let Place { ptr } = place;
+        let ptr = ptr as *mut u8;
+        ListHandle { ptr }
+    }
+
+    fn into_place(self) -> Place<RegexList>
+        ensures { result.value ≡ self.value }
+    {
+        let ListHandle { ptr } = self;
+        let ptr = ptr as *mut RegexList;
+        Place { ptr }
     }
 }

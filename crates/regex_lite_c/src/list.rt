@@ -3,10 +3,10 @@
 mod build;
 mod group_walk;
 mod groups;
-mod handle;
 mod patterns;
 mod properties;
 mod search;
+mod sought;
 mod types;
 mod walk;
 mod which;

@@ -10,7 +10,7 @@ ghost use Rattle.regex_lite_c.specs.Names.{IsIndexAnswer, IsNameAnswer};
 ghost use Rattle.regex_lite_c.specs.Rooms.{IsWritten};
 
 use crate::answer::{NO, NO_GROUP, NOTHING_HELD, YES};
-use crate::handle::Handle;
+use crate::handle::{Handle, Holds, ask};
 use crate::room;
 use regex_lite::{CaptureNames, Regex};
 use std::alloc::Global;
@@ -44,12 +44,7 @@ pub extern "C" fn regex_lite_groups(alloc: Global, handle: &mut Handle) -> usize
     ensures counted { MatchOption handle.old.value (result ≡ 0)
         (λ re. OfTree re (λ tree. result ≡ captures_len tree)) }
 {
-    let Some(regex) = handle.take(alloc) else {
-        return 0;
-    };
-    let count = regex.captures_len();
-    handle.put(regex);
-    count
+    ask(alloc, handle, |regex| regex.captures_len())
 }
 
 /// At least this many groups take part in every match, the whole match among them; 0 where that
@@ -60,12 +55,11 @@ pub extern "C" fn regex_lite_static_groups(alloc: Global, handle: &mut Handle) -
     ensures known { MatchOption handle.old.value (result ≡ 0)
         (λ re. OfTree re (λ tree. result ≡ unwrap_or (static_captures_len tree) 0)) }
 {
-    let Some(regex) = handle.take(alloc) else {
-        return 0;
-    };
-    let known = regex.static_captures_len().unwrap_or(0);
-    handle.put(regex);
-    known
+    ask(
+        alloc,
+        handle,
+        |regex| regex.static_captures_len().unwrap_or(0),
+    )
 }
 
 /// How many places the pattern has when it is written out; 0 where nothing is held.
@@ -75,12 +69,7 @@ pub extern "C" fn regex_lite_places(alloc: Global, handle: &mut Handle) -> usize
     ensures counted { MatchOption handle.old.value (result ≡ 0)
         (λ re. OfTree re (λ tree. result ≡ whole_places tree)) }
 {
-    let Some(regex) = handle.take(alloc) else {
-        return 0;
-    };
-    let count = regex.places();
-    handle.put(regex);
-    count
+    ask(alloc, handle, |regex| regex.places())
 }
 
 /// How many arrows lead from place to place in the pattern written out; 0 where nothing is held.
@@ -90,12 +79,7 @@ pub extern "C" fn regex_lite_arrows(alloc: Global, handle: &mut Handle) -> usize
     ensures counted { MatchOption handle.old.value (result ≡ 0)
         (λ re. OfTree re (λ tree. result ≡ whole_arrows tree)) }
 {
-    let Some(regex) = handle.take(alloc) else {
-        return 0;
-    };
-    let count = regex.arrows();
-    handle.put(regex);
-    count
+    ask(alloc, handle, |regex| regex.arrows())
 }
 
 /// Writes the name of the group with this index to the room: 1, or 0 where the group has no name.

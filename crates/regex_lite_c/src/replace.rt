@@ -5,7 +5,7 @@ ghost use Rattle.regex_lite.specs.Escapes.{escaped_pattern};
 ghost use Rattle.regex_lite_c.specs.Replacing.{IsReplaced, IsTextAnswer};
 
 use crate::answer::{NOT_TEXT, NOTHING_HELD, OUT_OF_MEMORY};
-use crate::handle::Handle;
+use crate::handle::{Handle, Holds};
 use crate::room;
 use crate::types::Replacing;
 use regex_lite::{Error, NoExpand, Regex};

@@ -6,7 +6,8 @@ ghost use Rattle.regex_lite_c.specs.Costs.{IsCostOfSearch};
 ghost use Rattle.regex_lite_c.specs.Spans.{FindsSpan, TellsSpan};
 
 use crate::answer::{NO, NOTHING_HELD, OUT_OF_MEMORY, YES};
-use crate::handle::Handle;
+use crate::handle::{Handle, Holds};
+use crate::sought::Sought;
 use crate::text::text_from;
 use crate::types::{Cost, Span};
 use regex_lite::Regex;
@@ -28,22 +29,23 @@ pub extern "C" fn regex_lite_is_match(
     let Some(regex) = handle.take(alloc) else {
         return NOTHING_HELD;
     };
-    let answer = is_match(&regex, text, start);
+    let answer = is_match(&*regex, text, start);
     handle.put(regex);
     answer
 }
 
-/// Whether this regex matches there.
-fn is_match(regex: &Regex, text: &[u8], start: usize) -> u32
+/// Whether what is searched for matches there.
+pub(crate) fn is_match<P: Sought>(sought: &P, text: &[u8], start: usize) -> u32
     ensures answer { IsSearchAnswer text.now start result
-        (MatchesFrom regex.now text.now start) (MatchesFrom regex.now text.now start → ⊥) }
+        (P.kind.Matches sought.now text.now start)
+        (P.kind.Matches sought.now text.now start → ⊥) }
     ensures held { result ≢ NOTHING_HELD }
 {
     let text = match text_from(text, start) {
         Ok(text) => text,
         Err(refusal) => return refusal,
     };
-    match regex.is_match_at(text, start) {
+    match sought.has_match(text, start) {
         Ok(true) => YES,
         Ok(false) => NO,
         Err(_) => OUT_OF_MEMORY,
@@ -68,15 +70,16 @@ pub extern "C" fn regex_lite_find(
     let Some(regex) = handle.take(alloc) else {
         return NOTHING_HELD;
     };
-    let answer = find(&regex, text, start, span);
+    let answer = find(&*regex, text, start, span);
     handle.put(regex);
     answer
 }
 
-/// Where this regex matches first.
-fn find(regex: &Regex, text: &[u8], start: usize, span: &mut Span) -> u32
+/// Where what is searched for matches first.
+pub(crate) fn find<P: Sought>(sought: &P, text: &[u8], start: usize, span: &mut P::Span) -> u32
     ensures answer { IsSearchAnswer text.now start result
-        (FindsSpan regex.now text.now start span.new) (TellsSpan regex.now text.now start None) }
+        (P.kind.Finds sought.now text.now start span.new)
+        (P.kind.FindsNone sought.now text.now start) }
     ensures held { result ≢ NOTHING_HELD }
     ensures written { result ≢ YES → span.new ≡ span.old }
 {
@@ -84,9 +87,9 @@ fn find(regex: &Regex, text: &[u8], start: usize, span: &mut Span) -> u32
         Ok(text) => text,
         Err(refusal) => return refusal,
     };
-    match regex.find_at(text, start) {
+    match sought.first_span(text, start) {
         Ok(Some(found)) => {
-            *span = Span::of(&found);
+            *span = found;
             YES
         }
         Ok(None) => NO,
@@ -117,17 +120,24 @@ pub extern "C" fn regex_lite_find_counted(
     let Some(regex) = handle.take(alloc) else {
         return NOTHING_HELD;
     };
-    let answer = find_counted(&regex, text, start, span, cost);
+    let answer = find_counted(&*regex, text, start, span, cost);
     handle.put(regex);
     answer
 }
 
-/// Where this regex matches first, and what it cost to find out.
-fn find_counted(regex: &Regex, text: &[u8], start: usize, span: &mut Span, cost: &mut Cost) -> u32
+/// Where what is searched for matches first, and what it cost to find out.
+pub(crate) fn find_counted<P: Sought>(
+    sought: &P,
+    text: &[u8],
+    start: usize,
+    span: &mut P::Span,
+    cost: &mut Cost,
+) -> u32
     ensures answer { IsSearchAnswer text.now start result
-        (FindsSpan regex.now text.now start span.new) (TellsSpan regex.now text.now start None) }
+        (P.kind.Finds sought.now text.now start span.new)
+        (P.kind.FindsNone sought.now text.now start) }
     ensures held { result ≢ NOTHING_HELD }
-    ensures cost { result ≤ YES → IsCostOfSearch regex.now text.now start cost.new }
+    ensures cost { result ≤ YES → P.kind.IsCost sought.now text.now start cost.new }
     ensures entered { result ≡ YES → 0 < cost.new.entered }
     ensures written { result ≢ YES → span.new ≡ span.old }
     ensures same_cost { YES < result → cost.new ≡ cost.old }
@@ -136,13 +146,13 @@ fn find_counted(regex: &Regex, text: &[u8], start: usize, span: &mut Span, cost:
         Ok(text) => text,
         Err(refusal) => return refusal,
     };
-    let Ok(told) = regex.find_counted_at(text, start) else {
+    let Ok(told) = sought.counted_span(text, start) else {
         return OUT_OF_MEMORY;
     };
-    *cost = Cost::of(told.1);
+    *cost = told.1;
     match told.0 {
         Some(found) => {
-            *span = Span::of(&found);
+            *span = found;
             YES
         }
         None => NO,

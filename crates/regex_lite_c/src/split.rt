@@ -5,7 +5,7 @@ ghost use Rattle.regex_lite_c.specs.Cuts.{ArePiecesListed, IsCutAnswer};
 ghost use Rattle.regex_lite_c.specs.Walks.{ended_of};
 
 use crate::answer::{NO, NO_ROOM, NOTHING_HELD, OUT_OF_MEMORY, YES};
-use crate::handle::Handle;
+use crate::handle::{Handle, Holds};
 use crate::text::text_from;
 use crate::types::{Cut, Span, Walk};
 use regex_lite::{Matches, Regex};

@@ -1,13 +1,13 @@
 //! All matches of a text, some at a time.
 ghost use Rattle.std.specs.Prelude.{◌≡◌, ◌<◌, ◌≤◌, IfSome, None, length};
-ghost use Rattle.regex_lite.specs.Ahead.{ComesNext, ahead_of};
-ghost use Rattle.regex_lite_c.specs.Walks.{AreListed, GoesOnAfter, IsWalkAnswer, walk_room};
+ghost use Rattle.regex_lite_c.specs.Walks.{AreListed, GoesOnAfterLast, IsWalkAnswer};
+ghost use Rattle.regex_lite_c.specs.Walks.{IsWalkAnswerOf, NoneComes, walk_room};
 
 use crate::answer::{NO, NO_ROOM, NOTHING_HELD, OUT_OF_MEMORY, YES};
-use crate::handle::Handle;
+use crate::handle::{Handle, Holds};
+use crate::sought::{Sought, Spans, Written};
 use crate::text::text_from;
 use crate::types::{Span, Walk};
-use regex_lite::{Matches, Regex};
 use std::alloc::Global;
 
 /// The next matches of a text, as many as there is room for: 1 with their spans written, or 0 where
@@ -36,21 +36,21 @@ pub extern "C" fn regex_lite_find_all(
     let Some(regex) = handle.take(alloc) else {
         return NOTHING_HELD;
     };
-    let answer = find_all(&regex, text, walk, spans, count);
+    let answer = find_all(&*regex, text, walk, spans, count);
     handle.put(regex);
     answer
 }
 
-/// The next matches of this regex.
-fn find_all(
-    regex: &Regex,
+/// The next matches of what is searched for.
+pub(crate) fn find_all<P: Sought>(
+    sought: &P,
     text: &[u8],
     walk: &mut Walk,
-    spans: &mut [Span],
+    spans: &mut [P::Span],
     count: &mut usize,
 ) -> u32
     requires { count.old ≡ 0 }
-    ensures { IsWalkAnswer regex.now text.now (walk_room walk.old spans.old)
+    ensures { IsWalkAnswerOf P.kind sought.now text.now (walk_room walk.old spans.old)
         (walk_room walk.new spans.new) count.new result }
 {
     let ended = walk.ended();
@@ -61,46 +61,44 @@ fn find_all(
     if spans.is_empty() {
         return NO_ROOM;
     }
-    match regex.find_iter_after(text, ended) {
-        Ok(mut matches) => list(&mut matches, walk, spans, count),
+    match sought.write_after(text, ended, spans) {
+        Ok(written) => {
+            *count = written;
+            go_on::<P>(walk, spans, written)
+        }
         Err(_) => OUT_OF_MEMORY,
     }
 }
 
-/// Writes the next matches, if there is one, and where they end.
-fn list(
-    matches: &mut Matches<'_, '_>,
-    walk: &mut Walk,
-    spans: &mut [Span],
-    count: &mut usize,
-) -> u32
-    requires all { (ahead_of matches.old).limit ≡ None }
-    requires room { 0 < length spans.old }
-    ensures found { 0 < count.new → (result ≡ YES)
-        × AreListed (ahead_of matches.old) spans.old spans.new count.new
-        × GoesOnAfter spans.new count.new walk.new }
-    ensures none { count.new ≡ 0 → (result ≡ NO) × ComesNext (ahead_of matches.old) None
-        × (walk.new ≡ walk.old) × (spans.new ≡ spans.old) }
+/// Goes on after the last of these matches, if there is one.
+fn go_on<P: Written>(walk: &mut Walk, spans: &[P::Span], count: usize) -> u32
+    requires { count ≤ length spans.now }
+    ensures found { 0 < count
+        → (result ≡ YES) × GoesOnAfterLast P.kind.end_of spans.now count walk.new }
+    ensures none { count ≡ 0 → (result ≡ NO) × (walk.new ≡ walk.old) }
 {
-    *count = fill(matches, spans);
-    if *count == 0 {
+    if count == 0 {
         return NO;
     }
-    *walk = Walk::after(&spans[*count - 1]);
+    let end = P::end_of(&spans[count - 1]);
+    *walk = Walk {
+        is_begun: true,
+        end,
+    };
     YES
 }
 
 /// Writes the next matches, and returns how many.
-fn fill(matches: &mut Matches<'_, '_>, spans: &mut [Span]) -> usize
-    requires { (ahead_of matches.old).limit ≡ None }
-    ensures listed { AreListed (ahead_of matches.old) spans.old spans.new result }
+pub(crate) fn fill<M: Spans>(matches: &mut M, spans: &mut [<M::Sought as Written>::Span]) -> usize
+    requires { (M.ahead matches.old).limit ≡ None }
+    ensures listed { AreListed M.Sought.kind (M.ahead matches.old) spans.old spans.new result }
     ensures within { result ≤ length spans.old }
-    ensures none { result ≡ 0 → 0 < length spans.old → ComesNext (ahead_of matches.old) None
-        × (spans.new ≡ spans.old) }
+    ensures none { result ≡ 0 → 0 < length spans.old
+        → NoneComes M.Sought.kind (M.ahead matches.old) × (spans.new ≡ spans.old) }
 {
     for k in 0..spans.len() {
-        match matches.next() {
-            Some(found) => spans[k] = Span::of(&found),
+        match matches.next_span() {
+            Some(span) => spans[k] = span,
             None => return k,
         }
     }

@@ -135,6 +135,18 @@ module _ {S A X Y : Type 0} (found_of : A → Found)
     pub written : AreWrittenAs stands_for (map (tell start.haystack) list) old now
     pub same : k ≡ 0 → (a ≡ start) × (now ≡ old)
 
+  -- at the start none was
+  pub none_written : (start : AheadOf S) (old : List X) → start.limit ≡ None
+      → AreFirstWritten start start old old 0
+  none_written start old limit = record {
+    list = [];
+    number = refl;
+    lists = subst (λ n. ListsAnswers found_of IsAnswerTo start start (length old) n [])
+        (omega arith) (lists_none found_of IsAnswerTo start (length old) limit);
+    written = record { each = λ k lt. absurd (omega (arith, lt)); rest = λ k le. refl };
+    same = λ _. (refl, refl);
+  }
+
   -- one more was
   pub first_written_more : (start a next : AheadOf S) (old now : List X) (k : ℕ) (answer : A)
       (s : X)

@@ -10,7 +10,7 @@ ghost use Rattle.regex_lite_c.specs.ListBuilding.{settings_of_all, settings_of_s
 
 use crate::answer::{BAD_OFFSET, NOT_TEXT, YES, number_of};
 use crate::build::{regex_of, write_message};
-use crate::list::handle::ListHandle;
+use crate::handle::{Holds, ListHandle};
 use crate::list::patterns::{Source, are_all_bytes, sources};
 use crate::list::types::{ListPattern, ListRefusal};
 use regex_lite::{Error, ErrorKind, RegexList, RegexListBuilder};

@@ -7,7 +7,7 @@ ghost use Rattle.regex_lite_c.specs.ListGroupWalks.{list_group_room};
 use crate::answer::{NO, NO_ROOM, NOTHING_HELD, OUT_OF_MEMORY, YES};
 use crate::group_walk::or_yes;
 use crate::groups::put_groups;
-use crate::list::handle::ListHandle;
+use crate::handle::{Holds, ListHandle};
 use crate::list::types::ListGroups;
 use crate::text::text_from;
 use crate::types::{Span, Walk};

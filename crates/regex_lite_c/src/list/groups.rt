@@ -4,7 +4,7 @@ ghost use Rattle.regex_lite_c.specs.ListSpans.{IsListGroupsAnswer};
 
 use crate::answer::{NO, NOTHING_HELD, OUT_OF_MEMORY};
 use crate::groups::write_groups;
-use crate::list::handle::ListHandle;
+use crate::handle::{Holds, ListHandle};
 use crate::list::types::ListGroups;
 use crate::text::text_from;
 use crate::types::Span;

@@ -5,7 +5,7 @@ ghost use Rattle.regex_lite_engine.specs.Graph.SideBySide.{arrows_of_all, places
 ghost use Rattle.regex_lite_c.specs.Rooms.{IsPatternAnswer};
 
 use crate::answer::{NO, NOTHING_HELD};
-use crate::list::handle::ListHandle;
+use crate::handle::{Holds, ListHandle, ask};
 use crate::room;
 use regex_lite::RegexList;
 use std::alloc::Global;
@@ -16,12 +16,7 @@ pub extern "C" fn regex_lite_list_len(alloc: Global, handle: &mut ListHandle) ->
     ensures same { handle.new.value ≡ handle.old.value }
     ensures counted { MatchOption handle.old.value (result ≡ 0) (λ list. result ≡ length list) }
 {
-    let Some(list) = handle.take(alloc) else {
-        return 0;
-    };
-    let len = list.len();
-    handle.put(list);
-    len
+    ask(alloc, handle, |list| list.len())
 }
 
 /// Writes the pattern with this number to the room: 1, or 0 where there is none.
@@ -64,12 +59,7 @@ pub extern "C" fn regex_lite_list_places(alloc: Global, handle: &mut ListHandle)
     ensures counted { MatchOption handle.old.value (result ≡ 0)
         (λ list. OfTrees list (λ trees. result ≡ places_of_all trees)) }
 {
-    let Some(list) = handle.take(alloc) else {
-        return 0;
-    };
-    let count = list.places();
-    handle.put(list);
-    count
+    ask(alloc, handle, |list| list.places())
 }
 
 /// How many arrows lead from place to place in the patterns written out; 0 where nothing is held.
@@ -79,10 +69,5 @@ pub extern "C" fn regex_lite_list_arrows(alloc: Global, handle: &mut ListHandle)
     ensures counted { MatchOption handle.old.value (result ≡ 0)
         (λ list. OfTrees list (λ trees. result ≡ arrows_of_all trees)) }
 {
-    let Some(list) = handle.take(alloc) else {
-        return 0;
-    };
-    let count = list.arrows();
-    handle.put(list);
-    count
+    ask(alloc, handle, |list| list.arrows())
 }

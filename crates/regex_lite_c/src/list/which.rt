@@ -4,7 +4,7 @@ ghost use Rattle.regex_lite_c.specs.ListSpans.{IsFlagsAnswer, flag_of};
 ghost use Rattle.regex_lite_c.specs.Spans.{AreWrittenAs};
 
 use crate::answer::{NO_ROOM, NOTHING_HELD, OUT_OF_MEMORY, YES};
-use crate::list::handle::ListHandle;
+use crate::handle::{Holds, ListHandle};
 use crate::text::text_from;
 use regex_lite::{RegexList, SetMatches};
 use std::alloc::Global;

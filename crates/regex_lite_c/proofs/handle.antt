@@ -1,2 +1,0 @@
--- lemmas that the proofs of handles share
-pub mod HandleLemmas

@@ -1,0 +1,2 @@
+-- lemmas that the proofs of places share
+pub mod PlaceLemmas

@@ -1,0 +1,88 @@
+-- What is searched for, a regex or several patterns, and how what is found is written.
+use Rattle.std.specs.Prelude.{◌≡◌, ℕ, List, Option, Some, None, MatchOption, chars}
+use Rattle.regex_lite_syntax.specs.Text.{Text}
+use Rattle.regex_lite_engine.specs.Search.Answer.{Found}
+use Rattle.regex_lite.specs.Ahead.{AheadOf, EndsAhead, PassesAnswer}
+use Rattle.regex_lite.specs.Expression.{Expression}
+use Rattle.regex_lite.specs.MatchList.{IsAnswerOf, IsAnswerOfPatterns}
+use Rattle.regex_lite.specs.Pieces.{found_span}
+use Rattle.regex_lite.specs.RegexListSearches.{AnyMatches}
+use Rattle.regex_lite.specs.Searches.{MatchesFrom}
+use Rattle.regex_lite_c.specs.Costs.{IsCostOfListSearch, IsCostOfSearch}
+use Rattle.regex_lite_c.specs.ListSpans.{FindsListSpan, TellsListSpan, list_span_of}
+use Rattle.regex_lite_c.specs.Spans.{FindsSpan, TellsSpan, span_of}
+use Rattle.regex_lite_c.specs.declared.list.types.ListSpan.{ListSpan}
+use Rattle.regex_lite_c.specs.declared.types.Cost.{Cost}
+use Rattle.regex_lite_c.specs.declared.types.Span.{Span}
+
+-- A search gives answers, in each of which a match was found. What is told of one is written as
+-- what stands for it, which shows where the match ends. From an offset on there is a match, one
+-- with this span is found first, or none is, and finding out costs this
+pub record Kind (S X : Type 0) : Type 1 where
+  pub Answer : Type 0
+  pub Told : Type 0
+  pub found_of : Answer → Found
+  pub IsAnswerTo : S → Text → (s : ℕ) → Option Answer → Type 0
+  pub tell : (haystack : List ℕ) → Answer → Told
+  pub stands_for : Told → X
+  pub end_of : X → ℕ
+  pub Matches : S → (haystack : List ℕ) → (start : ℕ) → Type 0
+  pub Finds : S → (haystack : List ℕ) → (start : ℕ) → X → Type 0
+  pub FindsNone : S → (haystack : List ℕ) → (start : ℕ) → Type 0
+  pub IsCost : S → (haystack : List ℕ) → (start : ℕ) → Cost → Type 0
+
+-- where a match starts and ends, as it is written
+abbrev pub told_of : (haystack : List ℕ) → Found → Option (ℕ × ℕ)
+told_of haystack found = Some (found_span (chars haystack) found)
+
+-- a regex is searched for, whose answers are its matches
+abbrev pub of_regex : Kind Expression Span
+of_regex = record {
+  Answer = Found;
+  Told = Option (ℕ × ℕ);
+  found_of = λ own. own;
+  IsAnswerTo = IsAnswerOf;
+  tell = told_of;
+  stands_for = span_of;
+  end_of = λ span. span.end;
+  Matches = MatchesFrom;
+  Finds = FindsSpan;
+  FindsNone = λ re haystack start. TellsSpan re haystack start None;
+  IsCost = IsCostOfSearch;
+}
+
+-- the number of a pattern, and where its match starts and ends, as it is written
+abbrev pub told_of_answer : (haystack : List ℕ) → ℕ × Found → ℕ × (ℕ × ℕ)
+told_of_answer haystack answer = (answer.0, found_span (chars haystack) answer.1)
+
+-- several patterns are searched for, with the number of the pattern in each answer
+abbrev pub of_patterns : Kind (List Expression) ListSpan
+of_patterns = record {
+  Answer = ℕ × Found;
+  Told = ℕ × (ℕ × ℕ);
+  found_of = λ own. own.1;
+  IsAnswerTo = IsAnswerOfPatterns;
+  tell = told_of_answer;
+  stands_for = list_span_of;
+  end_of = λ span. span.end;
+  Matches = AnyMatches;
+  Finds = FindsListSpan;
+  FindsNone = λ list haystack start. TellsListSpan list haystack start None;
+  IsCost = IsCostOfListSearch;
+}
+
+-- this is found from the offset on, or nothing is
+abbrev pub IsFirst : {S X : Type 0} → Kind S X → S → (haystack : List ℕ) → (start : ℕ)
+    → Option X → Type 0
+IsFirst kind sought haystack start span =
+    MatchOption span (kind.FindsNone sought haystack start) (kind.Finds sought haystack start)
+
+-- the next of the matches ahead came, as it is written; or there was none, and none comes from then
+-- on
+abbrev pub GivesWritten : {S X : Type 0} → Kind S X → (old : AheadOf S) → Option X
+    → (new : AheadOf S) → Type 0
+GivesWritten kind old item new =
+    MatchOption item (EndsAhead kind.found_of kind.IsAnswerTo old new)
+    (λ span. (answer : kind.Answer)
+    × PassesAnswer kind.found_of kind.IsAnswerTo old answer new
+    × (span ≡ kind.stands_for (kind.tell old.haystack answer)))
