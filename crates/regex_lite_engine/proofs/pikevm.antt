@@ -14,6 +14,7 @@ pub mod RoundLemmas
 pub mod ShortestLemmas
 pub mod StateLemmas
 pub mod StepLemmas
+pub mod StopLemmas
 pub mod ThreadLemmas
 pub mod TurnLemmas
 pub mod WalkLemmas

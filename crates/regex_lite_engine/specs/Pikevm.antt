@@ -9,3 +9,4 @@ pub mod Room
 pub mod Turns
 pub mod Searching
 pub mod Passing
+pub mod Stopping

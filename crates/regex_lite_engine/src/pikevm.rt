@@ -15,7 +15,6 @@ pub(crate) mod rows;
 pub mod run;
 pub(crate) mod search;
 mod seen;
-pub mod shortest;
 pub(crate) mod slot;
 mod stack;
 mod threads;

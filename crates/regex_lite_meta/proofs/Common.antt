@@ -4,6 +4,7 @@ pub use Rattle.std.proofs.Common.{[], ◌∷◌, length, IfSome, Some, None, Opt
 pub use Rattle.std.proofs.Common.{option_map, sym, refl, ap, ◌∙◌, subst, inl, inr, arith, map, take}
 pub use Rattle.std.proofs.Common.{drop, slice_get, slice_index, slice_index_or, Bool, false, ◌==◌}
 pub use Rattle.std.proofs.Common.{IsUtf8, chars, IsCharBoundary, ◌++◌, All, not, slice_set, rules}
+pub use Rattle.std.proofs.Common.{true≢false}
 pub use Rattle.std.proofs.Math.Nat.{suc-mul}
 pub use Rattle.std.proofs.lemmas.Bool.{cases_lt}
 pub use Rattle.std.proofs.lemmas.Bool.Decides.{nat_tests}
@@ -22,7 +23,7 @@ pub use Rattle.regex_lite_engine.specs.Search.Answer.{Found}
 pub use Rattle.regex_lite_engine.specs.Search.NumberedAnswer.{IsNumberedFound}
 pub use Rattle.regex_lite_engine.specs.Search.NumberedOutcomes.{Best, best_kept, best_at}
 pub use Rattle.regex_lite_engine.specs.Search.NumberedOutcomes.{with_start_kept, IsBestOutcomeOf}
-pub use Rattle.regex_lite_engine.specs.Search.NumberedOutcomes.{span_of, IsNumberedEndOf}
+pub use Rattle.regex_lite_engine.specs.Search.NumberedOutcomes.{span_of, IsNumberedEndOf, IsFoundOf}
 pub use Rattle.regex_lite_engine.specs.Search.Offsets.{offset, IsOffset, position_at}
 pub use Rattle.regex_lite_engine.specs.Search.Rows.{Row}
 pub use Rattle.regex_lite_engine.specs.Search.Standing.{IsHere}
@@ -42,7 +43,7 @@ pub use Rattle.regex_lite_meta.specs.LazyDfa.Intervals.{look_bounds}
 pub use Rattle.regex_lite_meta.specs.LazyDfa.Learning.{IsFirstStart, IsIn}
 pub use Rattle.regex_lite_meta.specs.LazyDfa.Running.{IsOnItsWay, Stands}
 pub use Rattle.regex_lite_meta.specs.LazyDfa.Scanning.{best_told, IsSince, IsScanning, span_told}
-pub use Rattle.regex_lite_meta.specs.LazyDfa.Scanning.{IsIdleAt, end_told}
+pub use Rattle.regex_lite_meta.specs.LazyDfa.Scanning.{IsIdleAt}
 pub use Rattle.regex_lite_meta.specs.LazyDfa.Stored.{way_in, hit_in, state_in}
 pub use Rattle.regex_lite_meta.specs.declared.lazy_dfa.scan.Standing.{Standing}
 pub use Rattle.regex_lite_meta.specs.declared.lazy_dfa.state.StoredState.{StoredState}

@@ -16,7 +16,6 @@ mod room;
 pub(crate) mod run;
 pub(crate) mod scan;
 pub(crate) mod settle;
-pub(crate) mod shortest;
 pub(crate) mod side;
 pub(crate) mod single;
 pub(crate) mod spans;

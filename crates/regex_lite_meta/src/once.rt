@@ -18,7 +18,7 @@ use crate::list_searcher::ListSearcher;
 use regex_lite_engine::nfa::list::GraphList;
 use regex_lite_engine::pikevm::beginning::Unkept;
 use regex_lite_engine::pikevm::cache::{Cache, cache_for};
-use regex_lite_engine::pikevm::shortest::run_shortest;
+use regex_lite_engine::pikevm::run::run_shortest;
 use regex_lite_engine::search::one_pattern::OnePattern;
 use regex_lite_engine::search::outcome::Outcome;
 use regex_lite_engine::steps::no_steps;

@@ -1,5 +1,5 @@
 -- What a search over a table of numbered places returns, by offsets.
-use Rattle.std.specs.Prelude.{◌≡◌, ℕ, List, Option, Some, None}
+use Rattle.std.specs.Prelude.{◌≡◌, ℕ, Bool, true, false, List, Option, Some, None}
 use Rattle.regex_lite_syntax.specs.Text.{Text}
 use Rattle.regex_lite_engine.specs.declared.pikevm.beginning.Origin.{Origin}
 use Rattle.regex_lite_engine.specs.declared.search.outcome.Outcome.{Outcome}
@@ -88,3 +88,10 @@ IsNumberedEndOf table haystack entries s None = IsNumberedAnswerOf table haystac
 IsNumberedEndOf table haystack entries s (Some best) =
     (end : ℕ) × IsNumberedShortestOf table haystack entries s end
     × (best.1 ≡ offset haystack end)
+
+-- what is asked for is the most preferred match or, for the least end, a match that ends there,
+-- whatever is said of its start
+abbrev pub IsFoundOf : (earliest : Bool) → List (Place ℕ) → Text → (entries : List ℕ) → (s : ℕ)
+    → Best → Type 0
+IsFoundOf false table haystack entries s best = IsBestOutcomeOf table haystack entries s best
+IsFoundOf true table haystack entries s best = IsNumberedEndOf table haystack entries s best

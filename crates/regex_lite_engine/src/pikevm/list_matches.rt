@@ -17,7 +17,7 @@ ghost use Rattle.regex_lite_engine.specs.Pikevm.Searching.{IsBetween};
 use crate::nfa::list::GraphList;
 use crate::pikevm::beginning::Unkept;
 use crate::pikevm::cache::{Cache, cache_for, restart};
-use crate::pikevm::shortest::run_shortest;
+use crate::pikevm::run::run_shortest;
 use crate::search::one_of_list::OneOfList;
 use crate::steps::{Steps, no_steps};
 use std::alloc::{AllocError, Global};

@@ -11,8 +11,7 @@ ghost use Rattle.regex_lite_engine.specs.Search.Outcomes.{IsOutcomeOfList, HasCo
 use crate::nfa::list::GraphList;
 use crate::pikevm::beginning::{Origin, Unkept};
 use crate::pikevm::cache::{Cache, cache_for};
-use crate::pikevm::run::run;
-use crate::pikevm::shortest::run_shortest;
+use crate::pikevm::run::{run, run_shortest};
 use crate::search::list_patterns::ListPatterns;
 use crate::search::outcome::Outcome;
 use crate::steps::{Steps, no_steps};

@@ -1,20 +1,20 @@
-//! A whole search, position by position.
-ghost use Rattle.std.specs.Prelude.{◌≡◌, ◌+◌, ◌⊎◌, ℕ, IfSome, IsCharBoundary, IsTrue, None};
-ghost use Rattle.std.specs.Prelude.{chars, length};
+//! A whole search, position by position, for a match or for the least end of one.
+ghost use Rattle.std.specs.Prelude.{◌≡◌, ◌+◌, ◌<◌, ◌⊎◌, ℕ, IsCharBoundary, IsTrue, None};
+ghost use Rattle.std.specs.Prelude.{chars, false, length, true};
+ghost use Rattle.regex_lite_engine.specs.Graph.Parts.{IsOwnPart, row_of};
 ghost use Rattle.regex_lite_engine.specs.Graph.Renumbered.{arrows_of};
 ghost use Rattle.regex_lite_engine.specs.Search.Bounds.{IsBoundedBy, StaysCounted, characters_left};
 ghost use Rattle.regex_lite_engine.specs.Search.Offsets.{position_at};
-ghost use Rattle.regex_lite_engine.specs.Search.NumberedOutcomes.{IsBestOutcomeOf};
+ghost use Rattle.regex_lite_engine.specs.Search.NumberedOutcomes.{IsBestOutcomeOf, IsNumberedEndOf};
 ghost use Rattle.regex_lite_engine.specs.Search.Standing.{IsHere};
 ghost use Rattle.regex_lite_engine.specs.Pikevm.Passing.{IsUnderWay};
+ghost use Rattle.regex_lite_engine.specs.Pikevm.Stopping.{Stops};
 ghost use Rattle.regex_lite_engine.specs.Pikevm.Searching.{IsFresh, IsBetween};
 ghost use Rattle.regex_lite_engine.specs.Search.Counting.{CanCount};
 ghost use Rattle.regex_lite_engine.specs.Pikevm.Turns.{best_of};
 
-use crate::pikevm::beginning::Beginning;
-use crate::pikevm::best::Best;
+use crate::pikevm::beginning::{Beginning, Unkept};
 use crate::pikevm::cache::Cache;
-use crate::pikevm::memory::Memory;
 use crate::search::here::Here;
 use crate::search::patterns::Patterns;
 
@@ -44,13 +44,48 @@ pub fn run<S: Beginning, P: Patterns>(
     ensures table { P.table patterns.new ≡ P.table patterns.old }
     ensures entries { P.entries patterns.new ≡ P.entries patterns.old }
 {
-    run_on(cache, patterns, haystack, Here::at(haystack, start), None);
+    advance::<_, _, false>(cache, patterns, haystack, Here::at(haystack, start), None);
 }
 
-/// Goes on from where a search stands, until the most preferred match is known, and over no more
-/// than this number of positions, if there is one. Returns where the search stands then. None if it
-/// is over.
-pub fn run_on<S: Beginning, P: Patterns>(
+/// Goes from position to position, up to the first at which a match is complete.
+///
+/// Condition: the start is on a character boundary, the cache has just been made for the table of
+/// the patterns or made ready for another search, and no count of the search can be too large.
+pub fn run_shortest<P: Patterns>(
+    cache: &mut Cache<Unkept>,
+    patterns: &mut P,
+    haystack: &str,
+    start: usize,
+)
+    requires boundary { IsCharBoundary haystack.now start }
+    requires fresh { IsFresh (P.table patterns.old) cache.old }
+    requires counts { CanCount (P.table patterns.old) (length (P.entries patterns.old))
+        (characters_left (chars haystack.now) (position_at haystack.now start)) }
+    ensures found { IsNumberedEndOf (P.table patterns.old) (chars haystack.now)
+        (P.entries patterns.old) (position_at haystack.now start) (best_of cache.new.best) }
+    ensures bounded { IsBoundedBy (length (P.table patterns.old))
+        (arrows_of (P.table patterns.old) + length (P.entries patterns.old)) (chars haystack.now)
+        (position_at haystack.now start) cache.new.walk.steps.tried
+        cache.new.walk.steps.entered cache.new.walk.steps.looked }
+    ensures own { (low len : ℕ) → IsOwnPart (P.table patterns.old) (P.entries patterns.old) low len
+        → IsBoundedBy len
+        (arrows_of (row_of (P.table patterns.old) low len) + length (P.entries patterns.old))
+        (chars haystack.now) (position_at haystack.now start) cache.new.walk.steps.tried
+        cache.new.walk.steps.entered cache.new.walk.steps.looked }
+    ensures between { IsBetween (P.table patterns.old) cache.new }
+    ensures counts { StaysCounted cache.old.walk.steps cache.new.walk.steps }
+    ensures entry { ¬ (best_of cache.new.best ≡ None) → 0 < cache.new.walk.steps.entered }
+{
+    advance::<_, _, true>(cache, patterns, haystack, Here::at(haystack, start), None);
+}
+
+/// Goes on from where a search stands until its match is known: the most preferred one or, with
+/// EARLIEST, one that ends at the first position at which any match is complete. It goes over no
+/// more than this number of positions, if there is one. Returns where the search stands then. None
+/// if it is over.
+///
+/// Condition: no count of the search can be too large, and with EARLIEST there is no match yet.
+pub fn advance<S: Beginning, P: Patterns, const EARLIEST: bool>(
     cache: &mut Cache<S>,
     patterns: &mut P,
     haystack: &str,
@@ -62,20 +97,11 @@ pub fn run_on<S: Beginning, P: Patterns>(
         (characters_left (chars haystack.now) s)
         × IsUnderWay (P.table patterns.old) (chars haystack.now) (P.entries patterns.old) s p
         cache.old }
-    ensures found { (s p : ℕ) → IsHere (chars haystack.now) p from
+    requires none { EARLIEST ≡ true → best_of cache.old.best ≡ None }
+    ensures stops { (s p : ℕ) → IsHere (chars haystack.now) p from
         → IsUnderWay (P.table patterns.old) (chars haystack.now) (P.entries patterns.old) s p
-        cache.old → result ≡ None → IsBestOutcomeOf (P.table patterns.old) (chars haystack.now)
-        (P.entries patterns.old) s (best_of cache.new.best) }
-    ensures bounded { (s p : ℕ) → IsHere (chars haystack.now) p from
-        → IsUnderWay (P.table patterns.old) (chars haystack.now) (P.entries patterns.old) s p
-        cache.old → result ≡ None → IsBoundedBy (length (P.table patterns.old))
-        (arrows_of (P.table patterns.old) + length (P.entries patterns.old)) (chars haystack.now) s
-        cache.new.walk.steps.tried cache.new.walk.steps.entered cache.new.walk.steps.looked }
-    ensures stands { (s p : ℕ) → IsHere (chars haystack.now) p from
-        → IsUnderWay (P.table patterns.old) (chars haystack.now) (P.entries patterns.old) s p
-        cache.old → IfSome result (λ here. (q : ℕ) × IsHere (chars haystack.now) q here
-        × IsUnderWay (P.table patterns.old) (chars haystack.now) (P.entries patterns.old) s q
-        cache.new) }
+        cache.old → Stops (P.table patterns.old) (chars haystack.now) (P.entries patterns.old) s
+        EARLIEST p cache.old cache.new result }
     ensures all { most ≡ None → result ≡ None }
     ensures counts { StaysCounted cache.old.walk.steps cache.new.walk.steps }
     ensures width { length cache.new.best.row ≡ length cache.old.best.row }
@@ -90,7 +116,7 @@ pub fn run_on<S: Beginning, P: Patterns>(
             return Some(here);
         }
         here = cache.pass(patterns, haystack, here);
-        if is_over(here, &cache.walk.memory, &cache.best) {
+        if is_done::<_, EARLIEST>(here, cache) {
             return None;
         }
         here = here.next(haystack);
@@ -98,7 +124,7 @@ pub fn run_on<S: Beginning, P: Patterns>(
 }
 
 /// Counts the next position, if their number is limited. Returns whether none was left.
-pub(super) fn is_spent(left: &mut Option<u32>) -> bool
+fn is_spent(left: &mut Option<u32>) -> bool
     ensures all { left.old ≡ None → (left.new ≡ None) × ¬ IsTrue result }
 {
     let Some(positions) = *left else {
@@ -111,14 +137,15 @@ pub(super) fn is_spent(left: &mut Option<u32>) -> bool
     false
 }
 
-/// Whether nothing is left to do after the position.
-pub fn is_over<S: Beginning>(here: Here, memory: &Memory<S>, best: &Best<S>) -> bool
-    ensures over { IsTrue result → (here.after ≡ None)
-        ⊎ (¬ (best_of best.now ≡ None) × (length memory.now.threads ≡ 0)) }
+/// Whether the match is known after the position, or no position is left.
+pub fn is_done<S: Beginning, const EARLIEST: bool>(here: Here, cache: &Cache<S>) -> bool
+    ensures done { IsTrue result → (here.after ≡ None) ⊎ (¬ (best_of cache.now.best ≡ None)
+        × (EARLIEST ≡ false → length cache.now.walk.memory.threads ≡ 0)) }
     ensures at_end { here.after ≡ None → IsTrue result }
+    ensures none_yet { EARLIEST ≡ true → ¬ IsTrue result → best_of cache.now.best ≡ None }
 {
     if here.after.is_none() {
         return true;
     }
-    memory.threads() == 0 && !best.is_none()
+    (EARLIEST || cache.walk.memory.threads() == 0) && !cache.best.is_none()
 }

@@ -1,7 +1,8 @@
 -- A search that begins anew at a later start, since no match starts before.
 use Rattle.regex_lite_meta.proofs.Common.{ℕ, ◌+◌, ◌<◌, ◌≤◌, ◌⊎◌, List, length, Some, None, inl}
 use Rattle.regex_lite_meta.proofs.Common.{inr, arith, cases_lt, Text, Thread, IsComing, Best}
-use Rattle.regex_lite_meta.proofs.Common.{IsBestOutcomeOf, IsNumberedEndOf}
+use Rattle.regex_lite_meta.proofs.Common.{Bool, true, false, IsBestOutcomeOf, IsNumberedEndOf}
+use Rattle.regex_lite_meta.proofs.Common.{IsFoundOf}
 use Rattle.regex_lite_engine.specs.Graph.Places.{Place}
 use Rattle.regex_lite_engine.specs.Search.NumberedList.{IsMatchOfAny}
 use Rattle.regex_lite_engine.proofs.pikevm.ShortestLemmas.{ends_later}
@@ -28,7 +29,7 @@ module _ (table : List (Place ℕ)) (h : Text) (entries : List ℕ) where
     }
 
     -- the answer from the later start on is the answer from here on
-    pub outcome_from : (best : Best) → IsBestOutcomeOf table h entries m best
+    outcome_from : (best : Best) → IsBestOutcomeOf table h entries m best
         → IsBestOutcomeOf table h entries s best
     outcome_from None none = λ i k way q j is. none i k way q j (later_match i k way q j is)
     outcome_from (Some best) (number, found, answer, told, end, held) =
@@ -64,7 +65,7 @@ module _ (table : List (Place ℕ)) (h : Text) (entries : List ℕ) where
         )
 
     -- and so is the least end
-    pub end_from : (best : Best) → IsNumberedEndOf table h entries m best
+    end_from : (best : Best) → IsNumberedEndOf table h entries m best
         → IsNumberedEndOf table h entries s best
     end_from None none = λ i k way q j is. none i k way q j (later_match i k way q j is)
     end_from (Some best) (end, is, at) =
@@ -90,6 +91,12 @@ module _ (table : List (Place ℕ)) (h : Text) (entries : List ℕ) where
           },
           at,
         )
+
+    -- and so is what is asked for
+    pub found_from : (earliest : Bool) (best : Best) → IsFoundOf earliest table h entries m best
+        → IsFoundOf earliest table h entries s best
+    found_from false = outcome_from
+    found_from true = end_from
 
     -- a search that stands at a position without a match has none that started as many characters
     -- before as a way reads at most, or earlier

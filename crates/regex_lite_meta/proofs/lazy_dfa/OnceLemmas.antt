@@ -1,6 +1,6 @@
 -- A search that gets an automaton on its way.
-use Rattle.regex_lite_meta.proofs.Common.{◌≡◌, ℕ, false, List, [], length, Some, None, Option}
-use Rattle.regex_lite_meta.proofs.Common.{MatchOption}
+use Rattle.regex_lite_meta.proofs.Common.{◌≡◌, ℕ, Bool, false, List, [], length, Some, None}
+use Rattle.regex_lite_meta.proofs.Common.{Option, MatchOption, IsFoundOf}
 use Rattle.regex_lite_meta.proofs.Common.{sym, ap, ◌∙◌, subst, nil_from_length, Text, best_of}
 use Rattle.regex_lite_meta.proofs.Common.{best_at, with_start_kept, best_kept, span_of}
 use Rattle.regex_lite_meta.proofs.Common.{IsBestOutcomeOf, Row, Origin, Cache, Automaton, IsIn}
@@ -39,12 +39,12 @@ module _ (table : List (Place ℕ)) (h : Text) (entries : List ℕ) (s : ℕ) wh
       })
 
   -- what is known is the best match, and no slots are kept
-  pub found_told : {S : Type 0} (cache : Cache S) (known : Option (Origin × ℕ))
+  pub found_kept : {S : Type 0} (earliest : Bool) (cache : Cache S) (known : Option (Origin × ℕ))
       → length cache.best.row ≡ 0 → best_of cache.best ≡ best_kept known cache.best.row
-      → IsBestOutcomeOf table h entries s (best_of cache.best)
-      → IsBestOutcomeOf table h entries s (best_told known)
-  found_told cache known width is found =
-      subst (IsBestOutcomeOf table h entries s)
+      → IsFoundOf earliest table h entries s (best_of cache.best)
+      → IsFoundOf earliest table h entries s (best_told known)
+  found_kept earliest cache known width is found =
+      subst (IsFoundOf earliest table h entries s)
       (is ∙ ap (best_kept known) (nil_from_length cache.best.row width)) found
 
   -- a search that has come to position p, with and without what it keeps of slots

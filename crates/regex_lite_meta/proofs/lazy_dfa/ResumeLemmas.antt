@@ -1,5 +1,5 @@
 -- A search that is taken up where remembered turns end.
-use Rattle.regex_lite_meta.proofs.Common.{◌≡◌, ℕ, zero, suc, ◌<◌, ◌≤◌, Bool, true, false, not, ◌⊎◌}
+use Rattle.regex_lite_meta.proofs.Common.{◌≡◌, ℕ, zero, suc, ◌<◌, ◌≤◌, Bool, true, false, ◌⊎◌}
 use Rattle.regex_lite_meta.proofs.Common.{List, [], ◌∷◌, map, length, ◌==◌, slice_get, Some, None}
 use Rattle.regex_lite_meta.proofs.Common.{All, Option, MatchOption, sym, refl, ap, ◌∙◌, subst, inl}
 use Rattle.regex_lite_meta.proofs.Common.{inr, arith, nat_tests, length-map, Text, Thread, best_of}
@@ -10,7 +10,7 @@ use Rattle.regex_lite_meta.proofs.Common.{IsHere, IsIdleAt, IsScanning, way_in, 
 use Rattle.regex_lite_engine.specs.Graph.Places.{Place, reading_of}
 use Rattle.regex_lite_meta.specs.LazyDfa.Automaton.{IsEmptyState, began, origin_of, told_if}
 use Rattle.regex_lite_meta.specs.LazyDfa.Running.{GoesOnWith, NoneStartsBeforeOf, thread_from}
-use Rattle.std.proofs.Common.{is_some, IsSome, ⊎_elim, true≢false}
+use Rattle.std.proofs.Common.{⊎_elim, true≢false}
 use Rattle.regex_lite_engine.specs.Pikevm.Machine.{thread_at}
 use Rattle.regex_lite_engine.specs.Pikevm.Room.{ThreadsBelow}
 use Rattle.regex_lite_engine.specs.Pikevm.Searching.{IsBetween}
@@ -318,12 +318,3 @@ module _ (table : List (Place ℕ)) (h : Text) (entries : List ℕ) (s from p : 
     own = own_first here.at new.walk.memory.threads threads;
     state = tt;
   }
-
-pub none_by : {A : Type 0} (o : Option A) (told : Bool) → is_some o ≡ not told → told ≡ true
-    → o ≡ None
-none_by None told e f = refl
-none_by (Some a) told e f = absurd (true≢false (e ∙ ap (λ b. not b) f))
-
-pub some_by : {A : Type 0} (o : Option A) (told : Bool) → is_some o ≡ not told → told ≡ false
-    → IsSome o
-some_by o told e f = e ∙ ap (λ b. not b) f

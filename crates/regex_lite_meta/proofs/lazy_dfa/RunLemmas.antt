@@ -1,7 +1,7 @@
 -- A search that goes on at the same position or at a later one.
 use Rattle.regex_lite_meta.proofs.Common.{◌≡◌, ℕ, zero, suc, ◌+◌, ◌-◌, ◌*◌, ◌^◌, ◌<◌, ◌≤◌, true}
 use Rattle.regex_lite_meta.proofs.Common.{◌⊎◌, List, [], ◌∷◌, length, IfSome, Some, None, Option}
-use Rattle.regex_lite_meta.proofs.Common.{MatchOption, option_map, sym, refl, ap, ◌∙◌, subst, inl}
+use Rattle.regex_lite_meta.proofs.Common.{MatchOption, sym, refl, ap, ◌∙◌, subst, inl}
 use Rattle.regex_lite_meta.proofs.Common.{inr, arith, cases_lt, length-map, Text, arrows_of}
 use Rattle.regex_lite_meta.proofs.Common.{place_of, table_of, Thread, best_of, IsComing, Best}
 use Rattle.regex_lite_meta.proofs.Common.{best_kept, offset, Row, IsHere, AreDeadAt, PassesTo}
@@ -240,9 +240,3 @@ pub match_counted : (best : Best) (found : Option (Origin × ℕ)) (row : Row) (
 match_counted best None row entered least is some few = tt
 match_counted best (Some found) row entered least is some few =
     let one = some (λ e. not_there (sym e ∙ is)) in omega (arith, one, few)
-
-pub end_counted : (best : Best) (end : Option ℕ) (entered : ℕ) → end ≡ option_map (λ b. b.1) best
-    → ((best ≡ None → ⊥) → 0 < entered) → IfSome end (λ _. 0 < entered)
-end_counted best None entered is some = tt
-end_counted None (Some end) entered is some = absurd (not_there (sym is))
-end_counted (Some best) (Some end) entered is some = some (λ e. not_there (sym e))

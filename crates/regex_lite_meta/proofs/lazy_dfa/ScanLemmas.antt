@@ -3,13 +3,13 @@ use Rattle.regex_lite_meta.proofs.Common.{◌≡◌, ℕ, suc, ◌+◌, Bool, tr
 use Rattle.regex_lite_meta.proofs.Common.{length, slice_get, Some, None, Option, option_map, sym}
 use Rattle.regex_lite_meta.proofs.Common.{refl, ap, ◌∙◌, subst, inl, inr, arith, Text, IsComing}
 use Rattle.regex_lite_meta.proofs.Common.{Best, IsBestOutcomeOf, IsNumberedEndOf, IsHere, AreDeadAt}
-use Rattle.regex_lite_meta.proofs.Common.{PassesTo, Origin, Here, Way, Automaton, told_by}
+use Rattle.regex_lite_meta.proofs.Common.{PassesTo, Origin, Here, Row, Way, Automaton, told_by}
 use Rattle.regex_lite_meta.proofs.Common.{threads_of, best_left, searching_after, Suits, LeadsOn}
-use Rattle.regex_lite_meta.proofs.Common.{class_of, side_of, best_told, end_told, IsIdleAt}
-use Rattle.regex_lite_meta.proofs.Common.{IsScanning, Standing}
+use Rattle.regex_lite_meta.proofs.Common.{best_kept, class_of, side_of, best_told, IsIdleAt}
+use Rattle.regex_lite_meta.proofs.Common.{IsScanning, Standing, IsFoundOf}
 use Rattle.regex_lite_engine.specs.Graph.Places.{Place}
 use Rattle.regex_lite_meta.specs.LazyDfa.Automaton.{KeptOrigin, State}
-use Rattle.regex_lite_meta.specs.LazyDfa.Scanning.{LedTo}
+use Rattle.regex_lite_meta.specs.LazyDfa.Scanning.{EndsOrLeads, LedTo}
 use Rattle.std.proofs.Common.{is_some}
 use Rattle.regex_lite_syntax.specs.Text.{before}
 use Rattle.regex_lite_engine.specs.Pikevm.Turns.{EndsAt}
@@ -117,6 +117,32 @@ module _ (table : List (Place ℕ)) (entries : List ℕ) (h : Text) (low p : ℕ
         ends None = inl refl
         ends (Some origin) = inr (told_by at.first origin, [], refl)
 
+    -- a turn completes a match that ends here. If the least end is asked for, its start says
+    -- nothing
+    pub completed : {origin : KeptOrigin} (earliest : Bool) (told : Origin)
+        → hit ≡ Some origin → (earliest ≡ true → at.best ≡ None)
+        → (earliest ≡ false
+        → told_by at.first origin ≡ record { at = Some told.at; number = Some told.number })
+        → EndsOrLeads table entries h low p automaton earliest at y (Some (told, at.here.at))
+    completed false told is none same =
+        led_step (Some (told, at.here.at))
+        (ap (λ z. Some (z, at.here.at, [])) (sym (same refl))
+        ∙ ap (λ z. best_left z at.first at.here.at (best_told at.best)) (sym is))
+    completed {origin} true told is none same =
+        subst (λ z. IsNumberedEndOf table h entries low (best_left z at.first at.here.at None)) is
+        (end_led (none refl)
+        (inr (subst (λ z. best_left z at.first at.here.at None ≡ None → ⊥) (sym is)
+        (λ e. not_there (sym e)))))
+
+  -- a turn that completes no match leads on
+  pub led_none : {y : ℕ} (earliest : Bool) → (earliest ≡ true → at.best ≡ None)
+      → LedTo table entries h low p automaton at y at.best
+      → EndsOrLeads table entries h low p automaton earliest at y at.best
+  led_none false none led = led
+  led_none {y} true none led =
+      subst (EndsOrLeads table entries h low p automaton true at y) (sym (none refl))
+      (subst (LedTo table entries h low p automaton at y) (none refl) led)
+
   module _ (y : ℕ) (best : Option (Origin × ℕ))
       (to : LedTo table entries h low p automaton at y best) where
     pub scanned_on : (next : Here) (first : ℕ) → IsHere h (p + 1) next
@@ -206,16 +232,52 @@ end_none table entries h low p automaton at scanning none y to last =
     (subst (λ b. IsComing table h entries low (length h) p (threads_of at.first scanning.state.ways)
     (best_told b)) none scanning.coming) to.coming
 
--- nothing but the end of a match is known
-pub end_alone : (table : List (Place ℕ)) (h : Text) (entries : List ℕ) (s : ℕ) (best : Best)
-    → IsNumberedEndOf table h entries s best
-    → IsNumberedEndOf table h entries s (end_told (option_map (λ b. b.1) best))
-end_alone table h entries s None is = is
-end_alone table h entries s (Some best) is = is
+module _ (table : List (Place ℕ)) (entries : List ℕ) (h : Text) (low p : ℕ) (automaton : Automaton)
+    (at : Standing) (y : ℕ) where
+  -- the search goes on after the turn
+  pub leads_on : (earliest : Bool) (best : Option (Origin × ℕ)) → (earliest ≡ true → best ≡ None)
+      → EndsOrLeads table entries h low p automaton earliest at y best
+      → LedTo table entries h low p automaton at y best
+  leads_on false best none led = led
+  leads_on true None none led = led
+  leads_on true (Some found) none led = absurd (not_there (sym (none refl)))
 
-pub end_back : (end : Option ℕ) → option_map (λ b. b.1) (end_told end) ≡ end
-end_back None = refl
-end_back (Some end) = refl
+  -- it is over after the turn
+  pub scan_found : (earliest : Bool) (best : Option (Origin × ℕ))
+      → IsScanning table entries h low p automaton at → (earliest ≡ true → at.best ≡ None)
+      → EndsOrLeads table entries h low p automaton earliest at y best
+      → ((state : State) → slice_get automaton.states y ≡ Some state → earliest ≡ false
+      → (at.here.after ≡ None) ⊎ ((best_told best ≡ None → ⊥) × (state.ways ≡ [])))
+      → (at.here.after ≡ None) ⊎ (best ≡ None → ⊥)
+      → IsFoundOf earliest table h entries low (best_told best)
+  scan_found false best scanning none led over known =
+      scan_over table entries h low p automaton at scanning y best led
+      (over led.state led.is_state refl)
+  scan_found true None scanning none led over known =
+      end_none table entries h low p automaton at scanning (none refl) y led (last known)
+    where
+      last : {found : Option (Origin × ℕ)} → (at.here.after ≡ None) ⊎ (found ≡ found → ⊥)
+          → at.here.after ≡ None
+      last (inl e) = e
+      last (inr some) = absurd (some refl)
+  scan_found true (Some found) scanning none led over known = led
+
+-- the most preferred match is what is asked for
+pub preferred : (table : List (Place ℕ)) (h : Text) (entries : List ℕ) (s : ℕ) (best : Best)
+    (earliest : Bool) → (earliest ≡ true → ⊥) → IsBestOutcomeOf table h entries s best
+    → IsFoundOf earliest table h entries s best
+preferred table h entries s best false never is = is
+preferred table h entries s best true never is = absurd (never refl)
+
+pub some_end : (found : Option (Origin × ℕ))
+    → is_some found ≡ is_some (option_map (λ best. best.1) (best_told found))
+some_end None = refl
+some_end (Some found) = refl
+
+pub none_found : {best : Best} (found : Option (Origin × ℕ)) (row : Row)
+    → best ≡ best_kept found row → best ≡ None → found ≡ None
+none_found None row is none = refl
+none_found (Some found) row is none = absurd (not_there (sym none ∙ is))
 
 pub best_none : (best : Option (Origin × ℕ)) (told : Bool) → told ≡ is_some best → told ≡ false
     → best_told best ≡ None

@@ -10,10 +10,8 @@ use Rattle.regex_lite_engine.specs.Graph.Places.{Place}
 use Rattle.regex_lite_meta.specs.LazyDfa.Automaton.{State}
 use Rattle.regex_lite_meta.specs.LazyDfa.Scanning.{LedTo}
 use Rattle.regex_lite_meta.specs.declared.lazy_dfa.spot.Spot.{Spot}
-use Rattle.regex_lite_meta.specs.declared.lazy_dfa.spot.Step.{Step}
-use Rattle.regex_lite_meta.specs.declared.lazy_dfa.spot.Step.TheVariants.{On, Over, Stuck}
 use Rattle.regex_lite_meta.specs.declared.lazy_dfa.spot.Turn.{Turn}
-use Rattle.regex_lite_meta.specs.LazyDfa.Spots.{EndsScan, IsTaken, IsTurn, Takes}
+use Rattle.regex_lite_meta.specs.LazyDfa.Spots.{EndsScan, IsTaken, IsTurn}
 use Rattle.regex_lite_engine.proofs.PositionLemmas.{position_of, after_at}
 use Rattle.regex_lite_meta.proofs.lazy_dfa.ScanLemmas.{IsFirstAfter, led_step, scan_over}
 use Rattle.regex_lite_meta.proofs.lazy_dfa.ScanLemmas.{scanned_on}
@@ -73,15 +71,6 @@ module _ (table : List (Place ℕ)) (entries : List ℕ) (h : Text) (low : ℕ) 
           (threads_of at.first ways) (best_told best)) none led.coming);
     },
   )
-
--- a turn changes nothing if it completes no match and the scan doesn't go on after it
-pub unmoved : (spot : Spot) (turn : Turn) (state : State) (before after : Standing) (step : Step)
-    → Takes spot turn state before after step → ((on : Spot) → step ≡ On on → ⊥)
-    → after.best ≡ before.best → after ≡ before
-unmoved spot turn state before after (On on) taken elsewhere same = absurd (elsewhere on refl)
-unmoved spot turn state before after Over over elsewhere same =
-    over.same ∙ ap (λ best. record before { best = best }) same
-unmoved spot turn state before after Stuck stuck elsewhere same = stuck
 
 module _ (table : List (Place ℕ)) (entries : List ℕ) (bs : List ℕ) (u : IsUtf8 bs)
     (fits : length bs + 1 < 2 ^ 64) (low : ℕ) where

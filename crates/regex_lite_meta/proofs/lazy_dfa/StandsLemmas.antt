@@ -1,8 +1,9 @@
 -- A search that stands at a position, and takes a turn from there.
-use Rattle.regex_lite_meta.proofs.Common.{◌≡◌, ℕ, ◌+◌, ◌≤◌, Bool, ◌⊎◌, List, [], ◌∷◌, length, Some}
+use Rattle.regex_lite_meta.proofs.Common.{◌≡◌, ℕ, ◌+◌, ◌≤◌, Bool, true, false, ◌⊎◌, List, []}
+use Rattle.regex_lite_meta.proofs.Common.{◌∷◌, length, Some, IsFoundOf}
 use Rattle.regex_lite_meta.proofs.Common.{None, Option, MatchOption, sym, refl, ap, ◌∙◌, subst}
 use Rattle.regex_lite_meta.proofs.Common.{arith, nil_from_length, Text, arrows_of, Thread, best_of}
-use Rattle.regex_lite_meta.proofs.Common.{IsComing, best_kept, IsBestOutcomeOf, IsNumberedEndOf}
+use Rattle.regex_lite_meta.proofs.Common.{IsComing, best_kept}
 use Rattle.regex_lite_meta.proofs.Common.{AreDeadAt, PassesTo, Origin, Cache, Here, Automaton}
 use Rattle.regex_lite_meta.proofs.Common.{threads_of, ways_of, Suits, IsFirstStart, IsIn}
 use Rattle.regex_lite_meta.proofs.Common.{IsOnItsWay, Stands, best_told, IsScanning}
@@ -16,13 +17,11 @@ use Rattle.regex_lite_meta.specs.LazyDfa.Running.{started_at}
 use Rattle.regex_lite_engine.specs.Pikevm.Searching.{IsHit, TurnsAgain}
 use Rattle.regex_lite_engine.specs.Pikevm.Turns.{EndsAt}
 use Rattle.regex_lite_engine.specs.Search.Starts.{AreAllStarts}
-use Rattle.regex_lite_meta.proofs.lazy_dfa.AnewLemmas.{end_from, outcome_from}
+use Rattle.regex_lite_meta.proofs.lazy_dfa.AnewLemmas.{found_from}
 use Rattle.regex_lite_meta.proofs.lazy_dfa.ResumeLemmas.{coming_less}
 use Rattle.regex_lite_meta.proofs.lazy_dfa.RunLemmas.{at_later, bounded_on, maybe_in_empty}
 use Rattle.regex_lite_meta.proofs.lazy_dfa.RunLemmas.{own_first, passed_over}
-use Rattle.regex_lite_engine.proofs.pikevm.EndLemmas.{ended_all}
-use Rattle.regex_lite_engine.proofs.pikevm.ShortestLemmas.{shortest_known}
-use Rattle.regex_lite_engine.proofs.search.here.HereLemmas.{over_at}
+use Rattle.regex_lite_engine.proofs.pikevm.StopLemmas.{done_after, done_found}
 
 module _ {table : List (Place ℕ)} {h : Text} {entries : List ℕ} {s : ℕ} {automaton : Automaton}
     {at : Progress} {S : Type 0} {cache : Cache S}
@@ -71,9 +70,6 @@ module _ {table : List (Place ℕ)} {h : Text} {entries : List ℕ} {s : ℕ} {a
       ∙ ap (best_kept best)
       (nil_from_length cache.best.row (stands.on.ready.best_width ∙ stands.on.width))
 
-  pub way_there : (p : ℕ) × (p ≤ length h + 1) × IsOnItsWay table h entries s stands.from p cache
-  way_there = let inside = stands.is.inside in (stands.p, omega (arith, inside), stands.on)
-
   pub bounded_there : (now : Cache S) → now ≡ cache →
       IsBoundedBy (length table) (arrows_of table + length entries) h s now.walk.steps.tried
       now.walk.steps.entered now.walk.steps.looked
@@ -115,9 +111,6 @@ module _ {table : List (Place ℕ)} {h : Text} {entries : List ℕ} {s : ℕ} {a
 
   -- after the turn
   module _ {new : Cache S} (on : IsOnItsWay table h entries s stands.from (stands.p + 1) new) where
-    pub way_after : (p : ℕ) × (p ≤ length h + 1) × IsOnItsWay table h entries s stands.from p new
-    way_after = let inside = stands.is.inside in (stands.p + 1, omega (arith, inside), on)
-
     pub bounded_after :
         IsBoundedBy (length table) (arrows_of table + length entries) h s new.walk.steps.tried
         new.walk.steps.entered new.walk.steps.looked
@@ -127,26 +120,17 @@ module _ {table : List (Place ℕ)} {h : Text} {entries : List ℕ} {s : ℕ} {a
         bounded_on table h entries s stands.from (stands.p + 1) new (omega (arith, low, inside))
         (omega (arith, inside)) on
 
-    -- nothing is left to do
-    pub all_ended : ((at.here.after ≡ None)
-        ⊎ ((best_of new.best ≡ None → ⊥) × (length new.walk.memory.threads ≡ 0)))
-        → IsBestOutcomeOf table h entries s (best_of new.best)
-    all_ended over =
-        outcome_from table h entries s stands.from stands.begun (best_of new.best)
-        (ended_all table h entries stands.from stands.p new.walk.memory.threads (best_of new.best)
-        stands.on.after stands.is.inside (over_at h stands.p at.here stands.is over) on.coming)
-
-    -- the first match that ends is known
-    pub end_known : best_of cache.best ≡ None
+    -- what is asked for is known
+    pub found_there : (earliest : Bool) → (earliest ≡ true → best_of cache.best ≡ None)
         → EndsAt at.here.at (best_of cache.best) (best_of new.best)
-        → ((at.here.after ≡ None) ⊎ (best_of new.best ≡ None → ⊥))
-        → IsNumberedEndOf table h entries s (best_of new.best)
-    end_known none ends known =
-        end_from table h entries s stands.from stands.begun (best_of new.best)
-        (shortest_known table h entries stands.from stands.p at.here.at cache.walk.memory.threads
-        new.walk.memory.threads (best_of cache.best) (best_of new.best) stands.on.after
-        stands.is.inside none stands.is.bytes ends (over_at h stands.p at.here stands.is known)
-        stands.on.coming on.coming)
+        → ((at.here.after ≡ None)
+        ⊎ ((best_of new.best ≡ None → ⊥) × (earliest ≡ false → length new.walk.memory.threads ≡ 0)))
+        → IsFoundOf earliest table h entries s (best_of new.best)
+    found_there earliest none ends done =
+        found_from table h entries s stands.from stands.begun earliest (best_of new.best)
+        (done_found earliest new.walk.memory.threads (best_of new.best)
+        (done_after new.walk.memory.threads stands.on.after stands.is stands.on.coming none ends
+        done) on.coming)
 
     -- the turn was taken from its state, if that is known
     pub turned_there : {starts : List Start} (hit : Bool) → AreAllStarts table entries starts

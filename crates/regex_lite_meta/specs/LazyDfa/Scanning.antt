@@ -5,15 +5,12 @@ use Rattle.regex_lite_syntax.specs.Text.{Text}
 use Rattle.regex_lite_meta.specs.declared.lazy_dfa.scan.Scanned as code
 use Rattle.regex_lite_meta.specs.declared.lazy_dfa.scan.Scanned.TheVariants as stored
 use Rattle.regex_lite_meta.specs.declared.lazy_dfa.scan.Standing.{Standing}
-use Rattle.regex_lite_meta.specs.declared.lazy_dfa.shortest.ScannedEnd as code_end
-use Rattle.regex_lite_meta.specs.declared.lazy_dfa.shortest.ScannedEnd.TheVariants as stored_end
 use Rattle.regex_lite_engine.specs.declared.pikevm.beginning.Origin.{Origin}
 use Rattle.regex_lite_engine.specs.declared.search.here.Here.{Here}
 use Rattle.regex_lite_engine.specs.Graph.Places.{Place}
 use Rattle.regex_lite_meta.specs.LazyDfa.Automaton.{Automaton, State, Suits, threads_of}
 use Rattle.regex_lite_meta.specs.LazyDfa.Intervals.{side_of}
-use Rattle.regex_lite_engine.specs.Search.Beginnings.{untold}
-use Rattle.regex_lite_engine.specs.Search.NumberedOutcomes.{IsBestOutcomeOf, IsNumberedEndOf}
+use Rattle.regex_lite_engine.specs.Search.NumberedOutcomes.{IsFoundOf, IsNumberedEndOf}
 use Rattle.regex_lite_engine.specs.Search.NumberedOutcomes.{Best, best_at, best_kept}
 use Rattle.regex_lite_engine.specs.Search.NumberedOutcomes.{with_start_kept}
 use Rattle.regex_lite_engine.specs.Search.Standing.{IsHere}
@@ -26,11 +23,6 @@ best_told found = best_kept found []
 -- the match with this span, without slots
 abbrev pub span_told : Option (ℕ × ℕ) → Best
 span_told found = with_start_kept (best_at found [])
-
--- a match that ends there, wherever it starts
-abbrev pub end_told : Option ℕ → Best
-end_told None = None
-end_told (Some end) = Some (untold, end, [])
 
 module _ (table : List (Place ℕ)) (entries : List ℕ) (haystack : Text) (low : ℕ) where
   -- at position p there is nothing to go on from, and no match
@@ -68,22 +60,22 @@ module _ (table : List (Place ℕ)) (entries : List ℕ) (haystack : Text) (low 
       pub coming : IsComing table haystack entries low (length haystack) (p + 1)
           (threads_of at.first state.ways) (best_told best)
 
-    -- the turn from there completes the first match that ends, or leads to this state without one
-    abbrev pub EndsOrLeads : (at : Standing) → (to : ℕ) → (hit : Bool) → Type 0
-    EndsOrLeads at to true =
-        IsNumberedEndOf table haystack entries low (end_told (Some at.here.at))
-    EndsOrLeads at to false = LedTo at to None
+    -- the turn from there leads to this state, and to this match. Where the least end is asked
+    -- for, a turn that completes a match ends the search
+    abbrev pub EndsOrLeads : (earliest : Bool) → (at : Standing) → (to : ℕ)
+        → (best : Option (Origin × ℕ)) → Type 0
+    EndsOrLeads false at to best = LedTo at to best
+    EndsOrLeads true at to None = LedTo at to None
+    EndsOrLeads true at to (Some best) =
+        IsNumberedEndOf table haystack entries low (best_told (Some best))
 
-  -- it ends with the answer, or at a position at or after p
-  abbrev pub ScansTo : (p : ℕ) → Automaton → code.Scanned → Type 0
-  ScansTo p automaton (stored.Found best) =
-      IsBestOutcomeOf table haystack entries low (best_told best)
-  ScansTo p automaton (stored.Stuck at idle) =
+  -- it goes no further than to a position at or after p
+  abbrev pub IsStuckAt : (p : ℕ) → Automaton → (at : Standing) → (idle : Option Here) → Type 0
+  IsStuckAt p automaton at idle =
       ((q : ℕ) × (p ≤ q) × IsScanning q automaton at) × IfSome idle (IsIdleAt p)
 
-  -- the same of a scan for the least end of any match
-  abbrev pub ScansToEnd : (p : ℕ) → Automaton → code_end.ScannedEnd → Type 0
-  ScansToEnd p automaton (stored_end.Known end) =
-      IsNumberedEndOf table haystack entries low (end_told end)
-  ScansToEnd p automaton (stored_end.Unknown at idle) =
-      ((q : ℕ) × (p ≤ q) × IsScanning q automaton at) × IfSome idle (IsIdleAt p)
+  -- it ends with the answer, or goes no further
+  abbrev pub ScansTo : (earliest : Bool) → (p : ℕ) → Automaton → code.Scanned → Type 0
+  ScansTo earliest p automaton (stored.Found best) =
+      IsFoundOf earliest table haystack entries low (best_told best)
+  ScansTo earliest p automaton (stored.Stuck at idle) = IsStuckAt p automaton at idle

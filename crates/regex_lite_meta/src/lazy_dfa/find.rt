@@ -1,6 +1,6 @@
 //! A whole search that remembers its turns, and goes by those that it remembers.
 ghost use Rattle.std.specs.Prelude.{◌≡◌, ◌+◌, ◌≤◌, [], ℕ, IfErr, IfOk, IfSome, IsCharBoundary};
-ghost use Rattle.std.specs.Prelude.{MatchOption, chars, false, length};
+ghost use Rattle.std.specs.Prelude.{MatchOption, None, chars, false, length, true};
 ghost use Rattle.regex_lite_meta.specs.LazyDfa.Automaton.{Remembers};
 ghost use Rattle.regex_lite_meta.specs.LazyDfa.Learning.{HasTurned, IsIn};
 ghost use Rattle.regex_lite_meta.specs.LazyDfa.Running.{Stands};
@@ -10,8 +10,9 @@ ghost use Rattle.regex_lite_engine.specs.Search.Starts.{AreAllStarts};
 ghost use Rattle.regex_lite_engine.specs.Search.Bounds.{IsBoundedBy, characters_left};
 ghost use Rattle.regex_lite_engine.specs.Search.Offsets.{position_at};
 ghost use Rattle.regex_lite_engine.specs.Search.Counting.{CanCount};
-ghost use Rattle.regex_lite_engine.specs.Search.NumberedOutcomes.{IsBestOutcomeOf};
+ghost use Rattle.regex_lite_engine.specs.Search.NumberedOutcomes.{IsBestOutcomeOf, IsFoundOf};
 ghost use Rattle.regex_lite_engine.specs.Pikevm.Searching.{IsFresh, IsBetween};
+ghost use Rattle.regex_lite_engine.specs.Pikevm.Turns.{best_of};
 
 use crate::lazy_dfa::automaton::LazyDfa;
 use crate::lazy_dfa::learn::Taken;
@@ -19,7 +20,7 @@ use crate::lazy_dfa::run::{Progress, go_over, next_position};
 use crate::lazy_dfa::scan::{Scanned, Standing};
 use regex_lite_engine::pikevm::beginning::Origin;
 use regex_lite_engine::pikevm::cache::Cache;
-use regex_lite_engine::pikevm::run::{is_over, run_on};
+use regex_lite_engine::pikevm::run::{advance, is_done};
 use regex_lite_engine::search::patterns::Patterns;
 
 impl LazyDfa {
@@ -54,15 +55,13 @@ impl LazyDfa {
         match self.find_while_it_pays(patterns, cache, haystack, begun, 0) {
             Ok(found) => found,
             Err(at) => {
-                run_on(cache, patterns, haystack, at.here, None);
+                advance::<_, _, false>(cache, patterns, haystack, at.here, None);
                 cache.best.found()
             }
         }
     }
 
-    /// The same from where a search stands, unless too many turns find no room: then it returns
-    /// where the search stands. No turn is looked up before the search has entered this many
-    /// places, none or one: before the first turn, a new automaton has none.
+    /// The most preferred match, as `search_while_it_pays` finds it.
     pub(crate) fn find_while_it_pays<P: Patterns>(
         &mut self,
         patterns: &P,
@@ -103,10 +102,60 @@ impl LazyDfa {
         ensures between { IsBetween (P.table patterns.now) cache.new }
         ensures width { length cache.new.walk.memory.row ≡ 0 }
     {
+        self.search_while_it_pays::<_, false>(patterns, cache, haystack, from, least)
+    }
+
+    /// The most preferred match or, with EARLIEST, one with the least end, from where a search
+    /// stands, unless too many turns find no room: then it returns where the search stands. No turn
+    /// is looked up before the search has entered this many places, none or one: before the first
+    /// turn, a new automaton has none.
+    pub(crate) fn search_while_it_pays<P: Patterns, const EARLIEST: bool>(
+        &mut self,
+        patterns: &P,
+        cache: &mut Cache<Origin>,
+        haystack: &str,
+        from: Progress,
+        least: u128,
+    ) -> Result<Option<(Origin, usize)>, Progress>
+        requires all { AreAllStarts (P.table patterns.now) (P.entries patterns.now)
+            (P.starts patterns.now) }
+        requires remembers { Remembers (P.table patterns.now) (P.entries patterns.now) self.old }
+        requires none_pending { self.old.pending ≡ [] }
+        requires stands { (s : ℕ)
+            × CanCount (P.table patterns.now) (length (P.entries patterns.now))
+            (characters_left (chars haystack.now) s)
+            × Stands (P.table patterns.now) (chars haystack.now) (P.entries patterns.now) s self.old
+            from cache.old }
+        requires none { EARLIEST ≡ true → best_of cache.old.best ≡ None }
+        requires least { least ≤ 1 }
+        ensures found { (s : ℕ) → Stands (P.table patterns.now) (chars haystack.now)
+            (P.entries patterns.now) s self.old from cache.old
+            → IfOk result (λ found. IsFoundOf EARLIEST (P.table patterns.now) (chars haystack.now)
+            (P.entries patterns.now) s (best_told found)) }
+        ensures bounded { (s : ℕ) → Stands (P.table patterns.now) (chars haystack.now)
+            (P.entries patterns.now) s self.old from cache.old
+            → IfOk result (λ _. IsBoundedBy (length (P.table patterns.now))
+            (arrows_of (P.table patterns.now) + length (P.entries patterns.now))
+            (chars haystack.now) s cache.new.walk.steps.tried cache.new.walk.steps.entered
+            cache.new.walk.steps.looked) }
+        ensures entered { IfOk result (λ found. IfSome found
+            (λ _. least ≤ cache.new.walk.steps.entered)) }
+        ensures stands { (s : ℕ) → Stands (P.table patterns.now) (chars haystack.now)
+            (P.entries patterns.now) s self.old from cache.old
+            → IfErr result (λ at. Stands (P.table patterns.now) (chars haystack.now)
+            (P.entries patterns.now) s self.new at cache.new) }
+        ensures none { IfErr result (λ _. EARLIEST ≡ true → best_of cache.new.best ≡ None) }
+        ensures own { IfErr result (λ at. at.anew ≡ false) }
+        ensures remembers { Remembers (P.table patterns.now) (P.entries patterns.now) self.new }
+        ensures none_pending { self.new.pending ≡ [] }
+        ensures between { IsBetween (P.table patterns.now) cache.new }
+        ensures width { length cache.new.walk.memory.row ≡ 0 }
+    {
         let mut at = from;
         'positions: loop {
             at = self.at_idle(patterns, cache, haystack, at);
-            if let Some(found) = self.look_ahead(patterns, cache, haystack, &mut at, least) {
+            let ahead = self.look_ahead::<_, EARLIEST>(patterns, cache, haystack, &mut at, least);
+            if let Some(found) = ahead {
                 return Ok(found);
             }
             if self.is_given_up(at, from.here.at) {
@@ -114,7 +163,7 @@ impl LazyDfa {
             }
             let hit = go_over(cache, patterns, haystack, at.here);
             at.state = self.learn_at(patterns, cache, at, hit);
-            if is_over(at.here, &cache.walk.memory, &cache.best) {
+            if is_done::<_, EARLIEST>(at.here, cache) {
                 return Ok(cache.best.found());
             }
             at = next_position(cache, haystack, at);
@@ -124,7 +173,7 @@ impl LazyDfa {
     /// Remembers the turn, if the state from which it was taken is known, unless the last scan went
     /// on by it. Returns the state that the search is in.
     #[inline(always)]
-    pub(super) fn learn_at<P: Patterns>(
+    fn learn_at<P: Patterns>(
         &mut self,
         patterns: &P,
         cache: &Cache<Origin>,
@@ -154,9 +203,10 @@ impl LazyDfa {
     }
 
     /// Goes by turns that are remembered, if the search has entered this many places. Returns the
-    /// answer where they lead to it. Else the search goes on where they end, or where it was.
+    /// answer where they lead to it: the most preferred match or, with EARLIEST, one with the
+    /// least end. Else the search goes on where they end, or where it was.
     #[inline(always)]
-    fn look_ahead<P: Patterns>(
+    fn look_ahead<P: Patterns, const EARLIEST: bool>(
         &self,
         patterns: &P,
         cache: &mut Cache<Origin>,
@@ -167,12 +217,14 @@ impl LazyDfa {
         requires remembers { Remembers (P.table patterns.now) (P.entries patterns.now) self.now }
         requires stands { (s : ℕ) × Stands (P.table patterns.now) (chars haystack.now)
             (P.entries patterns.now) s self.now at.old cache.old }
+        requires none { EARLIEST ≡ true → best_of cache.old.best ≡ None }
         ensures stands { (s : ℕ) → Stands (P.table patterns.now) (chars haystack.now)
             (P.entries patterns.now) s self.now at.old cache.old
             → MatchOption result (Stands (P.table patterns.now) (chars haystack.now)
             (P.entries patterns.now) s self.now at.new cache.new)
-            (λ best. IsBestOutcomeOf (P.table patterns.now) (chars haystack.now)
+            (λ best. IsFoundOf EARLIEST (P.table patterns.now) (chars haystack.now)
             (P.entries patterns.now) s (best_told best)) }
+        ensures none { EARLIEST ≡ true → best_of cache.new.best ≡ None }
         ensures between { IsBetween (P.table patterns.now) cache.new }
         ensures width { length cache.new.walk.memory.row ≡ 0 }
         ensures later { at.old.here.at ≤ at.new.here.at }
@@ -191,7 +243,7 @@ impl LazyDfa {
             first: at.first,
             best: cache.best.found(),
         };
-        match self.scan(patterns, haystack, from) {
+        match self.scan::<P, EARLIEST>(patterns, haystack, from) {
             Scanned::Found(best) => Some(best),
             Scanned::Stuck { at: stuck, idle } => {
                 self.resume(patterns, cache, at, stuck, idle);

@@ -111,15 +111,17 @@ impl LazyDfa {
         next
     }
 
-    /// Goes on by remembered turns, and over positions at which no match can begin. Returns whether
-    /// nothing leads on from the last match, which is the answer then.
-    pub(super) fn run_on<P: Patterns>(
+    /// Goes on by remembered turns, and over positions at which no match can begin; with EARLIEST,
+    /// up to the first turn that completes a match. Returns whether nothing leads on from the last
+    /// match, which is the answer then.
+    pub(super) fn run_on<P: Patterns, const EARLIEST: bool>(
         &self,
         patterns: &P,
         haystack: &str,
         at: &mut Standing,
     ) -> bool
         requires remembers { Remembers (P.table patterns.now) (P.entries patterns.now) self.now }
+        requires none { EARLIEST ≡ true → at.old.best ≡ None }
         requires scanning { (low p : ℕ) × IsScanning (P.table patterns.now) (P.entries patterns.now)
             (chars haystack.now) low p self.now at.old }
         ensures over { result ≡ true → (low p : ℕ) → IsScanning (P.table patterns.now)
@@ -132,18 +134,25 @@ impl LazyDfa {
             (chars haystack.now) low q self.now at.new
             × IsSince (P.table patterns.now) (P.entries patterns.now) (chars haystack.now) low p
             at.old.first at.new.first }
+        ensures none { EARLIEST ≡ true → (result ≡ false) × (at.new.best ≡ None) }
     {
-        if self.run(patterns, haystack, at) {
+        if self.run::<P, EARLIEST>(patterns, haystack, at) {
             return true;
         }
-        self.leap_on(patterns, haystack, at)
+        self.leap_on::<P, EARLIEST>(patterns, haystack, at)
     }
 
     /// Like `run_on`, but passes over positions first.
     // Not inlined, so that a search without a prefilter costs no more than the call.
     #[inline(never)]
-    fn leap_on<P: Patterns>(&self, patterns: &P, haystack: &str, at: &mut Standing) -> bool
+    fn leap_on<P: Patterns, const EARLIEST: bool>(
+        &self,
+        patterns: &P,
+        haystack: &str,
+        at: &mut Standing,
+    ) -> bool
         requires remembers { Remembers (P.table patterns.now) (P.entries patterns.now) self.now }
+        requires none { EARLIEST ≡ true → at.old.best ≡ None }
         requires scanning { (low p : ℕ) × IsScanning (P.table patterns.now) (P.entries patterns.now)
             (chars haystack.now) low p self.now at.old }
         ensures over { result ≡ true → (low p : ℕ) → IsScanning (P.table patterns.now)
@@ -156,39 +165,14 @@ impl LazyDfa {
             (chars haystack.now) low q self.now at.new
             × IsSince (P.table patterns.now) (P.entries patterns.now) (chars haystack.now) low p
             at.old.first at.new.first }
+        ensures none { EARLIEST ≡ true → (result ≡ false) × (at.new.best ≡ None) }
     {
         'leaps: loop {
             if !self.leap(patterns, haystack, at) {
                 return false;
             }
-            if self.run(patterns, haystack, at) {
+            if self.run::<P, EARLIEST>(patterns, haystack, at) {
                 return true;
-            }
-        }
-    }
-
-    /// Like `run_on`, up to the first match that ends, if there is none yet.
-    pub(super) fn run_on_to_match<P: Patterns>(
-        &self,
-        patterns: &P,
-        haystack: &str,
-        at: &mut Standing,
-    )
-        requires remembers { Remembers (P.table patterns.now) (P.entries patterns.now) self.now }
-        requires scanning { (low p : ℕ) × IsScanning (P.table patterns.now) (P.entries patterns.now)
-            (chars haystack.now) low p self.now at.old }
-        ensures on { (low p : ℕ) → IsScanning (P.table patterns.now) (P.entries patterns.now)
-            (chars haystack.now) low p self.now at.old
-            → (q : ℕ) × (p ≤ q) × IsScanning (P.table patterns.now) (P.entries patterns.now)
-            (chars haystack.now) low q self.now at.new
-            × IsSince (P.table patterns.now) (P.entries patterns.now) (chars haystack.now) low p
-            at.old.first at.new.first }
-        ensures none { at.new.best ≡ at.old.best }
-    {
-        'leaps: loop {
-            self.run_to_match(patterns, haystack, at);
-            if !self.leap(patterns, haystack, at) {
-                return;
             }
         }
     }

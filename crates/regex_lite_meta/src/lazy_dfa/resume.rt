@@ -1,10 +1,9 @@
 //! How a search goes on where the turns that it remembers end.
 ghost use Rattle.std.specs.Prelude.{◌≡◌, ◌<◌, ◌≤◌, ◌⊎◌, [], ℕ, All, None, chars};
 ghost use Rattle.std.specs.Prelude.{length, true};
-ghost use Rattle.regex_lite_meta.specs.declared.lazy_dfa.scan.Scanned.TheVariants.{Stuck};
 ghost use Rattle.regex_lite_meta.specs.LazyDfa.Automaton.{Remembers};
 ghost use Rattle.regex_lite_meta.specs.LazyDfa.Running.{NoneStartsBeforeOf, Stands};
-ghost use Rattle.regex_lite_meta.specs.LazyDfa.Scanning.{IsScanning, ScansTo};
+ghost use Rattle.regex_lite_meta.specs.LazyDfa.Scanning.{IsScanning, IsStuckAt};
 ghost use Rattle.regex_lite_syntax.specs.Text.{Text};
 ghost use Rattle.regex_lite_engine.specs.Pikevm.Turns.{best_of};
 
@@ -36,12 +35,12 @@ impl LazyDfa {
         requires stands { (haystack : Text) × (s : ℕ)
             × (stands : Stands (P.table patterns.now) haystack (P.entries patterns.now) s self.now
             at.old cache.old)
-            × ScansTo (P.table patterns.now) (P.entries patterns.now) haystack stands.from stands.p
-            self.now (Stuck stuck idle) }
+            × IsStuckAt (P.table patterns.now) (P.entries patterns.now) haystack stands.from
+            stands.p self.now stuck idle }
         ensures stands { (haystack : Text) (s : ℕ) → (stands : Stands (P.table patterns.now)
             haystack (P.entries patterns.now) s self.now at.old cache.old)
-            → ScansTo (P.table patterns.now) (P.entries patterns.now) haystack stands.from stands.p
-            self.now (Stuck stuck idle)
+            → IsStuckAt (P.table patterns.now) (P.entries patterns.now) haystack stands.from
+            stands.p self.now stuck idle
             → Stands (P.table patterns.now) haystack (P.entries patterns.now) s self.now at.new
             cache.new }
         ensures none { stuck.best ≡ None → best_of cache.old.best ≡ None

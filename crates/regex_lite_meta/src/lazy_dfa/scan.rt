@@ -1,11 +1,14 @@
 //! Searches that go on by remembered turns, without a try.
 ghost use Rattle.std.specs.Prelude.{◌≡◌, ◌↔◌, ◌+◌, ◌<◌, ◌≤◌, ◌⊎◌, [], ℕ, IfSome, IsSome};
 ghost use Rattle.std.specs.Prelude.{IsCharBoundary, IsTrue, None, Some, chars, length, slice_get};
-ghost use Rattle.std.specs.Prelude.{true};
+ghost use Rattle.std.specs.Prelude.{Option, false, true};
+ghost use Rattle.regex_lite_meta.specs.declared.lazy_dfa.scan.Scanned.TheVariants.{Stuck};
+ghost use Rattle.regex_lite_meta.specs.declared.lazy_dfa.scan.Standing.{Standing};
 ghost use Rattle.regex_lite_meta.specs.LazyDfa.Automaton.{IsEmptyState, Remembers, State};
-ghost use Rattle.regex_lite_meta.specs.LazyDfa.Scanning.{best_told, IsScanning, IsSince};
-ghost use Rattle.regex_lite_meta.specs.LazyDfa.Scanning.{LedTo, ScansTo};
+ghost use Rattle.regex_lite_meta.specs.LazyDfa.Scanning.{best_told, EndsOrLeads, IsScanning};
+ghost use Rattle.regex_lite_meta.specs.LazyDfa.Scanning.{IsSince, ScansTo};
 ghost use Rattle.regex_lite_syntax.specs.Text.{Text};
+ghost use Rattle.regex_lite_engine.specs.declared.search.here.Here.{Here};
 ghost use Rattle.regex_lite_engine.specs.Search.Offsets.{position_at};
 ghost use Rattle.regex_lite_engine.specs.Search.Standing.{IsHere};
 
@@ -41,6 +44,18 @@ impl Standing {
         };
         self.best = Some((origin, end));
     }
+
+    /// The match of this pattern that began at the first start and ends here.
+    fn completed(&self, number: u32) -> Option<(Origin, usize)>
+        ensures { result
+            ≡ Some (record { at = self.now.first; number = number }, self.now.here.at) }
+    {
+        let origin = Origin {
+            at: self.first,
+            number,
+        };
+        Some((origin, self.here.at))
+    }
 }
 
 /// How far remembered turns lead.
@@ -54,19 +69,28 @@ pub(crate) enum Scanned {
 }
 
 impl LazyDfa {
-    /// Goes on while turns are remembered.
-    pub(crate) fn scan<P: Patterns>(&self, patterns: &P, haystack: &str, from: Standing) -> Scanned
+    /// Goes on while turns are remembered. The answer is the most preferred match or, with
+    /// EARLIEST, one with the least end: then its start says nothing, and there is none before.
+    pub(crate) fn scan<P: Patterns, const EARLIEST: bool>(
+        &self,
+        patterns: &P,
+        haystack: &str,
+        from: Standing,
+    ) -> Scanned
         requires remembers { Remembers (P.table patterns.now) (P.entries patterns.now) self.now }
+        requires none { EARLIEST ≡ true → from.best ≡ None }
         requires scanning { (low p : ℕ) × IsScanning (P.table patterns.now) (P.entries patterns.now)
             (chars haystack.now) low p self.now from }
-        ensures { (low p : ℕ) → IsScanning (P.table patterns.now) (P.entries patterns.now)
+        ensures to { (low p : ℕ) → IsScanning (P.table patterns.now) (P.entries patterns.now)
             (chars haystack.now) low p self.now from
-            → ScansTo (P.table patterns.now) (P.entries patterns.now) (chars haystack.now) low p
-            self.now result }
+            → ScansTo (P.table patterns.now) (P.entries patterns.now) (chars haystack.now) low
+            EARLIEST p self.now result }
+        ensures none { (at : Standing) (idle : Option Here) → EARLIEST ≡ true
+            → result ≡ Stuck at idle → at.best ≡ None }
     {
         let mut at = from;
         'positions: loop {
-            if self.run_on(patterns, haystack, &mut at) {
+            if self.run_on::<P, EARLIEST>(patterns, haystack, &mut at) {
                 return Scanned::Found(at.best);
             }
             let Some(on) = self.skip(patterns, haystack, at) else {
@@ -75,13 +99,13 @@ impl LazyDfa {
                     idle: idle_since(haystack, from.first, at.first),
                 };
             };
-            let Some((to, best)) = self.step(patterns, on) else {
+            let Some((to, best)) = self.step::<P, EARLIEST>(patterns, on) else {
                 return Scanned::Stuck {
                     at: on,
                     idle: idle_since(haystack, from.first, on.first),
                 };
             };
-            if self.is_over(on.here, to, best) {
+            if self.is_over::<EARLIEST>(on.here, to, best) {
                 return Scanned::Found(best);
             }
             at = self.go_on(haystack, on, to, best);
@@ -179,40 +203,48 @@ impl LazyDfa {
     }
 
     /// Where the turn from here leads, and the match that is the last then. None where that isn't
-    /// known.
-    fn step<P: Patterns>(
+    /// known. With EARLIEST, a match may be one of which the start isn't known.
+    fn step<P: Patterns, const EARLIEST: bool>(
         &self,
         patterns: &P,
         at: Standing,
     ) -> Option<(u16, Option<(Origin, usize)>)>
         requires remembers { Remembers (P.table patterns.now) (P.entries patterns.now) self.now }
         requires state { at.state < length self.now.states }
-        ensures { (haystack : Text) (low p : ℕ) → IsScanning (P.table patterns.now)
+        requires none { EARLIEST ≡ true → at.best ≡ None }
+        ensures led { (haystack : Text) (low p : ℕ) → IsScanning (P.table patterns.now)
             (P.entries patterns.now) haystack low p self.now at
-            → IfSome result (λ told. LedTo (P.table patterns.now) (P.entries patterns.now) haystack
-            low p self.now at told.0 told.1) }
+            → IfSome result (λ told. EndsOrLeads (P.table patterns.now) (P.entries patterns.now)
+            haystack low p self.now EARLIEST at told.0 told.1) }
+        ensures state { IfSome result (λ told. told.0 < length self.now.states) }
     {
         let class = self.classes.class(at.here.after);
         let to = self.known_target(at.state, class)?.state;
         match self.states[to as usize].hit {
             Hit::Nowhere => Some((to, at.best)),
-            Hit::AtFirst(number) => {
-                let origin = Origin {
-                    at: at.first,
-                    number,
-                };
-                Some((to, Some((origin, at.here.at))))
+            Hit::AtFirst(number) => Some((to, at.completed(number))),
+            Hit::AtLater(number) => {
+                if !EARLIEST {
+                    return None;
+                }
+                Some((to, at.completed(number)))
             }
-            Hit::AtLater(_) => None,
         }
     }
 
-    /// Whether nothing is left to do after the turn.
-    fn is_over(&self, here: Here, to: u16, best: Option<(Origin, usize)>) -> bool
+    /// Whether the answer is known after the turn.
+    fn is_over<const EARLIEST: bool>(
+        &self,
+        here: Here,
+        to: u16,
+        best: Option<(Origin, usize)>,
+    ) -> bool
         requires { to < length self.now.states }
         ensures over { (state : State) → slice_get self.now.states to ≡ Some state
-            → IsTrue result → (here.after ≡ None)
+            → IsTrue result → EARLIEST ≡ false → (here.after ≡ None)
             ⊎ (¬ (best_told best ≡ None) × (state.ways ≡ [])) }
+        ensures earliest { IsTrue result → (here.after ≡ None) ⊎ ¬ (best ≡ None) }
+        ensures none_yet { EARLIEST ≡ true → ¬ IsTrue result → best ≡ None }
         ensures none { (state : State) → slice_get self.now.states to ≡ Some state
             → ¬ IsTrue result → state.ways ≡ [] → best ≡ None }
         ensures at_end { here.after ≡ None → IsTrue result }
@@ -220,7 +252,7 @@ impl LazyDfa {
         if here.after.is_none() {
             return true;
         }
-        best.is_some() && self.is_empty(to)
+        best.is_some() && (EARLIEST || self.is_empty(to))
     }
 
     /// Goes on to the next position.

@@ -1,14 +1,14 @@
 //! Searches by themselves that remember their turns, for one pattern or for several.
 ghost use Rattle.std.specs.Prelude.{◌≡◌, ◌<◌, ◌+◌, ℕ, IfErr, IfOk, IfSome};
-ghost use Rattle.std.specs.Prelude.{IsCharBoundary, None, chars, length};
-ghost use Rattle.regex_lite_meta.specs.LazyDfa.Scanning.{best_told, end_told};
+ghost use Rattle.std.specs.Prelude.{IsCharBoundary, None, chars, length, true};
+ghost use Rattle.regex_lite_meta.specs.LazyDfa.Scanning.{best_told};
 ghost use Rattle.regex_lite_engine.specs.Graph.Renumbered.{arrows_of};
 ghost use Rattle.regex_lite_engine.specs.Search.Bounds.{IsBoundedBy, characters_left};
 ghost use Rattle.regex_lite_engine.specs.Search.Offsets.{position_at};
 ghost use Rattle.regex_lite_engine.specs.Search.Standing.{IsHere};
 ghost use Rattle.regex_lite_engine.specs.Search.Starts.{AreAllStarts};
 ghost use Rattle.regex_lite_engine.specs.Search.Counting.{CanCount};
-ghost use Rattle.regex_lite_engine.specs.Search.NumberedOutcomes.{IsBestOutcomeOf, IsNumberedEndOf};
+ghost use Rattle.regex_lite_engine.specs.Search.NumberedOutcomes.{IsFoundOf};
 ghost use Rattle.regex_lite_engine.specs.Pikevm.Passing.{IsUnderWay};
 ghost use Rattle.regex_lite_engine.specs.Pikevm.Searching.{IsFresh};
 ghost use Rattle.regex_lite_engine.specs.Pikevm.Turns.{best_of};
@@ -17,8 +17,7 @@ use crate::lazy_dfa::automaton::LazyDfa;
 use crate::lazy_dfa::run::Progress;
 use regex_lite_engine::pikevm::beginning::Origin;
 use regex_lite_engine::pikevm::cache::Cache;
-use regex_lite_engine::pikevm::run::run_on;
-use regex_lite_engine::pikevm::shortest::run_shortest_on;
+use regex_lite_engine::pikevm::run::advance;
 use regex_lite_engine::search::here::Here;
 use regex_lite_engine::search::patterns::Patterns;
 use std::alloc::Global;
@@ -34,9 +33,10 @@ pub(crate) mod list;
 const TURNS_WITHOUT: u32 = 64;
 
 /// The start and the end of the match that a search by itself finds, with the number of its
-/// pattern. It goes on with an automaton if it isn't over soon. `patterns` are those that may start
+/// pattern. With EARLIEST it is one with the least end, and its start and number say nothing.
+/// The search goes on with an automaton if it isn't over soon. `patterns` are those that may start
 /// at a position, and `all` start everywhere.
-pub(super) fn find_once<P: Patterns, A: Patterns>(
+pub(super) fn find_once<P: Patterns, A: Patterns, const EARLIEST: bool>(
     patterns: &mut P,
     all: &A,
     alloc: Global,
@@ -52,7 +52,7 @@ pub(super) fn find_once<P: Patterns, A: Patterns>(
     requires counts { CanCount (P.table patterns.old) (length (P.entries patterns.old))
         (characters_left (chars haystack.now) (position_at haystack.now start)) }
     requires width { length cache.old.walk.memory.row ≡ 0 }
-    ensures found { IsBestOutcomeOf (P.table patterns.old) (chars haystack.now)
+    ensures found { IsFoundOf EARLIEST (P.table patterns.old) (chars haystack.now)
         (P.entries patterns.old) (position_at haystack.now start) (best_told result) }
     ensures bounded { IsBoundedBy (length (P.table patterns.old))
         (arrows_of (P.table patterns.old) + length (P.entries patterns.old)) (chars haystack.now)
@@ -61,13 +61,14 @@ pub(super) fn find_once<P: Patterns, A: Patterns>(
     ensures entered { IfSome result (λ _. 0 < cache.new.walk.steps.entered) }
 {
     let here = Here::at(haystack, start);
-    let Some(here) = run_on(cache, patterns, haystack, here, Some(TURNS_WITHOUT)) else {
+    let soon = advance::<_, _, EARLIEST>(cache, patterns, haystack, here, Some(TURNS_WITHOUT));
+    let Some(here) = soon else {
         return cache.best.found();
     };
-    match find_learning(all, alloc, cache, haystack, here) {
+    match find_learning::<_, EARLIEST>(all, alloc, cache, haystack, here) {
         Ok(found) => found,
         Err(here) => {
-            run_on(cache, patterns, haystack, here, None);
+            advance::<_, _, EARLIEST>(cache, patterns, haystack, here, None);
             cache.best.found()
         }
     }
@@ -75,7 +76,7 @@ pub(super) fn find_once<P: Patterns, A: Patterns>(
 
 /// Goes on with a new automaton. Returns where the search stands if there is no memory for one, or
 /// if it is given up.
-fn find_learning<A: Patterns>(
+fn find_learning<A: Patterns, const EARLIEST: bool>(
     all: &A,
     alloc: Global,
     cache: &mut Cache<Origin>,
@@ -87,10 +88,11 @@ fn find_learning<A: Patterns>(
         × CanCount (A.table all.now) (length (A.entries all.now))
         (characters_left (chars haystack.now) s)
         × IsUnderWay (A.table all.now) (chars haystack.now) (A.entries all.now) s p cache.old }
+    requires none { EARLIEST ≡ true → best_of cache.old.best ≡ None }
     requires width { length cache.old.walk.memory.row ≡ 0 }
     ensures found { (s p : ℕ) → IsHere (chars haystack.now) p from
         → IsUnderWay (A.table all.now) (chars haystack.now) (A.entries all.now) s p cache.old
-        → IfOk result (λ found. IsBestOutcomeOf (A.table all.now) (chars haystack.now)
+        → IfOk result (λ found. IsFoundOf EARLIEST (A.table all.now) (chars haystack.now)
         (A.entries all.now) s (best_told found)) }
     ensures bounded { (s p : ℕ) → IsHere (chars haystack.now) p from
         → IsUnderWay (A.table all.now) (chars haystack.now) (A.entries all.now) s p cache.old
@@ -103,6 +105,7 @@ fn find_learning<A: Patterns>(
         → IsUnderWay (A.table all.now) (chars haystack.now) (A.entries all.now) s p cache.old
         → IfErr result (λ here. (q : ℕ) × IsHere (chars haystack.now) q here
         × IsUnderWay (A.table all.now) (chars haystack.now) (A.entries all.now) s q cache.new) }
+    ensures none { IfErr result (λ _. EARLIEST ≡ true → best_of cache.new.best ≡ None) }
     ensures width { IfErr result (λ _. length cache.new.walk.memory.row ≡ 0) }
 {
     let Some(mut dfa) = LazyDfa::for_table(alloc, all.table(), all.len()) else {
@@ -112,93 +115,9 @@ fn find_learning<A: Patterns>(
         return Err(from);
     };
     let state = dfa.state_at(all, at, cache);
-    match dfa.find_while_it_pays(all, cache, haystack, at.with_state(state), 1) {
+    let at = at.with_state(state);
+    match dfa.search_while_it_pays::<_, EARLIEST>(all, cache, haystack, at, 1) {
         Ok(found) => Ok(found),
-        Err(at) => Err(at.here),
-    }
-}
-
-/// The end of the first match that a search by itself comes to. It goes on with an automaton if it
-/// isn't over soon. `patterns` are those that may start at a position, and `all` start everywhere.
-pub(super) fn find_shortest_once<P: Patterns, A: Patterns>(
-    patterns: &mut P,
-    all: &A,
-    alloc: Global,
-    cache: &mut Cache<Origin>,
-    haystack: &str,
-    start: usize,
-) -> Option<usize>
-    requires all { AreAllStarts (A.table all.now) (A.entries all.now) (A.starts all.now) }
-    requires table { A.table all.now ≡ P.table patterns.old }
-    requires entries { A.entries all.now ≡ P.entries patterns.old }
-    requires boundary { IsCharBoundary haystack.now start }
-    requires fresh { IsFresh (P.table patterns.old) cache.old }
-    requires counts { CanCount (P.table patterns.old) (length (P.entries patterns.old))
-        (characters_left (chars haystack.now) (position_at haystack.now start)) }
-    requires width { length cache.old.walk.memory.row ≡ 0 }
-    ensures found { IsNumberedEndOf (P.table patterns.old) (chars haystack.now)
-        (P.entries patterns.old) (position_at haystack.now start) (end_told result) }
-    ensures bounded { IsBoundedBy (length (P.table patterns.old))
-        (arrows_of (P.table patterns.old) + length (P.entries patterns.old)) (chars haystack.now)
-        (position_at haystack.now start) cache.new.walk.steps.tried
-        cache.new.walk.steps.entered cache.new.walk.steps.looked }
-    ensures entered { IfSome result (λ _. 0 < cache.new.walk.steps.entered) }
-{
-    let here = Here::at(haystack, start);
-    let Some(here) = run_shortest_on(cache, patterns, haystack, here, Some(TURNS_WITHOUT)) else {
-        return cache.best.end();
-    };
-    match find_shortest_learning(all, alloc, cache, haystack, here) {
-        Ok(end) => end,
-        Err(here) => {
-            run_shortest_on(cache, patterns, haystack, here, None);
-            cache.best.end()
-        }
-    }
-}
-
-/// Goes on with a new automaton to the first match that ends. Returns where the search stands if
-/// there is no memory for one, or if it is given up.
-fn find_shortest_learning<A: Patterns>(
-    all: &A,
-    alloc: Global,
-    cache: &mut Cache<Origin>,
-    haystack: &str,
-    from: Here,
-) -> Result<Option<usize>, Here>
-    requires all { AreAllStarts (A.table all.now) (A.entries all.now) (A.starts all.now) }
-    requires on { (s p : ℕ) × IsHere (chars haystack.now) p from
-        × CanCount (A.table all.now) (length (A.entries all.now))
-        (characters_left (chars haystack.now) s)
-        × IsUnderWay (A.table all.now) (chars haystack.now) (A.entries all.now) s p cache.old }
-    requires none { best_of cache.old.best ≡ None }
-    requires width { length cache.old.walk.memory.row ≡ 0 }
-    ensures found { (s p : ℕ) → IsHere (chars haystack.now) p from
-        → IsUnderWay (A.table all.now) (chars haystack.now) (A.entries all.now) s p cache.old
-        → IfOk result (λ end. IsNumberedEndOf (A.table all.now) (chars haystack.now)
-        (A.entries all.now) s (end_told end)) }
-    ensures bounded { (s p : ℕ) → IsHere (chars haystack.now) p from
-        → IsUnderWay (A.table all.now) (chars haystack.now) (A.entries all.now) s p cache.old
-        → IfOk result (λ _. IsBoundedBy (length (A.table all.now))
-        (arrows_of (A.table all.now) + length (A.entries all.now)) (chars haystack.now) s
-        cache.new.walk.steps.tried cache.new.walk.steps.entered cache.new.walk.steps.looked) }
-    ensures entered { IfOk result (λ end. IfSome end
-        (λ _. 0 < cache.new.walk.steps.entered)) }
-    ensures stands { (s p : ℕ) → IsHere (chars haystack.now) p from
-        → IsUnderWay (A.table all.now) (chars haystack.now) (A.entries all.now) s p cache.old
-        → IfErr result (λ here. (q : ℕ) × IsHere (chars haystack.now) q here
-        × IsUnderWay (A.table all.now) (chars haystack.now) (A.entries all.now) s q cache.new) }
-    ensures none { IfErr result (λ _. best_of cache.new.best ≡ None) }
-{
-    let Some(mut dfa) = LazyDfa::for_table(alloc, all.table(), all.len()) else {
-        return Err(from);
-    };
-    let Some(at) = Progress::on_the_way(cache, from) else {
-        return Err(from);
-    };
-    let state = dfa.state_at(all, at, cache);
-    match dfa.find_shortest_while_it_pays(all, cache, haystack, at.with_state(state)) {
-        Ok(end) => Ok(end),
         Err(at) => Err(at.here),
     }
 }

@@ -52,12 +52,19 @@ enum Step {
 const MOST_IDLE: u32 = 8;
 
 impl LazyDfa {
-    /// Goes on while turns are remembered, up to the last of them before the end of the search.
-    /// Returns whether nothing leads on from the last match, which is the answer then.
+    /// Goes on while turns are remembered, up to the last of them before the end of the search or,
+    /// with EARLIEST, before the first that completes a match. Returns whether nothing leads on
+    /// from the last match, which is the answer then.
     // Not inlined, since what an inlined one needs is cleared each time.
     #[inline(never)]
-    pub(super) fn run<P: Patterns>(&self, patterns: &P, haystack: &str, at: &mut Standing) -> bool
+    pub(super) fn run<P: Patterns, const EARLIEST: bool>(
+        &self,
+        patterns: &P,
+        haystack: &str,
+        at: &mut Standing,
+    ) -> bool
         requires remembers { Remembers (P.table patterns.now) (P.entries patterns.now) self.now }
+        requires none { EARLIEST ≡ true → at.old.best ≡ None }
         requires scanning { (low p : ℕ) × IsScanning (P.table patterns.now) (P.entries patterns.now)
             (chars haystack.now) low p self.now at.old }
         ensures over { result ≡ true → (low p : ℕ) → IsScanning (P.table patterns.now)
@@ -70,6 +77,7 @@ impl LazyDfa {
             (chars haystack.now) low q self.now at.new
             × IsSince (P.table patterns.now) (P.entries patterns.now) (chars haystack.now) low p
             at.old.first at.new.first }
+        ensures none { EARLIEST ≡ true → (result ≡ false) × (at.new.best ≡ None) }
     {
         let mut near = Interval::none();
         let mut spot = Spot::of(at);
@@ -82,6 +90,9 @@ impl LazyDfa {
             let Some(turn) = self.turn(patterns, haystack, spot, &mut near) else {
                 break;
             };
+            if self.is_last::<EARLIEST>(turn) {
+                break;
+            }
             match self.take(spot, turn, at) {
                 Step::On(on) => spot = on,
                 Step::Over => return true,
@@ -90,35 +101,6 @@ impl LazyDfa {
         }
         at.settle(haystack, spot);
         false
-    }
-
-    /// Like `run`, up to the first match that ends, if there is none yet.
-    // Not inlined, since what an inlined one needs is cleared each time.
-    #[inline(never)]
-    pub(super) fn run_to_match<P: Patterns>(&self, patterns: &P, haystack: &str, at: &mut Standing)
-        requires remembers { Remembers (P.table patterns.now) (P.entries patterns.now) self.now }
-        requires scanning { (low p : ℕ) × IsScanning (P.table patterns.now) (P.entries patterns.now)
-            (chars haystack.now) low p self.now at.old }
-        ensures on { (low p : ℕ) → IsScanning (P.table patterns.now) (P.entries patterns.now)
-            (chars haystack.now) low p self.now at.old
-            → (q : ℕ) × (p ≤ q) × IsScanning (P.table patterns.now) (P.entries patterns.now)
-            (chars haystack.now) low q self.now at.new
-            × IsSince (P.table patterns.now) (P.entries patterns.now) (chars haystack.now) low p
-            at.old.first at.new.first }
-        ensures none { at.new.best ≡ at.old.best }
-    {
-        let mut near = Interval::none();
-        let mut spot = Spot::of(at);
-        'turns: while let Some(turn) = self.turn(patterns, haystack, spot, &mut near) {
-            if self.is_hit(turn) {
-                break;
-            }
-            let Step::On(on) = self.take(spot, turn, at) else {
-                break;
-            };
-            spot = on;
-        }
-        at.settle(haystack, spot);
     }
 
     /// The turn from there, if it is remembered. None at the end of the haystack.
@@ -255,16 +237,19 @@ impl LazyDfa {
         self.states[x as usize].hit
     }
 
-    /// Whether the turn completes a match.
+    /// Whether the turn completes a match, if the least end is asked for.
     #[inline(always)]
-    fn is_hit(&self, turn: Turn) -> bool
+    fn is_last<const EARLIEST: bool>(&self, turn: Turn) -> bool
         requires to { turn.to < length self.now.states }
         requires effect { (hit : Option KeptOrigin) → known_hit turn.effect ≡ Some hit
             → (state : State) → slice_get self.now.states turn.to ≡ Some state
             → ¬ (state.ways ≡ []) × (state.hit ≡ hit) }
         ensures { (state : State) → slice_get self.now.states turn.to ≡ Some state
-            → result ≡ false → state.hit ≡ None }
+            → EARLIEST ≡ true → result ≡ false → state.hit ≡ None }
     {
+        if !EARLIEST {
+            return false;
+        }
         if turn.effect.is_plain {
             return false;
         }

@@ -1,12 +1,14 @@
 //! Searches for one pattern by themselves that remember their turns.
-ghost use Rattle.std.specs.Prelude.{◌≡◌, ◌<◌, [], IfOk, IfSome, IsCharBoundary, length};
+ghost use Rattle.std.specs.Prelude.{◌≡◌, ◌<◌, [], IfOk, IfSome, IsCharBoundary};
+ghost use Rattle.std.specs.Prelude.{length, option_map};
+ghost use Rattle.regex_lite_meta.specs.LazyDfa.Scanning.{best_told};
 ghost use Rattle.regex_lite_syntax.specs.Tree.{Tree};
 ghost use Rattle.regex_lite_syntax.specs.Tree.Regular.{IsRegular};
 ghost use Rattle.regex_lite_engine.specs.Graph.Renumbered.{IsGraphOf};
 ghost use Rattle.regex_lite_engine.specs.Search.Outcomes.{HasCost, IsEndOutcome, IsOutcome};
 ghost use Rattle.regex_lite_engine.specs.Search.NumberedOutcomes.{best_at, match_told, span_of};
 
-use crate::lazy_dfa::single::{find_once, find_shortest_once};
+use crate::lazy_dfa::single::find_once;
 use regex_lite_engine::pikevm::beginning::Origin;
 use regex_lite_engine::pikevm::cache::{Cache, cache_for};
 use regex_lite_engine::search::one_pattern::OnePattern;
@@ -41,7 +43,7 @@ pub(crate) fn search_remembering(
         graph,
         may_start: true,
     };
-    let found = find_once(&mut pattern, &all, alloc, &mut cache, haystack, start);
+    let found = find_once::<_, _, false>(&mut pattern, &all, alloc, &mut cache, haystack, start);
     let Cache { walk, .. } = cache;
     Ok((without_slots(alloc, found), walk.steps))
 }
@@ -71,9 +73,9 @@ pub(crate) fn search_shortest_remembering(
         graph,
         may_start: true,
     };
-    let end = find_shortest_once(&mut pattern, &all, alloc, &mut cache, haystack, start);
+    let found = find_once::<_, _, true>(&mut pattern, &all, alloc, &mut cache, haystack, start);
     let Cache { walk, .. } = cache;
-    Ok((end, walk.steps))
+    Ok((end_of(found), walk.steps))
 }
 
 /// The match that starts and ends there.
@@ -86,4 +88,12 @@ fn without_slots(alloc: Global, found: Option<(Origin, usize)>) -> Option<Outcom
         end,
         slots: Vec::new(alloc),
     })
+}
+
+/// Where the match ends.
+fn end_of(found: Option<(Origin, usize)>) -> Option<usize>
+    ensures { result ≡ option_map (λ best. best.1) (best_told found) }
+{
+    let (_, end) = found?;
+    Some(end)
 }

@@ -1,9 +1,10 @@
 use Rattle.regex_lite_engine.proofs.Common.{refl, position_at}
 use Rattle.regex_lite_engine.proofs.pikevm.PassLemmas.{begun}
+use Rattle.regex_lite_engine.proofs.pikevm.StopLemmas.{over_found, over_bounded}
 use Rattle.regex_lite_engine.proofs.pikevm.run.run.Goals as goal
 
-pub run_on-requires : goal.run_on-requires
-run_on-requires g c =
+pub advance-requires : goal.advance-requires
+advance-requires g c =
     let s = position_at c.args.haystack.now c.args.start in
     record {
       on = (
@@ -13,16 +14,17 @@ run_on-requires g c =
         c.requires.counts,
         begun _ _ _ s c.args.cache.now c.requires.fresh,
       );
+      none = λ earliest. c.requires.fresh.none;
     }
 
 pub returns-clause-found : goal.returns-clause-found
 returns-clause-found g c =
     let s = position_at c.args.haystack.now c.args.start in
-    c.run_on.ensures.found s s c.at.ensures.here (begun _ _ _ s c.args.cache.now c.requires.fresh)
-    (c.run_on.ensures.all refl)
+    over_found (rw (c.advance.ensures.all refl) at c.advance.ensures.stops s s c.at.ensures.here
+    (begun _ _ _ s c.args.cache.now c.requires.fresh))
 
 pub returns-clause-bounded : goal.returns-clause-bounded
 returns-clause-bounded g c =
     let s = position_at c.args.haystack.now c.args.start in
-    c.run_on.ensures.bounded s s c.at.ensures.here
-    (begun _ _ _ s c.args.cache.now c.requires.fresh) (c.run_on.ensures.all refl)
+    over_bounded (rw (c.advance.ensures.all refl) at c.advance.ensures.stops s s c.at.ensures.here
+    (begun _ _ _ s c.args.cache.now c.requires.fresh))

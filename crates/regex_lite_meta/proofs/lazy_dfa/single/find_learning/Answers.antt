@@ -13,14 +13,15 @@ state_at-state-requires-clause-none_pending g c =
 pub state_at-state-requires-clause-between : goal.state_at-state-requires-clause-between
 state_at-state-requires-clause-between g c = c.requires.on.4.ready
 
-pub find_while_it_pays-requires-clause-stands : goal.find_while_it_pays-requires-clause-stands
-find_while_it_pays-requires-clause-stands g c =
+pub search_while_it_pays-requires-clause-stands : goal.search_while_it_pays-requires-clause-stands
+search_while_it_pays-requires-clause-stands g c =
     let from = c.requires.on in
     let stands = c.in-Some-on_the_way.ensures _ _ _ from.0 from.1 empty from.2
     (on_its_way _ _ _ from.0 from.4 c.requires.width) in (
       from.0,
       from.3,
-      known_stands _ _ _ _ _ _ _ _ _ _ stands c.with_state.ensures c.state_at-state.ensures.state,
+      known_stands _ _ _ _ _ _ _ _ _ _ stands c.with_state-at.ensures
+          c.state_at-state.ensures.state,
     )
 
 pub returns-in-Ok-clause-found : goal.returns-in-Ok-clause-found
@@ -28,19 +29,19 @@ returns-in-Ok-clause-found g c = λ s p is on.
     let stands = c.in-Some-on_the_way.ensures _ _ _ s p empty is
     (on_its_way _ _ _ s on c.requires.width) in
     c.in-Ok.ensures.found s
-    (known_stands _ _ _ _ _ _ _ _ _ _ stands c.with_state.ensures c.state_at-state.ensures.state)
+    (known_stands _ _ _ _ _ _ _ _ _ _ stands c.with_state-at.ensures c.state_at-state.ensures.state)
 
 pub returns-in-Ok-clause-bounded : goal.returns-in-Ok-clause-bounded
 returns-in-Ok-clause-bounded g c = λ s p is on.
     let stands = c.in-Some-on_the_way.ensures _ _ _ s p empty is
     (on_its_way _ _ _ s on c.requires.width) in
     c.in-Ok.ensures.bounded s
-    (known_stands _ _ _ _ _ _ _ _ _ _ stands c.with_state.ensures c.state_at-state.ensures.state)
+    (known_stands _ _ _ _ _ _ _ _ _ _ stands c.with_state-at.ensures c.state_at-state.ensures.state)
 
 pub returns-clause-stands : goal.returns-clause-stands
 returns-clause-stands g c = λ s p is on.
     let stands = c.in-Some-on_the_way.ensures _ _ _ s p empty is
     (on_its_way _ _ _ s on c.requires.width) in
     let there = c.in-Err.ensures.stands s
-    (known_stands _ _ _ _ _ _ _ _ _ _ stands c.with_state.ensures c.state_at-state.ensures.state)
+    (known_stands _ _ _ _ _ _ _ _ _ _ stands c.with_state-at.ensures c.state_at-state.ensures.state)
     in (there.p, there.is, stands_under_way there c.in-Err.ensures.own)

@@ -1,11 +1,12 @@
-use Rattle.regex_lite_meta.proofs.Common.{refl, sym, ◌∙◌, arith, best_of, position_at}
+use Rattle.regex_lite_meta.proofs.Common.{◌==◌, refl, sym, ◌∙◌, arith, best_of, position_at, not}
 use Rattle.regex_lite_engine.proofs.pikevm.PassLemmas.{begun}
-use Rattle.regex_lite_meta.proofs.lazy_dfa.OnceLemmas.{found_told, under_as}
+use Rattle.regex_lite_engine.proofs.pikevm.StopLemmas.{over_bounded, over_found}
+use Rattle.regex_lite_meta.proofs.lazy_dfa.OnceLemmas.{found_kept, under_as}
 use Rattle.regex_lite_meta.proofs.lazy_dfa.RunLemmas.{match_counted}
 use Rattle.regex_lite_meta.proofs.lazy_dfa.single.find_once.Goals as goal
 
-pub run_on-requires : goal.run_on-requires
-run_on-requires g c =
+pub advance-soon-requires : goal.advance-soon-requires
+advance-soon-requires g c =
     let s = position_at c.args.haystack.now c.args.start in
     record {
       on = (
@@ -15,103 +16,110 @@ run_on-requires g c =
         c.requires.counts,
         begun _ _ _ s c.args.cache.now c.requires.fresh,
       );
+      none = λ _. c.requires.fresh.none;
     }
 
 pub returns-in_default : goal.returns-in_default
 returns-in_default g c =
     let s = position_at c.args.haystack.now c.args.start in
-    let now = c.run_on.new.cache in
+    let now = c.advance-soon.new.cache in
     let begun = begun _ _ _ s c.args.cache.now c.requires.fresh in
-    let width = c.run_on.ensures.width ∙ c.requires.fresh.between.best_width ∙ c.requires.width in
+    let stops = c.in_default.ensures.stops s s c.at-here.ensures.here begun in
+    let width =
+    c.advance-soon.ensures.width ∙ c.requires.fresh.between.best_width ∙ c.requires.width in
     record {
-      found = found_told _ _ _ s now c.found.result width c.found.ensures
-          (c.in_default.ensures.found s s c.at-here.ensures.here begun refl);
-      bounded = c.in_default.ensures.bounded s s c.at-here.ensures.here begun refl;
+      found = found_kept _ _ _ s (not (g.row.EARLIEST == 0)) now c.found.result width
+          c.found.ensures (over_found stops);
+      bounded = over_bounded stops;
       entered =
           match_counted (best_of now.best) c.found.result now.best.row now.walk.steps.entered 1
-          c.found.ensures c.run_on.ensures.between.match_entered (omega arith);
+          c.found.ensures c.advance-soon.ensures.between.match_entered (omega arith);
     }
 
 pub find_learning-requires : goal.find_learning-requires
 find_learning-requires g c =
     let s = position_at c.args.haystack.now c.args.start in
     let begun = begun _ _ _ s c.args.cache.now c.requires.fresh in
-    let stands = c.in-Some.ensures.stands s s c.at-here.ensures.here begun in
+    let stops = c.in-Some.ensures.stops s s c.at-here.ensures.here begun in
     record {
       all = c.requires.all;
       on = (
         s,
-        stands.0,
-        stands.1,
+        stops.q,
+        stops.why.0,
         rw (c.requires.table, c.requires.entries) c.requires.counts,
-        rw (c.requires.table, c.requires.entries) stands.2,
+        rw (c.requires.table, c.requires.entries) stops.on,
       );
+      none = stops.why.1;
       width =
-          sym c.run_on.ensures.between.best_width
-          ∙ (c.run_on.ensures.width ∙ c.requires.fresh.between.best_width ∙ c.requires.width);
+          sym c.advance-soon.ensures.between.best_width
+          ∙ (c.advance-soon.ensures.width
+          ∙ (c.requires.fresh.between.best_width ∙ c.requires.width));
     }
 
 pub returns-in-Ok-clause-found : goal.returns-in-Ok-clause-found
 returns-in-Ok-clause-found g c =
     let s = position_at c.args.haystack.now c.args.start in
     let begun = begun _ _ _ s c.args.cache.now c.requires.fresh in
-    let stands = c.in-Some.ensures.stands s s c.at-here.ensures.here begun in
+    let stops = c.in-Some.ensures.stops s s c.at-here.ensures.here begun in
     rw (c.requires.table, c.requires.entries)
-    at (c.in-Ok.ensures.found s stands.0 stands.1
-    (rw (c.requires.table, c.requires.entries) stands.2))
+    at (c.in-Ok.ensures.found s stops.q stops.why.0
+    (rw (c.requires.table, c.requires.entries) stops.on))
 
 pub returns-in-Ok-clause-bounded : goal.returns-in-Ok-clause-bounded
 returns-in-Ok-clause-bounded g c =
     let s = position_at c.args.haystack.now c.args.start in
     let begun = begun _ _ _ s c.args.cache.now c.requires.fresh in
-    let stands = c.in-Some.ensures.stands s s c.at-here.ensures.here begun in
+    let stops = c.in-Some.ensures.stops s s c.at-here.ensures.here begun in
     rw (c.requires.table, c.requires.entries)
-    at (c.in-Ok.ensures.bounded s stands.0 stands.1
-    (rw (c.requires.table, c.requires.entries) stands.2))
+    at (c.in-Ok.ensures.bounded s stops.q stops.why.0
+    (rw (c.requires.table, c.requires.entries) stops.on))
 
-pub run_on-requires-in-Err : goal.run_on-requires-in-Err
-run_on-requires-in-Err g c =
+pub advance-requires : goal.advance-requires
+advance-requires g c =
     let s = position_at c.args.haystack.now c.args.start in
     let begun = begun _ _ _ s c.args.cache.now c.requires.fresh in
-    let stands = c.in-Some.ensures.stands s s c.at-here.ensures.here begun in
-    let on = c.in-Err.ensures.stands s stands.0 stands.1
-    (rw (c.requires.table, c.requires.entries) stands.2) in
+    let stops = c.in-Some.ensures.stops s s c.at-here.ensures.here begun in
+    let on = c.in-Err.ensures.stands s stops.q stops.why.0
+    (rw (c.requires.table, c.requires.entries) stops.on) in
     record {
       on = (
         s,
         on.0,
         on.1,
-        rw (c.run_on.ensures.table, c.run_on.ensures.entries) c.requires.counts,
-        under_as (sym c.run_on.ensures.table) (sym c.run_on.ensures.entries)
-            (under_as c.requires.table c.requires.entries on.2),
+        rw (c.advance-soon.ensures.table, c.advance-soon.ensures.entries) c.requires.counts,
+        under_as {p = on.0} (sym c.advance-soon.ensures.table) (sym c.advance-soon.ensures.entries)
+            (under_as {p = on.0} c.requires.table c.requires.entries on.2),
       );
+      none = c.in-Err.ensures.none;
     }
 
 pub returns-in-Err-clause-found : goal.returns-in-Err-clause-found
 returns-in-Err-clause-found g c =
     let s = position_at c.args.haystack.now c.args.start in
     let begun = begun _ _ _ s c.args.cache.now c.requires.fresh in
-    let stands = c.in-Some.ensures.stands s s c.at-here.ensures.here begun in
-    let on = c.in-Err.ensures.stands s stands.0 stands.1
-    (rw (c.requires.table, c.requires.entries) stands.2) in
-    found_told _ _ _ s c.run_on-in-Err.new.cache c.found-in-Err.result
-    (c.run_on-in-Err.ensures.width ∙ on.2.ready.best_width ∙ c.in-Err.ensures.width)
+    let stops = c.in-Some.ensures.stops s s c.at-here.ensures.here begun in
+    let on = c.in-Err.ensures.stands s stops.q stops.why.0
+    (rw (c.requires.table, c.requires.entries) stops.on) in
+    found_kept _ _ _ s (not (g.row.EARLIEST == 0)) c.advance.new.cache
+    c.found-in-Err.result
+    (c.advance.ensures.width ∙ on.2.ready.best_width ∙ c.in-Err.ensures.width)
     c.found-in-Err.ensures
-    (rw (c.run_on.ensures.table, c.run_on.ensures.entries)
-    at (c.run_on-in-Err.ensures.found s on.0 on.1
-    (under_as (sym c.run_on.ensures.table) (sym c.run_on.ensures.entries)
-    (under_as c.requires.table c.requires.entries on.2))
-    (c.run_on-in-Err.ensures.all refl)))
+    (rw (c.advance-soon.ensures.table, c.advance-soon.ensures.entries)
+    at (over_found (rw (c.advance.ensures.all refl)
+    at (c.advance.ensures.stops s on.0 on.1
+    (under_as (sym c.advance-soon.ensures.table) (sym c.advance-soon.ensures.entries)
+    (under_as c.requires.table c.requires.entries on.2))))))
 
 pub returns-in-Err-clause-bounded : goal.returns-in-Err-clause-bounded
 returns-in-Err-clause-bounded g c =
     let s = position_at c.args.haystack.now c.args.start in
     let begun = begun _ _ _ s c.args.cache.now c.requires.fresh in
-    let stands = c.in-Some.ensures.stands s s c.at-here.ensures.here begun in
-    let on = c.in-Err.ensures.stands s stands.0 stands.1
-    (rw (c.requires.table, c.requires.entries) stands.2) in
-    rw (c.run_on.ensures.table, c.run_on.ensures.entries)
-    at (c.run_on-in-Err.ensures.bounded s on.0 on.1
-    (under_as (sym c.run_on.ensures.table) (sym c.run_on.ensures.entries)
-    (under_as c.requires.table c.requires.entries on.2))
-    (c.run_on-in-Err.ensures.all refl))
+    let stops = c.in-Some.ensures.stops s s c.at-here.ensures.here begun in
+    let on = c.in-Err.ensures.stands s stops.q stops.why.0
+    (rw (c.requires.table, c.requires.entries) stops.on) in
+    rw (c.advance-soon.ensures.table, c.advance-soon.ensures.entries)
+    at (over_bounded (rw (c.advance.ensures.all refl)
+    at (c.advance.ensures.stops s on.0 on.1
+    (under_as (sym c.advance-soon.ensures.table) (sym c.advance-soon.ensures.entries)
+    (under_as c.requires.table c.requires.entries on.2)))))

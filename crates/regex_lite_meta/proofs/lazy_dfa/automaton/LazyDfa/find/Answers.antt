@@ -1,5 +1,6 @@
-use Rattle.regex_lite_meta.proofs.Common.{refl, sym, ◌∙◌, position_at}
-use Rattle.regex_lite_meta.proofs.lazy_dfa.OnceLemmas.{found_told, stands_under_way}
+use Rattle.regex_lite_meta.proofs.Common.{false, refl, sym, ◌∙◌, position_at}
+use Rattle.regex_lite_meta.proofs.lazy_dfa.OnceLemmas.{found_kept, stands_under_way}
+use Rattle.regex_lite_engine.proofs.pikevm.StopLemmas.{over_found}
 use Rattle.regex_lite_meta.proofs.lazy_dfa.automaton.LazyDfa.find.Goals as goal
 
 pub find_while_it_pays-requires-clause-stands : goal.find_while_it_pays-requires-clause-stands
@@ -9,22 +10,18 @@ find_while_it_pays-requires-clause-stands g c = (
   c.begun-begun.ensures _ _ c.args.self.now c.args.cache.now c.requires.fresh c.requires.width,
 )
 
-pub run_on-requires : goal.run_on-requires
-run_on-requires g c =
+pub advance-requires-clause-on : goal.advance-requires-clause-on
+advance-requires-clause-on g c =
     let s = position_at c.args.haystack.now c.args.start in
     let stands = c.in-Err.ensures.stands s
     (c.begun-begun.ensures _ _ c.args.self.now c.args.cache.now c.requires.fresh c.requires.width)
-    in
-    record {
-      on = (
-        s,
-        stands.p,
-        stands.is,
-        c.requires.counts,
-        stands_under_way stands
-            c.in-Err.ensures.own,
-      );
-    }
+    in (
+      s,
+      stands.p,
+      stands.is,
+      c.requires.counts,
+      stands_under_way stands c.in-Err.ensures.own,
+    )
 
 pub returns-in-Err : goal.returns-in-Err
 returns-in-Err g c =
@@ -32,16 +29,15 @@ returns-in-Err g c =
     let stands = c.in-Err.ensures.stands s
     (c.begun-begun.ensures _ _ c.args.self.now c.args.cache.now c.requires.fresh c.requires.width)
     in
-    let width = c.run_on.ensures.width ∙ stands.on.ready.best_width ∙ stands.on.width in
+    let width = c.advance.ensures.width ∙ stands.on.ready.best_width ∙ stands.on.width in
     record {
-      found = found_told _ _ _ s c.run_on.new.cache c.found.result width c.found.ensures
-          (c.run_on.ensures.found s stands.p stands.is (stands_under_way stands
-          c.in-Err.ensures.own)
-          (c.run_on.ensures.all refl));
+      found = found_kept _ _ _ s false c.advance.new.cache c.found.result width c.found.ensures
+          (over_found (rw (c.advance.ensures.all refl) at c.advance.ensures.stops s stands.p
+          stands.is (stands_under_way stands c.in-Err.ensures.own)));
       remembers = c.find_while_it_pays.ensures.remembers;
       none_pending = c.find_while_it_pays.ensures.none_pending;
-      between = c.run_on.ensures.between;
-      width = sym c.run_on.ensures.between.best_width ∙ width;
+      between = c.advance.ensures.between;
+      width = sym c.advance.ensures.between.best_width ∙ width;
     }
 
 pub returns-in-Ok-clause-found : goal.returns-in-Ok-clause-found

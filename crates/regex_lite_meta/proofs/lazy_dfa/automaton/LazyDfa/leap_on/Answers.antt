@@ -1,39 +1,40 @@
-use Rattle.regex_lite_meta.proofs.Common.{◌≡◌, true, chars, sym, subst, arith, rules}
+use Rattle.regex_lite_meta.proofs.Common.{◌≡◌, true, chars, sym, refl, ◌∙◌, subst, arith, rules}
+use Rattle.regex_lite_meta.proofs.Common.{true≢false}
 use Rattle.regex_lite_meta.proofs.lazy_dfa.RunLemmas.{at_later}
 use Rattle.regex_lite_meta.proofs.lazy_dfa.OnwardLemmas.{GoesOn, stays_there, then_on}
 use Rattle.regex_lite_engine.proofs.search.here.HereLemmas.{at_most}
 use Rattle.regex_lite_meta.proofs.lazy_dfa.automaton.LazyDfa.leap_on.Goals as goal
 
 pub leaps-init : goal.leaps-init
-leaps-init g c = stays_there c.args.at.now
+leaps-init g c = record { none = c.requires.none; on = stays_there c.args.at.now }
 
 pub leap-requires : goal.leap-requires
 leap-requires g c =
     let from = c.requires.scanning in
-    let v = c.leaps.invariant from.0 from.1 from.2 in record { scanning = (from.0, v.0, v.2) }
+    let v = c.leaps.invariant.on from.0 from.1 from.2 in record { scanning = (from.0, v.0, v.2) }
 
 pub returns-then-not-leap-clause-on : goal.returns-then-not-leap-clause-on
 returns-then-not-leap-clause-on g c = λ _.
     subst (GoesOn (g.P.Patterns.table c.args.patterns.now) (g.P.Patterns.entries
     c.args.patterns.now) (chars c.args.haystack.now) c.args.self.now c.args.at.now)
-    (sym (c.leap.ensures.same (search rules))) c.leaps.invariant
+    (sym (c.leap.ensures.same (search rules))) c.leaps.invariant.on
 
 pub run-requires-clause-scanning : goal.run-requires-clause-scanning
 run-requires-clause-scanning g c =
     let from = c.requires.scanning in
-    let on = then_on c.leaps.invariant (c.leap.ensures.on (search rules)) from.0 from.1 from.2 in
+    let on = then_on c.leaps.invariant.on (c.leap.ensures.on (search rules)) from.0 from.1 from.2 in
     (from.0, on.0, on.2)
 
 pub returns-then-run-clause-over : goal.returns-then-run-clause-over
 returns-then-run-clause-over g c = λ _ low p from.
-    let on = then_on c.leaps.invariant (c.leap.ensures.on (search rules)) low p from in
+    let on = then_on c.leaps.invariant.on (c.leap.ensures.on (search rules)) low p from in
     c.run.ensures.over c.if-run.true low on.0 on.2
 
 pub leaps-smaller : goal.leaps-smaller
 leaps-smaller g c =
     let bs = c.args.haystack.now in
     let from = c.requires.scanning in
-    let v = c.leaps.invariant from.0 from.1 from.2 in
+    let v = c.leaps.invariant.on from.0 from.1 from.2 in
     let leaps : c.leap.result ≡ true = search rules in
     let on = c.leap.ensures.on leaps from.0 v.0 v.2 in
     let r = c.run.ensures.on c.if-run.false from.0 on.0 on.2 in
@@ -43,6 +44,22 @@ leaps-smaller g c =
     omega (arith, le, later, inside)
 
 pub leaps-preserved : goal.leaps-preserved
-leaps-preserved g c =
-    then_on c.leaps.invariant
-    (then_on (c.leap.ensures.on (search rules)) (c.run.ensures.on c.if-run.false))
+leaps-preserved g c = record {
+  none = λ earliest. (c.run.ensures.none earliest).1;
+  on =
+      then_on c.leaps.invariant.on
+      (then_on (c.leap.ensures.on (search rules)) (c.run.ensures.on c.if-run.false));
+}
+
+pub run-requires-clause-none : goal.run-requires-clause-none
+run-requires-clause-none g c = λ earliest. c.leap.ensures.none ∙ c.leaps.invariant.none earliest
+
+pub returns-then-not-leap-clause-none : goal.returns-then-not-leap-clause-none
+returns-then-not-leap-clause-none g c = λ earliest. (
+  refl,
+  c.leap.ensures.none ∙ c.leaps.invariant.none earliest,
+)
+
+pub returns-then-run-clause-none : goal.returns-then-run-clause-none
+returns-then-run-clause-none g c = λ earliest.
+    absurd (true≢false (sym c.if-run.true ∙ (c.run.ensures.none earliest).0))

@@ -1,10 +1,13 @@
-use Rattle.regex_lite_meta.proofs.Common.{◌-◌, length, chars}
+use Rattle.regex_lite_meta.proofs.Common.{◌≡◌, ◌-◌, ◌==◌, true, length, None, chars, not}
 use Rattle.regex_lite_meta.proofs.lazy_dfa.OnwardLemmas.{GoesOn}
 use Rattle.regex_lite_meta.proofs.lazy_dfa.automaton.LazyDfa.leap_on.Given as goal
 
 abbrev pub invariant-leaps : goal.invariant-leaps
-invariant-leaps g l = GoesOn (g.P.Patterns.table l.patterns) (g.P.Patterns.entries l.patterns)
-    (chars l.haystack) l.self l.initial.at l.at
+invariant-leaps g l = record {
+  none : not (g.row.EARLIEST == 0) ≡ true → l.at.best ≡ None;
+  on : GoesOn (g.P.Patterns.table l.patterns) (g.P.Patterns.entries l.patterns)
+      (chars l.haystack) l.self l.initial.at l.at;
+}
 
 abbrev pub decreases-leaps : goal.decreases-leaps
 decreases-leaps g l = length l.haystack - l.at.here.at

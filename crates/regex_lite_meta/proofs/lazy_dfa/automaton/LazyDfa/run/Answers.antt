@@ -1,15 +1,19 @@
-use Rattle.regex_lite_meta.proofs.Common.{◌≡◌, ap, ◌∙◌, arith, Standing}
+use Rattle.regex_lite_meta.proofs.Common.{◌≡◌, refl, ap, ◌∙◌, arith, best_told, Standing}
 use Rattle.regex_lite_meta.proofs.lazy_dfa.OnwardLemmas.{ends_there, from_spot, next_spot}
 use Rattle.regex_lite_meta.proofs.lazy_dfa.OnwardLemmas.{spot_boundary, state_at_spot, to_spot}
 use Rattle.regex_lite_meta.proofs.lazy_dfa.OnwardLemmas.{turn_effect, turn_within}
 use Rattle.regex_lite_meta.proofs.lazy_dfa.automaton.LazyDfa.run.Given as given
 use Rattle.regex_lite_meta.proofs.lazy_dfa.automaton.LazyDfa.run.Goals as goal
-use Rattle.regex_lite_meta.proofs.lazy_dfa.automaton.LazyDfa.run.Goals.{in_default}
-use Rattle.regex_lite_meta.proofs.lazy_dfa.automaton.LazyDfa.run.Goals.{in-Some+in-Stuck}
+use Rattle.regex_lite_meta.proofs.lazy_dfa.automaton.LazyDfa.run.Goals.{
+  in_default,
+  in-Some+then-is_last,
+  in-Some+else-is_last+in-Stuck,
+}
 
 pub turns-init : goal.turns-init
 turns-init g c = record {
   near = c.none-near.ensures c.args.self.now.intervals.boundaries;
+  none = c.requires.none;
   on = to_spot c.args.at.now c.of-spot.ensures;
 }
 
@@ -35,6 +39,10 @@ turns-preserved g c =
     let turn = c.in-Some.ensures.turn in
     record {
       near = c.turn.ensures.near;
+      none = λ earliest.
+          c.take.ensures.same turn.to turn.is_to
+          (c.is_last.ensures turn.to turn.is_to earliest c.if-is_last.false)
+          ∙ c.turns.invariant.none earliest;
       on =
           next_spot c.args.haystack.now c.utf8.haystack (omega arith) c.turns.invariant.on turn
           c.in-On.on c.take.new.at (c.in-On.ensures.taken turn.to turn.is_to);
@@ -45,6 +53,14 @@ returns-in-Over-clause-over g c = λ _.
     let turn = c.in-Some.ensures.turn in
     ends_there c.args.haystack.now c.utf8.haystack (omega arith) c.turns.invariant.on turn
     c.take.new.at (c.in-Over.ensures.taken turn.to turn.is_to)
+
+pub returns-in-Over-clause-none : goal.returns-in-Over-clause-none
+returns-in-Over-clause-none g c = λ earliest.
+    let turn = c.in-Some.ensures.turn in
+    absurd ((c.in-Over.ensures.taken turn.to turn.is_to).some (ap best_told
+    (c.take.ensures.same turn.to turn.is_to
+    (c.is_last.ensures turn.to turn.is_to earliest c.if-is_last.false)
+    ∙ c.turns.invariant.none earliest)))
 
 pub settle-requires : goal.settle-requires
 settle-requires g c =
@@ -64,7 +80,8 @@ returns-then-spot-haystack-clause-on g c = λ _.
 
 stays : (g : given.Over) (c : goal.After-settle-2 g) → c.match-turn.at ≡ c.turns.at
 stays g c = elim c.match-turn.branch [
-  | in-Some+in-Stuck w ↦
+  | in-Some+then-is_last w ↦ w.at-is
+  | in-Some+else-is_last+in-Stuck w ↦
       let turn = w.in-Some.ensures.turn in
       w.at-is ∙ w.in-Stuck.ensures.taken turn.to turn.is_to
   | in_default w ↦ w.at-is
@@ -80,3 +97,22 @@ returns-clause-on g c = λ _.
       state = c.turns.spot.state;
     })
     (stays g c))
+
+pub returns-then-spot-haystack-clause-none : goal.returns-then-spot-haystack-clause-none
+returns-then-spot-haystack-clause-none g c = λ earliest. (
+  refl,
+  ap (λ (s : Standing). s.best) c.settle.ensures.same ∙ c.turns.invariant.none earliest,
+)
+
+pub returns-clause-none : goal.returns-clause-none
+returns-clause-none g c = λ earliest. (
+  refl,
+  ap (λ (s : Standing). s.best) c.settle-2.ensures.same ∙ ap (λ (s : Standing). s.best) (stays g c)
+      ∙ c.turns.invariant.none earliest,
+)
+
+pub is_last-requires-clause-to : goal.is_last-requires-clause-to
+is_last-requires-clause-to g c = turn_within c.in-Some.ensures.turn
+
+pub is_last-requires-clause-effect : goal.is_last-requires-clause-effect
+is_last-requires-clause-effect g c = turn_effect c.in-Some.ensures.turn

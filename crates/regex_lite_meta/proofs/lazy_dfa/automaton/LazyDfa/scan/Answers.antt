@@ -1,8 +1,10 @@
-use Rattle.regex_lite_meta.proofs.Common.{chars, arith, rules, slice_get_within}
+use Rattle.regex_lite_meta.proofs.Common.{◌≡◌, ◌==◌, true, chars, ap, ◌∙◌, arith, rules, Standing}
+use Rattle.regex_lite_meta.proofs.Common.{not, sym, true≢false}
+use Rattle.regex_lite_engine.proofs.pikevm.ShortestLemmas.{not_true}
 use Rattle.regex_lite_meta.proofs.lazy_dfa.OnwardLemmas.{GoesOn, idle_edge, state_there}
 use Rattle.regex_lite_meta.proofs.lazy_dfa.OnwardLemmas.{stays_there, stuck_there, then_on}
 use Rattle.regex_lite_meta.proofs.lazy_dfa.OnwardLemmas.{then_skipped, then_turned}
-use Rattle.regex_lite_meta.proofs.lazy_dfa.ScanLemmas.{scan_over}
+use Rattle.regex_lite_meta.proofs.lazy_dfa.ScanLemmas.{leads_on, scan_found, preferred}
 use Rattle.regex_lite_engine.proofs.pikevm.EndLemmas.{some_after}
 use Rattle.regex_lite_engine.proofs.search.here.HereLemmas.{less_left}
 use Rattle.regex_lite_meta.proofs.lazy_dfa.automaton.LazyDfa.scan.Given as given
@@ -10,30 +12,30 @@ use Rattle.regex_lite_meta.proofs.lazy_dfa.automaton.LazyDfa.scan.Goals as goal
 use Rattle.regex_lite_meta.proofs.lazy_dfa.automaton.LazyDfa.scan.Goals.{In-Some}
 
 pub positions-init : goal.positions-init
-positions-init g c = stays_there c.args.from
+positions-init g c = record { none = c.requires.none; on = stays_there c.args.from }
 
 pub run_on-requires-clause-scanning : goal.run_on-requires-clause-scanning
 run_on-requires-clause-scanning g c =
     let from = c.requires.scanning in
-    let v = c.positions.invariant from.0 from.1 from.2 in (from.0, v.0, v.2)
+    let v = c.positions.invariant.on from.0 from.1 from.2 in (from.0, v.0, v.2)
 
 pub skip-requires : goal.skip-requires
 skip-requires g c =
     let from = c.requires.scanning in
-    let r = then_on c.positions.invariant (c.run_on.ensures.on c.if-run_on.false) from.0 from.1
+    let r = then_on c.positions.invariant.on (c.run_on.ensures.on c.if-run_on.false) from.0 from.1
     from.2 in
     record { scanning = (from.0, r.0, r.2) }
 
 pub idle_since-requires : goal.idle_since-requires
 idle_since-requires g c =
     idle_edge c.args.haystack.now c.utf8.haystack (omega arith)
-    (then_on c.positions.invariant (c.run_on.ensures.on c.if-run_on.false)) c.requires.scanning
+    (then_on c.positions.invariant.on (c.run_on.ensures.on c.if-run_on.false)) c.requires.scanning
 
-pub returns-in_default : goal.returns-in_default
-returns-in_default g c =
+pub returns-in_default-clause-to : goal.returns-in_default-clause-to
+returns-in_default-clause-to g c =
     let told = c.idle_since in
     stuck_there c.args.haystack.now c.utf8.haystack (omega arith)
-    (then_on c.positions.invariant (c.run_on.ensures.on c.if-run_on.false)) told.result
+    (then_on c.positions.invariant.on (c.run_on.ensures.on c.if-run_on.false)) told.result
     told.ensures.at told.ensures.here told.ensures.other
 
 -- positions were passed over at which no match can begin
@@ -41,7 +43,7 @@ past : (g : given.Over) (c : In-Some g) →
     GoesOn (g.P.Patterns.table c.args.patterns.now) (g.P.Patterns.entries c.args.patterns.now)
     (chars c.args.haystack.now) c.args.self.now c.args.from c.in-Some.on
 past g c =
-    then_skipped (then_on c.positions.invariant (c.run_on.ensures.on c.if-run_on.false))
+    then_skipped (then_on c.positions.invariant.on (c.run_on.ensures.on c.if-run_on.false))
     c.in-Some.ensures.on c.in-Some.ensures.first
 
 pub step-requires-clause-state : goal.step-requires-clause-state
@@ -53,28 +55,30 @@ idle_since-requires-in_default-step g c =
     idle_edge c.args.haystack.now c.utf8.haystack (omega arith)
     (past g (goal.at.idle_since-requires-in_default-step g c).In-Some) c.requires.scanning
 
-pub returns-in_default-step : goal.returns-in_default-step
-returns-in_default-step g c =
+pub returns-in_default-step-clause-to : goal.returns-in_default-step-clause-to
+returns-in_default-step-clause-to g c =
     let told = c.idle_since-in_default-step in
     stuck_there c.args.haystack.now c.utf8.haystack (omega arith)
-    (past g (goal.at.returns-in_default-step g c).In-Some) told.result told.ensures.at
+    (past g (goal.at.returns-in_default-step-clause-to g c).In-Some) told.result told.ensures.at
     told.ensures.here told.ensures.other
 
-pub is_over-requires : goal.is_over-requires
-is_over-requires g c =
-    let from = c.requires.scanning in
-    let on = past g (goal.at.is_over-requires g c).In-Some from.0 from.1 from.2 in
-    let led = c.in-Some-step.ensures (chars c.args.haystack.now) from.0 on.0 on.2 in
-    slice_get_within c.args.self.now.states c.in-Some-step.to led.state led.is_state
+pub step-requires-clause-none : goal.step-requires-clause-none
+step-requires-clause-none g c = λ earliest.
+    c.in-Some.ensures.none (c.run_on.ensures.none earliest).1
 
-pub returns-then-is_over : goal.returns-then-is_over
-returns-then-is_over g c = λ low p from.
-    let on = past g (goal.at.returns-then-is_over g c).In-Some low p from in
-    let led = c.in-Some-step.ensures (chars c.args.haystack.now) low on.0 on.2 in
-    scan_over (g.P.Patterns.table c.args.patterns.now) (g.P.Patterns.entries c.args.patterns.now)
-    (chars c.args.haystack.now)
-    low on.0 c.args.self.now c.in-Some.on on.2 c.in-Some-step.to c.in-Some-step.best led
-    (c.if-is_over.ensures.over led.state led.is_state (search rules))
+pub is_over-requires : goal.is_over-requires
+is_over-requires g c = c.in-Some-step.ensures.state
+
+pub returns-then-is_over-clause-to : goal.returns-then-is_over-clause-to
+returns-then-is_over-clause-to g c = λ low p from.
+    let on = past g (goal.at.returns-then-is_over-clause-to g c).In-Some low p from in
+    scan_found (g.P.Patterns.table c.args.patterns.now) (g.P.Patterns.entries c.args.patterns.now)
+    (chars c.args.haystack.now) low on.0 c.args.self.now c.in-Some.on c.in-Some-step.to
+    (not (g.row.EARLIEST == 0)) c.in-Some-step.best on.2
+    (λ earliest. c.in-Some.ensures.none (c.run_on.ensures.none earliest).1)
+    (c.in-Some-step.ensures.led (chars c.args.haystack.now) low on.0 on.2)
+    (λ state is preferred. c.if-is_over.ensures.over state is (search rules) preferred)
+    (c.is_over.ensures.earliest (search rules))
 
 pub go_on-at-requires-clause-here : goal.go_on-at-requires-clause-here
 go_on-at-requires-clause-here g c =
@@ -87,16 +91,12 @@ go_on-at-requires-clause-here g c =
     )
 
 pub go_on-at-requires-clause-state : goal.go_on-at-requires-clause-state
-go_on-at-requires-clause-state g c =
-    let from = c.requires.scanning in
-    let on = past g (goal.at.go_on-at-requires-clause-state g c).In-Some from.0 from.1 from.2 in
-    let led = c.in-Some-step.ensures (chars c.args.haystack.now) from.0 on.0 on.2 in
-    slice_get_within c.args.self.now.states c.in-Some-step.to led.state led.is_state
+go_on-at-requires-clause-state g c = c.in-Some-step.ensures.state
 
 pub positions-smaller : goal.positions-smaller
 positions-smaller g c =
     let from = c.requires.scanning in
-    let v = c.positions.invariant from.0 from.1 from.2 in
+    let v = c.positions.invariant.on from.0 from.1 from.2 in
     let on = then_skipped (c.run_on.ensures.on c.if-run_on.false) c.in-Some.ensures.on
     c.in-Some.ensures.first from.0 v.0 v.2 in
     less_left c.args.haystack.now v.0 on.0 c.positions.at.here c.go_on-at.result.here
@@ -104,11 +104,25 @@ positions-smaller g c =
 
 pub positions-preserved : goal.positions-preserved
 positions-preserved g c =
-    then_turned (past g (goal.at.positions-preserved g c).In-Some)
-    (c.in-Some-step.ensures (chars c.args.haystack.now))
-    (λ state at. c.is_over.ensures.none state at (search rules)) c.go_on-at.ensures.here
-    c.go_on-at.ensures.same c.go_on-at.ensures.first
+    let none = λ (earliest : not (g.row.EARLIEST == 0) ≡ true).
+    c.is_over.ensures.none_yet earliest (not_true c.is_over.result c.if-is_over.false) in
+    record {
+      none = λ earliest. ap (λ (z : Standing). z.best) c.go_on-at.ensures.same ∙ none earliest;
+      on =
+          then_turned (past g (goal.at.positions-preserved g c).In-Some)
+          (λ low p scanning.
+          leads_on (g.P.Patterns.table c.args.patterns.now) (g.P.Patterns.entries
+          c.args.patterns.now) (chars c.args.haystack.now) low p c.args.self.now c.in-Some.on
+          c.in-Some-step.to (not (g.row.EARLIEST == 0)) c.in-Some-step.best none
+          (c.in-Some-step.ensures.led (chars c.args.haystack.now) low p scanning))
+          (λ state at. c.is_over.ensures.none state at (search rules)) c.go_on-at.ensures.here
+          c.go_on-at.ensures.same c.go_on-at.ensures.first;
+    }
 
-pub returns-then-run_on : goal.returns-then-run_on
-returns-then-run_on g c = λ low p from.
-    let v = c.positions.invariant low p from in c.run_on.ensures.over c.if-run_on.true low v.0 v.2
+pub returns-then-run_on-clause-to : goal.returns-then-run_on-clause-to
+returns-then-run_on-clause-to g c = λ low p from.
+    let v = c.positions.invariant.on low p from in
+    preferred (g.P.Patterns.table c.args.patterns.now) (chars c.args.haystack.now)
+    (g.P.Patterns.entries c.args.patterns.now) low _ (not (g.row.EARLIEST == 0))
+    (λ earliest. true≢false (sym c.if-run_on.true ∙ (c.run_on.ensures.none earliest).0))
+    (c.run_on.ensures.over c.if-run_on.true low v.0 v.2)

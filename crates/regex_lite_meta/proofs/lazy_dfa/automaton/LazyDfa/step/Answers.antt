@@ -1,6 +1,7 @@
-use Rattle.regex_lite_meta.proofs.Common.{Some, sym, ap, rules, best_left, best_told, hit_in}
+use Rattle.regex_lite_meta.proofs.Common.{◌==◌, ◌<◌, length, slice_get_within, refl, sym, ap, not}
+use Rattle.regex_lite_meta.proofs.Common.{rules, best_left, best_told, hit_in}
 use Rattle.regex_lite_meta.proofs.lazy_dfa.StoredStateLemmas.{turn_led, turn_stored}
-use Rattle.regex_lite_meta.proofs.lazy_dfa.ScanLemmas.{TurnsTo, led_step}
+use Rattle.regex_lite_meta.proofs.lazy_dfa.ScanLemmas.{TurnsTo, completed, led_none, led_step}
 use Rattle.regex_lite_meta.proofs.lazy_dfa.automaton.LazyDfa.step.Given as given
 use Rattle.regex_lite_meta.proofs.lazy_dfa.automaton.LazyDfa.step.Goals as goal
 use Rattle.regex_lite_meta.proofs.lazy_dfa.automaton.LazyDfa.step.Goals.{After-index}
@@ -29,19 +30,50 @@ led g c =
     c.in_ok-to.ensures.known c.args.at.here.after c.class-class.ensures.same c.index.result.now
     c.index.ensures
 
-pub returns-in-Nowhere : goal.returns-in-Nowhere
-returns-in-Nowhere g c = λ haystack low p scanning.
-    led_step (g.P.Patterns.table c.args.patterns.now) (g.P.Patterns.entries c.args.patterns.now)
+pub returns-in-Nowhere-clause-led : goal.returns-in-Nowhere-clause-led
+returns-in-Nowhere-clause-led g c = λ haystack low p scanning.
+    led_none (g.P.Patterns.table c.args.patterns.now) (g.P.Patterns.entries c.args.patterns.now)
+    haystack low p c.args.self.now c.args.at scanning (not (g.row.EARLIEST == 0)) c.requires.none
+    (led_step (g.P.Patterns.table c.args.patterns.now) (g.P.Patterns.entries c.args.patterns.now)
     haystack low p c.args.self.now c.args.at scanning
-    (led g (goal.at.returns-in-Nowhere g c).After-index) c.args.at.best
+    (led g (goal.at.returns-in-Nowhere-clause-led g c).After-index) c.args.at.best
     (sym (ap (λ hit. best_left (hit_in hit) c.args.at.first c.args.at.here.at
-    (best_told c.args.at.best)) c.in-Nowhere.is))
+    (best_told c.args.at.best)) c.in-Nowhere.is)))
 
-pub returns-in-AtFirst : goal.returns-in-AtFirst
-returns-in-AtFirst g c = λ haystack low p scanning.
-    led_step (g.P.Patterns.table c.args.patterns.now) (g.P.Patterns.entries c.args.patterns.now)
+pub returns-in-AtFirst-clause-led : goal.returns-in-AtFirst-clause-led
+returns-in-AtFirst-clause-led g c = λ haystack low p scanning.
+    rw c.completed.ensures
+    (completed (g.P.Patterns.table c.args.patterns.now) (g.P.Patterns.entries c.args.patterns.now)
     haystack low p c.args.self.now c.args.at scanning
-    (led g (goal.at.returns-in-AtFirst g c).After-index)
-    (Some (record { at = c.args.at.first; number = c.in-AtFirst.number }, c.args.at.here.at))
-    (sym (ap (λ hit. best_left (hit_in hit) c.args.at.first c.args.at.here.at
-    (best_told c.args.at.best)) c.in-AtFirst.is))
+    (led g (goal.at.returns-in-AtFirst-clause-led g c).After-index) (not (g.row.EARLIEST == 0))
+    (record { at = c.args.at.first; number = c.in-AtFirst.number }) (ap hit_in c.in-AtFirst.is)
+    c.requires.none (λ _. refl))
+
+pub returns-else-not-this-clause-led : goal.returns-else-not-this-clause-led
+returns-else-not-this-clause-led g c = λ haystack low p scanning.
+    rw c.completed-in-AtLater.ensures
+    (completed (g.P.Patterns.table c.args.patterns.now) (g.P.Patterns.entries c.args.patterns.now)
+    haystack low p c.args.self.now c.args.at scanning
+    (led g (goal.at.returns-else-not-this-clause-led g c).After-index)
+    (not (g.row.EARLIEST == 0))
+    (record { at = c.args.at.first; number = c.in-AtLater.number }) (ap hit_in c.in-AtLater.is)
+    c.requires.none (λ other. absurd (c.if-not-this.false (search (other, rules)))))
+
+-- the state to which the turn leads is one of the automaton
+within : (g : given.Over) (c : After-index g)
+    → c.in_ok-to.field-0.state < length c.args.self.now.states
+within g c =
+    let turn = led g c in
+    slice_get_within c.args.self.now.states c.in_ok-to.field-0.state turn.to turn.is_to
+
+pub returns-in-Nowhere-clause-state : goal.returns-in-Nowhere-clause-state
+returns-in-Nowhere-clause-state g c =
+    within g (goal.at.returns-in-Nowhere-clause-state g c).After-index
+
+pub returns-in-AtFirst-clause-state : goal.returns-in-AtFirst-clause-state
+returns-in-AtFirst-clause-state g c =
+    within g (goal.at.returns-in-AtFirst-clause-state g c).After-index
+
+pub returns-else-not-this-clause-state : goal.returns-else-not-this-clause-state
+returns-else-not-this-clause-state g c =
+    within g (goal.at.returns-else-not-this-clause-state g c).After-index

@@ -1,19 +1,17 @@
 use Rattle.regex_lite_meta.proofs.Common.{◌^◌, ◌<◌, length, chars, ap, subst, arith, rules}
-use Rattle.regex_lite_meta.proofs.Common.{places_of, table_of, position_at, end_told}
+use Rattle.regex_lite_meta.proofs.Common.{places_of, table_of, position_at, best_told, sym}
 use Rattle.regex_lite_engine.specs.Search.Outcomes.{IsEndOutcome}
-use Rattle.regex_lite_meta.proofs.lazy_dfa.ScanLemmas.{end_back}
 use Rattle.regex_lite_engine.proofs.search.OutcomeLemmas as outcome
 use Rattle.regex_lite_engine.proofs.search.OutcomeLemmas.{can_count, cost_told}
 use Rattle.regex_lite_engine.proofs.pikevm.ShortestLemmas.{one_end}
 use Rattle.regex_lite_meta.proofs.lazy_dfa.single.graph.search_shortest_remembering.Goals as goal
 
-pub find_shortest_once-end-requires-clause-fresh : goal.find_shortest_once-end-requires-clause-fresh
-find_shortest_once-end-requires-clause-fresh c =
+pub find_once-found-requires-clause-fresh : goal.find_once-found-requires-clause-fresh
+find_once-found-requires-clause-fresh c =
     rw (ap places_of c.table.ensures.same) at c.in_ok-cache.ensures.fresh
 
-pub find_shortest_once-end-requires-clause-counts :
-    goal.find_shortest_once-end-requires-clause-counts
-find_shortest_once-end-requires-clause-counts c =
+pub find_once-found-requires-clause-counts : goal.find_once-found-requires-clause-counts
+find_once-found-requires-clause-counts c =
     let haystack = c.args.haystack.now in
     let short : length haystack < 2 ^ 63 = search rules in
     can_count (table_of c.args.graph.now) haystack (position_at haystack c.args.start)
@@ -24,15 +22,14 @@ pub returns-clause-found : goal.returns-clause-found
 returns-clause-found c = λ tree regular is.
     let graph = c.args.graph.now in
     let haystack = c.args.haystack.now in
-    let end = c.find_shortest_once-end.result in
-    subst (λ z. IsEndOutcome tree haystack c.args.start z) (end_back end)
-    (outcome.end_told tree regular graph is haystack c.args.start c.requires.boundary.0
-    (end_told end)
-    (one_end (table_of graph) (chars haystack) graph.start (position_at haystack c.args.start)
-    (end_told end) c.find_shortest_once-end.ensures.found))
+    let best = best_told c.find_once-found.result in
+    subst (λ z. IsEndOutcome tree haystack c.args.start z) (sym c.end_of.ensures)
+    (outcome.end_told tree regular graph is haystack c.args.start c.requires.boundary.0 best
+    (one_end (table_of graph) (chars haystack) graph.start (position_at haystack c.args.start) best
+    c.find_once-found.ensures.found))
 
 pub returns-clause-cost : goal.returns-clause-cost
 returns-clause-cost c = λ tree is.
-    let steps = c.find_shortest_once-end.new.cache.walk.steps in
+    let steps = c.find_once-found.new.cache.walk.steps in
     cost_told tree c.args.graph.now is c.args.haystack.now c.args.start c.requires.boundary.0
-    steps.tried steps.entered steps.looked c.find_shortest_once-end.ensures.bounded
+    steps.tried steps.entered steps.looked c.find_once-found.ensures.bounded

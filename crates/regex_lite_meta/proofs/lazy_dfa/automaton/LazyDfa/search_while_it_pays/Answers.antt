@@ -1,15 +1,17 @@
-use Rattle.regex_lite_meta.proofs.Common.{chars, ◌∙◌, arith, rules, best_of}
-use Rattle.regex_lite_meta.proofs.lazy_dfa.OnceLemmas.{found_told}
+use Rattle.regex_lite_engine.proofs.pikevm.ShortestLemmas.{not_true}
+use Rattle.regex_lite_meta.proofs.Common.{◌==◌, ◌∙◌, arith, rules, best_of, not}
+use Rattle.regex_lite_meta.proofs.lazy_dfa.OnceLemmas.{found_kept}
 use Rattle.regex_lite_meta.proofs.lazy_dfa.RunLemmas.{match_counted}
-use Rattle.regex_lite_meta.proofs.lazy_dfa.StandsLemmas.{all_ended, bounded_after, bounded_there}
+use Rattle.regex_lite_meta.proofs.lazy_dfa.StandsLemmas.{bounded_after, bounded_there, found_there}
 use Rattle.regex_lite_meta.proofs.lazy_dfa.StandsLemmas.{turned_there}
 use Rattle.regex_lite_engine.proofs.search.here.HereLemmas.{at_most}
-use Rattle.regex_lite_meta.proofs.lazy_dfa.automaton.LazyDfa.find_while_it_pays.Goals as goal
+use Rattle.regex_lite_meta.proofs.lazy_dfa.automaton.LazyDfa.search_while_it_pays.Goals as goal
 
 pub positions-init : goal.positions-init
 positions-init g c = record {
   remembers = c.requires.remembers;
   none_pending = c.requires.none_pending;
+  none = c.requires.none;
   stands = λ s begun. begun;
 }
 
@@ -17,8 +19,8 @@ pub at_idle-at-requires-clause-stands : goal.at_idle-at-requires-clause-stands
 at_idle-at-requires-clause-stands g c =
     let from = c.requires.stands in (from.0, c.positions.invariant.stands _ from.2)
 
-pub look_ahead-requires-clause-stands : goal.look_ahead-requires-clause-stands
-look_ahead-requires-clause-stands g c =
+pub look_ahead-ahead-requires-clause-stands : goal.look_ahead-ahead-requires-clause-stands
+look_ahead-ahead-requires-clause-stands g c =
     let from = c.requires.stands in
     (from.0, c.at_idle-at.ensures.stands _ (c.positions.invariant.stands _ from.2))
 
@@ -49,24 +51,24 @@ returns-then-is_given_up-clause-stands g c = λ s begun.
     c.in_default.ensures.stands s
     (c.at_idle-at.ensures.stands s (c.positions.invariant.stands s begun))
 
-pub returns-then-is_over-clause-found : goal.returns-then-is_over-clause-found
-returns-then-is_over-clause-found g c = λ s begun.
+pub returns-then-is_done-clause-found : goal.returns-then-is_done-clause-found
+returns-then-is_done-clause-found g c = λ s begun.
     let idle = c.at_idle-at.ensures.stands s (c.positions.invariant.stands s begun) in
     let stands = c.in_default.ensures.stands s idle in
     let on = c.go_over-hit.ensures.on _ _ _ stands.is stands.on in
-    found_told (g.P.Patterns.table c.args.patterns.now) (chars c.args.haystack.now)
-    (g.P.Patterns.entries c.args.patterns.now) s c.go_over-hit.new.cache c.found.result
+    found_kept _ _ _ s (not (g.row.EARLIEST == 0)) c.go_over-hit.new.cache c.found.result
     (on.ready.best_width ∙ on.width) c.found.ensures
-    (all_ended stands on (c.is_over.ensures.over (search rules)))
+    (found_there stands on (not (g.row.EARLIEST == 0)) c.look_ahead-ahead.ensures.none
+    c.go_over-hit.ensures.ends (c.is_done.ensures.done (search rules)))
 
-pub returns-then-is_over-clause-between : goal.returns-then-is_over-clause-between
-returns-then-is_over-clause-between g c =
+pub returns-then-is_done-clause-between : goal.returns-then-is_done-clause-between
+returns-then-is_done-clause-between g c =
     let at = c.positions.invariant.stands _ c.requires.stands.2 in
     let stands = c.in_default.ensures.stands _ (c.at_idle-at.ensures.stands _ at) in
     (c.go_over-hit.ensures.on _ _ _ stands.is stands.on).ready
 
-pub returns-then-is_over-clause-width : goal.returns-then-is_over-clause-width
-returns-then-is_over-clause-width g c =
+pub returns-then-is_done-clause-width : goal.returns-then-is_done-clause-width
+returns-then-is_done-clause-width g c =
     let at = c.positions.invariant.stands _ c.requires.stands.2 in
     let stands = c.in_default.ensures.stands _ (c.at_idle-at.ensures.stands _ at) in
     (c.go_over-hit.ensures.on _ _ _ stands.is stands.on).width
@@ -106,7 +108,7 @@ positions-smaller g c =
     let most = at_most c.args.haystack.now next.p c.next_position-at.result.here c.utf8.haystack
     next.is in
     let later = c.next_position-at.ensures.later in
-    let ahead = c.look_ahead.ensures.later in
+    let ahead = c.look_ahead-ahead.ensures.later in
     let passed = c.at_idle-at.ensures.later in
     omega (arith, most, later, ahead, passed)
 
@@ -114,6 +116,8 @@ pub positions-preserved : goal.positions-preserved
 positions-preserved g c = record {
   remembers = c.learn_at-at.ensures.remembers;
   none_pending = c.learn_at-at.ensures.none_pending;
+  none = λ earliest.
+      c.is_done.ensures.none_yet earliest (not_true c.is_done.result c.if-is_done.false);
   stands = λ s begun.
       let idle = c.at_idle-at.ensures.stands s (c.positions.invariant.stands s begun) in
       let stands = c.in_default.ensures.stands s idle in
@@ -126,10 +130,10 @@ positions-preserved g c = record {
 pub returns-in-Some-clause-bounded : goal.returns-in-Some-clause-bounded
 returns-in-Some-clause-bounded g c = λ s begun.
     bounded_there (c.at_idle-at.ensures.stands s (c.positions.invariant.stands s begun))
-    c.look_ahead.new.cache c.in-Some.ensures.same
+    c.look_ahead-ahead.new.cache c.in-Some.ensures.same
 
-pub returns-then-is_over-clause-entered : goal.returns-then-is_over-clause-entered
-returns-then-is_over-clause-entered g c =
+pub returns-then-is_done-clause-entered : goal.returns-then-is_done-clause-entered
+returns-then-is_done-clause-entered g c =
     let at = c.positions.invariant.stands _ c.requires.stands.2 in
     let stands = c.in_default.ensures.stands _ (c.at_idle-at.ensures.stands _ at) in
     let cache = c.go_over-hit.new.cache in
@@ -137,8 +141,11 @@ returns-then-is_over-clause-entered g c =
     c.args.least c.found.ensures
     (c.go_over-hit.ensures.on _ _ _ stands.is stands.on).ready.match_entered c.requires.least
 
-pub returns-then-is_over-clause-bounded : goal.returns-then-is_over-clause-bounded
-returns-then-is_over-clause-bounded g c = λ s begun.
+pub returns-then-is_done-clause-bounded : goal.returns-then-is_done-clause-bounded
+returns-then-is_done-clause-bounded g c = λ s begun.
     let idle = c.at_idle-at.ensures.stands s (c.positions.invariant.stands s begun) in
     let stands = c.in_default.ensures.stands s idle in
     bounded_after stands (c.go_over-hit.ensures.on _ _ _ stands.is stands.on)
+
+pub look_ahead-ahead-requires-clause-none : goal.look_ahead-ahead-requires-clause-none
+look_ahead-ahead-requires-clause-none g c = c.positions.invariant.none

@@ -1,7 +1,8 @@
-use Rattle.regex_lite_engine.proofs.Common.{◌≡◌, ℕ, ◌-◌, length, chars, None, StaysCounted}
-use Rattle.regex_lite_engine.proofs.Common.{IsHere, IsOwnPart, best_of}
+use Rattle.regex_lite_engine.proofs.Common.{◌≡◌, ℕ, ◌-◌, true, length, chars, None, StaysCounted}
+use Rattle.regex_lite_engine.proofs.Common.{◌==◌, IsHere, IsOwnPart, best_of}
+use Rattle.std.specs.Prelude.{not}
 use Rattle.regex_lite_engine.specs.Pikevm.Passing.{HasSpentWithin, IsUnderWay}
-use Rattle.regex_lite_engine.proofs.pikevm.shortest.run_shortest_on.Given as goal
+use Rattle.regex_lite_engine.proofs.pikevm.run.advance.Given as goal
 
 abbrev pub invariant-positions : goal.invariant-positions
 invariant-positions g l = record {
@@ -17,7 +18,7 @@ invariant-positions g l = record {
       (g.P.Patterns.entries l.fn.patterns) s low len p l.initial.cache
       → HasSpentWithin (g.P.Patterns.table l.fn.patterns) (chars l.haystack)
       (g.P.Patterns.entries l.fn.patterns) s low len q l.cache);
-  none : best_of l.cache.best ≡ None;
+  none : not (g.row.EARLIEST == 0) ≡ true → best_of l.cache.best ≡ None;
   table : g.P.Patterns.table l.patterns ≡ g.P.Patterns.table l.fn.patterns;
   entries : g.P.Patterns.entries l.patterns ≡ g.P.Patterns.entries l.fn.patterns;
   all : l.fn.most ≡ None → l.left ≡ None;

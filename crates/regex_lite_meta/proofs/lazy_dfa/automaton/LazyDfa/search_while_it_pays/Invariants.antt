@@ -1,18 +1,18 @@
-use Rattle.regex_lite_meta.proofs.Common.{◌≡◌, ℕ, ◌-◌, [], length, None, chars, best_of, Remembers}
-use Rattle.regex_lite_meta.proofs.Common.{Stands}
-use Rattle.regex_lite_meta.proofs.lazy_dfa.automaton.LazyDfa.find_shortest_while_it_pays.Given as goal
+use Rattle.regex_lite_meta.proofs.Common.{◌≡◌, ℕ, ◌-◌, ◌==◌, true, [], length, None, chars, not}
+use Rattle.regex_lite_meta.proofs.Common.{Remembers, Stands, best_of}
+use Rattle.regex_lite_meta.proofs.lazy_dfa.automaton.LazyDfa.search_while_it_pays.Given as goal
 
 abbrev pub invariant-positions : goal.invariant-positions
 invariant-positions g l = record {
   remembers : Remembers (g.P.Patterns.table l.patterns) (g.P.Patterns.entries l.patterns) l.self;
   none_pending : l.self.pending ≡ [];
+  none : not (g.row.EARLIEST == 0) ≡ true → best_of l.cache.best ≡ None;
   stands : (s : ℕ)
       → Stands (g.P.Patterns.table l.patterns) (chars l.haystack) (g.P.Patterns.entries l.patterns)
       s l.initial.self l.fn.from
       l.initial.cache
       → Stands (g.P.Patterns.table l.patterns) (chars l.haystack) (g.P.Patterns.entries l.patterns)
       s l.self l.at l.cache;
-  none : best_of l.cache.best ≡ None;
 }
 
 abbrev pub decreases-positions : goal.decreases-positions
