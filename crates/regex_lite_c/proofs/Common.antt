@@ -28,21 +28,17 @@ pub use types.Match.{live}
 pub use types.Part.{agg, sub, whole}
 pub use types.Run.{and_then, enter, fld, lit, no_more, of_opd, returns, stop}
 pub use Rattle.regex_lite_engine.specs.Search.Answer.{Found}
-pub use Rattle.regex_lite.specs.Ahead.{ComesNext, ahead_of}
+pub use Rattle.regex_lite.specs.Ahead.{ahead_of}
 pub use Rattle.regex_lite.specs.CaptureNames.{names_left}
 pub use Rattle.regex_lite.specs.Expression.{Expression, IsAccepted}
-pub use Rattle.regex_lite.specs.Groups.{Groups, group_span}
-pub use Rattle.regex_lite.specs.ListAhead.{ListComesNext, list_ahead_of}
-pub use Rattle.regex_lite.specs.MatchList.{IsAnswerOf, IsAnswerOfPatterns}
+pub use Rattle.regex_lite.specs.Groups.{Groups}
+pub use Rattle.regex_lite.specs.MatchList.{IsAnswerOf}
 pub use Rattle.regex_lite.specs.Pieces.{found_span}
 pub use Rattle.regex_lite_c.specs.Answers.{number_of}
-pub use Rattle.regex_lite_c.specs.GroupWalks.{spans_of_all}
 pub use Rattle.regex_lite_c.specs.ListBuilding.{settings_of_all, settings_of_source}
 pub use Rattle.regex_lite_c.specs.ListBuilding.{IsFirstOtherBytes}
 pub use Rattle.regex_lite_c.specs.Options.{settings_of}
 pub use Rattle.regex_lite_c.specs.Spans.{span_of, AreWrittenAs, AreWritten}
-pub use Rattle.regex_lite_c.specs.Walks.{ended_of, WalkRoom, walk_room}
+pub use Rattle.regex_lite_c.specs.Walks.{ended_of}
 pub use Rattle.regex_lite_c.specs.declared.answer.TheConstants.{NO, NO_ROOM, OUT_OF_MEMORY, YES}
-pub use Rattle.regex_lite_c.specs.declared.list.types.ListGroups.{ListGroups}
 pub use Rattle.regex_lite_c.specs.declared.types.Span.{Span}
-pub use Rattle.regex_lite_c.specs.declared.types.Walk.{Walk}

@@ -28,6 +28,11 @@ pub record RefusesText (bytes : List ℕ) (start answer : ℕ) : Type 0 where
   pub not_text : (answer ≡ NOT_TEXT) ↔ (IsUtf8 bytes → ⊥)
   pub bad_offset : (answer ≡ BAD_OFFSET) ↔ (IsUtf8 bytes × (IsCharBoundary bytes start → ⊥))
 
+-- what is returned of a text that can be searched: there is one or none, memory ran out, or the
+-- room is too small
+abbrev pub IsOfFound : (answer : ℕ) → Type 0
+IsOfFound answer = (answer ≤ YES) ⊎ ((answer ≡ OUT_OF_MEMORY) ⊎ (answer ≡ NO_ROOM))
+
 -- a call that writes what it finds in a text to the caller's room has failed: the text or the
 -- offset is refused, memory runs out, or the room is too small
 abbrev pub IsFailure : (answer : ℕ) → Type 0

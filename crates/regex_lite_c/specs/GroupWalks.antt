@@ -1,81 +1,123 @@
 -- What is returned of the groups of all matches of a text, some at a time.
-use Rattle.std.specs.Prelude.{◌≡◌, ◌≢◌, ◌⊎◌, ◌+◌, ◌<◌, ◌≤◌, ◌++◌, ℕ, List, [], ◌∷◌, chars}
-use Rattle.std.specs.Prelude.{Option, Some, None, flat_map, length, unwrap_or}
-use Rattle.regex_lite_engine.specs.Search.Answer.{Found}
-use Rattle.regex_lite.specs.Ahead.{Ahead, ComesNext, after}
+use Rattle.std.specs.Prelude.{◌≡◌, ◌≢◌, ◌⊎◌, ◌+◌, ◌<◌, ◌≤◌, ◌++◌, ℕ, true, cond, List, [], ◌∷◌}
+use Rattle.std.specs.Prelude.{Option, Some, chars, flat_map, length, map, unwrap_or}
+use Rattle.std.specs.List.{All}
+use Rattle.regex_lite.specs.Ahead.{AheadOf, AnswerComesNext, after}
 use Rattle.regex_lite.specs.Expression.{Expression}
 use Rattle.regex_lite.specs.Groups.{Groups, whole_span}
-use Rattle.regex_lite.specs.Items.{AreGroupsFound}
-use Rattle.regex_lite.specs.MatchList.{AreFirst}
-use Rattle.regex_lite.specs.Replacements.{AreGroupsOfEach}
+use Rattle.regex_lite.specs.MatchList.{AreFirstAnswers}
 use Rattle.regex_lite_c.specs.Answers.{IsFailure, RefusesText}
-use Rattle.regex_lite_c.specs.Spans.{AreWritten}
-use Rattle.regex_lite_c.specs.Walks.{WalkRoom, ended_of}
+use Rattle.regex_lite_c.specs.Kinds.{Kind, of_patterns, of_regex}
+use Rattle.regex_lite_c.specs.Spans.{AreWritten, AreWrittenAs}
+use Rattle.regex_lite_c.specs.Walks.{NoneComes, WalkRoom, ended_of}
 use Rattle.regex_lite_c.specs.declared.answer.TheConstants.{NO, YES, NO_ROOM, OUT_OF_MEMORY}
+use Rattle.regex_lite_c.specs.declared.list.types.ListGroups.{ListGroups}
 use Rattle.regex_lite_c.specs.declared.types.Span.{Span}
+use Rattle.regex_lite_c.specs.declared.types.Walk.{Walk}
 
--- the spans of all these groups in a row
-abbrev pub spans_of_all : List Groups → List (Option (ℕ × ℕ))
-spans_of_all groups = flat_map (λ own. own.spans) groups
+-- what a walk over groups writes to: how far it has gone, the room for what is told of each match,
+-- and the room for spans
+pub record GroupRoom (T : Type 0) : Type 0 where
+  pub walk : Walk
+  pub told : List T
+  pub room : List Span
 
--- the groups of this many matches, the first of those ahead, were written to the front of the room,
--- and the walk goes on where the last of these matches ends
-pub record AreGroupsListed (ahead : Ahead) (old new : WalkRoom Span) (count : ℕ) : Type 0 where
-  pub list : List Found
-  pub are_first : AreFirst ahead.sought (chars ahead.haystack) count ahead.ended list
-  pub number : count ≡ length list
-  pub front : List Groups
-  pub last : Groups
-  pub each : AreGroupsOfEach ahead.sought ahead.haystack list (front ++ (last ∷ []))
-  pub written : AreWritten (spans_of_all (front ++ (last ∷ []))) old.room new.room
-  pub end : ended_of new.walk ≡ Some (whole_span last).1
+abbrev pub group_room : {T : Type 0} → Walk → List T → List Span → GroupRoom T
+group_room walk told room = record { walk = walk; told = told; room = room }
 
--- after these matches none is ahead; or the groups of the next one need more room than is left,
--- where this many spans are used
-abbrev pub NoMoreFit : Ahead → (list : List Found) → (used room : ℕ) → Type 0
-NoMoreFit ahead list used room =
-    let AreNext : List Found → Type 0 =
-    AreFirst ahead.sought (chars ahead.haystack) (length list + 1) ahead.ended in
-    AreNext list
-    ⊎ ((next : Found) × (groups : Groups) × AreNext (list ++ (next ∷ []))
-    × AreGroupsFound ahead.sought ahead.haystack next groups
-    × (room < used + length groups.spans))
+-- the spans of all these groups in a row, each those of an answer
+abbrev pub spans_of_all : {A : Type 0} → List (A × Groups) → List (Option (ℕ × ℕ))
+spans_of_all list = flat_map (λ own. own.1.spans) list
 
--- so the groups of as many matches as there is room for were written, or of all that are left
-pub record AreAllThatFit (ahead : Ahead) (old new : WalkRoom Span) (count : ℕ) : Type 0 where
-  pub listed : AreGroupsListed ahead old new count
-  pub no_more : NoMoreFit ahead listed.list
-      (length (spans_of_all (listed.front ++ (listed.last ∷ [])))) (length old.room)
+module _ {S X T : Type 0} (kind : Kind S X T) where
+  -- what is told of the groups of an answer
+  abbrev pub told_of_groups : kind.Answer × Groups → T
+  told_of_groups own = kind.groups_told own.0 (length own.1.spans)
 
--- there is a next match, and the room is too small for its groups
-abbrev pub IsWithoutRoom : Ahead → (room : ℕ) → Type 0
-IsWithoutRoom ahead room =
-    (found : Found) × (groups : Groups) × ComesNext ahead (Some found)
-    × AreGroupsFound ahead.sought ahead.haystack found groups × (room < length groups.spans)
+  -- these are the first of the answers ahead, this many, or all where they are fewer
+  abbrev pub AreFirstAnswered : AheadOf S → (count : ℕ) → List (kind.Answer × Groups) → Type 0
+  AreFirstAnswered ahead count list =
+      AreFirstAnswers kind.found_of (kind.IsAnswerTo ahead.sought (chars ahead.haystack)) count
+      ahead.ended (map (λ own. own.0) list)
 
--- what is returned where groups are written as long as there is room. Where memory runs out, those
--- of the matches before were written
-pub record IsFilled (ahead : Ahead) (old new : WalkRoom Span) (count answer : ℕ) : Type 0 where
-  pub found : answer ≡ YES → AreAllThatFit ahead old new count × (0 < count)
-  pub none : answer ≡ NO → ComesNext ahead None
-  pub no_room : answer ≡ NO_ROOM → IsWithoutRoom ahead (length old.room)
-  pub part : answer ≡ OUT_OF_MEMORY → 0 < count → AreGroupsListed ahead old new count
-  pub no_count : answer ≢ YES → answer ≢ OUT_OF_MEMORY → count ≡ 0
-  pub same : count ≡ 0 → (new.walk ≡ old.walk) × (new.room ≡ old.room)
-  pub one_of : (answer ≤ YES) ⊎ ((answer ≡ OUT_OF_MEMORY) ⊎ (answer ≡ NO_ROOM))
+  -- the groups are those of the answer
+  abbrev pub AreItsGroups : AheadOf S → kind.Answer × Groups → Type 0
+  AreItsGroups ahead own = kind.AreGroups ahead.sought ahead.haystack own.0 own.1
 
--- what is returned where a walk over the groups of this text's matches goes on
-pub record IsGroupWalkAnswer (re : Expression) (bytes : List ℕ) (old new : WalkRoom Span)
-    (count answer : ℕ) : Type 0 where
-  pub found : answer ≡ YES
-      → AreAllThatFit (after re bytes (ended_of old.walk)) old new count × (0 < count)
-  pub none : answer ≡ NO → ComesNext (after re bytes (ended_of old.walk)) None
-  pub no_room : answer ≡ NO_ROOM
-      → IsWithoutRoom (after re bytes (ended_of old.walk)) (length old.room)
-  -- memory ran out after some matches
-  pub part : answer ≡ OUT_OF_MEMORY → 0 < count
-      → AreGroupsListed (after re bytes (ended_of old.walk)) old new count
-  pub no_count : answer ≢ YES → answer ≢ OUT_OF_MEMORY → count ≡ 0
-  pub same : count ≡ 0 → (new.walk ≡ old.walk) × (new.room ≡ old.room)
-  pub refused : RefusesText bytes (unwrap_or (ended_of old.walk) 0) answer
-  pub one_of : (answer ≤ YES) ⊎ IsFailure answer
+  -- the groups of this many matches, the first of those ahead, were written to the front of the
+  -- room, with what is told of each match, and the walk goes on where the last of them ends
+  pub record AreGroupsListed (ahead : AheadOf S) (old new : GroupRoom T) (count : ℕ)
+      : Type 0 where
+    pub list : List (kind.Answer × Groups)
+    pub are_first : AreFirstAnswered ahead count list
+    pub number : count ≡ length list
+    pub each : All (AreItsGroups ahead) list
+    pub told : kind.is_told ≡ true → AreWrittenAs told_of_groups list old.told new.told
+    pub written : AreWritten (spans_of_all list) old.room new.room
+    pub front : List (kind.Answer × Groups)
+    pub last : kind.Answer × Groups
+    pub ends : list ≡ front ++ (last ∷ [])
+    pub end : ended_of new.walk ≡ Some (whole_span last.1).1
+
+  -- what is to be told of matches has filled its room with this many
+  abbrev pub IsToldFull : (told : List T) → (count : ℕ) → Type 0
+  IsToldFull told count = (kind.is_told ≡ true) × (length told ≡ count)
+
+  -- after these matches none is ahead; or the groups of the next one need more room than is left,
+  -- or there is no room for what is told of it
+  abbrev pub NoMoreFit : AheadOf S → (old : GroupRoom T) → List (kind.Answer × Groups) → Type 0
+  NoMoreFit ahead old list =
+      AreFirstAnswered ahead (length list + 1) list
+      ⊎ ((next : kind.Answer × Groups)
+      × AreFirstAnswered ahead (length list + 1) (list ++ (next ∷ [])) × AreItsGroups ahead next
+      × (IsToldFull old.told (length list)
+      ⊎ (length old.room < length (spans_of_all list) + length next.1.spans)))
+
+  -- so the groups of as many matches as there is room for were written, or of all that are left
+  pub record AreAllThatFit (ahead : AheadOf S) (old new : GroupRoom T) (count : ℕ)
+      : Type 0 where
+    pub listed : AreGroupsListed ahead old new count
+    pub no_more : NoMoreFit ahead old listed.list
+
+  -- there is a next match, and the room is too small for its groups. How many these are is the
+  -- number that is written, where something is told of each match
+  abbrev pub IsWithoutRoom : AheadOf S → (old : GroupRoom T) → (number : ℕ) → Type 0
+  IsWithoutRoom ahead old number =
+      (next : kind.Answer × Groups)
+      × AnswerComesNext kind.found_of kind.IsAnswerTo ahead (Some next.0)
+      × AreItsGroups ahead next × (number ≡ cond kind.is_told (length next.1.spans) 0)
+      × (IsToldFull old.told 0 ⊎ (length old.room < length next.1.spans))
+
+  -- what is returned where groups are written as long as there is room. Where memory runs out,
+  -- those of the matches before were written
+  pub record IsFilled (ahead : AheadOf S) (old new : GroupRoom T) (count answer : ℕ)
+      : Type 0 where
+    pub found : answer ≡ YES → AreAllThatFit ahead old new count × (0 < count)
+    pub none : answer ≡ NO → NoneComes kind ahead
+    pub no_room : answer ≡ NO_ROOM → IsWithoutRoom ahead old count
+    pub part : answer ≡ OUT_OF_MEMORY → 0 < count → AreGroupsListed ahead old new count
+    pub no_count : answer ≢ YES → answer ≢ NO_ROOM → answer ≢ OUT_OF_MEMORY → count ≡ 0
+    pub same : (answer ≡ NO_ROOM) ⊎ (count ≡ 0) → new ≡ old
+
+  -- what is returned where a walk over the groups of this text's matches goes on
+  pub record IsGroupWalkAnswerOf (sought : S) (bytes : List ℕ) (old new : GroupRoom T)
+      (count answer : ℕ) : Type 0 where
+    pub filled : IsFilled (after sought bytes (ended_of old.walk)) old new count answer
+    pub refused : RefusesText bytes (unwrap_or (ended_of old.walk) 0) answer
+    pub one_of : (answer ≤ YES) ⊎ IsFailure answer
+
+-- the same for a regex, of whose matches nothing is told besides the spans of their groups
+abbrev pub IsGroupWalkAnswer : Expression → (bytes : List ℕ) → (old new : WalkRoom Span)
+    → (count answer : ℕ) → Type 0
+IsGroupWalkAnswer re bytes old new count answer =
+    IsGroupWalkAnswerOf of_regex re bytes (group_room old.walk [] old.room)
+    (group_room new.walk [] new.room) count answer
+
+-- and for several patterns, with what is told of each match
+abbrev pub list_group_room : Walk → List ListGroups → List Span → GroupRoom ListGroups
+list_group_room walk told room = group_room walk told room
+
+abbrev pub IsListGroupWalkAnswer : List Expression → (bytes : List ℕ)
+    → (old new : GroupRoom ListGroups) → (count answer : ℕ) → Type 0
+IsListGroupWalkAnswer list bytes old new count answer =
+    IsGroupWalkAnswerOf of_patterns list bytes old new count answer

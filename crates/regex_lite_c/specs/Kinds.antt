@@ -1,24 +1,31 @@
 -- What is searched for, a regex or several patterns, and how what is found is written.
-use Rattle.std.specs.Prelude.{◌≡◌, ℕ, List, Option, Some, None, MatchOption, chars}
+use Rattle.std.specs.Prelude.{◌≡◌, ℕ, Bool, false, true, List, Option, Some, None, MatchOption}
+use Rattle.std.specs.Prelude.{IsSome, chars, length}
 use Rattle.regex_lite_syntax.specs.Text.{Text}
 use Rattle.regex_lite_engine.specs.Search.Answer.{Found}
 use Rattle.regex_lite.specs.Ahead.{AheadOf, EndsAhead, PassesAnswer}
 use Rattle.regex_lite.specs.Expression.{Expression}
+use Rattle.regex_lite.specs.Groups.{Groups, group_span}
+use Rattle.regex_lite.specs.Items.{AreGroupsFound}
+use Rattle.regex_lite.specs.ListAhead.{AreGroupsFoundInList}
 use Rattle.regex_lite.specs.MatchList.{IsAnswerOf, IsAnswerOfPatterns}
 use Rattle.regex_lite.specs.Pieces.{found_span}
-use Rattle.regex_lite.specs.RegexListSearches.{AnyMatches}
-use Rattle.regex_lite.specs.Searches.{MatchesFrom}
+use Rattle.regex_lite.specs.RegexListSearches.{AnyMatches, TellsGroupsOfList}
+use Rattle.regex_lite.specs.Searches.{MatchesFrom, TellsGroups}
 use Rattle.regex_lite_c.specs.Costs.{IsCostOfListSearch, IsCostOfSearch}
-use Rattle.regex_lite_c.specs.ListSpans.{FindsListSpan, TellsListSpan, list_span_of}
-use Rattle.regex_lite_c.specs.Spans.{FindsSpan, TellsSpan, span_of}
+use Rattle.regex_lite_c.specs.ListSpans.{AreFirstListGroups, FindsListSpan, TellsListSpan}
+use Rattle.regex_lite_c.specs.ListSpans.{list_span_of}
+use Rattle.regex_lite_c.specs.Spans.{AreFirstGroups, FindsSpan, TellsSpan, span_of}
+use Rattle.regex_lite_c.specs.declared.list.types.ListGroups.{ListGroups}
 use Rattle.regex_lite_c.specs.declared.list.types.ListSpan.{ListSpan}
 use Rattle.regex_lite_c.specs.declared.types.Cost.{Cost}
 use Rattle.regex_lite_c.specs.declared.types.Span.{Span}
 
 -- A search gives answers, in each of which a match was found. What is told of one is written as
 -- what stands for it, which shows where the match ends. From an offset on there is a match, one
--- with this span is found first, or none is, and finding out costs this
-pub record Kind (S X : Type 0) : Type 1 where
+-- with this span is found first, or none is, and finding out costs this. Of the groups of a match
+-- this is told besides their spans. A walk over all matches writes it of each, if it is to be told
+pub record Kind (S X T : Type 0) : Type 1 where
   pub Answer : Type 0
   pub Told : Type 0
   pub found_of : Answer → Found
@@ -30,13 +37,18 @@ pub record Kind (S X : Type 0) : Type 1 where
   pub Finds : S → (haystack : List ℕ) → (start : ℕ) → X → Type 0
   pub FindsNone : S → (haystack : List ℕ) → (start : ℕ) → Type 0
   pub IsCost : S → (haystack : List ℕ) → (start : ℕ) → Cost → Type 0
+  pub AreGroups : S → (haystack : List ℕ) → Answer → Groups → Type 0
+  pub groups_told : Answer → (count : ℕ) → T
+  pub is_told : Bool
+  pub AreFirst : S → (haystack : List ℕ) → (start : ℕ) → T → Groups → Type 0
+  pub AreNone : S → (haystack : List ℕ) → (start : ℕ) → Type 0
 
 -- where a match starts and ends, as it is written
 abbrev pub told_of : (haystack : List ℕ) → Found → Option (ℕ × ℕ)
 told_of haystack found = Some (found_span (chars haystack) found)
 
 -- a regex is searched for, whose answers are its matches
-abbrev pub of_regex : Kind Expression Span
+abbrev pub of_regex : Kind Expression Span ℕ
 of_regex = record {
   Answer = Found;
   Told = Option (ℕ × ℕ);
@@ -49,6 +61,11 @@ of_regex = record {
   Finds = FindsSpan;
   FindsNone = λ re haystack start. TellsSpan re haystack start None;
   IsCost = IsCostOfSearch;
+  AreGroups = AreGroupsFound;
+  groups_told = λ _ count. count;
+  is_told = false;
+  AreFirst = AreFirstGroups;
+  AreNone = λ re haystack start. TellsGroups re haystack start None;
 }
 
 -- the number of a pattern, and where its match starts and ends, as it is written
@@ -56,7 +73,7 @@ abbrev pub told_of_answer : (haystack : List ℕ) → ℕ × Found → ℕ × (�
 told_of_answer haystack answer = (answer.0, found_span (chars haystack) answer.1)
 
 -- several patterns are searched for, with the number of the pattern in each answer
-abbrev pub of_patterns : Kind (List Expression) ListSpan
+abbrev pub of_patterns : Kind (List Expression) ListSpan ListGroups
 of_patterns = record {
   Answer = ℕ × Found;
   Told = ℕ × (ℕ × ℕ);
@@ -69,20 +86,38 @@ of_patterns = record {
   Finds = FindsListSpan;
   FindsNone = λ list haystack start. TellsListSpan list haystack start None;
   IsCost = IsCostOfListSearch;
+  AreGroups = λ list haystack answer. AreGroupsFoundInList list haystack answer.0 answer.1;
+  groups_told = λ answer count. record { number = answer.0; count = count };
+  is_told = true;
+  AreFirst = AreFirstListGroups;
+  AreNone = λ list haystack start. TellsGroupsOfList list haystack start None;
 }
 
--- this is found from the offset on, or nothing is
-abbrev pub IsFirst : {S X : Type 0} → Kind S X → S → (haystack : List ℕ) → (start : ℕ)
-    → Option X → Type 0
-IsFirst kind sought haystack start span =
-    MatchOption span (kind.FindsNone sought haystack start) (kind.Finds sought haystack start)
+module _ {S X T : Type 0} (kind : Kind S X T) where
+  -- this is found from the offset on, or nothing is
+  abbrev pub IsFirst : S → (haystack : List ℕ) → (start : ℕ) → Option X → Type 0
+  IsFirst sought haystack start span =
+      MatchOption span (kind.FindsNone sought haystack start) (kind.Finds sought haystack start)
 
--- the next of the matches ahead came, as it is written; or there was none, and none comes from then
--- on
-abbrev pub GivesWritten : {S X : Type 0} → Kind S X → (old : AheadOf S) → Option X
-    → (new : AheadOf S) → Type 0
-GivesWritten kind old item new =
-    MatchOption item (EndsAhead kind.found_of kind.IsAnswerTo old new)
-    (λ span. (answer : kind.Answer)
-    × PassesAnswer kind.found_of kind.IsAnswerTo old answer new
-    × (span ≡ kind.stands_for (kind.tell old.haystack answer)))
+  -- the next of the matches ahead came, as it is written; or there was none, and none comes from
+  -- then on
+  abbrev pub GivesWritten : (old : AheadOf S) → Option X → (new : AheadOf S) → Type 0
+  GivesWritten old item new =
+      MatchOption item (EndsAhead kind.found_of kind.IsAnswerTo old new)
+      (λ span. (answer : kind.Answer)
+      × PassesAnswer kind.found_of kind.IsAnswerTo old answer new
+      × (span ≡ kind.stands_for (kind.tell old.haystack answer)))
+
+  -- these groups are found from the offset on, of which this is told, or none are
+  abbrev pub AreFirstTold : S → (haystack : List ℕ) → (start : ℕ) → Option (T × Groups) → Type 0
+  AreFirstTold sought haystack start own =
+      MatchOption own (kind.AreNone sought haystack start)
+      (λ own. kind.AreFirst sought haystack start own.0 own.1)
+
+  -- the groups of the next of the matches ahead came, of which this is told; or there was none
+  abbrev pub GivesGroups : (old : AheadOf S) → Option (T × Groups) → (new : AheadOf S) → Type 0
+  GivesGroups old item new =
+      MatchOption item (EndsAhead kind.found_of kind.IsAnswerTo old new)
+      (λ own. (answer : kind.Answer) × kind.AreGroups old.sought old.haystack answer own.1
+      × (own.0 ≡ kind.groups_told answer (length own.1.spans)) × IsSome (group_span own.1 0)
+      × PassesAnswer kind.found_of kind.IsAnswerTo old answer new)

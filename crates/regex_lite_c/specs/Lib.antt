@@ -14,7 +14,7 @@ pub mod Costs
 pub mod Names
 pub mod Replacing
 pub mod Walks
+pub mod GroupAnswers
 pub mod GroupWalks
-pub mod ListGroupWalks
 pub mod Cuts
 pub mod Each

@@ -1,5 +1,5 @@
 -- What is returned of searches for several patterns.
-use Rattle.std.specs.Prelude.{◌≡◌, ◌≢◌, ◌⊎◌, ◌<◌, ◌≤◌, ℕ, Bool, List, Option, Some, None}
+use Rattle.std.specs.Prelude.{◌≡◌, ◌≢◌, ◌⊎◌, ◌<◌, ℕ, Bool, List, Option, Some}
 use Rattle.std.specs.Prelude.{chars, cond, length}
 use Rattle.regex_lite.specs.Expression.{Expression}
 use Rattle.regex_lite.specs.Groups.{Groups}
@@ -7,11 +7,10 @@ use Rattle.regex_lite.specs.RegexListSearches.{TellsAnswerOfList, TellsGroupsOfL
 use Rattle.regex_lite.specs.RegexListSearches.{TellsWhichMatch}
 use Rattle.regex_lite.specs.Searches.{offsets}
 use Rattle.regex_lite_c.specs.Answers.{IsFailure, RefusesText}
-use Rattle.regex_lite_c.specs.Spans.{AreWritten, AreWrittenAs}
-use Rattle.regex_lite_c.specs.declared.answer.TheConstants.{NO, YES, NO_ROOM}
+use Rattle.regex_lite_c.specs.Spans.{AreWrittenAs}
+use Rattle.regex_lite_c.specs.declared.answer.TheConstants.{YES, NO_ROOM}
 use Rattle.regex_lite_c.specs.declared.list.types.ListGroups.{ListGroups}
 use Rattle.regex_lite_c.specs.declared.list.types.ListSpan.{ListSpan}
-use Rattle.regex_lite_c.specs.declared.types.Span.{Span}
 
 -- the span that stands for a match of the pattern with this number, from one offset to another
 abbrev pub list_span_of : ℕ × (ℕ × ℕ) → ListSpan
@@ -39,19 +38,6 @@ abbrev pub AreFirstListGroups : List Expression → (haystack : List ℕ) → (s
 AreFirstListGroups list haystack start told groups =
     TellsGroupsOfList list haystack start (Some (told.number, groups))
     × (told.count ≡ length groups.spans)
-
--- what is returned where the groups of a match are searched for
-pub record IsListGroupsAnswer (list : List Expression) (bytes : List ℕ) (start : ℕ)
-    (old new : List Span) (old_told told : ListGroups) (answer : ℕ) : Type 0 where
-  pub found : answer ≡ YES → (groups : Groups)
-      × AreFirstListGroups list bytes start told groups × AreWritten groups.spans old new
-  pub no_room : answer ≡ NO_ROOM → (groups : Groups)
-      × AreFirstListGroups list bytes start told groups × (length old < told.count)
-  pub none : answer ≡ NO → TellsGroupsOfList list bytes start None
-  pub same : answer ≢ YES → new ≡ old
-  pub same_told : answer ≢ YES → answer ≢ NO_ROOM → told ≡ old_told
-  pub refused : RefusesText bytes start answer
-  pub one_of : (answer ≤ YES) ⊎ IsFailure answer
 
 -- a byte for a pattern: 1 if it matches, and 0 if not
 abbrev pub flag_of : Bool → ℕ

@@ -1,11 +1,9 @@
 -- What a caller's spans stand for.
-use Rattle.std.specs.Prelude.{◌≡◌, ◌≢◌, ◌⊎◌, ◌+◌, ◌<◌, ◌≤◌, ℕ, List, Option, Some}
+use Rattle.std.specs.Prelude.{◌≡◌, ◌⊎◌, ◌+◌, ◌<◌, ◌≤◌, ℕ, List, Option, Some}
 use Rattle.std.specs.Prelude.{None, chars, false, length, option_map, slice_get, true}
 use Rattle.regex_lite.specs.Expression.{Expression}
 use Rattle.regex_lite.specs.Groups.{Groups}
 use Rattle.regex_lite.specs.Searches.{TellsAnswer, TellsGroups, offsets}
-use Rattle.regex_lite_c.specs.Answers.{IsFailure, RefusesText}
-use Rattle.regex_lite_c.specs.declared.answer.TheConstants.{NO, YES, NO_ROOM}
 use Rattle.regex_lite_c.specs.declared.types.Span.{Span}
 
 -- the span that stands for a part of a text, from one offset to another, or for none
@@ -48,16 +46,3 @@ abbrev pub AreFirstGroups : Expression → (haystack : List ℕ) → (start : �
     → Type 0
 AreFirstGroups re haystack start count groups =
     TellsGroups re haystack start (Some groups) × (count ≡ length groups.spans)
-
--- what is returned where the groups of a match are searched for
-pub record IsGroupsAnswer (re : Expression) (bytes : List ℕ) (start : ℕ) (old new : List Span)
-    (old_count count answer : ℕ) : Type 0 where
-  pub found : answer ≡ YES → (groups : Groups)
-      × AreFirstGroups re bytes start count groups × AreWritten groups.spans old new
-  pub no_room : answer ≡ NO_ROOM → (groups : Groups)
-      × AreFirstGroups re bytes start count groups × (length old < count)
-  pub none : answer ≡ NO → TellsGroups re bytes start None
-  pub same : answer ≢ YES → new ≡ old
-  pub same_count : answer ≢ YES → answer ≢ NO_ROOM → count ≡ old_count
-  pub refused : RefusesText bytes start answer
-  pub one_of : (answer ≤ YES) ⊎ IsFailure answer

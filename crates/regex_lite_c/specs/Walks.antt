@@ -26,8 +26,8 @@ walk_room walk room = record { walk = walk; room = room }
 
 -- these are the first of the matches ahead, as many as there is room for, or all where they are
 -- fewer; and they were written to the front of the room
-pub record AreListed {S X : Type 0} (kind : Kind S X) (ahead : AheadOf S) (old new : List X)
-    (count : ℕ) : Type 0 where
+pub record AreListed {S X T : Type 0} (kind : Kind S X T) (ahead : AheadOf S)
+    (old new : List X) (count : ℕ) : Type 0 where
   pub list : List kind.Answer
   pub are_first : AreFirstAnswers kind.found_of
       (kind.IsAnswerTo ahead.sought (chars ahead.haystack)) (length old) ahead.ended list
@@ -35,7 +35,7 @@ pub record AreListed {S X : Type 0} (kind : Kind S X) (ahead : AheadOf S) (old n
   pub written : AreWrittenAs kind.stands_for (map (kind.tell ahead.haystack) list) old new
 
 -- none is ahead
-abbrev pub NoneComes : {S X : Type 0} → Kind S X → AheadOf S → Type 0
+abbrev pub NoneComes : {S X T : Type 0} → Kind S X T → AheadOf S → Type 0
 NoneComes kind ahead = AnswerComesNext kind.found_of kind.IsAnswerTo ahead None
 
 -- the walk goes on where the last of this many ends
@@ -45,7 +45,7 @@ pub record GoesOnAfterLast {X : Type 0} (end_of : X → ℕ) (written : List X) 
   pub end : (k : ℕ) → suc k ≡ count → option_map end_of (slice_get written k) ≡ ended_of walk
 
 -- what is returned where a walk over the matches of this text goes on
-pub record IsWalkAnswerOf {S X : Type 0} (kind : Kind S X) (sought : S) (bytes : List ℕ)
+pub record IsWalkAnswerOf {S X T : Type 0} (kind : Kind S X T) (sought : S) (bytes : List ℕ)
     (old new : WalkRoom X) (count answer : ℕ) : Type 0 where
   pub found : answer ≡ YES
       → AreListed kind (after sought bytes (ended_of old.walk)) old.room new.room count

@@ -1,15 +1,18 @@
 //! The groups of all matches of a text, some at a time.
-ghost use Rattle.std.specs.Prelude.{◌≡◌, ◌<◌, IfSome, None};
-ghost use Rattle.regex_lite.specs.Ahead.{ahead_of};
+ghost use Rattle.std.specs.Prelude.{◌≡◌, ◌↔◌, ◌<◌, IfSome, IsTrue, None, cond, length};
+ghost use Rattle.std.specs.Prelude.{slice_set, true};
+ghost use Rattle.regex_lite_c.specs.Answers.{IsOfFound};
 ghost use Rattle.regex_lite_c.specs.GroupWalks.{IsFilled, IsGroupWalkAnswer};
+ghost use Rattle.regex_lite_c.specs.GroupWalks.{IsGroupWalkAnswerOf, IsToldFull, group_room};
 ghost use Rattle.regex_lite_c.specs.Walks.{walk_room};
 
 use crate::answer::{NO, NO_ROOM, NOTHING_HELD, OUT_OF_MEMORY, YES};
 use crate::groups::put_groups;
 use crate::handle::{Handle, Holds};
+use crate::sought::{GroupsAhead, Sought};
 use crate::text::text_from;
 use crate::types::{Span, Walk};
-use regex_lite::{CaptureMatches, Regex};
+use crate::written::Written;
 use std::alloc::Global;
 
 /// The groups of the next matches of a text, as many as there is room for: 1 with the spans of each
@@ -38,66 +41,96 @@ pub extern "C" fn regex_lite_captures_all(
     let Some(regex) = handle.take(alloc) else {
         return NOTHING_HELD;
     };
-    let answer = captures_all(&regex, text, walk, spans, count);
+    let (answer, number) = captures_all(&*regex, text, walk, &mut [], spans);
+    *count = number;
     handle.put(regex);
     answer
 }
 
-/// The groups of the next matches of this regex.
-fn captures_all(
-    regex: &Regex,
+/// The groups of the next matches of what is searched for: the answer, and the number that goes
+/// with it.
+pub(crate) fn captures_all<P: Sought>(
+    sought: &P,
     text: &[u8],
     walk: &mut Walk,
+    told: &mut [P::Told],
     spans: &mut [Span],
-    count: &mut usize,
-) -> u32
-    requires { count.old ≡ 0 }
-    ensures { IsGroupWalkAnswer regex.now text.now (walk_room walk.old spans.old)
-        (walk_room walk.new spans.new) count.new result }
+) -> (u32, usize)
+    ensures { IsGroupWalkAnswerOf P.kind sought.now text.now
+        (group_room walk.old told.old spans.old)
+        (group_room walk.new told.new spans.new) result.1 result.0 }
 {
-    let ended = walk.ended();
-    let text = match text_from(text, ended.unwrap_or(0)) {
-        Ok(text) => text,
-        Err(refusal) => return refusal,
-    };
-    match regex.captures_iter_after(text, ended) {
-        Ok(items) => fill_groups(items, walk, spans, count),
-        Err(_) => OUT_OF_MEMORY,
+    match text_from(text, walk.ended().unwrap_or(0)) {
+        Ok(text) => sought.write_groups_after(text, walk, told, spans),
+        Err(refusal) => (refusal, 0),
     }
 }
 
 /// Writes the groups of the next matches, and where the last of these ends.
-fn fill_groups(
-    items: CaptureMatches<'_, '_>,
+pub(crate) fn fill_groups<'h, M: GroupsAhead<'h>>(
+    matches: &mut M,
     walk: &mut Walk,
+    told: &mut [<M::Sought as Written>::Told],
     spans: &mut [Span],
-    count: &mut usize,
-) -> u32
-    requires all { (ahead_of items).limit ≡ None }
-    requires none { count.old ≡ 0 }
-    ensures { IsFilled (ahead_of items.entry) (walk_room walk.old spans.old)
-        (walk_room walk.new spans.new) count.new result }
+) -> (u32, usize)
+    requires { (M.ahead matches.old).limit ≡ None }
+    ensures filled { IsFilled M.Sought.kind (M.ahead matches.old)
+        (group_room walk.old told.old spans.old) (group_room walk.new told.new spans.new)
+        result.1 result.0 }
+    ensures one_of { IsOfFound result.0 }
 {
+    let mut count = 0;
     let mut used = 0;
-    for item in items {
-        let Ok(caps) = item else {
-            return OUT_OF_MEMORY;
-        };
-        if spans.len() - used < caps.len() {
-            return or_yes(*count, NO_ROOM);
+    'matches: loop {
+        match matches.next_groups() {
+            Ok(Some((own, caps))) => {
+                if is_told_full::<M::Sought>(told, count) || spans.len() - used < caps.len() {
+                    return or_none(count, NO_ROOM, told_without_room::<M::Sought>(caps.len()));
+                }
+                put_groups(&caps, spans, used);
+                put_told::<M::Sought>(told, count, own);
+                *walk = Walk::after(&Span::of_group(caps.get(0)));
+                used += caps.len();
+                count += 1;
+            }
+            Ok(None) => return or_none(count, NO, 0),
+            Err(_) => return (OUT_OF_MEMORY, count),
         }
-        put_groups(&caps, spans, used);
-        *walk = Walk::after(&Span::of_group(caps.get(0)));
-        used += caps.len();
-        *count += 1;
     }
-    or_yes(*count, NO)
 }
 
-/// Yes if there are some, and otherwise this answer.
-pub(crate) fn or_yes(count: usize, none: u32) -> u32
-    ensures some { 0 < count → result ≡ YES }
-    ensures none { count ≡ 0 → result ≡ none }
+/// Whether there is no room for what is told of a match after this many.
+fn is_told_full<P: Written>(told: &[P::Told], count: usize) -> bool
+    ensures { IsTrue result ↔ IsToldFull P.kind told.now count }
 {
-    if count == 0 { none } else { YES }
+    P::is_told() && told.len() == count
+}
+
+/// The number that is written where there is no room for a match with this many groups.
+fn told_without_room<P: Written>(groups: usize) -> usize
+    ensures { result ≡ cond P.kind.is_told groups 0 }
+{
+    if P::is_told() { groups } else { 0 }
+}
+
+/// Writes what is told of a match there, if that is to be told.
+fn put_told<P: Written>(told: &mut [P::Told], at: usize, own: P::Told)
+    requires { P.kind.is_told ≡ true → at < length told.old }
+    ensures { P.kind.is_told ≡ true → told.new ≡ slice_set told.old at own }
+{
+    if P::is_told() {
+        told[at] = own;
+    }
+}
+
+/// Yes with the number of matches, if there are some, and otherwise this answer and this number.
+fn or_none(count: usize, answer: u32, number: usize) -> (u32, usize)
+    ensures some { 0 < count → result ≡ (YES, count) }
+    ensures none { count ≡ 0 → result ≡ (answer, number) }
+{
+    if count > 0 {
+        (YES, count)
+    } else {
+        (answer, number)
+    }
 }

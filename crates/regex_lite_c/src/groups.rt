@@ -1,12 +1,14 @@
 //! The groups of a match, in spans of the caller.
-ghost use Rattle.std.specs.Prelude.{◌≡◌, ◌+◌, ◌<◌, ◌≤◌, IfSome, IsCharBoundary, None, length};
-ghost use Rattle.regex_lite_c.specs.Spans.{AreWritten, AreWrittenAt, IsGroupsAnswer};
+ghost use Rattle.std.specs.Prelude.{◌≡◌, ◌+◌, ◌<◌, ◌≤◌, IfSome, None, length};
+ghost use Rattle.regex_lite_c.specs.GroupAnswers.{IsGroupsAnswer, IsGroupsAnswerOf};
+ghost use Rattle.regex_lite_c.specs.Spans.{AreWritten, AreWrittenAt};
 
 use crate::answer::{NO, NO_ROOM, NOTHING_HELD, OUT_OF_MEMORY, YES};
 use crate::handle::{Handle, Holds};
+use crate::sought::Sought;
 use crate::text::text_from;
 use crate::types::Span;
-use regex_lite::{Captures, Regex};
+use regex_lite::Captures;
 use std::alloc::Global;
 
 /// The groups of the match that starts first from this offset on: 1 with their spans written, from
@@ -29,50 +31,44 @@ pub extern "C" fn regex_lite_captures(
     let Some(regex) = handle.take(alloc) else {
         return NOTHING_HELD;
     };
-    let answer = captures(&regex, text, start, spans, count);
+    let answer = captures(&*regex, text, start, spans, count);
     handle.put(regex);
     answer
 }
 
-/// The groups of the first match of this regex.
-fn captures(regex: &Regex, text: &[u8], start: usize, spans: &mut [Span], count: &mut usize) -> u32
-    ensures { IsGroupsAnswer regex.now text.now start spans.old spans.new count.old count.new
-        result }
-{
-    match text_from(text, start) {
-        Ok(text) => captures_at(regex, text, start, spans, count),
-        Err(refusal) => refusal,
-    }
-}
-
-/// The groups of the first match in a text that can be searched from there on.
-fn captures_at(
-    regex: &Regex,
-    text: &str,
+/// The groups of the first match of what is searched for.
+pub(crate) fn captures<P: Sought>(
+    sought: &P,
+    text: &[u8],
     start: usize,
     spans: &mut [Span],
-    count: &mut usize,
+    told: &mut P::Told,
 ) -> u32
-    requires { IsCharBoundary text.now start }
-    ensures { IsGroupsAnswer regex.now text.now start spans.old spans.new count.old count.new
-        result }
+    ensures { IsGroupsAnswerOf P.kind sought.now text.now start spans.old spans.new
+        told.old told.new result }
 {
-    match regex.captures_at(text, start) {
-        Ok(Some(caps)) => write_groups(&caps, spans, count),
+    let text = match text_from(text, start) {
+        Ok(text) => text,
+        Err(refusal) => return refusal,
+    };
+    match sought.first_groups(text, start) {
+        Ok(Some((own, caps))) => {
+            *told = own;
+            write_groups(&caps, spans)
+        }
         Ok(None) => NO,
         Err(_) => OUT_OF_MEMORY,
     }
 }
 
-/// Writes these groups, or nothing where there is too little room, and how many they are.
-pub(crate) fn write_groups(caps: &Captures<'_>, spans: &mut [Span], count: &mut usize) -> u32
-    ensures count { count.new ≡ length caps.now.spans }
-    ensures written { count.new ≤ length spans.old
+/// Writes these groups, or nothing where there is too little room.
+fn write_groups(caps: &Captures<'_>, spans: &mut [Span]) -> u32
+    ensures written { length caps.now.spans ≤ length spans.old
         → (result ≡ YES) × AreWritten caps.now.spans spans.old spans.new }
-    ensures no_room { length spans.old < count.new → (result ≡ NO_ROOM) × (spans.new ≡ spans.old) }
+    ensures no_room { length spans.old < length caps.now.spans
+        → (result ≡ NO_ROOM) × (spans.new ≡ spans.old) }
 {
-    *count = caps.len();
-    if spans.len() < *count {
+    if spans.len() < caps.len() {
         return NO_ROOM;
     }
     put_groups(caps, spans, 0);

@@ -31,3 +31,4 @@ mod text;
 mod types;
 mod version;
 mod walk;
+mod written;

@@ -7,6 +7,6 @@ mod patterns;
 mod properties;
 mod search;
 mod sought;
-mod types;
+pub(crate) mod types;
 mod walk;
 mod which;

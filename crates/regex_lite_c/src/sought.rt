@@ -2,25 +2,16 @@
 ghost use Rattle.std.specs.Prelude.{◌≡◌, ◌↔◌, ◌<◌, ◌≤◌, length, unwrap_or};
 ghost use Rattle.std.specs.Prelude.{IfErr, IfOk, IfSome, IsCharBoundary, IsTrue};
 ghost use Rattle.regex_lite.specs.Ahead.{AheadOf, after};
-ghost use Rattle.regex_lite_c.specs.Kinds.{GivesWritten, IsFirst, Kind};
-ghost use Rattle.regex_lite_c.specs.Walks.{AreListed, NoneComes};
+ghost use Rattle.regex_lite_c.specs.Answers.{IsOfFound};
+ghost use Rattle.regex_lite_c.specs.GroupWalks.{IsFilled, group_room};
+ghost use Rattle.regex_lite_c.specs.Kinds.{AreFirstTold, GivesGroups, GivesWritten, IsFirst};
+ghost use Rattle.regex_lite_c.specs.Walks.{AreListed, NoneComes, ended_of};
 
 mod regex;
 
-use crate::types::Cost;
-use regex_lite::Error;
-
-/// What is searched for, and what is written of its matches.
-pub(crate) trait Written {
-    /// What is written of a match.
-    type Span: Copy;
-
-    ghost kind: { Kind Self Self.Span };
-
-    /// Where the match with this span ends.
-    fn end_of(span: &Self::Span) -> usize
-        ensures { result ≡ kind.end_of span.now };
-}
+use crate::types::{Cost, Span, Walk};
+use crate::written::Written;
+use regex_lite::{Captures, Error};
 
 /// What is searched for. A call in C is for one kind of it, and is passed on to a function for all.
 pub(crate) trait Sought: Written + Drop {
@@ -55,6 +46,30 @@ pub(crate) trait Sought: Written + Drop {
         ensures none { IfOk result (λ count. count ≡ 0 → 0 < length spans.old
             → NoneComes Self.kind (after self.now text.now ended) × (spans.new ≡ spans.old)) }
         ensures refused { IfErr result (λ _. spans.new ≡ spans.old) };
+
+    /// The groups of the first match from this offset on, and what is told of them.
+    fn first_groups<'h>(
+        &self,
+        text: &'h str,
+        start: usize,
+    ) -> Result<Option<(Self::Told, Captures<'h>)>, Error>
+        requires { IsCharBoundary text.now start }
+        ensures { IfOk result (AreFirstTold Self.kind self.now text.now start) };
+
+    /// Writes the groups of the next matches, and where the last of these ends. Returns the answer,
+    /// and the number that goes with it.
+    fn write_groups_after(
+        &self,
+        text: &str,
+        walk: &mut Walk,
+        told: &mut [Self::Told],
+        spans: &mut [Span],
+    ) -> (u32, usize)
+        requires { IsCharBoundary text.now (unwrap_or (ended_of walk.old) 0) }
+        ensures filled { IsFilled Self.kind (after self.now text.now (ended_of walk.old))
+            (group_room walk.old told.old spans.old) (group_room walk.new told.new spans.new)
+            result.1 result.0 }
+        ensures one_of { IsOfFound result.0 };
 }
 
 /// The matches ahead in a text, as they are written.
@@ -67,4 +82,19 @@ pub(crate) trait Spans {
     /// The next one, if there is one.
     fn next_span(&mut self) -> Option<<Self::Sought as Written>::Span>
         ensures { GivesWritten Self.Sought.kind (ahead self.old) result (ahead self.new) };
+}
+
+/// The matches ahead in a text with their groups, and what is told of these.
+pub(crate) trait GroupsAhead<'h> {
+    /// What is searched for.
+    type Sought: Written;
+
+    ghost ahead: { Self → AheadOf Self.Sought };
+
+    /// Those of the next one, if there is one.
+    fn next_groups(
+        &mut self,
+    ) -> Result<Option<(<Self::Sought as Written>::Told, Captures<'h>)>, Error>
+        ensures { IfOk result
+            (λ item. GivesGroups Self.Sought.kind (ahead self.old) item (ahead self.new)) };
 }

@@ -5,9 +5,10 @@ ghost use Rattle.regex_lite_c.specs.Walks.{IsWalkAnswerOf, NoneComes, walk_room}
 
 use crate::answer::{NO, NO_ROOM, NOTHING_HELD, OUT_OF_MEMORY, YES};
 use crate::handle::{Handle, Holds};
-use crate::sought::{Sought, Spans, Written};
+use crate::sought::{Sought, Spans};
 use crate::text::text_from;
 use crate::types::{Span, Walk};
+use crate::written::Written;
 use std::alloc::Global;
 
 /// The next matches of a text, as many as there is room for: 1 with their spans written, or 0 where

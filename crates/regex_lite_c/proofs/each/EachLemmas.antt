@@ -10,7 +10,7 @@ use Rattle.regex_lite.specs.declared.string.matches.Match.{Match}
 use Rattle.regex_lite.specs.MatchViews.{span_of_match}
 use Rattle.regex_lite.specs.Searches.{TellsMatch}
 use Rattle.regex_lite_c.specs.Each.{AreFirstOfEach, AreFoundEach, AreTextLengths}
-use Rattle.regex_lite_c.specs.Spans.{TellsSpan}
+use Rattle.regex_lite_c.specs.Spans.{FindsSpan, TellsSpan}
 use Rattle.regex_lite_c.proofs.walk.WalkLemmas.{written_more}
 
 -- the length at an index comes first in what is left from there on
@@ -26,6 +26,13 @@ pub tells_span : (re : Expression) (haystack : List ℕ) (start : ℕ) (found : 
 tells_span re haystack start None tells = tells
 tells_span re haystack start (Some m) (tree, is, (found, answer, is_match)) =
     (tree, is, (found, answer, is_match.span))
+
+-- so the search finds it
+pub finds_span : (re : Expression) (haystack : List ℕ) (start : ℕ) (found : Match) (span : Span)
+    → TellsMatch re haystack start (Some found) → span ≡ span_of (Some (span_of_match found))
+    → FindsSpan re haystack start span
+finds_span re haystack start found span tells is =
+    (span_of_match found, tells_span re haystack start (Some found) tells, is)
 
 -- this many texts were searched
 pub record AreSearched (re : Expression) (bytes lens : List ℕ) (at k : ℕ) (old new : List Span)

@@ -1,163 +1,189 @@
--- Groups of matches of a regex that are written one after another.
-use Rattle.regex_lite_c.proofs.Common.{◌≡◌, ℕ, ◌+◌, ◌<◌, List, [], ◌∷◌, ◌++◌, length}
-use Rattle.regex_lite_c.proofs.Common.{Some, None, Option, chars, unwrap_or, sym, ap, subst, inl}
-use Rattle.regex_lite_c.proofs.Common.{inr, arith, cases_lt, Found, ComesNext, Expression, Groups}
-use Rattle.regex_lite_c.proofs.Common.{group_span, IsAnswerOf, spans_of_all, span_of, AreWritten}
-use Rattle.regex_lite_c.proofs.Common.{walk_room, refl, OUT_OF_MEMORY, YES, Span}
-use Rattle.std.proofs.Common.{IsSome}
+-- What is returned where a walk has written the groups of matches, as long as there was room.
+use Rattle.regex_lite_c.proofs.Common.{◌≡◌, ℕ, zero, suc, ◌+◌, ◌<◌, ◌⊎◌, List, [], ◌∷◌, ◌++◌}
+use Rattle.regex_lite_c.proofs.Common.{map, length, Some, None, Option, chars, unwrap_or}
+use Rattle.regex_lite_c.proofs.Common.{sym, refl, ap, subst, inl, inr, arith, cases_lt}
+use Rattle.regex_lite_c.proofs.Common.{map-append, Groups, span_of, Span}
+use Rattle.regex_lite_c.proofs.Common.{NO, NO_ROOM, OUT_OF_MEMORY, YES}
+use Rattle.std.proofs.Common.{IsSome, cond}
+use Rattle.regex_lite.specs.Ahead.{AnswerComesNext, NoneIsAhead}
 use Rattle.regex_lite.specs.Groups.{span_at}
-use Rattle.regex_lite.specs.Items.{AreGroupsFound}
-use Rattle.regex_lite.specs.MatchList.{AreFirst}
-use Rattle.regex_lite.specs.Replacements.{AreGroupsOfEach}
-use Rattle.regex_lite_c.specs.GroupWalks.{AreGroupsListed, IsFilled, IsWithoutRoom, NoMoreFit}
-use Rattle.regex_lite_c.proofs.group_walk.StageLemmas.{AreSoFar, IsEndOf, Searched, Stage}
-use Rattle.regex_lite_c.proofs.group_walk.StageLemmas.{first_to_end, first_with_next}
-use Rattle.regex_lite_c.proofs.group_walk.StageLemmas.{found_at_start}
-use Rattle.regex_lite_c.proofs.group_walk.StageLemmas.{other_end, used_by}
-use Rattle.regex_lite_c.proofs.walk.WalkLemmas.{lists_all}
+use Rattle.regex_lite.specs.MatchList.{IsNextAnswer}
+use Rattle.regex_lite_c.specs.GroupWalks.{AreFirstAnswered, AreGroupsListed, AreItsGroups}
+use Rattle.regex_lite_c.specs.GroupWalks.{IsFilled, IsToldFull, IsWithoutRoom, NoMoreFit}
+use Rattle.regex_lite_c.specs.Kinds.{Kind}
+use Rattle.regex_lite_c.specs.Walks.{NoneComes}
+use Rattle.regex_lite_c.proofs.group_walk.StageLemmas.{AreSoFar, Stage}
+use Rattle.regex_lite_c.proofs.walk.WalkLemmas.{AreFirstOf, lists_all, lists_to_end}
 
--- one more match has its groups after those of the others
-pub each_more : (re : Expression) (haystack : List ℕ) (list : List Found) (groups : List Groups)
-    (found : Found) (own : Groups)
-    → AreGroupsOfEach re haystack list groups → AreGroupsFound re haystack found own
-    → AreGroupsOfEach re haystack (list ++ (found ∷ [])) (groups ++ (own ∷ []))
-each_more re haystack [] [] found own are is = (is, tt)
-each_more re haystack [] (g ∷ groups) found own are is = absurd are
-each_more re haystack (f ∷ list) [] found own are is = absurd are
-each_more re haystack (f ∷ list) (g ∷ groups) found own are is =
-    (are.0, each_more re haystack list groups found own are.1 is)
+module _ {S X T : Type 0} {kind : Kind S X T} {start now : Stage S T}
+    (so : AreSoFar kind start now) where
+  -- the rooms are as long as they were
+  abbrev pub AreAsLong : Type 0
+  AreAsLong =
+      (length now.to.told ≡ length start.to.told) × (length now.to.room ≡ length start.to.room)
 
--- a regex is searched for, whose answers are its matches
-abbrev pub of_regex : Searched Expression Found
-of_regex = record {
-  found_of = λ own. own;
-  IsAnswerTo = IsAnswerOf;
-  AreFound = AreGroupsFound;
-  AreOfEach = AreGroupsOfEach;
-  none = λ _ _. tt;
-  more = each_more;
-}
+  one_left : now.count + suc zero ≡ length so.list + 1
+  one_left = omega (arith, so.number)
 
--- those that were written are the first of those ahead
-unfoldable listed : (start now : Stage Expression) → AreSoFar of_regex start now → 0 < now.count
-    → AreGroupsListed start.ahead (walk_room start.walk start.spans) (walk_room now.walk now.spans)
-    now.count
-listed start now so some =
-    let ahead = start.ahead in
-    let ends = so.some some in
-    let zero_more : now.count + 0 ≡ now.count = omega arith in
-    record {
-      list = so.list;
-      are_first =
-          subst (λ n. AreFirst ahead.sought (chars ahead.haystack) n ahead.ended so.list) zero_more
-          (lists_all (λ own. own) IsAnswerOf ahead now.ahead (now.count + 0) so.list (so.lists 0));
-      number = sym so.number;
-      front = ends.front;
-      last = ends.last;
-      each = subst (AreGroupsOfEach ahead.sought ahead.haystack so.list) ends.is so.each;
-      written = subst (λ groups. AreWritten (spans_of_all groups) start.spans now.spans) ends.is
-          so.written;
-      end = ends.end;
-    }
+  -- if none is left, those that were written are all
+  first_to_end : NoneIsAhead kind.found_of kind.IsAnswerTo now.ahead
+      → AreFirstAnswered kind start.ahead (length so.list + 1) so.list
+  first_to_end over =
+      subst (λ n. AreFirstAnswered kind start.ahead n so.list) one_left
+      (lists_to_end kind.found_of kind.IsAnswerTo start.ahead now.ahead (now.count + suc zero)
+      (suc zero) (map (λ own. own.0) so.list) (so.lists (suc zero)) over)
 
--- what is returned where a walk that began there ends here
-abbrev pub IsAnswer : (start now : Stage Expression) → (answer : ℕ) → Type 0
-IsAnswer start now answer =
-    IsFilled start.ahead (walk_room start.walk start.spans) (walk_room now.walk now.spans) now.count
-    answer
+  -- and else the next comes after them
+  first_with_next : (next : kind.Answer × Groups)
+      → AnswerComesNext kind.found_of kind.IsAnswerTo now.ahead (Some next.0)
+      → AreFirstAnswered kind start.ahead (length so.list + 1) (so.list ++ (next ∷ []))
+  first_with_next next comes =
+      let lists = so.lists (suc zero) in
+      let Next : S → List ℕ → Type 0 =
+      λ sought bytes. IsNextAnswer kind.found_of (kind.IsAnswerTo sought (chars bytes))
+      now.ahead.ended (Some next.0) in
+      let here : Next start.ahead.sought start.ahead.haystack =
+      subst (λ sought. Next sought start.ahead.haystack) lists.sought
+      (subst (λ bytes. Next now.ahead.sought bytes) lists.haystack comes) in
+      subst (λ n. AreFirstAnswered kind start.ahead n (so.list ++ (next ∷ []))) one_left
+      (subst (AreFirstOf kind.found_of kind.IsAnswerTo start.ahead.sought
+      (chars start.ahead.haystack) (now.count + suc zero) start.ahead.ended)
+      (sym (map-append (λ own. own.0) so.list (next ∷ []))) (lists.on (next.0 ∷ []) (here, refl)))
 
--- the next match has more groups than there is room left for
-abbrev pub IsFull : (now : Stage Expression) → Type 0
-IsFull now =
-    (next : Found) × (groups : Groups) × ComesNext now.ahead (Some next)
-    × AreGroupsFound now.ahead.sought now.ahead.haystack next groups
-    × (length now.spans < now.used + length groups.spans)
+  -- the groups of a match that is ahead are those of a match ahead at the start
+  found_at_start : (own : kind.Answer × Groups) → AreItsGroups kind now.ahead own
+      → AreItsGroups kind start.ahead own
+  found_at_start own are =
+      let lists = so.lists (suc zero) in
+      subst (λ sought. kind.AreGroups sought start.ahead.haystack own.0 own.1) lists.sought
+      (subst (λ bytes. kind.AreGroups now.ahead.sought bytes own.0 own.1) lists.haystack are)
 
--- why a walk ends here: none is left, or there is too little room
-abbrev pub IsEnd : (now : Stage Expression) → (answer : ℕ) → Type 0
-IsEnd now answer = IsEndOf (ComesNext now.ahead None) (IsFull now) answer
-
--- so no more matches fit
-no_more : (start now : Stage Expression) (so : AreSoFar of_regex start now) (groups : List Groups)
-    (answer : ℕ)
-    → so.groups ≡ groups → length now.spans ≡ length start.spans → IsEnd now answer
-    → NoMoreFit start.ahead so.list (length (spans_of_all groups)) (length start.spans)
-no_more start now so groups answer is same (inl over) =
-    inl (first_to_end of_regex start now so (inr over.1))
-no_more start now so groups answer is same (inr (no_room, full)) = inr (
-  full.0,
-  full.1,
-  first_with_next of_regex start now so full.0 full.2,
-  found_at_start of_regex start now so full.0 full.1 full.3,
-  omega (arith, full.4, same, used_by of_regex start now so groups is),
-)
-
--- the answer is yes where there are some, and else says why the walk ends
-pub filled : (start now : Stage Expression) (answer otherwise : ℕ) → AreSoFar of_regex start now
-    → length now.spans ≡ length start.spans
-    → (0 < now.count → answer ≡ YES) → (now.count ≡ 0 → answer ≡ otherwise) → IsEnd now otherwise
-    → IsAnswer start now answer
-unfolding listed
-filled start now answer otherwise so len some none ends = elim (cases_lt 0 now.count) [
-  | inl more ↦
-      let is = some more in
-      let own = so.some more in
+  -- those that were written are the first of those ahead
+  unfoldable listed : 0 < now.count → AreGroupsListed kind start.ahead start.to now.to now.count
+  listed some =
+      let ends = so.some some in
+      let zero_more : now.count + 0 ≡ now.count = omega arith in
       record {
-        found = λ _. (
-          record {
-            listed = listed start now so more;
-            no_more =
-                no_more start now so (own.front ++ (own.last ∷ [])) otherwise own.is len ends;
-          },
-          more,
-        );
-        none = λ wrong. absurd (omega (arith, is, wrong));
-        no_room = λ wrong. absurd (omega (arith, is, wrong));
-        part = λ wrong. absurd (omega (arith, is, wrong));
-        no_count = λ wrong. absurd (wrong is);
-        same = λ zero. absurd (omega (arith, zero, more));
-        one_of = inl (omega (arith, is));
+        list = so.list;
+        are_first = subst (λ n. AreFirstAnswered kind start.ahead n so.list) zero_more
+            (lists_all kind.found_of kind.IsAnswerTo start.ahead now.ahead (now.count + 0)
+            (map (λ own. own.0) so.list) (so.lists 0));
+        number = sym so.number;
+        each = so.each;
+        told = so.told;
+        written = so.written;
+        front = ends.front;
+        last = ends.last;
+        ends = ends.is;
+        end = ends.end;
       }
-  | inr few ↦
-      let zero : now.count ≡ 0 = omega (arith, few) in
-      let same = so.none zero in
-      let end = other_end _ _ answer (subst (IsEnd now) (sym (none zero)) ends) in
-      record {
-        found = λ yes. absurd (end.0 yes);
-        none = λ nil. subst (λ a. ComesNext a None) same.0 (end.2 nil);
-        no_room = λ no_room.
-            let full = end.3 no_room in
-            subst (λ a. IsWithoutRoom a (length start.spans)) same.0
-            (full.0, full.1, full.2, full.3, omega (arith, full.4, same.3, len));
-        part = λ wrong. absurd (end.1 wrong);
-        no_count = λ _ _. zero;
-        same = λ _. (same.1, same.2);
-        one_of = end.4;
-      }
-]
 
--- where memory runs out, what was written stays
-pub cut_off : (start now : Stage Expression) → AreSoFar of_regex start now
-    → IsAnswer start now OUT_OF_MEMORY
-cut_off start now so = record {
-  found = λ wrong. absurd (omega (arith, wrong));
-  none = λ wrong. absurd (omega (arith, wrong));
-  no_room = λ wrong. absurd (omega (arith, wrong));
-  part = λ _ more. listed start now so more;
-  no_count = λ _ wrong. absurd (wrong refl);
-  same = λ zero. let own = so.none zero in (own.1, own.2);
-  one_of = inr (inl refl);
-}
+  -- the groups of the next match need more room than is left, and this number is to be written
+  abbrev pub IsFull : (number : ℕ) → Type 0
+  IsFull number =
+      (next : kind.Answer × Groups)
+      × AnswerComesNext kind.found_of kind.IsAnswerTo now.ahead (Some next.0)
+      × AreItsGroups kind now.ahead next × (number ≡ cond kind.is_told (length next.1.spans) 0)
+      × (IsToldFull kind now.to.told now.count
+      ⊎ (length now.to.room < now.used + length next.1.spans))
 
--- a match has at least one group, the whole match
-pub some_groups : (re : Expression) (haystack : List ℕ) (found : Found) (own : Groups)
-    → AreGroupsFound re haystack found own → (0 < length own.spans) × IsSome (group_span own 0)
-some_groups re haystack found own are = (some_spans own.spans are.2.whole, are.2.whole)
-  where
-    -- there is one if the first is there
-    some_spans : (spans : List (Option (ℕ × ℕ))) → IsSome (span_at spans 0) → 0 < length spans
-    some_spans [] some = absurd cc
-    some_spans (span ∷ spans) some = omega arith
+  -- why a walk ends here, with this answer and this number: none is left, or there is too little
+  -- room
+  abbrev pub IsEnd : ℕ × ℕ → Type 0
+  IsEnd own =
+      ((own.0 ≡ NO) × (own.1 ≡ 0) × NoneComes kind now.ahead)
+      ⊎ ((own.0 ≡ NO_ROOM) × IsFull own.1)
+
+  -- so no more matches fit
+  no_more : (own : ℕ × ℕ) → AreAsLong → IsEnd own → NoMoreFit kind start.ahead start.to so.list
+  no_more own len (inl over) = inl (first_to_end (inr over.2))
+  no_more own len (inr (no_room, full)) = inr (
+    full.0,
+    first_with_next full.0 full.1,
+    found_at_start full.0 full.2,
+    elim full.4 [
+      | inl told ↦ inl (told.0, omega (arith, told.1, len.0, so.number))
+      | inr spans ↦ inr (omega (arith, spans, len.1, so.used_is))
+    ],
+  )
+
+  -- nothing was written, since there is too little room
+  none_fits : (number : ℕ) → AreAsLong → now.count ≡ 0 → IsFull number
+      → IsWithoutRoom kind start.ahead start.to number
+  none_fits number len few full =
+      let same = so.none few in
+      subst (λ a. IsWithoutRoom kind a start.to number) same.0 (
+        full.0,
+        full.1,
+        full.2,
+        full.3,
+        elim full.4 [
+          | inl told ↦ inl (told.0, omega (arith, told.1, len.0, few))
+          | inr spans ↦ inr (omega (arith, spans, len.1, same.2))
+        ],
+      )
+
+  -- what is returned where a walk that began there ends here
+  abbrev pub IsAnswer : ℕ × ℕ → Type 0
+  IsAnswer own = IsFilled kind start.ahead start.to now.to own.1 own.0
+
+  -- the answer is yes where there are some, and else says why the walk ends
+  pub filled : (own none : ℕ × ℕ) → AreAsLong → (0 < now.count → own ≡ (YES, now.count))
+      → (now.count ≡ 0 → own ≡ none) → IsEnd none → IsAnswer own
+  unfolding listed
+  filled own none len some few ends = elim (cases_lt 0 now.count) [
+    | inl more ↦ subst IsAnswer (sym (some more)) (record {
+      found = λ _. (record { listed = listed more; no_more = no_more none len ends }, more);
+      none = λ wrong. absurd (omega (arith, wrong));
+      no_room = λ wrong. absurd (omega (arith, wrong));
+      part = λ wrong. absurd (omega (arith, wrong));
+      no_count = λ wrong. absurd (wrong refl);
+      same = λ none. elim none [
+        | inl wrong ↦ absurd (omega (arith, wrong))
+        | inr few ↦ absurd (omega (arith, few, more))
+      ];
+    })
+    | inr at_most ↦
+        let no_count : now.count ≡ 0 = omega (arith, at_most) in
+        let same = so.none no_count in
+        subst IsAnswer (sym (few no_count)) (elim ends [
+          | inl over ↦ record {
+            found = λ wrong. absurd (omega (arith, over.0, wrong));
+            none = λ _. subst (NoneComes kind) same.0 over.2;
+            no_room = λ wrong. absurd (omega (arith, over.0, wrong));
+            part = λ wrong. absurd (omega (arith, over.0, wrong));
+            no_count = λ _ _ _. over.1;
+            same = λ _. same.1;
+          }
+          | inr full ↦ record {
+            found = λ wrong. absurd (omega (arith, full.0, wrong));
+            none = λ wrong. absurd (omega (arith, full.0, wrong));
+            no_room = λ _. none_fits none.1 len no_count full.1;
+            part = λ wrong. absurd (omega (arith, full.0, wrong));
+            no_count = λ _ wrong. absurd (wrong full.0);
+            same = λ _. same.1;
+          }
+        ])
+  ]
+
+  -- where memory runs out, what was written stays
+  pub cut_off : IsAnswer (OUT_OF_MEMORY, now.count)
+  cut_off = record {
+    found = λ wrong. absurd (omega (arith, wrong));
+    none = λ wrong. absurd (omega (arith, wrong));
+    no_room = λ wrong. absurd (omega (arith, wrong));
+    part = λ _ more. listed more;
+    no_count = λ _ _ wrong. absurd (wrong refl);
+    same = λ none. elim none [
+      | inl wrong ↦ absurd (omega (arith, wrong))
+      | inr few ↦ (so.none few).1
+    ];
+  }
+
+-- a match whose whole span is known has a group
+pub some_groups : (spans : List (Option (ℕ × ℕ))) → IsSome (span_at spans 0) → 0 < length spans
+some_groups [] some = absurd cc
+some_groups (span ∷ spans) some = omega arith
 
 -- a span that stands for a part ends where the part does
 pub end_of_span : (s : Span) (part : Option (ℕ × ℕ)) → s ≡ span_of part → IsSome part

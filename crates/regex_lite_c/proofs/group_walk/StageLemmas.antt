@@ -1,55 +1,33 @@
 -- How far a walk has written the groups of matches, whatever is searched for, a regex or several
 -- patterns.
-use Rattle.regex_lite_c.proofs.Common.{◌≡◌, ℕ, zero, suc, ◌+◌, ◌-◌, ◌<◌, ◌≤◌, ◌⊎◌, List, []}
-use Rattle.regex_lite_c.proofs.Common.{◌∷◌, ◌++◌}
-use Rattle.regex_lite_c.proofs.Common.{length, slice_get, Some, None, Option, option_map, sym, refl}
-use Rattle.regex_lite_c.proofs.Common.{ap, ◌∙◌, subst, inl, inr, append-nil, arith, length-append}
-use Rattle.regex_lite_c.proofs.Common.{cases_lt, chars, Found, Groups, spans_of_all, span_of}
-use Rattle.regex_lite_c.proofs.Common.{AreWritten}
-use Rattle.regex_lite_c.proofs.Common.{ended_of, NO, NO_ROOM, OUT_OF_MEMORY, YES, Span, Walk}
-use Rattle.std.proofs.Common.{◌≢◌}
+use Rattle.regex_lite_c.proofs.Common.{◌≡◌, ℕ, zero, suc, ◌+◌, ◌-◌, ◌<◌, ◌≤◌, List, [], ◌∷◌, ◌++◌}
+use Rattle.regex_lite_c.proofs.Common.{map, length, slice_get, slice_set, true, Some, None, Option}
+use Rattle.regex_lite_c.proofs.Common.{option_map, sym, refl, ap, ◌∙◌, subst, inl, inr, append-nil}
+use Rattle.regex_lite_c.proofs.Common.{arith, length-append, cases_lt, map-append, Groups}
+use Rattle.regex_lite_c.proofs.Common.{span_of, AreWritten, AreWrittenAs, ended_of}
+use Rattle.regex_lite_c.proofs.Common.{Span}
+use Rattle.std.specs.List.{All}
 use Rattle.std.proofs.lemmas.Grind.{flat_map-append}
-use Rattle.regex_lite_syntax.specs.Text.{Text}
+use Rattle.std.proofs.lemmas.List.{length-set}
+use Rattle.std.proofs.lemmas.List.Elements.{All-append}
 use Rattle.regex_lite_syntax.proofs.LookupLemmas.{get_left, get_right}
-use Rattle.regex_lite.specs.Ahead.{AheadOf, AnswerComesNext, NoneIsAhead, PassesAnswer}
+use Rattle.regex_lite.specs.Ahead.{AheadOf, PassesAnswer}
 use Rattle.regex_lite.specs.Groups.{whole_span}
-use Rattle.regex_lite.specs.MatchList.{IsNextAnswer}
+use Rattle.regex_lite_c.specs.GroupWalks.{AreItsGroups, GroupRoom, spans_of_all, told_of_groups}
+use Rattle.regex_lite_c.specs.Kinds.{Kind}
 use Rattle.regex_lite_c.specs.Spans.{AreWrittenAt}
-use Rattle.regex_lite_c.proofs.walk.WalkLemmas.{AreFirstOf, ListsAnswers, lists_more, lists_none}
-use Rattle.regex_lite_c.proofs.walk.WalkLemmas.{lists_to_end}
+use Rattle.regex_lite_c.proofs.walk.WalkLemmas.{ListsAnswers, lists_more, lists_none, written_more}
 
--- what is searched for: the match in an answer, and how it is related to the groups of a match, and
--- a list of answers to those of each match
-pub record Searched (S A : Type 0) : Type 1 where
-  pub found_of : A → Found
-  pub IsAnswerTo : S → Text → (s : ℕ) → Option A → Type 0
-  pub AreFound : S → (haystack : List ℕ) → A → Groups → Type 0
-  pub AreOfEach : S → (haystack : List ℕ) → List A → List Groups → Type 0
-  pub none : (sought : S) (haystack : List ℕ) → AreOfEach sought haystack [] []
-  pub more : (sought : S) (haystack : List ℕ) (list : List A) (groups : List Groups) (answer : A)
-      (own : Groups)
-      → AreOfEach sought haystack list groups → AreFound sought haystack answer own
-      → AreOfEach sought haystack (list ++ (answer ∷ [])) (groups ++ (own ∷ []))
-
--- where a walk stands: what is ahead, where the caller goes on, what the room holds, and how many
--- of its spans are used, for how many matches
-pub record Stage (S : Type 0) : Type 0 where
+-- where a walk stands: what is ahead, what was written, and how many spans are used, for how many
+-- matches
+pub record Stage (S T : Type 0) : Type 0 where
   pub ahead : AheadOf S
-  pub walk : Walk
-  pub spans : List Span
+  pub to : GroupRoom T
   pub used : ℕ
   pub count : ℕ
 
-abbrev pub stage_of : {S : Type 0} → AheadOf S → Walk → List Span → (used count : ℕ) → Stage S
-stage_of ahead walk spans used count =
-    record { ahead = ahead; walk = walk; spans = spans; used = used; count = count }
-
--- the groups end with those of the match after which the walk goes on
-pub record EndsWith (groups : List Groups) (walk : Walk) : Type 0 where
-  pub front : List Groups
-  pub last : Groups
-  pub is : groups ≡ front ++ (last ∷ [])
-  pub end : ended_of walk ≡ Some (whole_span last).1
+abbrev pub stage_of : {S T : Type 0} → AheadOf S → GroupRoom T → (used count : ℕ) → Stage S T
+stage_of ahead to used count = record { ahead = ahead; to = to; used = used; count = count }
 
 -- what is written after these comes next to them
 pub written_after : (told more : List (Option (ℕ × ℕ))) (old now new : List Span)
@@ -74,167 +52,127 @@ written_after told more old now new before is =
           is.rest k (inr (omega (arith, le, longer))) ∙ before.rest k (omega (arith, le, longer));
     }
 
-module _ {S A : Type 0} (searched : Searched S A) where
+-- what holds of one holds of all in a list of it
+all_one : {A : Type 0} (P : A → Type 0) (own : A) → P own → All P (own ∷ [])
+all_one P own is zero given lt = is
+all_one P own is (suc k) given lt = absurd (omega (arith, lt))
+
+module _ {S X T : Type 0} (kind : Kind S X T) where
+  -- the last of these matches is the one after which the walk goes on
+  pub record EndsWith (list : List (kind.Answer × Groups)) (to : GroupRoom T) : Type 0 where
+    pub front : List (kind.Answer × Groups)
+    pub last : kind.Answer × Groups
+    pub is : list ≡ front ++ (last ∷ [])
+    pub end : ended_of to.walk ≡ Some (whole_span last.1).1
+
+  -- these matches were passed since the start, and this many are left of those there is room for
+  abbrev pub Passed : (start now : Stage S T) → (room left : ℕ) → List (kind.Answer × Groups)
+      → Type 0
+  Passed start now room left list =
+      ListsAnswers kind.found_of kind.IsAnswerTo start.ahead now.ahead room left
+      (map (λ own. own.0) list)
+
   -- since the start the groups of these matches were written, one after another
-  pub record AreSoFar (start now : Stage S) : Type 0 where
-    pub list : List A
-    pub groups : List Groups
+  pub record AreSoFar (start now : Stage S T) : Type 0 where
+    pub list : List (kind.Answer × Groups)
     pub number : length list ≡ now.count
-    pub lists : (left : ℕ) → ListsAnswers searched.found_of searched.IsAnswerTo start.ahead
-        now.ahead (now.count + left) left list
-    pub each : searched.AreOfEach start.ahead.sought start.ahead.haystack list groups
-    pub written : AreWritten (spans_of_all groups) start.spans now.spans
-    pub used_is : length (spans_of_all groups) ≡ now.used
+    pub lists : (left : ℕ) → Passed start now (now.count + left) left list
+    pub each : All (AreItsGroups kind start.ahead) list
+    pub told : kind.is_told ≡ true
+        → AreWrittenAs (told_of_groups kind) list start.to.told now.to.told
+    pub within : kind.is_told ≡ true → now.count ≤ length now.to.told
+    pub written : AreWritten (spans_of_all list) start.to.room now.to.room
+    pub used_is : length (spans_of_all list) ≡ now.used
     pub counted : now.count ≤ now.used
-    pub fits : now.used ≤ length now.spans
-    pub none : now.count ≡ 0 → (now.ahead ≡ start.ahead) × (now.walk ≡ start.walk)
-        × (now.spans ≡ start.spans) × (now.used ≡ 0)
-    pub some : 0 < now.count → EndsWith groups now.walk
+    pub fits : now.used ≤ length now.to.room
+    pub none : now.count ≡ 0
+        → (now.ahead ≡ start.ahead) × (now.to ≡ start.to) × (now.used ≡ 0)
+    pub some : 0 < now.count → EndsWith list now.to
 
   -- at the start nothing has been written
-  unfoldable pub none_so_far : (start : Stage S) → start.ahead.limit ≡ None
-      → start.used ≡ 0 → start.count ≡ 0 → AreSoFar start start
-  none_so_far start limit none_used none_counted = record {
+  pub none_so_far : {start : Stage S T} → start.ahead.limit ≡ None → start.used ≡ 0
+      → start.count ≡ 0 → AreSoFar start start
+  none_so_far {start = start} limit none_used none_counted = record {
     list = [];
-    groups = [];
     number = sym none_counted;
     lists = λ left.
-        subst (λ n. ListsAnswers searched.found_of searched.IsAnswerTo start.ahead start.ahead n
-        left []) (omega (arith, none_counted))
-        (lists_none searched.found_of searched.IsAnswerTo start.ahead left limit);
-    each = searched.none start.ahead.sought start.ahead.haystack;
+        subst (λ n. Passed start start n left []) (omega (arith, none_counted))
+        (lists_none kind.found_of kind.IsAnswerTo start.ahead left limit);
+    each = λ k own lt. absurd (omega (arith, lt));
+    told = λ _. record { each = λ k lt. absurd (omega (arith, lt)); rest = λ k le. refl };
+    within = λ _. omega (arith, none_counted);
     written = record { each = λ k lt. absurd (omega (arith, lt)); rest = λ k le. refl };
     used_is = sym none_used;
     counted = omega (arith, none_counted);
     fits = omega (arith, none_used);
-    none = λ _. (refl, refl, refl, none_used);
+    none = λ _. (refl, refl, none_used);
     some = λ lt. absurd (omega (arith, lt, none_counted));
   }
 
   -- the groups of the next match are written, and the walk goes on after it
-  pub record IsOneMore (old new : Stage S) : Type 0 where
-    pub answer : A
-    pub own : Groups
-    pub passes : PassesAnswer searched.found_of searched.IsAnswerTo old.ahead answer new.ahead
-    pub are : searched.AreFound old.ahead.sought old.ahead.haystack answer own
-    pub written : AreWrittenAt old.used own.spans old.spans new.spans
-    pub same : length new.spans ≡ length old.spans
-    pub room : old.used + length own.spans ≤ length old.spans
-    pub some : 0 < length own.spans
-    pub end : ended_of new.walk ≡ Some (whole_span own).1
-    pub used : new.used ≡ old.used + length own.spans
+  pub record IsOneMore (old new : Stage S T) : Type 0 where
+    pub own : kind.Answer × Groups
+    pub passes : PassesAnswer kind.found_of kind.IsAnswerTo old.ahead own.0 new.ahead
+    pub are : AreItsGroups kind old.ahead own
+    pub told : kind.is_told ≡ true
+        → new.to.told ≡ slice_set old.to.told old.count (told_of_groups kind own)
+    pub below : kind.is_told ≡ true → old.count < length old.to.told
+    pub written : AreWrittenAt old.used own.1.spans old.to.room new.to.room
+    pub same : length new.to.room ≡ length old.to.room
+    pub room : old.used + length own.1.spans ≤ length old.to.room
+    pub some : 0 < length own.1.spans
+    pub end : ended_of new.to.walk ≡ Some (whole_span own.1).1
+    pub used : new.used ≡ old.used + length own.1.spans
     pub count : new.count ≡ old.count + 1
 
   -- so still with one more match
-  unfoldable pub more_so_far : (start old new : Stage S) → AreSoFar start old → IsOneMore old new
+  pub more_so_far : {start old new : Stage S T} → AreSoFar start old → IsOneMore old new
       → AreSoFar start new
-  more_so_far start old new so one =
+  more_so_far {start = start} {old = old} {new = new} so one =
       let own = one.own in
-      let all = flat_map-append (λ g. g.spans) so.groups (own ∷ [])
-      ∙ ap (λ xs. spans_of_all so.groups ++ xs) (append-nil own.spans) in
-      let list = so.list ++ (one.answer ∷ []) in
+      let spans = own.1.spans in
+      let list = so.list ++ (own ∷ []) in
+      let all = flat_map-append (λ g. g.1.spans) so.list (own ∷ [])
+      ∙ ap (λ xs. spans_of_all so.list ++ xs) (append-nil spans) in
       let here = so.lists 0 in
-      let are : searched.AreFound start.ahead.sought start.ahead.haystack one.answer own =
-      subst (λ sought. searched.AreFound sought start.ahead.haystack one.answer own) here.sought
-      (subst (λ bytes. searched.AreFound old.ahead.sought bytes one.answer own) here.haystack
+      let are : AreItsGroups kind start.ahead own =
+      subst (λ sought. kind.AreGroups sought start.ahead.haystack own.0 own.1) here.sought
+      (subst (λ bytes. kind.AreGroups old.ahead.sought bytes own.0 own.1) here.haystack
       one.are) in
       record {
         list = list;
-        groups = so.groups ++ (own ∷ []);
-        number = omega (arith, length-append so.list (one.answer ∷ []), so.number, one.count);
+        number = omega (arith, length-append so.list (own ∷ []), so.number, one.count);
         lists = λ left.
-            subst (λ n. ListsAnswers searched.found_of searched.IsAnswerTo start.ahead new.ahead n
-            left list) (omega (arith, one.count))
-            (lists_more searched.found_of searched.IsAnswerTo start.ahead old.ahead new.ahead
-            (old.count + suc left) left so.list one.answer (so.lists (suc left)) one.passes);
-        each =
-            searched.more start.ahead.sought start.ahead.haystack so.list so.groups one.answer own
-            so.each are;
-        written = subst (λ told. AreWritten told start.spans new.spans) (sym all)
-            (written_after (spans_of_all so.groups) own.spans start.spans old.spans new.spans
+            subst (λ n. Passed start new n left list) (omega (arith, one.count))
+            (subst (ListsAnswers kind.found_of kind.IsAnswerTo start.ahead new.ahead
+            (old.count + suc left) left) (sym (map-append (λ own. own.0) so.list (own ∷ [])))
+            (lists_more kind.found_of kind.IsAnswerTo start.ahead old.ahead new.ahead
+            (old.count + suc left) left (map (λ own. own.0) so.list) own.0 (so.lists (suc left))
+            one.passes));
+        each = All-append (AreItsGroups kind start.ahead) so.list (own ∷ []) so.each
+            (all_one (AreItsGroups kind start.ahead) own are);
+        told = λ is.
+            subst (AreWrittenAs (told_of_groups kind) list start.to.told) (sym (one.told is))
+            (written_more (told_of_groups kind) so.list own start.to.told old.to.told old.count
+            (told_of_groups kind own) (so.told is) so.number (one.below is) refl);
+        within = λ is.
+            omega (
+              arith,
+              one.below is,
+              one.count,
+              ap length (one.told is)
+                  ∙ length-set old.to.told old.count (told_of_groups kind own),
+            );
+        written = subst (λ told. AreWritten told start.to.room new.to.room) (sym all)
+            (written_after (spans_of_all so.list) spans start.to.room old.to.room new.to.room
             so.written
-            (subst (λ n. AreWrittenAt n own.spans old.spans new.spans) (sym so.used_is)
+            (subst (λ n. AreWrittenAt n spans old.to.room new.to.room) (sym so.used_is)
             one.written));
         used_is =
-            ap length all ∙ length-append (spans_of_all so.groups) own.spans
-            ∙ ap (λ n. n + length own.spans) so.used_is ∙ sym one.used;
+            ap length all ∙ length-append (spans_of_all so.list) spans
+            ∙ ap (λ n. n + length spans) so.used_is ∙ sym one.used;
         counted = omega (arith, so.counted, one.some, one.used, one.count);
         fits = omega (arith, one.room, one.same, one.used);
         none = λ wrong. absurd (omega (arith, wrong, one.count));
-        some = λ _. record { front = so.groups; last = own; is = refl; end = one.end };
+        some = λ _. record { front = so.list; last = own; is = refl; end = one.end };
       }
-
--- what is ahead of a walk, after those of which the groups were written
-module _ {S A : Type 0} (searched : Searched S A) (start now : Stage S)
-    (so : AreSoFar searched start now) where
-  -- these are the first of the answers ahead, one more than were written
-  abbrev AreFirstWithNext : (list : List A) → Type 0
-  AreFirstWithNext list =
-      AreFirstOf searched.found_of searched.IsAnswerTo start.ahead.sought
-      (chars start.ahead.haystack) (length so.list + 1) start.ahead.ended list
-
-  one_left : now.count + suc zero ≡ length so.list + 1
-  one_left = omega (arith, so.number)
-
-  -- if none is left, those that were written are all
-  pub first_to_end : NoneIsAhead searched.found_of searched.IsAnswerTo now.ahead
-      → AreFirstWithNext so.list
-  first_to_end over =
-      subst (λ n. AreFirstOf searched.found_of searched.IsAnswerTo start.ahead.sought
-      (chars start.ahead.haystack) n start.ahead.ended so.list) one_left
-      (lists_to_end searched.found_of searched.IsAnswerTo start.ahead now.ahead
-      (now.count + suc zero) (suc zero) so.list (so.lists (suc zero)) over)
-
-  -- and else the next comes after them
-  pub first_with_next : (answer : A)
-      → AnswerComesNext searched.found_of searched.IsAnswerTo now.ahead (Some answer)
-      → AreFirstWithNext (so.list ++ (answer ∷ []))
-  first_with_next answer comes =
-      let lists = so.lists (suc zero) in
-      let Next : S → List ℕ → Type 0 =
-      λ sought bytes. IsNextAnswer searched.found_of (searched.IsAnswerTo sought (chars bytes))
-      now.ahead.ended (Some answer) in
-      let here : Next start.ahead.sought start.ahead.haystack =
-      subst (λ sought. Next sought start.ahead.haystack) lists.sought
-      (subst (λ bytes. Next now.ahead.sought bytes) lists.haystack comes) in
-      subst (λ n. AreFirstOf searched.found_of searched.IsAnswerTo start.ahead.sought
-      (chars start.ahead.haystack) n start.ahead.ended (so.list ++ (answer ∷ []))) one_left
-      (lists.on (answer ∷ []) (here, refl))
-
-  -- the groups of a match that is ahead are those of a match ahead at the start
-  pub found_at_start : (answer : A) (own : Groups)
-      → searched.AreFound now.ahead.sought now.ahead.haystack answer own
-      → searched.AreFound start.ahead.sought start.ahead.haystack answer own
-  found_at_start answer own are =
-      let lists = so.lists (suc zero) in
-      subst (λ sought. searched.AreFound sought start.ahead.haystack answer own) lists.sought
-      (subst (λ bytes. searched.AreFound now.ahead.sought bytes answer own) lists.haystack are)
-
-  -- as many spans are used as these groups have
-  pub used_by : (groups : List Groups) → so.groups ≡ groups
-      → length (spans_of_all groups) ≡ now.used
-  used_by groups is = sym (ap (λ own. length (spans_of_all own)) is) ∙ so.used_is
-
--- why a walk ends with no memory refused: none is left, or there is too little room
-abbrev pub IsEndOf : (over full : Type 0) → (answer : ℕ) → Type 0
-IsEndOf over full answer = ((answer ≡ NO) × over) ⊎ ((answer ≡ NO_ROOM) × full)
-
--- each of these is none of the others
-pub other_end : (over full : Type 0) (answer : ℕ) → IsEndOf over full answer
-    → (answer ≢ YES) × (answer ≢ OUT_OF_MEMORY) × (answer ≡ NO → over)
-    × (answer ≡ NO_ROOM → full)
-    × ((answer ≤ YES) ⊎ ((answer ≡ OUT_OF_MEMORY) ⊎ (answer ≡ NO_ROOM)))
-other_end over full answer (inl none) = (
-  λ wrong. omega (arith, none.0, wrong),
-  λ wrong. omega (arith, none.0, wrong),
-  λ _. none.1,
-  λ wrong. absurd (omega (arith, none.0, wrong)),
-  inl (omega (arith, none.0)),
-)
-other_end over full answer (inr small) = (
-  λ wrong. omega (arith, small.0, wrong),
-  λ wrong. omega (arith, small.0, wrong),
-  λ wrong. absurd (omega (arith, small.0, wrong)),
-  λ _. small.1,
-  inr (inr small.0),
-)

@@ -3,7 +3,8 @@ use Rattle.regex_lite_c.proofs.Common.{◌≡◌, ℕ, suc, ◌+◌, ◌-◌, �
 use Rattle.regex_lite_c.proofs.Common.{length, slice_set, Some, Option, chars, unwrap_or, sym, refl}
 use Rattle.regex_lite_c.proofs.Common.{ap, ◌∙◌, subst, append-nil, arith, length-append, length-map}
 use Rattle.regex_lite_c.proofs.Common.{map-append, Found, IsAnswerOf, found_span, span_of}
-use Rattle.regex_lite_c.proofs.Common.{AreWritten, ended_of, Span, Walk}
+use Rattle.regex_lite_c.proofs.Common.{AreWritten, ended_of, Span}
+use Rattle.regex_lite_c.specs.declared.types.Walk.{Walk}
 use Rattle.regex_lite.specs.Ahead.{Ahead, IsOver, Passes}
 use Rattle.regex_lite_c.specs.Cuts.{ArePiecesListed, last_end, pieces_before, rest_after, spans_in}
 use Rattle.regex_lite_c.specs.declared.types.Cut.{Cut}

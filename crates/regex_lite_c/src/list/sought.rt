@@ -1,20 +1,42 @@
 //! Several patterns are searched for.
 
-use crate::list::types::ListSpan;
-use crate::sought::{Sought, Spans, Written};
-use crate::types::Cost;
+use crate::answer::OUT_OF_MEMORY;
+use crate::group_walk::fill_groups;
+use crate::list::types::{ListGroups, ListSpan};
+use crate::sought::{GroupsAhead, Sought, Spans};
+use crate::types::{Cost, Span, Walk};
 use crate::walk::fill;
-use regex_lite::{Error, ListMatches, RegexList};
+use regex_lite::{Captures, Error, ListCaptureMatches, ListMatches, RegexList};
 
-impl Written for RegexList {
-    ghost use Rattle.regex_lite_c.specs.Kinds.{of_patterns};
+impl<'r, 'h> Spans for ListMatches<'r, 'h> {
+    ghost use Rattle.regex_lite.specs.ListAhead.{list_ahead_of};
 
-    type Span = ListSpan;
+    type Sought = RegexList;
 
-    ghost kind = { of_patterns };
+    ghost ahead = { list_ahead_of };
 
-    fn end_of(span: &ListSpan) -> usize {
-        span.end
+    fn next_span(&mut self) -> Option<ListSpan> {
+        self.next()
+            .map(|(number, found)| ListSpan::of(number, &found))
+    }
+}
+
+impl<'r, 'h> GroupsAhead<'h> for ListCaptureMatches<'r, 'h> {
+    ghost use Rattle.regex_lite.specs.ListAhead.{list_ahead_of};
+
+    type Sought = RegexList;
+
+    ghost ahead = { list_ahead_of };
+
+    fn next_groups(&mut self) -> Result<Option<(ListGroups, Captures<'h>)>, Error> {
+        match self.next() {
+            Some(Ok((number, caps))) => {
+                let count = caps.len();
+                Ok(Some((ListGroups { number, count }, caps)))
+            }
+            Some(Err(error)) => Err(error),
+            None => Ok(None),
+        }
     }
 }
 
@@ -47,17 +69,31 @@ impl Sought for RegexList {
         let mut matches = self.find_iter_after(text, ended)?;
         Ok(fill(&mut matches, spans))
     }
-}
 
-impl<'r, 'h> Spans for ListMatches<'r, 'h> {
-    ghost use Rattle.regex_lite.specs.ListAhead.{list_ahead_of};
+    fn first_groups<'h>(
+        &self,
+        text: &'h str,
+        start: usize,
+    ) -> Result<Option<(ListGroups, Captures<'h>)>, Error> {
+        match self.captures_at(text, start)? {
+            Some((number, caps)) => {
+                let count = caps.len();
+                Ok(Some((ListGroups { number, count }, caps)))
+            }
+            None => Ok(None),
+        }
+    }
 
-    type Sought = RegexList;
-
-    ghost ahead = { list_ahead_of };
-
-    fn next_span(&mut self) -> Option<ListSpan> {
-        self.next()
-            .map(|(number, found)| ListSpan::of(number, &found))
+    fn write_groups_after(
+        &self,
+        text: &str,
+        walk: &mut Walk,
+        told: &mut [ListGroups],
+        spans: &mut [Span],
+    ) -> (u32, usize) {
+        match self.captures_iter_after(text, walk.ended()) {
+            Ok(mut items) => fill_groups(&mut items, walk, told, spans),
+            Err(_) => (OUT_OF_MEMORY, 0),
+        }
     }
 }

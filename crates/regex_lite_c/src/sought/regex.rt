@@ -1,19 +1,37 @@
 //! A regex is searched for.
 
-use crate::sought::{Sought, Spans, Written};
-use crate::types::{Cost, Span};
+use crate::answer::OUT_OF_MEMORY;
+use crate::group_walk::fill_groups;
+use crate::sought::{GroupsAhead, Sought, Spans};
+use crate::types::{Cost, Span, Walk};
 use crate::walk::fill;
-use regex_lite::{Error, Matches, Regex};
+use regex_lite::{CaptureMatches, Captures, Error, Matches, Regex};
 
-impl Written for Regex {
-    ghost use Rattle.regex_lite_c.specs.Kinds.{of_regex};
+impl<'r, 'h> Spans for Matches<'r, 'h> {
+    ghost use Rattle.regex_lite.specs.Ahead.{ahead_of};
 
-    type Span = Span;
+    type Sought = Regex;
 
-    ghost kind = { of_regex };
+    ghost ahead = { ahead_of };
 
-    fn end_of(span: &Span) -> usize {
-        span.end
+    fn next_span(&mut self) -> Option<Span> {
+        self.next().map(|found| Span::of(&found))
+    }
+}
+
+impl<'r, 'h> GroupsAhead<'h> for CaptureMatches<'r, 'h> {
+    ghost use Rattle.regex_lite.specs.Ahead.{ahead_of};
+
+    type Sought = Regex;
+
+    ghost ahead = { ahead_of };
+
+    fn next_groups(&mut self) -> Result<Option<(usize, Captures<'h>)>, Error> {
+        match self.next() {
+            Some(Ok(caps)) => Ok(Some((caps.len(), caps))),
+            Some(Err(error)) => Err(error),
+            None => Ok(None),
+        }
     }
 }
 
@@ -46,16 +64,28 @@ impl Sought for Regex {
         let mut matches = self.find_iter_after(text, ended)?;
         Ok(fill(&mut matches, spans))
     }
-}
 
-impl<'r, 'h> Spans for Matches<'r, 'h> {
-    ghost use Rattle.regex_lite.specs.Ahead.{ahead_of};
+    fn first_groups<'h>(
+        &self,
+        text: &'h str,
+        start: usize,
+    ) -> Result<Option<(usize, Captures<'h>)>, Error> {
+        match self.captures_at(text, start)? {
+            Some(caps) => Ok(Some((caps.len(), caps))),
+            None => Ok(None),
+        }
+    }
 
-    type Sought = Regex;
-
-    ghost ahead = { ahead_of };
-
-    fn next_span(&mut self) -> Option<Span> {
-        self.next().map(|found| Span::of(&found))
+    fn write_groups_after(
+        &self,
+        text: &str,
+        walk: &mut Walk,
+        told: &mut [usize],
+        spans: &mut [Span],
+    ) -> (u32, usize) {
+        match self.captures_iter_after(text, walk.ended()) {
+            Ok(mut items) => fill_groups(&mut items, walk, told, spans),
+            Err(_) => (OUT_OF_MEMORY, 0),
+        }
     }
 }

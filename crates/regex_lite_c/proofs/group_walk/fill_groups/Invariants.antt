@@ -1,26 +1,14 @@
-use Rattle.regex_lite_c.proofs.Common.{ahead_of, Expression}
-use Rattle.regex_lite_c.proofs.group_walk.GroupWalkLemmas.{of_regex}
-use Rattle.regex_lite_c.proofs.group_walk.StageLemmas.{AreSoFar, Stage}
+use Rattle.regex_lite_c.proofs.Common.{◌-◌, length}
+use Rattle.regex_lite_c.specs.GroupWalks.{group_room}
+use Rattle.regex_lite_c.proofs.group_walk.StageLemmas.{AreSoFar, stage_of}
 use Rattle.regex_lite_c.proofs.group_walk.fill_groups.Given as goal
 
-abbrev pub invariant-loop-item : goal.invariant-loop-item
-invariant-loop-item l =
-    let start : Stage Expression = record {
-      ahead = ahead_of l.fn.items;
-      walk = l.fn.walk;
-      spans = l.fn.spans;
-      used = 0;
-      count = l.fn.count;
-    } in
-    let now : Stage Expression = record {
-      ahead = ahead_of l.item-iterator;
-      walk = l.walk;
-      spans = l.spans;
-      used = l.used;
-      count = l.count;
-    } in
-    record {
-      can : (goal.iterator-loop-item).can_next l.item-iterator;
-      finite : (goal.iterator-loop-item).is_finite l.item-iterator;
-      so_far : AreSoFar of_regex start now;
-    }
+abbrev pub invariant-matches : goal.invariant-matches
+invariant-matches g l =
+    AreSoFar g.M.Sought.Written.kind
+    (stage_of (g.M.GroupsAhead.ahead l.fn.matches) (group_room l.fn.walk l.fn.told l.fn.spans) 0 0)
+    (stage_of (g.M.GroupsAhead.ahead l.matches) (group_room l.walk l.told l.spans) l.used l.count)
+
+-- each match has a group
+abbrev pub decreases-matches : goal.decreases-matches
+decreases-matches g l = length l.spans - l.used

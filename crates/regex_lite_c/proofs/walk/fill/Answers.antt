@@ -1,6 +1,5 @@
 use Rattle.regex_lite_c.proofs.Common.{◌-◌, length, sym, ap, ◌∙◌, subst, arith}
-use Rattle.regex_lite_c.specs.Walks.{NoneComes}
-use Rattle.regex_lite_c.proofs.walk.WalkLemmas.{ListsAnswers, comes_none, first_written_more}
+use Rattle.regex_lite_c.proofs.walk.WalkLemmas.{ListsAnswers, first_written_more}
 use Rattle.regex_lite_c.proofs.walk.WalkLemmas.{lists_all, lists_to_end, none_written}
 use Rattle.regex_lite_c.proofs.walk.fill.Goals as goal
 
@@ -24,17 +23,6 @@ returns-in-None-clause-listed g c =
       number = sym so.number;
       written = so.written;
     }
-
-pub returns-in-None-clause-none : goal.returns-in-None-clause-none
-returns-in-None-clause-none g c = λ none _.
-    let kind = g.M.Sought.Written.kind in
-    let so = c.loop-k.invariant in
-    let same = so.same none in (
-      subst (NoneComes kind) same.0
-          (comes_none kind.found_of kind.IsAnswerTo (g.M.Spans.ahead c.loop-k.matches)
-          so.lists.limit c.in-None.ensures.over),
-      same.1,
-    )
 
 pub loop-k-preserved : goal.loop-k-preserved
 loop-k-preserved g c =

@@ -4,7 +4,3 @@ use Rattle.regex_lite_c.proofs.list.search.regex_lite_list_find_counted.Goals as
 pub returns-clause-answer : goal.returns-clause-answer
 returns-clause-answer c =
     rw c.in-Some.ensures.taken (rw (sym c.deref.ensures) c.find_counted-answer.ensures.answer)
-
-pub returns-clause-cost : goal.returns-clause-cost
-returns-clause-cost c = λ told.
-    rw c.in-Some.ensures.taken (rw (sym c.deref.ensures) (c.find_counted-answer.ensures.cost told))

@@ -1,18 +1,7 @@
-use Rattle.regex_lite_c.proofs.Common.{subst}
-use Rattle.regex_lite.specs.MatchViews.{span_of_match}
-use Rattle.regex_lite.specs.RegexListSearches.{TellsMatchOfList}
-use Rattle.regex_lite_c.proofs.list.ListSearchLemmas.{tells_list_span}
+use Rattle.regex_lite_c.proofs.list.ListSearchLemmas.{finds_list_span}
 use Rattle.regex_lite_c.proofs.list.sought.RegexListSought.first_span.Goals as goal
 
 pub returns-in-Some : goal.returns-in-Some
 returns-in-Some c =
-    let list = c.args.self.now in
-    let bytes = c.args.text.now in
-    let start = c.args.start in
-    let number = c.in-Some.number in
-    let found = c.in-Some.found in (
-      (number, span_of_match found),
-      tells_list_span list bytes start number found
-          (subst (TellsMatchOfList list bytes start) c.in-Some.is c.in_ok-number.ensures.found),
-      c.of.ensures,
-    )
+    finds_list_span c.args.self.now c.args.text.now c.args.start c.in-Some.number c.in-Some.found
+    c.of.result (rw c.in-Some.is at c.in_ok-number.ensures.found) c.of.ensures

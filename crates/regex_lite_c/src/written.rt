@@ -1,0 +1,62 @@
+//! What is written of the matches of a regex, and of several patterns.
+ghost use Rattle.std.specs.Prelude.{◌≡◌};
+ghost use Rattle.regex_lite_c.specs.Kinds.{Kind};
+
+use crate::list::types::{ListGroups, ListSpan};
+use crate::types::Span;
+use regex_lite::{Regex, RegexList};
+
+/// What is searched for, and what is written of its matches.
+pub(crate) trait Written {
+    /// What is written of a match.
+    type Span: Copy;
+
+    /// What is written of its groups besides their spans.
+    type Told: Copy;
+
+    ghost kind: { Kind Self Self.Span Self.Told };
+
+    /// Where the match with this span ends.
+    fn end_of(span: &Self::Span) -> usize
+        ensures { result ≡ kind.end_of span.now };
+
+    /// Whether a walk over all matches writes that of the groups of each.
+    fn is_told() -> bool
+        ensures { result ≡ kind.is_told };
+}
+
+impl Written for Regex {
+    ghost use Rattle.regex_lite_c.specs.Kinds.{of_regex};
+
+    type Span = Span;
+
+    type Told = usize;
+
+    ghost kind = { of_regex };
+
+    fn end_of(span: &Span) -> usize {
+        span.end
+    }
+
+    fn is_told() -> bool {
+        false
+    }
+}
+
+impl Written for RegexList {
+    ghost use Rattle.regex_lite_c.specs.Kinds.{of_patterns};
+
+    type Span = ListSpan;
+
+    type Told = ListGroups;
+
+    ghost kind = { of_patterns };
+
+    fn end_of(span: &ListSpan) -> usize {
+        span.end
+    }
+
+    fn is_told() -> bool {
+        true
+    }
+}
