@@ -7,7 +7,7 @@ ghost use Rattle.regex_lite_syntax.specs.Tree.Views.{tree_of};
 ghost use Rattle.regex_lite_engine.specs.Graph.Renumbered.{arrows_of, IsGraphOf, HasGroupsOf};
 ghost use Rattle.regex_lite_engine.specs.Graph.Size.{Fits, IsDueToTree};
 ghost use Rattle.regex_lite_engine.specs.Graph.Places.{kept_back_of, kept_back_with, reading_of};
-ghost use Rattle.regex_lite_engine.specs.Graph.Stored.{LeadsBelow, place_of, table_of};
+ghost use Rattle.regex_lite_engine.specs.Graph.Stored.{places_of, table_of};
 ghost use Rattle.regex_lite_engine.specs.Search.Starts.{AreHeadsOf, NoneBeginsAtEnd};
 
 pub(crate) mod class;
@@ -19,9 +19,8 @@ pub mod table;
 mod write;
 
 use crate::count::Counts;
-use crate::steps::Steps;
+use crate::search::one_pattern::OnePattern;
 use groups::Groups;
-use place::Place;
 use regex_lite_syntax::prefilter::Filter;
 use regex_lite_syntax::{Error, Hir};
 use std::alloc::Global;
@@ -100,17 +99,6 @@ impl Graph {
         })
     }
 
-    /// What stands at a place, for a search: each call is counted.
-    pub(crate) fn look(&self, place: u32, steps: &mut Steps) -> &Place
-        requires inside { place < length self.now.places }
-        requires room { steps.old.looked + 1 < 2 ^ 128 }
-        ensures found { slice_get self.now.places place ≡ Some result.now }
-        ensures inside { LeadsBelow (length self.now.places) (place_of result.now) }
-        ensures counted { steps.new ≡ record steps.old { looked = steps.old.looked + 1 } }
-    {
-        self.table.look(place, steps)
-    }
-
     /// Its places by number.
     pub fn table(&self) -> &Table
         ensures some { 0 < length result.now.places }
@@ -138,11 +126,18 @@ impl Graph {
         &self.filter
     }
 
-    /// Whether each match reads a character. Then none begins at the haystack's end.
-    pub(crate) fn reads(&self) -> bool
-        ensures { IsTrue result → NoneBeginsAtEnd (table_of self.now) self.now.start }
+    /// Its pattern, which may start nowhere yet.
+    pub fn pattern(&self) -> OnePattern<'_, Filter>
+        ensures table { places_of result.table.now ≡ table_of self.now }
+        ensures entry { result.entry ≡ self.now.start }
     {
-        self.reads
+        OnePattern {
+            table: &self.table,
+            entry: self.start,
+            filter: &self.filter,
+            reads: self.reads,
+            may_start: false,
+        }
     }
 
     /// How many places there are.

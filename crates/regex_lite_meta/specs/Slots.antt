@@ -1,22 +1,37 @@
 -- The memory in which slots are searched for.
-use Rattle.std.specs.Prelude.{◌≡◌, ℕ, false, IfSome, length}
+use Rattle.std.specs.Prelude.{◌≡◌, ◌<◌, ℕ, List, false, Option, Some, None, IfSome, length}
 use Rattle.regex_lite_meta.specs.declared.slots.ShortSlots.{ShortSlots}
 use Rattle.regex_lite_meta.specs.declared.slots.SlotCache.{SlotCache}
 use Rattle.regex_lite_engine.specs.Backtrack.Short.{SearchesShort}
 use Rattle.regex_lite_engine.specs.Graph.NoLooks.{HasNoLooks}
-use Rattle.regex_lite_engine.specs.Graph.Stored.{StoredGraph, table_of}
+use Rattle.regex_lite_engine.specs.Graph.Places.{Place}
+use Rattle.regex_lite_engine.specs.Graph.StoredList.{StoredList, table_of_list}
 use Rattle.regex_lite_engine.specs.Pikevm.Searching.{IsBetween}
 use Rattle.regex_lite_engine.specs.Search.Counting.{IsCountable}
+use Rattle.regex_lite_engine.specs.Search.Rows.{Row}
 
--- short searches of the graph for this many slots go on in it
-pub record FindsShortSlots (graph : StoredGraph) (slots : ℕ) (short : ShortSlots) : Type 0 where
-  pub searches : SearchesShort graph short.searcher
+-- short searches of the table for this many slots go on in it
+pub record FindsShortSlots (table : List (Place ℕ)) (slots : ℕ) (short : ShortSlots) : Type 0 where
+  pub searches : SearchesShort table short.searcher
   pub width : length short.searcher.walk.stack.row ≡ slots
-  pub looks : short.has_looks ≡ false → HasNoLooks (table_of graph)
+  pub looks : short.has_looks ≡ false → HasNoLooks table
 
--- searches of the graph go on in it, for as many slots as its row has
-pub record FindsSlotsIn (graph : StoredGraph) (memory : SlotCache) : Type 0 where
-  pub between : IsBetween (table_of graph) memory.cache
-  pub countable : IsCountable (table_of graph)
+-- searches of the table go on in it, for as many slots as its row has
+pub record FindsSlotsIn (table : List (Place ℕ)) (memory : SlotCache) : Type 0 where
+  pub between : IsBetween table memory.cache
+  pub countable : IsCountable table
   pub short : IfSome memory.short (λ boxed.
-      FindsShortSlots graph (length memory.cache.best.row) boxed.value)
+      FindsShortSlots table (length memory.cache.best.row) boxed.value)
+
+-- the slots of the last match: where they are searched for once it is known, and else those that
+-- its search has kept
+abbrev pub kept_row : Row → Option SlotCache → Row
+kept_row row None = row
+kept_row row (Some memory) = memory.cache.best.row
+
+-- searches for slots of the list's matches go on in it, whose spans are found without slots.
+-- Without a pattern none is begun
+abbrev pub FindsListSlots : StoredList → (slots : ℕ) → Option SlotCache → Type 0
+FindsListSlots list slots memory =
+    IfSome memory (λ memory. (slots ≡ 0)
+    × (0 < length list.entries → FindsSlotsIn (table_of_list list) memory))

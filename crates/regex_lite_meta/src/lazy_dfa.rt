@@ -21,4 +21,3 @@ pub(crate) mod single;
 pub(crate) mod spans;
 pub(crate) mod spot;
 pub(crate) mod state;
-pub(crate) mod trial;

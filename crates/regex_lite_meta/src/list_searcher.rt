@@ -1,64 +1,56 @@
 //! Searches for several patterns, one after another, in the same working memory.
-ghost use Rattle.std.specs.Prelude.{◌≡◌, ◌<◌, ◌⊎◌, List, IfOk, IfSome, IsCharBoundary, None, chars};
-ghost use Rattle.std.specs.Prelude.{length, option_map};
-ghost use Rattle.regex_lite_meta.specs.LazyDfa.Remembering.{IsRememberingList, RemembersFor};
+ghost use Rattle.std.specs.Prelude.{◌≡◌, ◌<◌, ◌⊎◌, ℕ, List, IfOk, IsCharBoundary, Some, chars};
+ghost use Rattle.std.specs.Prelude.{length};
+ghost use Rattle.std.specs.Prelude.{option_map};
 ghost use Rattle.regex_lite_meta.specs.LazyDfa.Scanning.{best_told};
+ghost use Rattle.regex_lite_meta.specs.Slots.{FindsListSlots, FindsSlotsIn, kept_row};
 ghost use Rattle.regex_lite_syntax.specs.Tree.{Tree};
 ghost use Rattle.regex_lite_engine.specs.Graph.SideBySide.{AreRegularPatterns};
 ghost use Rattle.regex_lite_engine.specs.Graph.StoredList.{IsGraphOfList, table_of_list};
-ghost use Rattle.regex_lite_engine.specs.Search.Bounds.{characters_left};
-ghost use Rattle.regex_lite_engine.specs.Search.Counting.{CanCount};
-ghost use Rattle.regex_lite_engine.specs.Search.NumberedOutcomes.{IsBestOutcomeOf};
-ghost use Rattle.regex_lite_engine.specs.Search.Offsets.{position_at};
+ghost use Rattle.regex_lite_engine.specs.Search.NumberedOutcomes.{IsBestOutcomeOf, numbered_at};
+ghost use Rattle.regex_lite_engine.specs.Search.NumberedOutcomes.{with_origin_kept};
 ghost use Rattle.regex_lite_engine.specs.Search.Outcomes.{IsSpanOutcomeOfList};
-ghost use Rattle.regex_lite_engine.specs.Pikevm.Searching.{GoesOnIn, IsBetween, IsFresh};
 
-use crate::lazy_dfa::automaton::LazyDfa;
-use crate::lazy_dfa::list_spans::{ListSpanSearcher, find_origin, find_slots};
-use crate::lazy_dfa::remembering::{pays_for_list, pays_for_list_with_slots};
+use crate::lazy_dfa::list_spans::ListSpanSearcher;
+use crate::lazy_dfa::remembering::{pays_for_list, pays_for_list_with_slots, pays_to_find_first};
+use crate::slots::SlotCache;
 use regex_lite_engine::nfa::list::GraphList;
 use regex_lite_engine::pikevm::beginning::Origin;
 use regex_lite_engine::pikevm::best::numbered;
-use regex_lite_engine::pikevm::cache::{Cache, cache_for_list, restart};
-use regex_lite_engine::pikevm::run::run;
-use regex_lite_engine::search::list_patterns::ListPatterns;
+use regex_lite_engine::pikevm::cache::cache_for_list;
 use std::alloc::{AllocError, Global};
 use std::marker::Model;
+
+/// Searches of at most this number of pairs of a place and an offset go depth first between the
+/// offsets of a match.
+const SHORT: usize = 32_768;
 
 /// The graph of several patterns, and the memory in which it is searched, search after search.
 #[derive(Drop)]
 pub struct ListSearcher<'g> {
     graph: &'g GraphList,
-    /// Those of the graph.
-    patterns: ListPatterns<'g>,
-    cache: Cache<Origin>,
-    /// What is remembered of the turns of earlier searches, if no slots are kept and it pays.
-    dfa: Option<Box<LazyDfa>>,
-    /// What finds where a match starts and its pattern, if slots are kept and it pays.
-    spans: Option<Box<ListSpanSearcher>>,
+    spans: ListSpanSearcher<'g>,
+    /// What finds the slots of a match, where they are searched for once it is known.
+    slots: Option<Box<SlotCache>>,
 }
 
 impl<'g> Model for ListSearcher<'g> {
-    ghost use Rattle.std.specs.Prelude.{◌≡◌, IfSome, length, option_map};
+    ghost use Rattle.std.specs.Prelude.{length, option_map};
     ghost use Rattle.regex_lite_meta.specs.LazyDfa.Remembering.{FindsSpansInList};
-    ghost use Rattle.regex_lite_meta.specs.LazyDfa.Remembering.{IsRememberingList};
     ghost use Rattle.regex_lite_meta.specs.Searching.{ListSearching};
-    ghost use Rattle.regex_lite_engine.specs.Graph.StoredList.{table_of_list};
-    ghost use Rattle.regex_lite_engine.specs.Pikevm.Searching.{GoesOnIn};
+    ghost use Rattle.regex_lite_meta.specs.Slots.{FindsListSlots, kept_row};
 
     ghost Value = { ListSearching };
 
     ghost view = { λ searcher. record {
       graph = searcher.graph.now;
-      slots = searcher.cache.best.row;
+      slots = kept_row searcher.spans.cache.best.row
+          (option_map (λ boxed. boxed.value) searcher.slots);
     } };
 
-    ghost invariant = { λ searcher. GoesOnIn searcher.graph.now searcher.cache
-        × (table_of_list searcher.patterns.list.now ≡ table_of_list searcher.graph.now)
-        × (searcher.patterns.list.now.entries ≡ searcher.graph.now.entries)
-        × IsRememberingList searcher.graph.now (length searcher.cache.best.row)
-        (option_map (λ dfa. dfa.value) searcher.dfa)
-        × IfSome searcher.spans (λ boxed. FindsSpansInList searcher.graph.now boxed.value) };
+    ghost invariant = { λ searcher. FindsSpansInList searcher.graph.now searcher.spans
+        × FindsListSlots searcher.graph.now (length searcher.spans.cache.best.row)
+        (option_map (λ boxed. boxed.value) searcher.slots) };
 }
 
 impl<'g> ListSearcher<'g> {
@@ -79,24 +71,35 @@ impl<'g> ListSearcher<'g> {
         ensures graph { IfOk result (λ searcher. searcher.graph ≡ graph.now) }
         ensures slots { IfOk result (λ searcher. length searcher.slots ≡ slots) }
     {
-        let patterns = ListPatterns::new(alloc, graph)?;
-        let cache = cache_for_list(alloc, graph, slots)?;
-        let dfa = if slots == 0 && pays_for_list(graph, bytes) {
-            automaton_for(alloc, graph)
-        } else {
-            None
-        };
-        let spans = if slots > 0 && pays_for_list_with_slots(graph, bytes) {
-            ListSpanSearcher::for_list(alloc, graph)
-        } else {
-            None
-        };
+        if slots > 0 && pays_to_find_first(graph, bytes) {
+            return ListSearcher::for_known(alloc, graph, slots, bytes);
+        }
+        let spans = ListSpanSearcher::new(alloc, graph, slots, pays_for_list(graph, bytes))?;
         Ok(ListSearcher {
             graph,
-            patterns,
-            cache,
-            dfa,
             spans,
+            slots: None,
+        })
+    }
+
+    /// One that finds a match first, and then its slots.
+    fn for_known(
+        alloc: Global,
+        graph: &'g GraphList,
+        slots: usize,
+        bytes: usize,
+    ) -> Result<ListSearcher<'g>, AllocError>
+        ensures graph { IfOk result (λ searcher. searcher.graph ≡ graph.now) }
+        ensures slots { IfOk result (λ searcher. length searcher.slots ≡ slots) }
+    {
+        let pays = pays_for_list_with_slots(graph, bytes);
+        let spans = ListSpanSearcher::new(alloc, graph, 0, pays)?;
+        let cache = cache_for_list(alloc, graph, slots)?;
+        let memory = SlotCache::new(alloc, cache, graph.table(), SHORT);
+        Ok(ListSearcher {
+            graph,
+            spans,
+            slots: Some(Box::new(alloc, memory)?),
         })
     }
 
@@ -116,16 +119,11 @@ impl<'g> ListSearcher<'g> {
         if start > haystack.len() || self.graph.len() == 0 {
             return None;
         }
-        restart(&mut self.cache);
-        let dfa = &mut self.dfa;
-        if let Some(found) = find_remembering(dfa, self.graph, &mut self.cache, haystack, start) {
-            return numbered(found);
-        }
-        if let Some(found) = find_origin(&mut self.spans, self.graph, haystack, start) {
-            return find_slots(self.graph, &mut self.cache, haystack, found?);
-        }
-        run(&mut self.cache, &mut self.patterns, haystack, start);
-        self.cache.best.numbered_span()
+        let found = self.spans.find(self.graph, haystack, start)?;
+        let Some(slots) = &mut self.slots else {
+            return numbered(Some(found));
+        };
+        find_slots(self.graph, slots, haystack, found)
     }
 
     /// The slots of the last match that was found, none of them marked before the first. Slots 2k
@@ -133,52 +131,35 @@ impl<'g> ListSearcher<'g> {
     pub fn slots(&self) -> &[Option<usize>]
         ensures { result.now ≡ self.now.slots }
     {
-        self.cache.best.row()
+        match &self.slots {
+            Some(slots) => slots.cache.best.row(),
+            None => self.spans.row(),
+        }
     }
 }
 
-/// An automaton of this graph that remembers nothing yet, on the heap.
-#[inline(never)]
-fn automaton_for(alloc: Global, graph: &GraphList) -> Option<Box<LazyDfa>>
-    ensures { IfSome result (λ dfa. RemembersFor (table_of_list graph.now) graph.now.entries
-        dfa.value) }
-{
-    let dfa = LazyDfa::for_list(alloc, graph)?;
-    Box::new(alloc, dfa).ok()
-}
-
-/// What a search by remembered turns finds. None if there is no automaton, or if it is given up:
-/// then it is dropped, and no search has begun.
-fn find_remembering(
-    dfa: &mut Option<Box<LazyDfa>>,
+/// Searches for the slots of the match that starts and ends here, of the pattern with this number,
+/// which is the first match of any pattern. Its row has them afterwards. Returns the number, and
+/// where the match starts and ends.
+fn find_slots(
     graph: &GraphList,
-    cache: &mut Cache<Origin>,
+    memory: &mut SlotCache,
     haystack: &str,
-    start: usize,
-) -> Option<Option<(Origin, usize)>>
-    requires boundary { IsCharBoundary haystack.now start }
-    requires remembers { IsRememberingList graph.now (length cache.old.best.row)
-        (option_map (λ dfa. dfa.value) dfa.old) }
-    requires fresh { IsFresh (table_of_list graph.now) cache.old }
-    requires counts { CanCount (table_of_list graph.now) (length graph.now.entries)
-        (characters_left (chars haystack.now) (position_at haystack.now start)) }
-    ensures found { IfSome result (λ found. IsBestOutcomeOf (table_of_list graph.now)
-        (chars haystack.now) graph.now.entries (position_at haystack.now start)
-        (best_told found)) }
-    ensures remembers { IsRememberingList graph.now (length cache.new.best.row)
-        (option_map (λ dfa. dfa.value) dfa.new) }
-    ensures fresh { result ≡ None → IsFresh (table_of_list graph.now) cache.new }
-    ensures between { IsBetween (table_of_list graph.now) cache.new }
-    ensures without_slots { IfSome result (λ _. length cache.new.best.row ≡ 0) }
-    ensures width { length cache.new.best.row ≡ length cache.old.best.row }
+    found: (Origin, usize),
+) -> Option<(usize, (usize, usize))>
+    requires found { (s : ℕ) × IsBestOutcomeOf (table_of_list graph.now) (chars haystack.now)
+        graph.now.entries s (best_told (Some found)) }
+    requires finds { FindsSlotsIn (table_of_list graph.now) memory.old }
+    ensures found { (s : ℕ) → IsBestOutcomeOf (table_of_list graph.now) (chars haystack.now)
+        graph.now.entries s (best_told (Some found))
+        → IsBestOutcomeOf (table_of_list graph.now) (chars haystack.now) graph.now.entries s
+        (with_origin_kept (numbered_at result memory.new.cache.best.row)) }
+    ensures finds { FindsSlotsIn (table_of_list graph.now) memory.new }
+    ensures width { length memory.new.cache.best.row ≡ length memory.old.cache.best.row }
 {
-    let Some(automaton) = dfa else {
-        return None;
-    };
-    if let Some(found) = automaton.find_in_list(graph, cache, haystack, start) {
-        return Some(found);
-    }
-    restart(cache);
-    *dfa = None;
-    None
+    let (origin, end) = found;
+    let number = origin.number as usize;
+    let mut pattern = graph.pattern(number);
+    let span = memory.find_known(&mut pattern, haystack, (origin.at, end))?;
+    Some((number, span))
 }

@@ -19,7 +19,6 @@ use regex_lite_engine::nfa::list::GraphList;
 use regex_lite_engine::pikevm::beginning::Unkept;
 use regex_lite_engine::pikevm::cache::{Cache, cache_for};
 use regex_lite_engine::pikevm::run::run_shortest;
-use regex_lite_engine::search::one_pattern::OnePattern;
 use regex_lite_engine::search::outcome::Outcome;
 use regex_lite_engine::steps::no_steps;
 use regex_lite_engine::{Graph, Steps};
@@ -88,14 +87,11 @@ pub fn search_shortest(
     if pays_once(graph, haystack.len() - start) {
         return search_shortest_remembering(graph, alloc, haystack, start);
     }
-    let Some(first) = graph.first_start(haystack, start) else {
+    let mut pattern = graph.pattern();
+    let Some(first) = pattern.first_start(haystack, start) else {
         return Ok((None, no_steps()));
     };
-    let mut cache = cache_for::<Unkept>(alloc, graph.table(), 0)?;
-    let mut pattern = OnePattern {
-        graph,
-        may_start: false,
-    };
+    let mut cache = cache_for::<Unkept>(alloc, pattern.table, 0)?;
     run_shortest(&mut cache, &mut pattern, haystack, first.at);
     let Cache { walk, best, .. } = cache;
     Ok((best.end(), walk.steps))

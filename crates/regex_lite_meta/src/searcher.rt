@@ -1,6 +1,6 @@
 //! Searches in one graph, one after another, in the same working memory.
 ghost use Rattle.std.specs.Prelude.{◌≡◌, ◌<◌, ◌⊎◌, ℕ, IfOk, IfSome, IsCharBoundary, chars, length};
-ghost use Rattle.regex_lite_meta.specs.LazyDfa.Remembering.{IsKnown, RemembersAll};
+ghost use Rattle.regex_lite_meta.specs.LazyDfa.Remembering.{RemembersAll};
 ghost use Rattle.regex_lite_meta.specs.Slots.{FindsSlotsIn};
 ghost use Rattle.regex_lite_syntax.specs.Tree.{Tree};
 ghost use Rattle.regex_lite_syntax.specs.Tree.Regular.{IsRegular};
@@ -13,10 +13,10 @@ ghost use Rattle.regex_lite_engine.specs.Search.Outcomes.{IsSpanOutcome};
 
 use crate::lazy_dfa::automaton::LazyDfa;
 use crate::lazy_dfa::remembering::{pays, pays_with_slots};
-use crate::lazy_dfa::spans::{Passed, SpanSearcher, pass_to_match, weigh};
-use crate::slots::{SlotCache, Tried, has_looks};
+use crate::lazy_dfa::spans::SpanSearcher;
+use crate::slots::{SlotCache, has_looks};
 use regex_lite_engine::Graph;
-use regex_lite_engine::pikevm::cache::restart;
+use regex_lite_engine::pikevm::cache::{cache_for, restart};
 use std::alloc::{AllocError, Global};
 use std::marker::Model;
 
@@ -31,7 +31,7 @@ pub struct Searcher<'g> {
     memory: SlotCache,
     /// What is remembered of the turns of earlier searches, if no slots are kept and it pays.
     dfa: Option<Box<LazyDfa>>,
-    /// What passes over the text before a match, if slots are kept and it pays.
+    /// What finds where a match starts and ends, if slots are kept and it pays.
     spans: Option<Box<SpanSearcher>>,
 }
 
@@ -40,6 +40,7 @@ impl<'g> Model for Searcher<'g> {
     ghost use Rattle.regex_lite_meta.specs.LazyDfa.Remembering.{FindsSpansIn, IsRemembering};
     ghost use Rattle.regex_lite_meta.specs.Searching.{Searching};
     ghost use Rattle.regex_lite_meta.specs.Slots.{FindsSlotsIn};
+    ghost use Rattle.regex_lite_engine.specs.Graph.Stored.{table_of};
 
     ghost Value = { Searching };
 
@@ -48,7 +49,7 @@ impl<'g> Model for Searcher<'g> {
       slots = searcher.memory.cache.best.row;
     } };
 
-    ghost invariant = { λ searcher. FindsSlotsIn searcher.graph.now searcher.memory
+    ghost invariant = { λ searcher. FindsSlotsIn (table_of searcher.graph.now) searcher.memory
         × IsRemembering searcher.graph.now (length searcher.memory.cache.best.row)
         (option_map (λ dfa. dfa.value) searcher.dfa)
         × IfSome searcher.spans (λ boxed. FindsSpansIn searcher.graph.now boxed.value) };
@@ -73,12 +74,13 @@ impl<'g> Searcher<'g> {
         ensures slots { IfOk result (λ searcher. length searcher.slots ≡ slots) }
     {
         let passes = slots > 0 && pays_with_slots(graph, bytes);
-        let pairs = if passes && !has_looks(graph) {
+        let pairs = if passes && !has_looks(graph.table()) {
             SHORT
         } else {
             0
         };
-        let memory = SlotCache::new(alloc, graph, slots, pairs)?;
+        let cache = cache_for(alloc, graph.table(), slots)?;
+        let memory = SlotCache::new(alloc, cache, graph.table(), pairs);
         let dfa = if slots == 0 && pays(graph, bytes) {
             automaton_for(alloc, graph)
         } else {
@@ -116,10 +118,12 @@ impl<'g> Searcher<'g> {
             restart(cache);
             return dfa.find_in_graph(self.graph, cache, haystack, start);
         }
-        let passed = pass_to_match(&mut self.spans, self.graph, haystack, start)?;
-        let found = find_passed(self.graph, &mut self.memory, haystack, passed);
-        weigh(&mut self.spans, found);
-        found.span
+        let mut pattern = self.graph.pattern();
+        let Some(spans) = &mut self.spans else {
+            return self.memory.find_from(&mut pattern, haystack, start);
+        };
+        let span = spans.find(self.graph, haystack, start)?;
+        self.memory.find_known(&mut pattern, haystack, span)
     }
 
     /// The slots of the last match that was found, none of them marked before the first. Slots 2k
@@ -140,26 +144,4 @@ fn automaton_for(alloc: Global, graph: &Graph) -> Option<Box<LazyDfa>>
 {
     let dfa = LazyDfa::for_graph(alloc, graph)?;
     Box::new(alloc, dfa).ok()
-}
-
-/// Where the most preferred match starts and ends, with its slots in the row, if no match starts
-/// before the offset that was passed to.
-fn find_passed(graph: &Graph, memory: &mut SlotCache, haystack: &str, passed: Passed) -> Tried
-    requires finds { FindsSlotsIn graph.now memory.old }
-    requires boundary { IsCharBoundary haystack.now passed.from }
-    requires first { (s : ℕ) × NoneStartsBefore (table_of graph.now) (chars haystack.now)
-        graph.now.start s (position_at haystack.now passed.from)
-        × IsKnown (table_of graph.now) (chars haystack.now) graph.now.start s passed }
-    ensures finds { FindsSlotsIn graph.now memory.new }
-    ensures found { (s : ℕ) → NoneStartsBefore (table_of graph.now) (chars haystack.now)
-        graph.now.start s (position_at haystack.now passed.from)
-        → IsKnown (table_of graph.now) (chars haystack.now) graph.now.start s passed
-        → IsNumberedOutcome (table_of graph.now) (chars haystack.now) graph.now.start s
-        (best_at result.span memory.new.cache.best.row) }
-    ensures width { length memory.new.cache.best.row ≡ length memory.old.cache.best.row }
-{
-    match passed.end {
-        Some(end) => memory.find_known(graph, haystack, (passed.from, end)),
-        None => memory.find_from(graph, haystack, passed.from),
-    }
 }

@@ -8,6 +8,7 @@ ghost use Rattle.regex_lite_meta.specs.Searching.{FindsSpan};
 
 use crate::slots::SlotCache;
 use regex_lite_engine::Graph;
+use regex_lite_engine::pikevm::cache::cache_for;
 use std::alloc::{AllocError, Global};
 use std::marker::Model;
 
@@ -26,6 +27,7 @@ pub struct SlotSearcher<'g> {
 impl<'g> Model for SlotSearcher<'g> {
     ghost use Rattle.regex_lite_meta.specs.Searching.{Searching};
     ghost use Rattle.regex_lite_meta.specs.Slots.{FindsSlotsIn};
+    ghost use Rattle.regex_lite_engine.specs.Graph.Stored.{table_of};
 
     ghost Value = { Searching };
 
@@ -34,7 +36,7 @@ impl<'g> Model for SlotSearcher<'g> {
       slots = searcher.memory.cache.best.row;
     } };
 
-    ghost invariant = { λ searcher. FindsSlotsIn searcher.graph.now searcher.memory };
+    ghost invariant = { λ searcher. FindsSlotsIn (table_of searcher.graph.now) searcher.memory };
 }
 
 impl<'g> SlotSearcher<'g> {
@@ -53,7 +55,8 @@ impl<'g> SlotSearcher<'g> {
         ensures graph { IfOk result (λ searcher. searcher.graph ≡ graph.now) }
         ensures slots { IfOk result (λ searcher. length searcher.slots ≡ slots) }
     {
-        let memory = SlotCache::new(alloc, graph, slots, SHORT)?;
+        let cache = cache_for(alloc, graph.table(), slots)?;
+        let memory = SlotCache::new(alloc, cache, graph.table(), SHORT);
         Ok(SlotSearcher { graph, memory })
     }
 
@@ -70,7 +73,8 @@ impl<'g> SlotSearcher<'g> {
         ensures graph { self.new.graph ≡ self.old.graph }
         ensures slots { length self.new.slots ≡ length self.old.slots }
     {
-        let _ = self.memory.find_known(self.graph, haystack, span);
+        let mut pattern = self.graph.pattern();
+        let _ = self.memory.find_known(&mut pattern, haystack, span);
     }
 
     /// The slots of the last match, none of them marked before the first. Slots 2k and 2k + 1 are

@@ -1,6 +1,7 @@
 -- Where the tree of a graph does not match, no arrows of the graph lead to a complete match.
 use Rattle.regex_lite_engine.proofs.Common.{◌≡◌, ℕ, suc, ◌<◌, List, length, IfSome, slice_get, Some}
-use Rattle.regex_lite_engine.proofs.Common.{false, nullable, None, Option, sym, ◌∙◌, inl, inr}
+use Rattle.regex_lite_engine.proofs.Common.{Bool, true, false, nullable, None, Option, sym, ◌∙◌}
+use Rattle.regex_lite_engine.proofs.Common.{inl, inr}
 use Rattle.regex_lite_engine.proofs.Common.{arith, cases_eq, slice_get_within, Text, Tree, Matches}
 use Rattle.regex_lite_engine.proofs.Common.{IsRegular, Address, IsRenumbered}
 use Rattle.regex_lite_engine.proofs.Common.{side_by_side, AreEntries, start_address}
@@ -10,12 +11,14 @@ use Rattle.regex_lite_engine.proofs.Common.{Starts, pattern_table, pattern_layou
 use Rattle.regex_lite_engine.proofs.Common.{range_with_len, slice_get-map}
 use Rattle.std.specs.List.{All, filter}
 use Rattle.std.specs.Prelude.{option_map}
+use Rattle.std.proofs.lemmas.Bool.{not-true}
 use Rattle.std.proofs.lemmas.Option.{get_or_from_slice_get}
 use Rattle.std.proofs.Common.{MatchOption}
 use Rattle.regex_lite_engine.specs.Graph.Places.{Place}
 use Rattle.regex_lite_engine.specs.Graph.SideBySide.{AreRegularPatterns}
 use Rattle.regex_lite_engine.specs.Search.Starts.{AreFiltersOf, AreHeadsOf, NoneBeginsAtEnd}
-use Rattle.regex_lite_engine.specs.Search.Starts.{AreAllAtEnd, may_be_empty}
+use Rattle.regex_lite_engine.specs.Search.Starts.{AreAllAtEnd, AreReading, TellReading}
+use Rattle.regex_lite_engine.specs.Search.Starts.{may_be_empty}
 use Rattle.regex_lite_syntax.specs.Prefilter.Heads.{AreSecondOfTree, AreHeadsOfTree}
 use Rattle.regex_lite_syntax.specs.Prefilter.ListHeads.{AreEachHeadsOf, AreHeadsOfTrees}
 use Rattle.regex_lite_syntax.proofs.prefilter.list_heads.IndexLemmas.{walkable}
@@ -119,6 +122,19 @@ module _ (trees : List Tree) (regular : AreRegularPatterns trees) (name : ℕ �
         let own = are.of_pattern number entry is in
         dead number entry is haystack i
         (never_matches own.0 filter (w.each number own.0 filter own.1 there) haystack i never));
+  }
+
+  -- those of which each match reads a character
+  pub listed_reads : length entries ≡ length trees → (told : List Bool) → TellReading trees told
+      → AreReading table entries told
+  listed_reads all told w = record {
+    all = w.all ∙ sym all;
+    each = λ number entry is yes haystack. (
+        let own = are.of_pattern number entry is in
+        let reading = not-true (nullable own.0) (sym (w.each number own.0 true own.1 yes)) in
+        dead number entry is haystack (length haystack)
+        (λ j m. let read = reads haystack own.0 (length haystack) j reading m in
+        absurd (omega (arith, read.0, read.1))));
   }
 
   -- of those alone that may be empty a match begins at the end

@@ -1,15 +1,14 @@
--- Depth-first searches of short haystacks, all in the same memory.
-use Rattle.std.specs.Prelude.{◌*◌, ◌≤◌, length, sum_by}
+-- Depth-first searches in short haystacks, all in the same memory.
+use Rattle.std.specs.Prelude.{◌*◌, ◌≤◌, ℕ, List, length, sum_by}
 use Rattle.regex_lite_engine.specs.declared.backtrack.short.ShortSearcher.{ShortSearcher}
-use Rattle.regex_lite_engine.specs.Graph.Places.{kept_back_with}
-use Rattle.regex_lite_engine.specs.Graph.Stored.{StoredGraph, table_of}
+use Rattle.regex_lite_engine.specs.Graph.Places.{Place, kept_back_with}
 use Rattle.regex_lite_engine.specs.Search.Counting.{IsCountable}
 
--- there is room for a search of the graph over as many offsets as may be searched
-pub record SearchesShort (graph : StoredGraph) (searcher : ShortSearcher) : Type 0 where
+-- there is room for a search of the table over as many offsets as may be searched
+pub record SearchesShort (table : List (Place ℕ)) (searcher : ShortSearcher) : Type 0 where
   pub room :
-      sum_by (kept_back_with (length searcher.walk.stack.row)) (table_of graph) * searcher.offsets
+      sum_by (kept_back_with (length searcher.walk.stack.row)) table * searcher.offsets
       ≤ searcher.walk.stack.room
   -- a bit for each pair of a place and an offset
-  pub pairs : length (table_of graph) * searcher.offsets ≤ searcher.walk.visited.room
-  pub countable : IsCountable (table_of graph)
+  pub pairs : length table * searcher.offsets ≤ searcher.walk.visited.room
+  pub countable : IsCountable table

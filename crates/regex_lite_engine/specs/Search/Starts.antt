@@ -1,5 +1,5 @@
 -- Where a match can begin in a graph, and the positions that a search passes over.
-use Rattle.std.specs.Prelude.{◌≡◌, ◌≤◌, ◌<◌, ◌^◌, ◌⊎◌, ℕ, suc, Bool, false, All}
+use Rattle.std.specs.Prelude.{◌≡◌, ◌≤◌, ◌<◌, ◌^◌, ◌⊎◌, ℕ, suc, Bool, false, true, not, All}
 use Rattle.std.specs.Prelude.{List, [], ◌∷◌, length, map, slice_get, slice_index, slice_index_or}
 use Rattle.std.specs.Prelude.{Some}
 use Rattle.regex_lite_syntax.specs.Text.{Text, after}
@@ -117,3 +117,15 @@ pub record AreAllAtEnd (table : List (Place ℕ)) (entries numbers : List ℕ) :
       → AreStartsAt table haystack entries (length haystack) (map (start_numbered entries) numbers)
   pub inside : All (λ number. number < length entries) numbers
   pub few : length numbers ≤ length entries
+
+-- it is told of each tree whether all its matches read a character
+pub record TellReading (trees : List Tree) (reads : List Bool) : Type 0 where
+  pub all : length reads ≡ length trees
+  pub each : (number : ℕ) (tree : Tree) (told : Bool) → slice_get trees number ≡ Some tree
+      → slice_get reads number ≡ Some told → told ≡ not (nullable tree)
+
+-- of the patterns of which this is so none matches from the haystack's end
+pub record AreReading (table : List (Place ℕ)) (entries : List ℕ) (reads : List Bool) : Type 0 where
+  pub all : length reads ≡ length entries
+  pub each : (number entry : ℕ) → IsEntry entries number entry
+      → slice_get reads number ≡ Some true → NoneBeginsAtEnd table entry

@@ -29,6 +29,7 @@ pub enum Onward {
 }
 
 /// Follows the first arrow of the place if it fits at this offset, and defers the others.
+#[inline(always)]
 pub fn enter(place: &Place, haystack: &str, at: usize, stack: &mut Stack) -> Onward
     requires boundary { IsCharBoundary haystack.now at }
     requires room { length stack.old.frames
@@ -64,6 +65,7 @@ pub fn enter(place: &Place, haystack: &str, at: usize, stack: &mut Stack) -> Onw
 }
 
 /// Goes on after the next character if it is this one.
+#[inline(always)]
 fn read_char(c: char, to: u32, haystack: &str, at: usize) -> Onward
     requires { IsCharBoundary haystack.now at }
     ensures { IsReadOn at (just c)
@@ -79,6 +81,7 @@ fn read_char(c: char, to: u32, haystack: &str, at: usize) -> Onward
 }
 
 /// Goes on after the next character if it is in the set.
+#[inline(always)]
 fn read_class(set: &MappedClass, to: u32, haystack: &str, at: usize) -> Onward
     requires { IsCharBoundary haystack.now at }
     ensures { IsReadOn at (in_ranges set.now)
@@ -94,6 +97,7 @@ fn read_class(set: &MappedClass, to: u32, haystack: &str, at: usize) -> Onward
 }
 
 /// The next character, and the offset after it.
+#[inline(always)]
 fn next_char(haystack: &str, at: usize) -> Option<(char, usize)>
     requires { IsCharBoundary haystack.now at }
     ensures { MatchOption result
@@ -108,6 +112,7 @@ fn next_char(haystack: &str, at: usize) -> Option<(char, usize)>
 }
 
 /// Goes on at the first of these places, and defers the others.
+#[inline(always)]
 fn branch(entries: &[u32], at: usize, stack: &mut Stack) -> Onward
     requires { length stack.old.frames + (length entries.now - 1) ≤ stack.old.room }
     ensures onto { onto result stack.new.frames

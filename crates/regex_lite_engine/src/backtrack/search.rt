@@ -45,11 +45,12 @@ impl Graph {
             → HasCost tree haystack.now start told.1) }
         ensures entered { IfOk result (λ told. IfSome told.0 (λ _. 0 < told.1.entered)) }
     {
-        let Some(first) = self.first_start(haystack, start) else {
+        let pattern = self.pattern();
+        let Some(first) = pattern.first_start(haystack, start) else {
             return Ok((None, no_steps()));
         };
         let mut walk = self.walk_for(alloc, haystack, first.at, slots)?;
-        let found = run(&mut walk, self, haystack, first);
+        let found = run(&mut walk, &pattern, haystack, first);
         let Walk { stack, steps, .. } = walk;
         Ok((outcome_of(found, stack), steps))
     }

@@ -3,14 +3,14 @@
 ghost use Rattle.std.specs.Prelude.{◌≡◌, ◌<◌, ◌+◌, [], ◌∷◌, IfSome, length, true};
 ghost use Rattle.regex_lite_engine.specs.Backtrack.Machine.{completes, end_at, explore, onto};
 ghost use Rattle.regex_lite_engine.specs.Backtrack.Room.{HasRoom, TakesFrame};
-ghost use Rattle.regex_lite_engine.specs.Graph.Stored.{table_of};
+ghost use Rattle.regex_lite_engine.specs.Graph.Stored.{places_of};
 ghost use Rattle.regex_lite_engine.specs.Search.Bounds.{StaysCounted};
 
-use crate::Graph;
 use crate::backtrack::enter::{Onward, enter};
 use crate::backtrack::frame::Frame;
 use crate::backtrack::stack::Stack;
 use crate::backtrack::visited::Visited;
+use crate::nfa::table::Table;
 use crate::steps::Steps;
 
 /// What a search works in, and what it has counted.
@@ -26,18 +26,25 @@ impl Walk {
 
     /// Follows the ways from the start at this offset, the most preferred first. Returns where the
     /// first of them that is a match ends.
-    pub fn explore(&mut self, graph: &Graph, haystack: &str, start: usize) -> Option<usize>
-        requires room { HasRoom (table_of graph.now) haystack.now self.old
-            (explore graph.now.start start ∷ []) }
+    #[inline(always)]
+    pub fn explore(
+        &mut self,
+        table: &Table,
+        entry: u32,
+        haystack: &str,
+        start: usize,
+    ) -> Option<usize>
+        requires room { HasRoom (places_of table.now) haystack.now self.old
+            (explore entry start ∷ []) }
         requires empty { self.old.stack.frames ≡ [] }
-        ensures explored { Explores (table_of graph.now) haystack.now graph.now.start start
+        ensures explored { Explores (places_of table.now) haystack.now entry start
             self.old self.new result }
         ensures counts { StaysCounted self.old.steps self.new.steps }
         ensures entry { IfSome result (λ _. 0 < self.new.steps.entered) }
     {
-        let (mut place, mut at) = (graph.start(), start);
+        let (mut place, mut at) = (entry, start);
         'ways: loop {
-            match self.come_to(graph, haystack, place, at) {
+            match self.come_to(table, haystack, place, at) {
                 Onward::To {
                     place: to,
                     at: past,
@@ -49,10 +56,11 @@ impl Walk {
     }
 
     /// Visits a place, and enters it if it is new at this offset.
-    fn come_to(&mut self, graph: &Graph, haystack: &str, place: u32, at: usize) -> Onward
-        requires { HasRoom (table_of graph.now) haystack.now self.old
+    #[inline(always)]
+    fn come_to(&mut self, table: &Table, haystack: &str, place: u32, at: usize) -> Onward
+        requires { HasRoom (places_of table.now) haystack.now self.old
             (explore place at ∷ self.old.stack.frames) }
-        ensures taken { TakesFrame (table_of graph.now) haystack.now self.old
+        ensures taken { TakesFrame (places_of table.now) haystack.now self.old
             (explore place at ∷ self.old.stack.frames) self.new
             (onto result self.new.stack.frames) (end_at at result) }
         ensures tries { self.new.steps.tried ≡ self.old.steps.tried + 1 }
@@ -64,11 +72,12 @@ impl Walk {
             return Onward::Back;
         }
         self.steps.count_entry();
-        let found = graph.look(place, &mut self.steps);
+        let found = table.look(place, &mut self.steps);
         enter(found, haystack, at, &mut self.stack)
     }
 
     /// Abandons the current way, and takes up the most recently deferred one.
+    #[inline(always)]
     fn go_back(&mut self) -> Option<(u32, usize)>
         requires { SlotsBelow (length self.old.stack.row) self.old.stack.frames }
         ensures back { Unwinds self.old.stack.row self.old.stack.frames result

@@ -9,13 +9,14 @@ ghost use Rattle.regex_lite_syntax.specs.Tree.Views.{tree_of};
 ghost use Rattle.regex_lite_syntax.specs.Prefilter.ListHeads.{AreEachHeadsOf};
 ghost use Rattle.regex_lite_engine.specs.Graph.PlaceCounts.{whole_places};
 ghost use Rattle.regex_lite_engine.specs.Graph.Renumbered.{arrows_of};
+ghost use Rattle.regex_lite_engine.specs.Graph.Stored.{places_of};
 ghost use Rattle.regex_lite_engine.specs.Graph.SideBySide.{AreRegularPatterns, places_of_all};
 ghost use Rattle.regex_lite_engine.specs.Graph.Size.{Fits, IsDueToTree};
 ghost use Rattle.regex_lite_engine.specs.Graph.StoredList.{HasGroupsOfList, IsGraphOfList};
 ghost use Rattle.regex_lite_engine.specs.Graph.StoredList.{TellGroupsOf, table_of_list};
 ghost use Rattle.regex_lite_engine.specs.Search.OwnFilters.{heads_of};
-ghost use Rattle.regex_lite_engine.specs.Search.Starts.{AreAllAtEnd, AreHeadsOf, AreListHeadsOf};
-ghost use Rattle.regex_lite_engine.specs.Search.Starts.{may_be_empty};
+ghost use Rattle.regex_lite_engine.specs.Search.Starts.{AreAllAtEnd, AreListHeadsOf};
+ghost use Rattle.regex_lite_engine.specs.Search.Starts.{may_be_empty, TellReading};
 
 use crate::count::Counts;
 use crate::count::measured::Measured;
@@ -23,6 +24,7 @@ use crate::count::totals::Totals;
 use crate::nfa::groups::Groups;
 use crate::nfa::table::Table;
 use crate::nfa::write::write_all;
+use crate::search::one_pattern::OnePattern;
 use crate::search::own_filter::OwnFilter;
 use regex_lite_syntax::prefilter::ListHeads;
 use regex_lite_syntax::{Error, Hir};
@@ -40,6 +42,8 @@ pub struct GraphList {
     groups: Vec<Groups>,
     /// Where a match of each pattern can begin, by its number.
     filters: Vec<OwnFilter>,
+    /// Whether each match of a pattern reads a character, by its number.
+    reads: Vec<bool>,
     /// Which patterns may start at a position.
     heads: ListHeads,
     /// The numbers of those that may match without reading a character, in order.
@@ -52,7 +56,7 @@ impl Model for GraphList {
     ghost use Rattle.regex_lite_engine.specs.Graph.StoredList.{StoredList};
     ghost use Rattle.regex_lite_engine.specs.Search.OwnFilters.{heads_of};
     ghost use Rattle.regex_lite_engine.specs.Search.Starts.{AreAllAtEnd, AreFiltersOf};
-    ghost use Rattle.regex_lite_engine.specs.Search.Starts.{AreListHeadsOf};
+    ghost use Rattle.regex_lite_engine.specs.Search.Starts.{AreListHeadsOf, AreReading};
 
     ghost Value = { StoredList };
 
@@ -69,6 +73,7 @@ impl Model for GraphList {
         × AreListHeadsOf (places_of list.table) list.entries.items list.heads
         × AreFiltersOf (places_of list.table) list.entries.items
         (map heads_of list.filters.items)
+        × AreReading (places_of list.table) list.entries.items list.reads.items
         × AreAllAtEnd (places_of list.table) list.entries.items list.at_end.items };
 }
 
@@ -114,6 +119,7 @@ impl GraphList {
         let (places, entries) = write_all(alloc, hirs, totals.places)?;
         let table = Table::new(places, totals.arrows, totals.reading);
         let filters = filters_of(alloc, hirs)?;
+        let reads = that_read(alloc, hirs)?;
         let heads = ListHeads::of(alloc, hirs)?;
         let at_end = that_may_be_empty(alloc, hirs)?;
         Ok(GraphList {
@@ -121,6 +127,7 @@ impl GraphList {
             entries,
             groups,
             filters,
+            reads,
             heads,
             at_end,
         })
@@ -159,16 +166,21 @@ impl GraphList {
         &self.at_end
     }
 
-    /// Where a match of the pattern with this number can begin.
+    /// The pattern with this number, which may start nowhere yet.
     ///
     /// Condition: the list has more patterns than this number.
-    pub fn filter(&self, number: usize) -> &OwnFilter
+    pub fn pattern(&self, number: usize) -> OnePattern<'_, OwnFilter>
         requires { number < length self.now.entries }
-        ensures all { AreHeadsOf (table_of_list self.now) (slice_index self.now.entries number)
-            (heads_of result.now) }
-        ensures inside { slice_index self.now.entries number < length (table_of_list self.now) }
+        ensures table { places_of result.table.now ≡ table_of_list self.now }
+        ensures entry { result.entry ≡ slice_index self.now.entries number }
     {
-        &self.filters[number]
+        OnePattern {
+            table: &self.table,
+            entry: self.entries[number],
+            filter: &self.filters[number],
+            reads: self.reads[number],
+            may_start: false,
+        }
     }
 
     /// How many patterns there are. Each has places.
@@ -239,6 +251,21 @@ fn filters_of(alloc: Global, hirs: &[Measured]) -> Result<Vec<OwnFilter>, AllocE
         filters.push(OwnFilter::of(alloc, hir.hir())?)?;
     }
     Ok(filters)
+}
+
+/// Of each of these trees whether its matches read a character, in their order.
+///
+/// # Errors
+///
+/// If memory runs out.
+fn that_read(alloc: Global, hirs: &[Measured]) -> Result<Vec<bool>, AllocError>
+    ensures { IfOk result (λ reads. TellReading (map tree_of hirs.now) reads.items) }
+{
+    let mut reads = Vec::with_capacity(alloc, hirs.len())?;
+    for hir in hirs {
+        reads.push(!hir.counts().properties.nullable)?;
+    }
+    Ok(reads)
 }
 
 /// The numbers of the trees that may match without reading a character, in order.

@@ -1,10 +1,12 @@
 //! Which of several patterns match: each is searched for by itself, in the same memory.
 ghost use Rattle.std.specs.Prelude.{◌≡◌, ◌<◌, ◌⊎◌, ◌+◌, ◌↔◌, List, ℕ, IfOk, IsTrue};
-ghost use Rattle.std.specs.Prelude.{IsCharBoundary, chars, false, length, slice_index_or};
+ghost use Rattle.std.specs.Prelude.{IfSome, IsCharBoundary, chars, is_some, false, length};
+ghost use Rattle.std.specs.Prelude.{slice_index_or};
 ghost use Rattle.regex_lite_syntax.specs.Tree.{Tree};
 ghost use Rattle.regex_lite_engine.specs.Graph.PlaceCounts.{whole_arrows, whole_places};
 ghost use Rattle.regex_lite_engine.specs.Graph.SideBySide.{AreRegularPatterns, places_of_all};
 ghost use Rattle.regex_lite_engine.specs.Graph.SideBySide.{tries_of_all, HasTree};
+ghost use Rattle.regex_lite_engine.specs.Graph.Stored.{places_of};
 ghost use Rattle.regex_lite_engine.specs.Graph.StoredList.{IsGraphOfList, table_of_list};
 ghost use Rattle.regex_lite_engine.specs.Search.Answer.{HasMatchFrom};
 ghost use Rattle.regex_lite_engine.specs.Search.AnswerOfList.{TellsWhich};
@@ -12,13 +14,14 @@ ghost use Rattle.regex_lite_engine.specs.Search.Bounds.{IsBoundedBy};
 ghost use Rattle.regex_lite_engine.specs.Search.Offsets.{position_at, search_start};
 ghost use Rattle.regex_lite_engine.specs.Search.Outcomes.{HasCostOfList};
 ghost use Rattle.regex_lite_engine.specs.Search.Counting.{IsCountable};
-ghost use Rattle.regex_lite_engine.specs.Pikevm.Searching.{IsBetween};
+ghost use Rattle.regex_lite_engine.specs.Pikevm.Turns.{best_of};
+ghost use Rattle.regex_lite_engine.specs.Pikevm.Searching.{GoesOnIn, IsBetween, IsFresh};
 
 use crate::nfa::list::GraphList;
+use crate::nfa::table::Table;
 use crate::pikevm::beginning::Unkept;
 use crate::pikevm::cache::{Cache, cache_for, restart};
 use crate::pikevm::run::run_shortest;
-use crate::search::one_of_list::OneOfList;
 use crate::steps::{Steps, no_steps};
 use std::alloc::{AllocError, Global};
 
@@ -50,67 +53,108 @@ impl GraphList {
         if start > haystack.len() || self.len() == 0 {
             return Ok((matched, no_steps()));
         }
-        let mut cache = cache_for(alloc, self.table(), 0)?;
-        let steps = self.search_all(&mut cache, haystack, start, &mut matched);
+        let steps = self.search_all(alloc, haystack, start, &mut matched)?;
         Ok((matched, steps))
     }
 
     /// Searches for each pattern, and returns which of them match, and what all searches did.
     fn search_all(
         &self,
-        cache: &mut Cache<Unkept>,
+        alloc: Global,
         haystack: &str,
         start: usize,
         matched: &mut [bool],
-    ) -> Steps
+    ) -> Result<Steps, AllocError>
         requires boundary { IsCharBoundary haystack.now start }
-        requires ready { IsBetween (table_of_list self.now) cache.old }
-        requires countable { IsCountable (table_of_list self.now) }
         requires all { length matched.old ≡ length self.now.entries }
-        ensures found { (trees : List Tree) → AreRegularPatterns trees
+        ensures found { IfOk result (λ _. (trees : List Tree) → AreRegularPatterns trees
             → IsGraphOfList trees self.now
             → TellsWhich trees (chars haystack.now) (position_at haystack.now start)
-            matched.new }
-        ensures cost { (trees : List Tree) → IsGraphOfList trees self.now
+            matched.new) }
+        ensures cost { IfOk result (λ steps. (trees : List Tree) → IsGraphOfList trees self.now
             → IsBoundedBy (places_of_all trees) (tries_of_all trees) (chars haystack.now)
-            (position_at haystack.now start) result.tried result.entered result.looked }
-        ensures entered { (k : ℕ) → IsTrue (slice_index_or matched.new k false)
-            → 0 < result.entered }
+            (position_at haystack.now start) steps.tried steps.entered steps.looked) }
+        ensures entered { IfOk result (λ steps. (k : ℕ)
+            → IsTrue (slice_index_or matched.new k false) → 0 < steps.entered) }
         ensures length { length matched.new ≡ length matched.old }
     {
+        let mut cache = None;
         let mut steps = no_steps();
         for number in 0..self.len() {
-            matched[number] = self.search_one(cache, number, haystack, start);
-            steps = steps.plus(&cache.walk.steps);
+            let (found, own) = self.search_one(alloc, &mut cache, number, haystack, start)?;
+            matched[number] = found;
+            steps = steps.plus(&own);
         }
-        steps
+        Ok(steps)
     }
 
-    /// Whether the pattern with this number matches. What the search does is counted from 0 on.
+    /// Whether the pattern with this number matches, and what the search for it did. Memory is
+    /// asked for before the first step of the first pattern of which a match may begin, and kept
+    /// for the next ones.
     fn search_one(
         &self,
-        cache: &mut Cache<Unkept>,
+        alloc: Global,
+        kept: &mut Option<Cache<Unkept>>,
         number: usize,
         haystack: &str,
         start: usize,
-    ) -> bool
+    ) -> Result<(bool, Steps), AllocError>
         requires number { number < length self.now.entries }
         requires boundary { IsCharBoundary haystack.now start }
-        requires ready { IsBetween (table_of_list self.now) cache.old }
-        requires countable { IsCountable (table_of_list self.now) }
-        ensures found { (trees : List Tree) (tree : Tree) → AreRegularPatterns trees
-            → IsGraphOfList trees self.now → HasTree trees number tree → (IsTrue result
-            ↔ HasMatchFrom tree (chars haystack.now) (position_at haystack.now start)) }
-        ensures cost { (trees : List Tree) (tree : Tree) → IsGraphOfList trees self.now
-            → HasTree trees number tree → IsBoundedBy (whole_places tree) (whole_arrows tree + 1)
-            (chars haystack.now) (position_at haystack.now start) cache.new.walk.steps.tried
-            cache.new.walk.steps.entered cache.new.walk.steps.looked }
-        ensures entered { IsTrue result → 0 < cache.new.walk.steps.entered }
-        ensures ready { IsBetween (table_of_list self.now) cache.new }
+        requires ready { IfSome kept.old (GoesOnIn self.now) }
+        ensures found { IfOk result (λ told. (trees : List Tree) (tree : Tree)
+            → AreRegularPatterns trees → IsGraphOfList trees self.now
+            → HasTree trees number tree → (IsTrue told.0
+            ↔ HasMatchFrom tree (chars haystack.now) (position_at haystack.now start))) }
+        ensures cost { IfOk result (λ told. (trees : List Tree) (tree : Tree)
+            → IsGraphOfList trees self.now → HasTree trees number tree
+            → IsBoundedBy (whole_places tree) (whole_arrows tree + 1) (chars haystack.now)
+            (position_at haystack.now start) told.1.tried told.1.entered told.1.looked) }
+        ensures entered { IfOk result (λ told. IsTrue told.0 → 0 < told.1.entered) }
+        ensures ready { IfSome kept.new (GoesOnIn self.now) }
     {
-        restart(cache);
-        let mut pattern = OneOfList::new(self, number);
-        run_shortest(cache, &mut pattern, haystack, start);
-        cache.best.end().is_some()
+        let mut pattern = self.pattern(number);
+        let Some(first) = pattern.first_start(haystack, start) else {
+            return Ok((false, no_steps()));
+        };
+        let mut cache = memory_again(alloc, pattern.table, kept.take())?;
+        run_shortest(&mut cache, &mut pattern, haystack, first.at);
+        let told = told_by(&cache);
+        kept.replace(cache);
+        Ok(told)
     }
+}
+
+/// Memory for a search in this table: what was kept, made ready for another search, if there is
+/// any.
+///
+/// Condition: the table has a place.
+///
+/// # Errors
+///
+/// If memory runs out.
+fn memory_again(
+    alloc: Global,
+    table: &Table,
+    kept: Option<Cache<Unkept>>,
+) -> Result<Cache<Unkept>, AllocError>
+    requires some { 0 < length table.now.places }
+    requires ready { IfSome kept (λ cache. IsBetween (places_of table.now) cache
+        × IsCountable (places_of table.now)) }
+    ensures fresh { IfOk result (IsFresh (places_of table.now)) }
+    ensures countable { IfOk result (λ _. IsCountable (places_of table.now)) }
+{
+    let Some(mut cache) = kept else {
+        return cache_for(alloc, table, 0);
+    };
+    restart(&mut cache);
+    Ok(cache)
+}
+
+/// Whether the search in this memory found a match, and what it did.
+fn told_by(cache: &Cache<Unkept>) -> (bool, Steps)
+    ensures found { result.0 ≡ is_some (best_of cache.now.best) }
+    ensures steps { result.1 ≡ cache.now.walk.steps }
+{
+    (cache.best.end().is_some(), cache.walk.steps)
 }

@@ -8,7 +8,6 @@ ghost use Rattle.regex_lite_engine.specs.Search.Outcomes.{IsOutcome, HasCost};
 use crate::Graph;
 use crate::pikevm::cache::{Cache, cache_for};
 use crate::pikevm::run::run;
-use crate::search::one_pattern::OnePattern;
 use crate::search::outcome::Outcome;
 use crate::steps::Steps;
 use std::alloc::{AllocError, Global};
@@ -39,10 +38,7 @@ impl Graph {
         ensures entered { IfOk result (λ told. IfSome told.0 (λ _. 0 < told.1.entered)) }
     {
         let mut cache = cache_for::<usize>(alloc, self.table(), slots)?;
-        let mut pattern = OnePattern {
-            graph: self,
-            may_start: false,
-        };
+        let mut pattern = self.pattern();
         run(&mut cache, &mut pattern, haystack, start);
         let Cache { walk, best, .. } = cache;
         Ok((best.into_outcome(), walk.steps))

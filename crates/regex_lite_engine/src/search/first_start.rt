@@ -2,16 +2,16 @@
 ghost use Rattle.std.specs.Prelude.{◌≡◌, ◌+◌, ◌<◌, ◌≤◌, ℕ, IfSome, IsCharBoundary, IsTrue};
 ghost use Rattle.std.specs.Prelude.{None, chars, length};
 ghost use Rattle.regex_lite_syntax.specs.Text.{Text};
-ghost use Rattle.regex_lite_engine.specs.Graph.Stored.{table_of};
+ghost use Rattle.regex_lite_engine.specs.Graph.Stored.{places_of};
 ghost use Rattle.regex_lite_engine.specs.Search.Offsets.{position_at};
 ghost use Rattle.regex_lite_engine.specs.Search.Standing.{IsHere};
 ghost use Rattle.regex_lite_engine.specs.Search.Starts.{AreDeadFrom, IsDeadAt, PassesTo};
 
-use crate::Graph;
 use crate::search::here::Here;
-use crate::search::skip::pass_over;
+use crate::search::one_pattern::OnePattern;
+use crate::search::pattern_filter::PatternFilter;
 
-impl Graph {
+impl<'g, F: PatternFilter> OnePattern<'g, F> {
     /// The first position from this offset on at which a match may begin. None if there is none. A
     /// search from the haystack's end is begun there, since that is its only start.
     ///
@@ -21,10 +21,10 @@ impl Graph {
     pub fn first_start(&self, haystack: &str, start: usize) -> Option<Here>
         requires { IsCharBoundary haystack.now start }
         ensures first { IfSome result (PassesTo
-            (IsDeadAt (table_of self.now) (chars haystack.now) self.now.start)
+            (IsDeadAt (places_of self.now.table.now) (chars haystack.now) self.now.entry)
             (chars haystack.now) (position_at haystack.now start)) }
-        ensures none { result ≡ None → AreDeadFrom (table_of self.now) (chars haystack.now)
-            self.now.start (position_at haystack.now start) }
+        ensures none { result ≡ None → AreDeadFrom (places_of self.now.table.now)
+            (chars haystack.now) self.now.entry (position_at haystack.now start) }
     {
         let here = Here::at(haystack, start);
         if here.after.is_none() {
@@ -37,10 +37,11 @@ impl Graph {
     pub(crate) fn start_after(&self, haystack: &str, here: Here) -> Option<Here>
         requires { (p : ℕ) × IsHere (chars haystack.now) p here }
         ensures first { (p : ℕ) → IsHere (chars haystack.now) p here → IfSome result (PassesTo
-            (IsDeadAt (table_of self.now) (chars haystack.now) self.now.start)
+            (IsDeadAt (places_of self.now.table.now) (chars haystack.now) self.now.entry)
             (chars haystack.now) (p + 1)) }
         ensures none { (p : ℕ) → IsHere (chars haystack.now) p here → result ≡ None
-            → AreDeadFrom (table_of self.now) (chars haystack.now) self.now.start (p + 1) }
+            → AreDeadFrom (places_of self.now.table.now) (chars haystack.now) self.now.entry
+            (p + 1) }
     {
         if here.after.is_none() || self.begins_at_start_alone() {
             return None;
@@ -51,9 +52,9 @@ impl Graph {
     /// Whether it is known that matches begin at the haystack's start alone.
     fn begins_at_start_alone(&self) -> bool
         ensures { IsTrue result → (haystack : Text) (i : ℕ) → 0 < i → i ≤ length haystack
-            → IsDeadAt (table_of self.now) haystack self.now.start i }
+            → IsDeadAt (places_of self.now.table.now) haystack self.now.entry i }
     {
-        self.reads() && !self.filter().heads().first.any
+        self.reads && self.filter.begins_with_none()
     }
 
     /// The first such position from here on.
@@ -61,13 +62,13 @@ impl Graph {
     fn start_from(&self, haystack: &str, here: Here) -> Option<Here>
         requires { (p : ℕ) × IsHere (chars haystack.now) p here }
         ensures first { (p : ℕ) → IsHere (chars haystack.now) p here → IfSome result (PassesTo
-            (IsDeadAt (table_of self.now) (chars haystack.now) self.now.start)
+            (IsDeadAt (places_of self.now.table.now) (chars haystack.now) self.now.entry)
             (chars haystack.now) p) }
         ensures none { (p : ℕ) → IsHere (chars haystack.now) p here → result ≡ None
-            → AreDeadFrom (table_of self.now) (chars haystack.now) self.now.start p }
+            → AreDeadFrom (places_of self.now.table.now) (chars haystack.now) self.now.entry p }
     {
-        let first = pass_over(self.filter(), haystack, here);
-        if first.after.is_none() && self.reads() {
+        let first = self.filter.pass_over(haystack, here);
+        if first.after.is_none() && self.reads {
             return None;
         }
         Some(first)

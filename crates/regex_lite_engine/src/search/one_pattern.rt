@@ -1,55 +1,70 @@
 //! One pattern, which is searched for by itself.
+ghost use Rattle.std.specs.Prelude.{◌<◌, IsTrue, length};
+ghost use Rattle.regex_lite_engine.specs.Graph.Stored.{places_of};
+ghost use Rattle.regex_lite_engine.specs.Search.Starts.{AreHeadsOf, NoneBeginsAtEnd};
 
-use crate::Graph;
 use crate::nfa::table::Table;
 use crate::search::here::Here;
+use crate::search::pattern_filter::PatternFilter;
 use crate::search::patterns::{Patterns, Start};
-use crate::search::skip::pass_over;
 
-/// A pattern, and whether it may start at the position reached last.
+/// A pattern of a graph, which may have others, and whether it may start at the position reached
+/// last.
 #[derive(Drop)]
-pub struct OnePattern<'g> {
-    pub graph: &'g Graph,
+pub struct OnePattern<'g, F: PatternFilter> {
+    pub table: &'g Table,
+    /// Where it is entered.
+    pub entry: u32,
+    /// Where a match can begin.
+    pub filter: &'g F,
+    /// Whether each match reads a character. Then none begins at the haystack's end.
+    pub reads: bool,
     /// At first it may start nowhere.
     pub may_start: bool,
+    pub ghost inside: { entry < length (places_of table.now) },
+    pub ghost heads: { AreHeadsOf (places_of table.now) entry (F.heads filter.now) },
+    pub ghost ends: { IsTrue reads → NoneBeginsAtEnd (places_of table.now) entry },
 }
 
-impl<'g> Patterns for OnePattern<'g> {
+impl<'g, F: PatternFilter> Patterns for OnePattern<'g, F> {
     ghost use Rattle.std.specs.Prelude.{◌∷◌, [], if◌then◌else◌};
-    ghost use Rattle.regex_lite_engine.specs.Graph.Stored.{table_of};
+    ghost use Rattle.regex_lite_engine.specs.Graph.Stored.{places_of};
 
-    ghost table = { λ one. table_of one.graph.now };
+    ghost table = { λ one. places_of one.table.now };
 
-    ghost entries = { λ one. one.graph.now.start ∷ [] };
+    ghost entries = { λ one. one.entry ∷ [] };
 
     ghost starts = { λ one. if one.may_start
-        then record { number = 0; place = one.graph.now.start } ∷ [] else [] };
+        then record { number = 0; place = one.entry } ∷ [] else [] };
 
     fn table(&self) -> &Table {
-        self.graph.table()
+        self.table
     }
 
+    #[inline(always)]
     fn pass_over(&self, haystack: &str, here: Here) -> Here {
-        pass_over(self.graph.filter(), haystack, here)
+        self.filter.pass_over(haystack, here)
     }
 
     fn has_prefilter(&self) -> bool {
-        self.graph.filter().prefilter().is_some()
+        self.filter.has_prefilter()
     }
 
+    #[inline(always)]
     fn come_to(&mut self, _: &str, here: Here) {
-        let heads = self.graph.filter().heads();
-        self.may_start = heads.first.may_begin(here.before, here.after);
+        self.may_start = self.filter.may_begin(here);
     }
 
+    #[inline(always)]
     fn len(&self) -> usize {
         usize::from(self.may_start)
     }
 
+    #[inline(always)]
     fn start(&self, _: usize) -> Start {
         Start {
             number: 0,
-            place: self.graph.start(),
+            place: self.entry,
         }
     }
 }

@@ -8,8 +8,8 @@ ghost use Rattle.regex_lite_engine.specs.Search.Standing.{IsHere};
 ghost use Rattle.regex_lite_engine.specs.Search.Starts.{PassesTo};
 
 use crate::search::here::Here;
+use crate::search::pattern_filter::PatternFilter;
 use crate::search::prefix::Prefix;
-use crate::search::skip::pass_over;
 use regex_lite_syntax::Hir;
 use regex_lite_syntax::prefilter::Filter;
 use std::alloc::{AllocError, Global};
@@ -39,36 +39,38 @@ impl OwnFilter {
         let filter = Box::new(alloc, Filter::of(hir))?;
         Ok(OwnFilter::Whole(filter))
     }
+}
 
-    /// Whether the positions that are passed over are found many bytes at a time.
-    pub(crate) fn has_prefilter(&self) -> bool {
-        match self {
-            OwnFilter::Literal(_) => true,
-            OwnFilter::Whole(filter) => filter.prefilter().is_some(),
-        }
-    }
+impl PatternFilter for OwnFilter {
+    ghost use Rattle.regex_lite_engine.specs.Search.OwnFilters.{heads_of};
 
-    /// Whether a match can begin here, judging by the next character. At the haystack's end any may.
-    pub(crate) fn may_begin(&self, here: Here) -> bool
-        ensures { result ≡ false
-            → may_begin (heads_of self.now).first here.before here.after ≡ false }
-    {
+    ghost heads = { heads_of };
+
+    fn may_begin(&self, here: Here) -> bool {
         match self {
             OwnFilter::Literal(prefix) => prefix.may_begin(here.after),
-            OwnFilter::Whole(filter) => filter.heads().first.may_begin(here.before, here.after),
+            OwnFilter::Whole(filter) => filter.may_begin(here),
         }
     }
 
-    /// The next position from here on at which a match can begin, or the haystack's end.
-    pub(crate) fn pass_over(&self, haystack: &str, here: Here) -> Here
-        requires { (p : ℕ) × IsHere (chars haystack.now) p here }
-        ensures { (p : ℕ) → IsHere (chars haystack.now) p here
-            → PassesTo (NeverBegins (heads_of self.now) (chars haystack.now))
-            (chars haystack.now) p result }
-    {
+    fn pass_over(&self, haystack: &str, here: Here) -> Here {
         match self {
             OwnFilter::Literal(prefix) => prefix.pass_over(haystack, here),
-            OwnFilter::Whole(filter) => pass_over(filter, haystack, here),
+            OwnFilter::Whole(filter) => filter.pass_over(haystack, here),
+        }
+    }
+
+    fn begins_with_none(&self) -> bool {
+        match self {
+            OwnFilter::Literal(_) => false,
+            OwnFilter::Whole(filter) => filter.begins_with_none(),
+        }
+    }
+
+    fn has_prefilter(&self) -> bool {
+        match self {
+            OwnFilter::Literal(_) => true,
+            OwnFilter::Whole(filter) => filter.has_prefilter(),
         }
     }
 }

@@ -1,19 +1,15 @@
--- What is known of the next match, where the positions before it are passed over.
-use Rattle.regex_lite_meta.proofs.Common.{◌≡◌, ℕ, ◌<◌, ◌≤◌, ◌⊎◌, List, [], ◌∷◌, Some, None, IsUtf8}
-use Rattle.regex_lite_meta.proofs.Common.{chars, IsCharBoundary, sym, subst, arith, Found}
-use Rattle.regex_lite_meta.proofs.Common.{Best, best_at, with_start_kept, IsBestOutcomeOf, IsOffset}
-use Rattle.regex_lite_meta.proofs.Common.{IsNumberedFound, Origin, Row, position_at, slice_index}
+-- What is known of the match of a list whose span has been found.
+use Rattle.regex_lite_meta.proofs.Common.{◌≡◌, ℕ, ◌<◌, ◌≤◌, ◌⊎◌, List, [], Some, None, IsUtf8}
+use Rattle.regex_lite_meta.proofs.Common.{Option}
+use Rattle.regex_lite_meta.proofs.Common.{chars, sym, subst, arith, Found}
+use Rattle.regex_lite_meta.proofs.Common.{best_at, IsBestOutcomeOf, IsOffset}
+use Rattle.regex_lite_meta.proofs.Common.{IsNumberedFound, Origin, Row, slice_index}
 use Rattle.regex_lite_meta.proofs.Common.{get_or_from_slice_get, length, slice_get_within}
 use Rattle.regex_lite_meta.proofs.Common.{best_told}
 use Rattle.regex_lite_engine.specs.Graph.Places.{Place}
-use Rattle.regex_lite_engine.specs.Search.NumberedOutcomes.{IsBestOutcome, numbered_at}
+use Rattle.regex_lite_engine.specs.Search.NumberedOutcomes.{IsNumberedOutcome, numbered_at}
 use Rattle.regex_lite_engine.specs.Search.NumberedOutcomes.{with_origin_kept}
 use Rattle.regex_lite_engine.specs.Search.NumberedList.{IsEntry, IsNumberedFoundOf}
-use Rattle.regex_lite_engine.specs.Search.NumberedAnswer.{NoneStartsBefore}
-use Rattle.regex_lite_engine.proofs.OffsetLemmas.{boundary_at}
-use Rattle.regex_lite_engine.proofs.PositionLemmas.{position_of}
-use Rattle.regex_lite_engine.proofs.pikevm.EndLemmas.{one_best}
-use Rattle.regex_lite_engine.proofs.search.FirstStartLemmas.{answer_from}
 
 -- of the answer of a list it is known where it starts, and of which pattern it is
 module _ (table : List (Place ℕ)) (bytes : List ℕ) (utf8 : IsUtf8 bytes) (entries : List ℕ)
@@ -33,15 +29,6 @@ module _ (table : List (Place ℕ)) (bytes : List ℕ) (utf8 : IsUtf8 bytes) (en
 
   is_start : IsOffset (chars bytes) known.start origin.at
   is_start = (answer.answer.inside, is.3.start_told)
-
-  pub start_boundary : IsCharBoundary bytes origin.at
-  start_boundary = boundary_at bytes known.start origin.at utf8 is_start
-
-  before : NoneStartsBefore table (chars bytes) answer.entry s (position_at bytes origin.at)
-  before =
-      subst (NoneStartsBefore table (chars bytes) answer.entry s)
-      (sym (position_of bytes utf8 known.start origin.at is_start))
-      (record { from = answer.answer.from; least = answer.answer.least })
 
   -- what is found of that pattern alone is the answer of the list
   found_of_list : (found : Found) → IsNumberedFound table (chars bytes) answer.entry s found
@@ -69,33 +56,38 @@ module _ (table : List (Place ℕ)) (bytes : List ℕ) (utf8 : IsUtf8 bytes) (en
   same_entry : slice_index entries origin.number ≡ answer.entry
   same_entry = get_or_from_slice_get entries origin.number answer.entry 0 is_entry
 
-  known_here : (best : Best) → IsBestOutcomeOf table (chars bytes)
-      (slice_index entries origin.number ∷ []) (position_at bytes origin.at) best
-      → IsBestOutcome table (chars bytes) answer.entry s best
-  known_here best own =
-      answer_from table (chars bytes) answer.entry s (position_at bytes origin.at) before best
-      (one_best table (chars bytes) answer.entry (position_at bytes origin.at) best
-      (subst (λ entry. IsBestOutcomeOf table (chars bytes) (entry ∷ [])
-      (position_at bytes origin.at) best) same_entry own))
+  -- a search for that pattern alone finds it too
+  pub alone : IsNumberedOutcome table (chars bytes) (slice_index entries origin.number) s
+      (best_at (Some (origin.at, end)) [])
+  alone =
+      subst
+      (λ entry. IsNumberedOutcome table (chars bytes) entry s (best_at (Some (origin.at, end)) []))
+      (sym same_entry) (known, answer.answer, is.3.start_told, is.4, is.5)
 
-  -- that pattern alone has a match
-  pub one_there : IsBestOutcomeOf table (chars bytes) (slice_index entries origin.number ∷ [])
-      (position_at bytes origin.at) None → ⊥
+  own : (best : Option (ℕ × ℕ × Row))
+      → IsNumberedOutcome table (chars bytes) (slice_index entries origin.number) s best
+      → IsNumberedOutcome table (chars bytes) answer.entry s best
+  own best =
+      subst (λ entry. IsNumberedOutcome table (chars bytes) entry s best) same_entry
+
+  -- it has a match
+  pub one_there : IsNumberedOutcome table (chars bytes) (slice_index entries origin.number) s None
+      → ⊥
   one_there none =
-      known_here None none known.start answer.answer.last known.end answer.answer.way (record {
+      own None none known.start answer.answer.last known.end answer.answer.way (record {
         from = answer.answer.from;
         inside = answer.answer.inside;
         leads = answer.answer.is_way;
       })
 
-  -- its first match is the answer of the list
+  -- what it finds is the answer of the list
   pub one_of_list : (span : ℕ × ℕ) (row : Row)
-      → IsBestOutcomeOf table (chars bytes) (slice_index entries origin.number ∷ [])
-      (position_at bytes origin.at) (with_start_kept (best_at (Some span) row))
+      → IsNumberedOutcome table (chars bytes) (slice_index entries origin.number) s
+      (best_at (Some span) row)
       → IsBestOutcomeOf table (chars bytes) entries s
       (with_origin_kept (numbered_at (Some (origin.number, span)) row))
-  one_of_list span row own =
-      let here = known_here (with_start_kept (best_at (Some span) row)) own in (
+  one_of_list span row found =
+      let here = own (best_at (Some span) row) found in (
         is.0,
         here.0,
         found_of_list here.0 here.1,

@@ -2,14 +2,13 @@
 use Rattle.regex_lite_meta.proofs.Common.{◌≡◌, ℕ, zero, suc, ◌+◌, ◌-◌, ◌*◌, ◌^◌, ◌<◌, ◌≤◌, true}
 use Rattle.regex_lite_meta.proofs.Common.{◌⊎◌, List, [], ◌∷◌, length, IfSome, Some, None, Option}
 use Rattle.regex_lite_meta.proofs.Common.{MatchOption, sym, refl, ap, ◌∙◌, subst, inl}
-use Rattle.regex_lite_meta.proofs.Common.{inr, arith, cases_lt, length-map, Text, arrows_of}
-use Rattle.regex_lite_meta.proofs.Common.{place_of, table_of, Thread, best_of, IsComing, Best}
+use Rattle.regex_lite_meta.proofs.Common.{inr, arith, cases_lt, Text, arrows_of}
+use Rattle.regex_lite_meta.proofs.Common.{Thread, best_of, IsComing, Best}
 use Rattle.regex_lite_meta.proofs.Common.{best_kept, offset, Row, IsHere, AreDeadAt, PassesTo}
 use Rattle.regex_lite_meta.proofs.Common.{Origin, Cache, Here, Automaton, ways_of, Suits, side_of}
 use Rattle.regex_lite_meta.proofs.Common.{IsFirstStart, IsIn, IsOnItsWay}
 use Rattle.regex_lite_engine.specs.Graph.Places.{Place}
 use Rattle.regex_lite_meta.specs.LazyDfa.Automaton.{IsEmptyState}
-use Rattle.regex_lite_engine.specs.Graph.Stored.{StoredGraph}
 use Rattle.regex_lite_engine.specs.Search.Bounds.{IsBoundedBy, StepCounts}
 use Rattle.std.proofs.Math.Nat.{mul-le-mul_left, mul-suc}
 use Rattle.regex_lite_engine.specs.Pikevm.Searching.{IsBetween, IsFresh}
@@ -35,14 +34,11 @@ one_start table h s p = record {
     among (suc n) entry is = absurd (not_there is)
 
 -- the pattern of a graph by itself may start anywhere
-pub all_of_one : (graph : StoredGraph) (start : ℕ) → start ≡ graph.start
-    → start < length graph.places → AreAllStarts (table_of graph) (graph.start ∷ [])
-    (record { number = 0; place = graph.start } ∷ [])
-all_of_one graph start is inside = record {
-  at_each = λ h p. one_start (table_of graph) h graph.start p;
-  inside =
-      one_inside (length (table_of graph)) (record { number = 0; place = graph.start }) true
-      (let same = length-map graph.places place_of in omega (arith, is, inside, same));
+pub all_of_one : (table : List (Place ℕ)) (entry : ℕ) → entry < length table
+    → AreAllStarts table (entry ∷ []) (record { number = 0; place = entry } ∷ [])
+all_of_one table entry inside = record {
+  at_each = λ h p. one_start table h entry p;
+  inside = one_inside (length table) (record { number = 0; place = entry }) true inside;
   few = omega arith;
   countable = omega arith;
 }

@@ -1,15 +1,15 @@
 -- A match whose span is known: where it starts is on a boundary, and none starts before it.
 use Rattle.regex_lite_meta.proofs.Common.{ℕ, List, [], Some, IsUtf8, chars, IsCharBoundary, sym}
-use Rattle.regex_lite_meta.proofs.Common.{subst, table_of, best_at, IsOffset, position_at}
-use Rattle.regex_lite_engine.specs.Graph.Stored.{StoredGraph}
+use Rattle.regex_lite_meta.proofs.Common.{subst, best_at, IsOffset, position_at}
+use Rattle.regex_lite_engine.specs.Graph.Places.{Place}
 use Rattle.regex_lite_engine.specs.Search.NumberedAnswer.{NoneStartsBefore}
 use Rattle.regex_lite_engine.specs.Search.NumberedOutcomes.{IsNumberedOutcome}
 use Rattle.regex_lite_engine.proofs.PositionLemmas.{position_of}
 use Rattle.regex_lite_engine.proofs.OffsetLemmas.{boundary_at}
 
-module _ (graph : StoredGraph) (haystack : List ℕ) (utf8 : IsUtf8 haystack) (s : ℕ)
-    (span : ℕ × ℕ)
-    (is : IsNumberedOutcome (table_of graph) (chars haystack) graph.start s
+module _ (table : List (Place ℕ)) (entry : ℕ) (haystack : List ℕ) (utf8 : IsUtf8 haystack)
+    (s : ℕ) (span : ℕ × ℕ)
+    (is : IsNumberedOutcome table (chars haystack) entry s
     (best_at (Some span) [])) where
   -- what is found begins at the span's start
   is_start : IsOffset (chars haystack) is.0.start span.0
@@ -18,9 +18,9 @@ module _ (graph : StoredGraph) (haystack : List ℕ) (utf8 : IsUtf8 haystack) (s
   pub boundary : IsCharBoundary haystack span.0
   boundary = boundary_at haystack is.0.start span.0 utf8 is_start
 
-  pub none_before : NoneStartsBefore (table_of graph) (chars haystack) graph.start s
+  pub none_before : NoneStartsBefore table (chars haystack) entry s
       (position_at haystack span.0)
   none_before =
-      subst (NoneStartsBefore (table_of graph) (chars haystack) graph.start s)
+      subst (NoneStartsBefore table (chars haystack) entry s)
       (sym (position_of haystack utf8 is.0.start span.0 is_start))
       (record { from = is.1.from; least = is.1.least })

@@ -1,18 +1,13 @@
 -- What a searcher remembers, and what it passes over.
-use Rattle.std.specs.Prelude.{◌≡◌, ℕ, List, [], ◌∷◌, Option, IfSome, Some, length}
-use Rattle.regex_lite_syntax.specs.Text.{Text}
+use Rattle.std.specs.Prelude.{◌≡◌, ℕ, List, [], ◌∷◌, Option, IfSome, length, option_map}
 use Rattle.regex_lite_meta.specs.declared.lazy_dfa.list_spans.ListSpanSearcher.{ListSpanSearcher}
-use Rattle.regex_lite_meta.specs.declared.lazy_dfa.spans.Passed.{Passed}
 use Rattle.regex_lite_meta.specs.declared.lazy_dfa.spans.SpanSearcher.{SpanSearcher}
-use Rattle.regex_lite_engine.specs.declared.pikevm.beginning.Origin.{Origin}
 use Rattle.regex_lite_engine.specs.Graph.Places.{Place}
 use Rattle.regex_lite_engine.specs.Graph.Stored.{StoredGraph, table_of}
 use Rattle.regex_lite_engine.specs.Graph.StoredList.{StoredList, table_of_list}
 use Rattle.regex_lite_meta.specs.LazyDfa.Automaton.{Automaton, Remembers}
-use Rattle.regex_lite_meta.specs.LazyDfa.Scanning.{best_told, span_told}
-use Rattle.regex_lite_engine.specs.Search.NumberedOutcomes.{IsBestOutcomeOf}
 use Rattle.regex_lite_engine.specs.Search.Counting.{IsCountable}
-use Rattle.regex_lite_engine.specs.Pikevm.Searching.{IsBetween}
+use Rattle.regex_lite_engine.specs.Pikevm.Searching.{GoesOnIn, IsBetween}
 
 -- all turns are those of searches for these entries of the table
 pub record RemembersFor (table : List (Place ℕ)) (entries : List ℕ) (automaton : Automaton)
@@ -42,22 +37,10 @@ pub record FindsSpansIn (graph : StoredGraph) (spans : SpanSearcher) : Type 0 wh
   pub width : length spans.cache.walk.memory.row ≡ 0
   pub countable : IsCountable (table_of graph)
 
--- searches for matches of any pattern of the list go on in its memory, which has no slots
+-- searches for matches of any pattern of the list go on in its memory
 pub record FindsSpansInList (list : StoredList) (spans : ListSpanSearcher) : Type 0 where
-  pub remembers : RemembersFor (table_of_list list) list.entries spans.dfa
-  pub between : IsBetween (table_of_list list) spans.cache
-  pub width : length spans.cache.walk.memory.row ≡ 0
-
--- the most preferred match from the least start at s or later starts at `from` and ends there, if
--- its end is known
-abbrev pub IsKnown : (table : List (Place ℕ)) → Text → (start s : ℕ) → Passed → Type 0
-IsKnown table haystack start s passed =
-    IfSome passed.end (λ end.
-    IsBestOutcomeOf table haystack (start ∷ []) s (span_told (Some (passed.from, end))))
-
--- the answer of a search of the list from position s on has this start and the number of this
--- pattern
-abbrev pub IsOriginInList : StoredList → Text → (s : ℕ) → Origin → Type 0
-IsOriginInList list haystack s origin =
-    (end : ℕ)
-    × IsBestOutcomeOf (table_of_list list) haystack list.entries s (best_told (Some (origin, end)))
+  pub table : table_of_list spans.patterns.list.now ≡ table_of_list list
+  pub entries : spans.patterns.list.now.entries ≡ list.entries
+  pub goes_on : GoesOnIn list spans.cache
+  pub remembers : IsRememberingList list (length spans.cache.best.row)
+      (option_map (λ dfa. dfa.value) spans.dfa)

@@ -52,57 +52,13 @@ impl LazyDfa {
         ensures width { length cache.new.walk.memory.row ≡ 0 }
     {
         let begun = Progress::begun(haystack, start);
-        match self.find_while_it_pays(patterns, cache, haystack, begun, 0) {
+        match self.search_while_it_pays::<_, false>(patterns, cache, haystack, begun, 0) {
             Ok(found) => found,
             Err(at) => {
                 advance::<_, _, false>(cache, patterns, haystack, at.here, None);
                 cache.best.found()
             }
         }
-    }
-
-    /// The most preferred match, as `search_while_it_pays` finds it.
-    pub(crate) fn find_while_it_pays<P: Patterns>(
-        &mut self,
-        patterns: &P,
-        cache: &mut Cache<Origin>,
-        haystack: &str,
-        from: Progress,
-        least: u128,
-    ) -> Result<Option<(Origin, usize)>, Progress>
-        requires all { AreAllStarts (P.table patterns.now) (P.entries patterns.now)
-            (P.starts patterns.now) }
-        requires remembers { Remembers (P.table patterns.now) (P.entries patterns.now) self.old }
-        requires none_pending { self.old.pending ≡ [] }
-        requires stands { (s : ℕ)
-            × CanCount (P.table patterns.now) (length (P.entries patterns.now))
-            (characters_left (chars haystack.now) s)
-            × Stands (P.table patterns.now) (chars haystack.now) (P.entries patterns.now) s self.old
-            from cache.old }
-        requires least { least ≤ 1 }
-        ensures found { (s : ℕ) → Stands (P.table patterns.now) (chars haystack.now)
-            (P.entries patterns.now) s self.old from cache.old
-            → IfOk result (λ found. IsBestOutcomeOf (P.table patterns.now) (chars haystack.now)
-            (P.entries patterns.now) s (best_told found)) }
-        ensures bounded { (s : ℕ) → Stands (P.table patterns.now) (chars haystack.now)
-            (P.entries patterns.now) s self.old from cache.old
-            → IfOk result (λ _. IsBoundedBy (length (P.table patterns.now))
-            (arrows_of (P.table patterns.now) + length (P.entries patterns.now))
-            (chars haystack.now) s cache.new.walk.steps.tried cache.new.walk.steps.entered
-            cache.new.walk.steps.looked) }
-        ensures entered { IfOk result (λ found. IfSome found
-            (λ _. least ≤ cache.new.walk.steps.entered)) }
-        ensures stands { (s : ℕ) → Stands (P.table patterns.now) (chars haystack.now)
-            (P.entries patterns.now) s self.old from cache.old
-            → IfErr result (λ at. Stands (P.table patterns.now) (chars haystack.now)
-            (P.entries patterns.now) s self.new at cache.new) }
-        ensures own { IfErr result (λ at. at.anew ≡ false) }
-        ensures remembers { Remembers (P.table patterns.now) (P.entries patterns.now) self.new }
-        ensures none_pending { self.new.pending ≡ [] }
-        ensures between { IsBetween (P.table patterns.now) cache.new }
-        ensures width { length cache.new.walk.memory.row ≡ 0 }
-    {
-        self.search_while_it_pays::<_, false>(patterns, cache, haystack, from, least)
     }
 
     /// The most preferred match or, with EARLIEST, one with the least end, from where a search

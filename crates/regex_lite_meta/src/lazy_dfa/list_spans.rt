@@ -1,15 +1,14 @@
-//! Searches for several patterns, without slots, that find by remembered turns where a match starts
-//! and of which pattern it is. A search for that pattern alone finds the slots.
-ghost use Rattle.std.specs.Prelude.{◌≡◌, ℕ, IfSome, IsCharBoundary, None, Some, chars, length};
-ghost use Rattle.regex_lite_meta.specs.LazyDfa.Remembering.{FindsSpansInList, IsOriginInList};
+//! Searches for several patterns: where a match starts and ends, and of which pattern it is. Where
+//! it pays they remember their turns, and keep no slots.
+ghost use Rattle.std.specs.Prelude.{◌≡◌, ◌<◌, IfOk, IfSome, IsCharBoundary, None, chars, length};
+ghost use Rattle.std.specs.Prelude.{option_map};
+ghost use Rattle.regex_lite_meta.specs.LazyDfa.Remembering.{FindsSpansInList, IsRememberingList};
 ghost use Rattle.regex_lite_meta.specs.LazyDfa.Remembering.{RemembersFor};
 ghost use Rattle.regex_lite_meta.specs.LazyDfa.Scanning.{best_told};
 ghost use Rattle.regex_lite_engine.specs.Graph.StoredList.{table_of_list};
 ghost use Rattle.regex_lite_engine.specs.Search.Bounds.{characters_left};
-ghost use Rattle.regex_lite_engine.specs.Search.Counting.{CanCount, IsCountable};
-ghost use Rattle.regex_lite_engine.specs.Search.NumberedList.{IsNumberedAnswerOf};
-ghost use Rattle.regex_lite_engine.specs.Search.NumberedOutcomes.{IsBestOutcomeOf, numbered_at};
-ghost use Rattle.regex_lite_engine.specs.Search.NumberedOutcomes.{with_origin_kept};
+ghost use Rattle.regex_lite_engine.specs.Search.Counting.{CanCount};
+ghost use Rattle.regex_lite_engine.specs.Search.NumberedOutcomes.{IsBestOutcomeOf, best_kept};
 ghost use Rattle.regex_lite_engine.specs.Search.Offsets.{position_at};
 ghost use Rattle.regex_lite_engine.specs.Pikevm.Searching.{IsBetween, IsFresh};
 
@@ -17,58 +16,141 @@ use crate::lazy_dfa::automaton::LazyDfa;
 use crate::lazy_dfa::run::Progress;
 use regex_lite_engine::nfa::list::GraphList;
 use regex_lite_engine::pikevm::beginning::Origin;
-use regex_lite_engine::pikevm::best::span_of;
-use regex_lite_engine::pikevm::cache::{Cache, cache_for, restart};
+use regex_lite_engine::pikevm::cache::{Cache, cache_for_list, restart};
 use regex_lite_engine::pikevm::run::run;
 use regex_lite_engine::search::all_of_list::AllOfList;
-use regex_lite_engine::search::one_of_list::OneOfList;
-use std::alloc::Global;
+use regex_lite_engine::search::list_patterns::ListPatterns;
+use std::alloc::{AllocError, Global};
 
-/// An automaton for the patterns of a list, and the memory of the searches whose turns it
-/// remembers.
+/// The memory in which the patterns of a list are searched for.
 #[derive(Drop)]
-pub(crate) struct ListSpanSearcher {
-    dfa: LazyDfa,
+pub(crate) struct ListSpanSearcher<'g> {
+    /// Those of the list.
+    patterns: ListPatterns<'g>,
     cache: Cache<Origin>,
+    /// What is remembered of the turns of earlier searches, where it pays. On the heap: most have
+    /// none, and are moved about often.
+    dfa: Option<Box<LazyDfa>>,
 }
 
-impl ListSpanSearcher {
-    /// One for this list, which remembers nothing yet. None where there is no pattern, where there
-    /// are too many classes, or where memory runs out. It is in a box, so that moving it costs
-    /// little.
-    pub(crate) fn for_list(alloc: Global, list: &GraphList) -> Option<Box<ListSpanSearcher>>
-        ensures { IfSome result (λ boxed. FindsSpansInList list.now boxed.value) }
+impl<'g> ListSpanSearcher<'g> {
+    /// One for this list, whose matches have this number of slots. If that pays and there are none,
+    /// it remembers its turns, unless the memory for that is refused.
+    ///
+    /// # Errors
+    ///
+    /// If memory runs out without which it can't search.
+    pub(crate) fn new(
+        alloc: Global,
+        list: &'g GraphList,
+        slots: usize,
+        pays: bool,
+    ) -> Result<ListSpanSearcher<'g>, AllocError>
+        ensures finds { IfOk result (FindsSpansInList list.now) }
+        ensures width { IfOk result (λ searcher. length searcher.cache.best.row ≡ slots) }
     {
-        if list.len() == 0 {
-            return None;
-        }
-        let dfa = LazyDfa::for_list(alloc, list)?;
-        let cache = cache_for(alloc, list.table(), 0).ok()?;
-        let searcher = ListSpanSearcher { dfa, cache };
-        Box::new(alloc, searcher).ok()
+        let patterns = ListPatterns::new(alloc, list)?;
+        let cache = cache_for_list(alloc, list, slots)?;
+        let dfa = if pays && slots == 0 {
+            automaton_for(alloc, list)
+        } else {
+            None
+        };
+        Ok(ListSpanSearcher {
+            patterns,
+            cache,
+            dfa,
+        })
     }
 
-    /// What a search for all patterns finds at or after this offset. None if the automaton is given
-    /// up.
-    fn find(
+    /// Where the match starts and ends that starts first at or after this offset, and the number of
+    /// its pattern: the lowest of those that match there. Its slots are in the row. It takes no
+    /// memory.
+    ///
+    /// Conditions: the list has a pattern, and the start is on a character boundary.
+    pub(crate) fn find(
         &mut self,
         list: &GraphList,
         haystack: &str,
         start: usize,
-    ) -> Option<Option<(Origin, usize)>>
+    ) -> Option<(Origin, usize)>
+        requires some { 0 < length list.now.entries }
         requires boundary { IsCharBoundary haystack.now start }
         requires finds { FindsSpansInList list.now self.old }
-        requires counts { CanCount (table_of_list list.now) (length list.now.entries)
-            (characters_left (chars haystack.now) (position_at haystack.now start)) }
-        ensures found { IfSome result (λ found. IsBestOutcomeOf (table_of_list list.now)
-            (chars haystack.now) list.now.entries (position_at haystack.now start)
-            (best_told found)) }
+        ensures found { IsBestOutcomeOf (table_of_list list.now) (chars haystack.now)
+            list.now.entries (position_at haystack.now start)
+            (best_kept result self.new.cache.best.row) }
         ensures finds { FindsSpansInList list.now self.new }
+        ensures width { length self.new.cache.best.row ≡ length self.old.cache.best.row }
     {
+        // Each has a number of 32 bits, since there are no more.
+        let _entries = list.entries();
         restart(&mut self.cache);
-        self.dfa
-            .find_in_list(list, &mut self.cache, haystack, start)
+        if let Some(found) = find_remembering(
+            &mut self.dfa,
+            list,
+            &mut self.cache,
+            haystack,
+            start,
+        ) {
+            return found;
+        }
+        run(&mut self.cache, &mut self.patterns, haystack, start);
+        self.cache.best.found()
     }
+
+    /// The slots of the last match, if they are kept.
+    pub(crate) fn row(&self) -> &[Option<usize>]
+        ensures { result.now ≡ self.now.cache.best.row }
+    {
+        self.cache.best.row()
+    }
+}
+
+/// An automaton of this list that remembers nothing yet, on the heap.
+#[inline(never)]
+fn automaton_for(alloc: Global, list: &GraphList) -> Option<Box<LazyDfa>>
+    ensures { IfSome result (λ dfa. RemembersFor (table_of_list list.now) list.now.entries
+        dfa.value) }
+{
+    let dfa = LazyDfa::for_list(alloc, list)?;
+    Box::new(alloc, dfa).ok()
+}
+
+/// What a search by remembered turns finds. None if there is no automaton, or if it is given up:
+/// then it is dropped, and no search has begun.
+fn find_remembering(
+    dfa: &mut Option<Box<LazyDfa>>,
+    list: &GraphList,
+    cache: &mut Cache<Origin>,
+    haystack: &str,
+    start: usize,
+) -> Option<Option<(Origin, usize)>>
+    requires boundary { IsCharBoundary haystack.now start }
+    requires remembers { IsRememberingList list.now (length cache.old.best.row)
+        (option_map (λ dfa. dfa.value) dfa.old) }
+    requires fresh { IsFresh (table_of_list list.now) cache.old }
+    requires counts { CanCount (table_of_list list.now) (length list.now.entries)
+        (characters_left (chars haystack.now) (position_at haystack.now start)) }
+    ensures found { IfSome result (λ found. IsBestOutcomeOf (table_of_list list.now)
+        (chars haystack.now) list.now.entries (position_at haystack.now start)
+        (best_told found)) }
+    ensures remembers { IsRememberingList list.now (length cache.new.best.row)
+        (option_map (λ dfa. dfa.value) dfa.new) }
+    ensures fresh { result ≡ None → IsFresh (table_of_list list.now) cache.new }
+    ensures between { IsBetween (table_of_list list.now) cache.new }
+    ensures without_slots { IfSome result (λ _. length cache.new.best.row ≡ 0) }
+    ensures width { length cache.new.best.row ≡ length cache.old.best.row }
+{
+    let Some(automaton) = dfa else {
+        return None;
+    };
+    if let Some(found) = automaton.find_in_list(list, cache, haystack, start) {
+        return Some(found);
+    }
+    restart(cache);
+    *dfa = None;
+    None
 }
 
 impl LazyDfa {
@@ -98,7 +180,8 @@ impl LazyDfa {
         let _entries = list.entries();
         let all = AllOfList { list };
         let begun = Progress::begun(haystack, start);
-        let Ok(found) = self.find_while_it_pays(&all, cache, haystack, begun, 0) else {
+        let told = self.search_while_it_pays::<_, false>(&all, cache, haystack, begun, 0);
+        let Ok(found) = told else {
             return None;
         };
         self.count_bytes(went(found, haystack).saturating_sub(start));
@@ -112,60 +195,4 @@ fn went(found: Option<(Origin, usize)>, haystack: &str) -> usize {
         Some((_, end)) => end,
         None => haystack.len(),
     }
-}
-
-/// Where the first match at or after this offset starts, and the number of its pattern, if there is
-/// a match. None if there is no automaton, or if it is given up: then it is dropped.
-pub(crate) fn find_origin(
-    spans: &mut Option<Box<ListSpanSearcher>>,
-    list: &GraphList,
-    haystack: &str,
-    start: usize,
-) -> Option<Option<Origin>>
-    requires boundary { IsCharBoundary haystack.now start }
-    requires finds { IfSome spans.old (λ boxed. FindsSpansInList list.now boxed.value) }
-    requires counts { CanCount (table_of_list list.now) (length list.now.entries)
-        (characters_left (chars haystack.now) (position_at haystack.now start)) }
-    ensures finds { IfSome spans.new (λ boxed. FindsSpansInList list.now boxed.value) }
-    ensures none { result ≡ Some None → IsNumberedAnswerOf (table_of_list list.now)
-        (chars haystack.now) list.now.entries (position_at haystack.now start) None }
-    ensures found { IfSome result (λ found. IfSome found (IsOriginInList list.now
-        (chars haystack.now) (position_at haystack.now start))) }
-{
-    let Some(searcher) = spans else {
-        return None;
-    };
-    match searcher.find(list, haystack, start) {
-        Some(Some((origin, _))) => Some(Some(origin)),
-        Some(None) => Some(None),
-        None => {
-            *spans = None;
-            None
-        }
-    }
-}
-
-/// Searches for the slots of the match that starts here, of the pattern with this number, which is
-/// the first match of any pattern. The row has them afterwards. Returns the number, and where the
-/// match starts and ends.
-pub(crate) fn find_slots(
-    list: &GraphList,
-    cache: &mut Cache<Origin>,
-    haystack: &str,
-    origin: Origin,
-) -> Option<(usize, (usize, usize))>
-    requires origin { (s : ℕ) × IsOriginInList list.now (chars haystack.now) s origin }
-    requires fresh { IsFresh (table_of_list list.now) cache.old }
-    requires countable { IsCountable (table_of_list list.now) }
-    ensures found { (s : ℕ) → IsOriginInList list.now (chars haystack.now) s origin
-        → IsBestOutcomeOf (table_of_list list.now) (chars haystack.now) list.now.entries s
-        (with_origin_kept (numbered_at result cache.new.best.row)) }
-    ensures between { IsBetween (table_of_list list.now) cache.new }
-    ensures width { length cache.new.best.row ≡ length cache.old.best.row }
-{
-    let number = origin.number as usize;
-    let mut pattern = OneOfList::new(list, number);
-    run(cache, &mut pattern, haystack, origin.at);
-    let span = span_of(cache.best.found())?;
-    Some((number, span))
 }

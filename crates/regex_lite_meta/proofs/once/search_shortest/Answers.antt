@@ -1,4 +1,4 @@
-use Rattle.regex_lite_meta.proofs.Common.{◌^◌, ◌<◌, length, chars, sym, ap, subst, arith, rules}
+use Rattle.regex_lite_meta.proofs.Common.{◌^◌, ◌<◌, length, chars, sym, subst, arith, rules}
 use Rattle.regex_lite_meta.proofs.Common.{places_of, table_of, best_of, position_at, None}
 use Rattle.regex_lite_meta.proofs.Common.{arrows_of}
 use Rattle.std.proofs.lemmas.Grind.{common_steps}
@@ -18,13 +18,14 @@ pub run_shortest-requires : goal.run_shortest-requires
 run_shortest-requires c = record {
   counts =
       let short : length c.args.haystack.now < 2 ^ 63 = search rules in
-      can_count (table_of c.args.graph.now) c.args.haystack.now
+      can_count (places_of c.pattern-pattern.result.table.now) c.args.haystack.now
       (position_at c.args.haystack.now c.in-Some.first.at) c.utf8.haystack short
-      (rw (ap places_of c.table.ensures.same) at c.in_ok-cache.ensures.countable) 1 (omega arith);
-  fresh = rw (ap places_of c.table.ensures.same) at c.in_ok-cache.ensures.fresh;
+      c.in_ok-cache.ensures.countable 1 (omega arith);
+  fresh = c.in_ok-cache.ensures.fresh;
   boundary = first_boundary (table_of c.args.graph.now) c.args.haystack.now c.utf8.haystack
       c.args.graph.now.start (position_at c.args.haystack.now c.args.start) c.in-Some.first
-      (rw c.in-Some.is at c.first_start.ensures.first);
+      (rw (c.pattern-pattern.ensures.table, c.pattern-pattern.ensures.entry) at
+      (rw c.in-Some.is at c.first_start.ensures.first));
 }
 
 pub returns-clause-found : goal.returns-clause-found
@@ -39,9 +40,11 @@ returns-clause-found c = λ tree regular is. (
     (omega (arith, over)) best
     (end_from table (chars c.args.haystack.now) c.args.graph.now.start s m
     (none_before_first table c.args.haystack.now c.utf8.haystack c.args.graph.now.start s
-    c.in-Some.first (rw c.in-Some.is at c.first_start.ensures.first)) best
+    c.in-Some.first (rw (c.pattern-pattern.ensures.table, c.pattern-pattern.ensures.entry) at
+    (rw c.in-Some.is at c.first_start.ensures.first))) best
     (one_end table (chars c.args.haystack.now) c.args.graph.now.start m best
-    c.run_shortest.ensures.found))))
+    (rw (c.pattern-pattern.ensures.table, c.pattern-pattern.ensures.entry) at
+    c.run_shortest.ensures.found)))))
 
 pub returns-clause-cost : goal.returns-clause-cost
 returns-clause-cost c = λ tree is.
@@ -51,12 +54,14 @@ returns-clause-cost c = λ tree is.
     let s = position_at c.args.haystack.now c.args.start in
     let m = position_at c.args.haystack.now c.in-Some.first.at in
     let before = none_before_first (table_of graph) c.args.haystack.now c.utf8.haystack
-    graph.start s c.in-Some.first (rw c.in-Some.is at c.first_start.ensures.first) in
+    graph.start s c.in-Some.first
+    (rw (c.pattern-pattern.ensures.table, c.pattern-pattern.ensures.entry) at
+    (rw c.in-Some.is at c.first_start.ensures.first)) in
     cost_told tree graph is c.args.haystack.now c.args.start
     (omega (arith, over)) steps.tried steps.entered steps.looked
     (bounded_from (length (table_of graph)) (arrows_of (table_of graph))
     (chars c.args.haystack.now) s m steps.tried steps.entered steps.looked before.from
-    c.run_shortest.ensures.bounded)
+    (rw c.pattern-pattern.ensures.table at c.run_shortest.ensures.bounded))
 
 pub returns-in_default-clause-found : goal.returns-in_default-clause-found
 returns-in_default-clause-found c = λ tree regular is. (
@@ -64,7 +69,9 @@ returns-in_default-clause-found c = λ tree regular is. (
     end_told tree regular c.args.graph.now is c.args.haystack.now c.args.start (omega (arith, over))
     None
     (none_from (table_of c.args.graph.now) (chars c.args.haystack.now) c.args.graph.now.start
-    (position_at c.args.haystack.now c.args.start) (c.first_start.ensures.none c.in_default.is)))
+    (position_at c.args.haystack.now c.args.start)
+    (rw (c.pattern-pattern.ensures.table, c.pattern-pattern.ensures.entry) at
+    (c.first_start.ensures.none c.in_default.is))))
 
 pub returns-in_default-clause-cost : goal.returns-in_default-clause-cost
 returns-in_default-clause-cost c = λ tree is.

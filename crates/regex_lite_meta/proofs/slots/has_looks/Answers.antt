@@ -1,9 +1,8 @@
 use Rattle.regex_lite_meta.proofs.Common.{◌≡◌, map, slice_get, option_map, length, Some, sym, refl}
 use Rattle.regex_lite_meta.proofs.Common.{ap, ◌∙◌, subst, inl, inr, arith, cases_lt, place_of}
-use Rattle.regex_lite_meta.proofs.Common.{table_of, slice_get_within, HasNoLooks}
+use Rattle.regex_lite_meta.proofs.Common.{places_of, slice_get_within, HasNoLooks}
 use Rattle.std.proofs.lemmas.Option.{slice_get-map, slice_get_read}
 use Rattle.regex_lite_engine.specs.Graph.NoLooks.{RequiresNoLook}
-use Rattle.regex_lite_engine.specs.Graph.Stored.{StoredTable}
 use Rattle.regex_lite_syntax.proofs.OptionLemmas.{same_some}
 use Rattle.regex_lite_meta.proofs.lazy_dfa.NoLookLemmas.{each_no_look, not_look}
 use Rattle.regex_lite_meta.proofs.slots.has_looks.Goals as goal
@@ -15,9 +14,8 @@ returns-in-Look c =
     let place = c.place-item.result in
     let read : slice_get places i ≡ Some place
     = slice_get_read places (length places) i place refl c.loop-place-test.true c.place-item.is in
-    let same : map place_of places ≡ table_of c.args.graph.now
-    = ap (map place_of)
-    (c.all-places.ensures ∙ ap (λ (t : StoredTable). t.places) c.table.ensures.same) in (
+    let same : map place_of places ≡ places_of c.args.table.now
+    = ap (map place_of) c.all-places.ensures in (
       λ e. cc,
       λ none.
           absurd (subst RequiresNoLook (ap place_of c.in-Look.is)
@@ -44,9 +42,8 @@ loop-place-preserved c = λ q place lt at.
 pub returns : goal.returns
 returns c =
     let places = c.all-places.result.now in
-    let same : map place_of places ≡ table_of c.args.graph.now
-    = ap (map place_of)
-    (c.all-places.ensures ∙ ap (λ (t : StoredTable). t.places) c.table.ensures.same) in (
+    let same : map place_of places ≡ places_of c.args.table.now
+    = ap (map place_of) c.all-places.ensures in (
       λ e.
           subst HasNoLooks same
           (each_no_look places (λ q place at.

@@ -11,7 +11,6 @@ ghost use Rattle.regex_lite_engine.specs.Search.NumberedOutcomes.{best_at, match
 use crate::lazy_dfa::single::find_once;
 use regex_lite_engine::pikevm::beginning::Origin;
 use regex_lite_engine::pikevm::cache::{Cache, cache_for};
-use regex_lite_engine::search::one_pattern::OnePattern;
 use regex_lite_engine::search::outcome::Outcome;
 use regex_lite_engine::{Graph, Steps};
 use std::alloc::{AllocError, Global};
@@ -32,17 +31,10 @@ pub(crate) fn search_remembering(
         → HasCost tree haystack.now start told.1) }
     ensures entered { IfOk result (λ told. IfSome told.0 (λ _. 0 < told.1.entered)) }
 {
-    let mut cache = cache_for::<Origin>(alloc, graph.table(), 0)?;
-    // Its place is one of the graph.
-    let _start = graph.start();
-    let mut pattern = OnePattern {
-        graph,
-        may_start: false,
-    };
-    let all = OnePattern {
-        graph,
-        may_start: true,
-    };
+    let mut pattern = graph.pattern();
+    let mut all = graph.pattern();
+    all.may_start = true;
+    let mut cache = cache_for::<Origin>(alloc, pattern.table, 0)?;
     let found = find_once::<_, _, false>(&mut pattern, &all, alloc, &mut cache, haystack, start);
     let Cache { walk, .. } = cache;
     Ok((without_slots(alloc, found), walk.steps))
@@ -62,17 +54,10 @@ pub(crate) fn search_shortest_remembering(
         → HasCost tree haystack.now start told.1) }
     ensures entered { IfOk result (λ told. IfSome told.0 (λ _. 0 < told.1.entered)) }
 {
-    let mut cache = cache_for::<Origin>(alloc, graph.table(), 0)?;
-    // Its place is one of the graph.
-    let _start = graph.start();
-    let mut pattern = OnePattern {
-        graph,
-        may_start: false,
-    };
-    let all = OnePattern {
-        graph,
-        may_start: true,
-    };
+    let mut pattern = graph.pattern();
+    let mut all = graph.pattern();
+    all.may_start = true;
+    let mut cache = cache_for::<Origin>(alloc, pattern.table, 0)?;
     let found = find_once::<_, _, true>(&mut pattern, &all, alloc, &mut cache, haystack, start);
     let Cache { walk, .. } = cache;
     Ok((end_of(found), walk.steps))

@@ -54,18 +54,24 @@ module _ (graph : StoredGraph) (bytes : List ℕ) (span : ℕ × ℕ) (tree : Tr
 
 pub find_known-requires-clause-known : goal.find_known-requires-clause-known
 find_known-requires-clause-known c =
-    let (tree, regular, is, (start, finds)) = c.requires in (
+    let (tree, regular, is, (start, finds)) = c.requires in
+    let own = c.pattern-pattern.ensures in (
       search_start c.args.haystack.now start,
-      over_numbers c.self.inside.graph.now c.args.haystack.now c.args.span tree regular
-          (subst (λ (z : Searching). IsGraphOf tree z.graph) (sym c.self.view_is) is) start finds,
+      rw (own.table, own.entry)
+          (over_numbers c.self.inside.graph.now c.args.haystack.now c.args.span tree regular
+          (subst (λ (z : Searching). IsGraphOf tree z.graph) (sym c.self.view_is) is) start finds),
     )
+
+pub find_known-requires-clause-finds : goal.find_known-requires-clause-finds
+find_known-requires-clause-finds c = rw c.pattern-pattern.ensures.table c.self.invariant
 
 pub returns-clause-found : goal.returns-clause-found
 returns-clause-found c = λ tree regular is start finds.
     let graph = c.self.inside.graph.now in
     let bytes = c.args.haystack.now in
+    let own = c.pattern-pattern.ensures in
     let of_graph = subst (λ (z : Searching). IsGraphOf tree z.graph) (sym c.self.view_is) is in
     over_tree graph bytes c.args.span tree regular of_graph start finds
-    c.find_known.result.span c.find_known.new.self.cache.best.row
-    (c.find_known.ensures.found (search_start bytes start)
+    c.find_known.result c.find_known.new.self.cache.best.row
+    ((rw (own.table, own.entry) at c.find_known.ensures.found) (search_start bytes start)
     (over_numbers graph bytes c.args.span tree regular of_graph start finds))

@@ -1,6 +1,6 @@
 use Rattle.regex_lite_engine.proofs.Common.{◌+◌, ◌<◌, [], ◌∷◌, None, unwrap_or, sym, ap, ◌∙◌, subst}
 use Rattle.regex_lite_engine.proofs.Common.{length-map, was_entered, with_arrows, place_of}
-use Rattle.regex_lite_engine.proofs.Common.{table_of, LeadsBelow}
+use Rattle.regex_lite_engine.proofs.Common.{places_of, LeadsBelow}
 use Rattle.regex_lite_engine.specs.declared.backtrack.walk.Walk.{Walk}
 use Rattle.regex_lite_engine.specs.Backtrack.Machine.{completes, end_at, explore, onto}
 use Rattle.regex_lite_engine.specs.Backtrack.Room.{with_frames, Went}
@@ -15,7 +15,7 @@ use Rattle.regex_lite_engine.proofs.backtrack.walk.Walk.come_to.Goals as goal
 pub returns-then-not-insert-clause-taken : goal.returns-then-not-insert-clause-taken
 returns-then-not-insert-clause-taken c =
     let a = c.args in let w = a.self.now in let fit = c.requires in
-    let table = table_of a.graph.now in let bytes = a.haystack.now in
+    let table = places_of a.table.now in let bytes = a.haystack.now in
     let was = was_old (was_entered w.visited a.place a.at) c.insert.result c.if-not-insert.true
     c.insert.ensures.fresh.1 in
     subst
@@ -31,21 +31,21 @@ returns-then-not-insert-clause-taken c =
 pub enter-requires-clause-room : goal.enter-requires-clause-room
 enter-requires-clause-room c =
     let a = c.args in
-    enter_room (table_of a.graph.now) a.haystack.now a.self.now a.place a.at c.requires
+    enter_room (places_of a.table.now) a.haystack.now a.self.now a.place a.at c.requires
     c.utf8.haystack (c.insert.ensures.fresh.0 c.if-not-insert.false) c.look-found.result.now
-    (got_place a.graph.now.places a.place c.look-found.result.now c.look-found.ensures.found)
+    (got_place a.table.now.places a.place c.look-found.result.now c.look-found.ensures.found)
 
 pub returns-clause-taken : goal.returns-clause-taken
 returns-clause-taken c =
     let a = c.args in let w = a.self.now in let fit = c.requires in
-    let table = table_of a.graph.now in let bytes = a.haystack.now in
+    let table = places_of a.table.now in let bytes = a.haystack.now in
     let place = c.look-found.result.now in let done = completes c.enter.result in
     let held =
     record c.enter.new.stack { frames = onto c.enter.result c.enter.new.stack.frames } in
     let new = c.insert.ensures.fresh.0 c.if-not-insert.false in
-    let got = got_place a.graph.now.places a.place place c.look-found.ensures.found in
+    let got = got_place a.table.now.places a.place place c.look-found.ensures.found in
     let inside =
-    subst (λ z. LeadsBelow z (place_of place)) (sym (length-map a.graph.now.places place_of))
+    subst (λ z. LeadsBelow z (place_of place)) (sym (length-map a.table.now.places place_of))
     c.look-found.ensures.inside in
     subst
     (λ (z : Walk). Went table bytes (with_frames w (explore a.place a.at ∷ w.stack.frames)) z
@@ -68,12 +68,12 @@ returns-clause-taken c =
 
 pub look-found-requires-clause-inside : goal.look-found-requires-clause-inside
 look-found-requires-clause-inside c =
-    subst (λ n. c.args.place < n) (length-map c.args.graph.now.places place_of) c.requires.below.0
+    subst (λ n. c.args.place < n) (length-map c.args.table.now.places place_of) c.requires.below.0
 
 pub insert-requires-clause-inside : goal.insert-requires-clause-inside
 insert-requires-clause-inside c =
     let a = c.args in let fit = c.requires in
-    pair_inside (table_of a.graph.now) a.haystack.now c.utf8.haystack a.self.now.visited fit.all
+    pair_inside (places_of a.table.now) a.haystack.now c.utf8.haystack a.self.now.visited fit.all
     a.place a.at fit.below.0 fit.below.1 fit.below.2.0
 
 pub returns-then-not-insert-clause-counts : goal.returns-then-not-insert-clause-counts

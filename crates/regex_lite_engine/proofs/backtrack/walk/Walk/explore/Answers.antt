@@ -1,5 +1,5 @@
 use Rattle.regex_lite_engine.proofs.Common.{◌≡◌, ℕ, List, [], ◌∷◌, length, Some, None, sym, refl}
-use Rattle.regex_lite_engine.proofs.Common.{ap, ◌∙◌, subst, arith, Unwinds, table_of, StaysCounted}
+use Rattle.regex_lite_engine.proofs.Common.{ap, subst, arith, Unwinds, places_of, StaysCounted}
 use Rattle.regex_lite_engine.specs.Graph.Places.{Place}
 use Rattle.regex_lite_engine.specs.declared.backtrack.walk.Walk.{Walk}
 use Rattle.regex_lite_engine.specs.Backtrack.Machine.{completes, explore}
@@ -22,13 +22,11 @@ stays table haystack walk = record {
 
 pub ways-init : goal.ways-init
 ways-init c =
-    let a = c.args in let t = table_of a.graph.now in let h = a.haystack.now in
+    let a = c.args in let t = places_of a.table.now in let h = a.haystack.now in
     let w = a.self.now in
-    let at_start : explore a.graph.now.start a.start ∷ []
-    ≡ explore c.start-place.result a.start ∷ w.stack.frames =
-    ap (λ place. explore place a.start ∷ []) (sym c.start-place.ensures.same)
-    ∙ ap (λ fs. explore c.start-place.result a.start ∷ fs) (sym c.requires.empty) in
-    let first = with_frames w (explore a.graph.now.start a.start ∷ []) in
+    let at_start : explore a.entry a.start ∷ [] ≡ explore a.entry a.start ∷ w.stack.frames =
+    ap (λ fs. explore a.entry a.start ∷ fs) (sym c.requires.empty) in
+    let first = with_frames w (explore a.entry a.start ∷ []) in
     record {
       room = subst (λ fs. HasRoom t h w fs) at_start c.requires.room;
       on = subst (λ fs. GoesOn t h first (with_frames w fs) None) at_start (stays t h first);
@@ -50,10 +48,10 @@ returns-in_err-place-in-Back-clause-counts c =
 
 pub returns-in-Complete-clause-explored : goal.returns-in-Complete-clause-explored
 returns-in-Complete-clause-explored c =
-    let a = c.args in let t = table_of a.graph.now in let w = c.ways.self in
+    let a = c.args in let t = places_of a.table.now in let w = c.ways.self in
     let v = c.come_to.new.self in
     let next = explore c.ways.place c.ways.at ∷ w.stack.frames in
-    found t a.haystack.now a.self.now (with_frames w next) v a.graph.now.start a.start c.ways.at
+    found t a.haystack.now a.self.now (with_frames w next) v a.entry a.start c.ways.at
     c.ways.invariant.on (rw c.in-Complete.is at c.come_to.ensures.taken)
 
 pub ways-smaller-in-To : goal.ways-smaller-in-To
@@ -61,10 +59,10 @@ ways-smaller-in-To c = (rw c.in-To.is at c.come_to.ensures.taken).less refl
 
 pub ways-preserved-in-To : goal.ways-preserved-in-To
 ways-preserved-in-To c =
-    let a = c.args in let t = table_of a.graph.now in let h = a.haystack.now in
+    let a = c.args in let t = places_of a.table.now in let h = a.haystack.now in
     let w = c.ways.self in let v = c.come_to.new.self in
     let next = explore c.ways.place c.ways.at ∷ w.stack.frames in
-    let first = with_frames a.self.now (explore a.graph.now.start a.start ∷ []) in
+    let first = with_frames a.self.now (explore a.entry a.start ∷ []) in
     let went = rw c.in-To.is at c.come_to.ensures.taken in
     record {
       room = went.fit refl;
@@ -77,29 +75,29 @@ ways-preserved-in-To c =
 
 pub go_back-requires : goal.go_back-requires
 go_back-requires c =
-    let a = c.args in let t = table_of a.graph.now in let v = c.come_to.new.self in
+    let a = c.args in let t = places_of a.table.now in let v = c.come_to.new.self in
     let went = rw c.in-Back.is at c.come_to.ensures.taken in
     slots_below t a.haystack.now v.visited.first (length v.stack.row) v.stack.frames
     (went.fit refl).below
 
 pub returns-in_err-place-in-Back-clause-explored : goal.returns-in_err-place-in-Back-clause-explored
 returns-in_err-place-in-Back-clause-explored c =
-    let a = c.args in let t = table_of a.graph.now in let h = a.haystack.now in
+    let a = c.args in let t = places_of a.table.now in let h = a.haystack.now in
     let w = c.ways.self in let v = c.come_to.new.self in
     let next = explore c.ways.place c.ways.at ∷ w.stack.frames in
-    let first = with_frames a.self.now (explore a.graph.now.start a.start ∷ []) in
+    let first = with_frames a.self.now (explore a.entry a.start ∷ []) in
     let went = rw c.in-Back.is at c.come_to.ensures.taken in
     let u = c.go_back.new.self in let e = c.go_back.ensures in
     let back = subst (λ n. Unwinds v.stack.row v.stack.frames n u.stack.row u.stack.frames)
     c.in_err-place-in-Back.was e.back in
-    subst (λ r. Explores t h a.graph.now.start a.start a.self.now u r) (sym c.from_residual.ensures)
-    (ended t h a.self.now v u a.graph.now.start a.start
+    subst (λ r. Explores t h a.entry a.start a.self.now u r) (sym c.from_residual.ensures)
+    (ended t h a.self.now v u a.entry a.start
     (goes_further t h first (with_frames w next) v None c.ways.invariant.on went.on) back
     (went_back t h v u None back e.same e.row e.room (went.fit refl)))
 
 pub ways-smaller : goal.ways-smaller
 ways-smaller c =
-    let a = c.args in let t = table_of a.graph.now in let h = a.haystack.now in
+    let a = c.args in let t = places_of a.table.now in let h = a.haystack.now in
     let v = c.come_to.new.self in
     let went = rw c.in-Back.is at c.come_to.ensures.taken in
     let u = c.go_back.new.self in let e = c.go_back.ensures in let left = c.in_ok-place-in-Back in
@@ -111,10 +109,10 @@ ways-smaller c =
 
 pub ways-preserved : goal.ways-preserved
 ways-preserved c =
-    let a = c.args in let t = table_of a.graph.now in let h = a.haystack.now in
+    let a = c.args in let t = places_of a.table.now in let h = a.haystack.now in
     let w = c.ways.self in let v = c.come_to.new.self in
     let next = explore c.ways.place c.ways.at ∷ w.stack.frames in
-    let first = with_frames a.self.now (explore a.graph.now.start a.start ∷ []) in
+    let first = with_frames a.self.now (explore a.entry a.start ∷ []) in
     let went = rw c.in-Back.is at c.come_to.ensures.taken in
     let u = c.go_back.new.self in let e = c.go_back.ensures in let left = c.in_ok-place-in-Back in
     let back = went_back t h v u (Some (left.field-0-0, left.field-0-1))

@@ -9,6 +9,7 @@ use Rattle.regex_lite_engine.proofs.nfa.list.TableLemmas.{closed, name, written,
 use Rattle.regex_lite_engine.proofs.nfa.list.TableLemmas.{entries_inside, parted, entry_for_each}
 use Rattle.regex_lite_engine.proofs.nfa.list.TableLemmas.{few_entries}
 use Rattle.regex_lite_engine.proofs.nfa.WayLemmas.{listed_ends, listed_filters, listed_heads}
+use Rattle.regex_lite_engine.proofs.nfa.WayLemmas.{listed_reads}
 use Rattle.regex_lite_engine.proofs.nfa.write.SeveralRowLemmas.{arrows_add_up}
 use Rattle.regex_lite_engine.proofs.nfa.list.GraphList.new.Goals as goal
 
@@ -73,6 +74,11 @@ invariant_of-result c =
           (entered trees regular places table_is entries entries_are)
           (ap length entries_are ∙ entry_for_each trees 0)
           (map heads_of c.in_ok-filters.filters.items) c.in_ok-filters.ensures,
+      listed_reads trees regular (name trees regular places table_is)
+          (places_of c.new-table.result) entries (written trees regular places table_is)
+          (entered trees regular places table_is entries entries_are)
+          (ap length entries_are ∙ entry_for_each trees 0) c.in_ok-reads.reads.items
+          c.in_ok-reads.ensures,
       listed_ends trees regular (name trees regular places table_is)
           (places_of c.new-table.result) entries (written trees regular places table_is)
           (entered trees regular places table_is entries entries_are)

@@ -23,41 +23,41 @@ loop-number-preserved c =
     let h = chars c.args.haystack.now in
     let s = position_at c.args.haystack.now c.args.start in
     let before = c.loop-number.steps in
-    let own = c.search_one.new.cache.walk.steps in
+    let own = c.in_ok-found.own in
     let all = v.all in
     let known : number < length list.entries
     = omega (arith, c.loop-number-test.true, c.len-number-end.ensures.same) in
     let room : number < length matched = omega (arith, known, all, c.requires.all) in
     record {
-      ready = c.search_one.ensures.ready;
+      ready = c.in_ok-found.ensures.ready;
       within = omega (arith, known);
-      all = length-set matched number c.search_one.result ∙ v.all;
+      all = length-set matched number c.in_ok-found.found ∙ v.all;
       found = λ trees regular is k tree less there. elim (cases_lt k number) [
         | inl old ↦
             subst (λ told. IsTrue told ↔ HasMatchFrom tree h s)
-            (sym (get_or-set_other matched number k c.search_one.result false
+            (sym (get_or-set_other matched number k c.in_ok-found.found false
             (λ e. absurd (omega (arith, e, old)))))
             (v.found trees regular is k tree old there)
         | inr le ↦
             let same : number ≡ k = omega (arith, less, le) in
             subst (λ told. IsTrue told ↔ HasMatchFrom tree h s)
-            (sym (ap (λ n. slice_index_or (slice_set matched number c.search_one.result) n false)
+            (sym (ap (λ n. slice_index_or (slice_set matched number c.in_ok-found.found) n false)
             (sym same)
-            ∙ get_or-set_same matched number c.search_one.result false room))
-            (c.search_one.ensures.found trees tree regular is (ap (slice_get trees) same ∙ there))
+            ∙ get_or-set_same matched number c.in_ok-found.found false room))
+            (c.in_ok-found.ensures.found trees tree regular is (ap (slice_get trees) same ∙ there))
       ];
       entered = λ k less told. elim (cases_lt k number) [
         | inl old ↦
             let some = v.entered k old (subst IsTrue
-            (get_or-set_other matched number k c.search_one.result false
+            (get_or-set_other matched number k c.in_ok-found.found false
             (λ e. absurd (omega (arith, e, old)))) told) in
             counted (omega (arith, some))
         | inr le ↦
             let same : number ≡ k = omega (arith, less, le) in
-            let some = c.search_one.ensures.entered (subst IsTrue
-            (ap (λ n. slice_index_or (slice_set matched number c.search_one.result) n false)
+            let some = c.in_ok-found.ensures.entered (subst IsTrue
+            (ap (λ n. slice_index_or (slice_set matched number c.in_ok-found.found) n false)
             (sym same)
-            ∙ get_or-set_same matched number c.search_one.result false room) told) in
+            ∙ get_or-set_same matched number c.in_ok-found.found false room) told) in
             counted (omega (arith, some))
       ];
       cost = λ trees is. (
@@ -69,17 +69,17 @@ loop-number-preserved c =
           bounded_both h s (places_of_all (take number trees)) (tries_of_all (take number trees))
           before.tried before.entered before.looked (whole_places tree) (whole_arrows tree + 1)
           own.tried own.entered own.looked (2 ^ 128 - 1) (v.cost trees is)
-          (c.search_one.ensures.cost trees tree is there) in
+          (c.in_ok-found.ensures.cost trees tree is there) in
           let places = sum_by_more whole_places trees number empty within in
           let tries = sum_by_more (λ t. whole_arrows t + 1) trees number empty within in
           let told = c.plus-steps.ensures in
           rw (places, tries, told.tried, told.entered, told.looked) both);
     }
   where
-    counted : 0 < c.loop-number.steps.entered + c.search_one.new.cache.walk.steps.entered
+    counted : 0 < c.loop-number.steps.entered + c.in_ok-found.own.entered
         → 0 < c.plus-steps.result.entered
     counted some =
-        let most : 1 ≤ min (c.loop-number.steps.entered + c.search_one.new.cache.walk.steps.entered)
+        let most : 1 ≤ min (c.loop-number.steps.entered + c.in_ok-found.own.entered)
         (2 ^ 128 - 1)
         = le-min (omega (arith, some)) (omega arith) in
         omega (arith, most, c.plus-steps.ensures.entered)

@@ -1,15 +1,15 @@
 use Rattle.regex_lite_engine.proofs.Common.{◌≡◌, ℕ, ◌<◌, ◌≤◌, false, ◌↔◌, List, length, take}
 use Rattle.regex_lite_engine.proofs.Common.{IsTrue, slice_index_or, chars, Tree, HasTree}
-use Rattle.regex_lite_engine.proofs.Common.{places_of_all, tries_of_all, table_of_list}
+use Rattle.regex_lite_engine.proofs.Common.{places_of_all, tries_of_all, IfSome}
 use Rattle.regex_lite_engine.proofs.Common.{HasMatchFrom, IsBoundedBy, position_at}
 use Rattle.regex_lite_engine.specs.Graph.StoredList.{IsGraphOfList}
-use Rattle.regex_lite_engine.specs.Pikevm.Searching.{IsBetween}
+use Rattle.regex_lite_engine.specs.Pikevm.Searching.{GoesOnIn}
 use Rattle.regex_lite_engine.specs.Graph.SideBySide.{AreRegularPatterns}
 use Rattle.regex_lite_engine.proofs.nfa.list.GraphList.search_all.Given as goal
 
 abbrev pub invariant-loop-number : goal.invariant-loop-number
 invariant-loop-number l = record {
-  ready : IsBetween (table_of_list l.self) l.cache;
+  ready : IfSome l.cache (GoesOnIn l.self);
   within : l.number ≤ length l.self.entries;
   all : length l.matched ≡ length l.fn.matched;
   found : (trees : List Tree) → AreRegularPatterns trees → IsGraphOfList trees l.self

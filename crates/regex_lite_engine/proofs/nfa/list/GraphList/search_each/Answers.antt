@@ -12,8 +12,8 @@ pub returns : goal.returns
 returns c = record {
   found = λ trees regular is.
       let haystack = c.args.haystack.now in
-      let found = c.search_all-steps.ensures.found trees regular is in
-      let told = c.search_all-steps.new.matched in
+      let found = c.in_ok-steps.ensures.found trees regular is in
+      let told = c.search_all.new.matched in
       let all = found.all in
       let each = is.each_entry in
       let len : c.in_ok-matched.matched.len ≡ length told
@@ -34,21 +34,21 @@ returns c = record {
       (omega (arith, c.if-start-haystack.false))
       (λ s. TellsWhich trees (chars haystack) s told) found);
   entered = λ k told.
-      let new = c.search_all-steps.new.matched in
+      let new = c.search_all.new.matched in
       let len : c.in_ok-matched.matched.len ≡ length new
-      = omega (arith, c.search_all-steps.ensures.length, c.in_ok-matched.matched.ok) in
+      = omega (arith, c.search_all.ensures.length, c.in_ok-matched.matched.ok) in
       let same = ap (λ n. take n (new ++ drop (length new) c.in_ok-matched.matched.items)) len
       ∙ take-append_seam new (drop (length new) c.in_ok-matched.matched.items) in
-      c.search_all-steps.ensures.entered k
+      c.in_ok-steps.ensures.entered k
       (subst (λ list. IsTrue (slice_index_or list k false)) same told);
   cost = λ trees is.
       let haystack = c.args.haystack.now in
-      let steps = c.search_all-steps.result in
+      let steps = c.in_ok-steps.steps in
       at_position trees c.args.self.now is haystack c.args.start
       (omega (arith, c.if-start-haystack.false))
       (λ s. IsBoundedBy (places_of_all trees) (tries_of_all trees) (chars haystack) s
       steps.tried steps.entered steps.looked)
-      (c.search_all-steps.ensures.cost trees is);
+      (c.in_ok-steps.ensures.cost trees is);
 }
 
 -- The goals from here on need no lemma of their own. They have answers because the prover would
@@ -59,5 +59,5 @@ returns-then-start-haystack-clause-found c = grind (arith, common_steps)
 pub returns-then-start-haystack-clause-entered : goal.returns-then-start-haystack-clause-entered
 returns-then-start-haystack-clause-entered c = grind (arith, common_steps)
 
-pub search_all-steps-requires-clause-boundary : goal.search_all-steps-requires-clause-boundary
-search_all-steps-requires-clause-boundary c = on_boundary _ _ c.requires c.if-start-haystack.false
+pub search_all-requires-clause-boundary : goal.search_all-requires-clause-boundary
+search_all-requires-clause-boundary c = on_boundary _ _ c.requires c.if-start-haystack.false

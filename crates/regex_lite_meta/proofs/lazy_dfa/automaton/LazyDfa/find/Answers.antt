@@ -3,8 +3,8 @@ use Rattle.regex_lite_meta.proofs.lazy_dfa.OnceLemmas.{found_kept, stands_under_
 use Rattle.regex_lite_engine.proofs.pikevm.StopLemmas.{over_found}
 use Rattle.regex_lite_meta.proofs.lazy_dfa.automaton.LazyDfa.find.Goals as goal
 
-pub find_while_it_pays-requires-clause-stands : goal.find_while_it_pays-requires-clause-stands
-find_while_it_pays-requires-clause-stands g c = (
+pub search_while_it_pays-requires-clause-stands : goal.search_while_it_pays-requires-clause-stands
+search_while_it_pays-requires-clause-stands g c = (
   position_at c.args.haystack.now c.args.start,
   c.requires.counts,
   c.begun-begun.ensures _ _ c.args.self.now c.args.cache.now c.requires.fresh c.requires.width,
@@ -34,8 +34,8 @@ returns-in-Err g c =
       found = found_kept _ _ _ s false c.advance.new.cache c.found.result width c.found.ensures
           (over_found (rw (c.advance.ensures.all refl) at c.advance.ensures.stops s stands.p
           stands.is (stands_under_way stands c.in-Err.ensures.own)));
-      remembers = c.find_while_it_pays.ensures.remembers;
-      none_pending = c.find_while_it_pays.ensures.none_pending;
+      remembers = c.search_while_it_pays.ensures.remembers;
+      none_pending = c.search_while_it_pays.ensures.none_pending;
       between = c.advance.ensures.between;
       width = sym c.advance.ensures.between.best_width ∙ width;
     }

@@ -1,5 +1,6 @@
 use Rattle.regex_lite_meta.proofs.Common.{◌^◌, ◌<◌, [], ◌∷◌, length, chars, sym, subst, arith}
-use Rattle.regex_lite_meta.proofs.Common.{rules, table_of, IsBestOutcomeOf, position_at, span_told}
+use Rattle.regex_lite_meta.proofs.Common.{rules, places_of, table_of, IsBestOutcomeOf, position_at}
+use Rattle.regex_lite_meta.proofs.Common.{span_told}
 use Rattle.regex_lite_meta.proofs.lazy_dfa.OnceLemmas.{spanned}
 use Rattle.regex_lite_meta.proofs.lazy_dfa.RunLemmas.{all_of_one}
 use Rattle.regex_lite_engine.proofs.search.OutcomeLemmas.{can_count}
@@ -9,13 +10,14 @@ pub find-requires-clause-counts : goal.find-requires-clause-counts
 find-requires-clause-counts c =
     let haystack = c.args.haystack.now in
     let short : length haystack < 2 ^ 63 = search rules in
-    can_count (table_of c.args.graph.now) haystack (position_at haystack c.args.start)
-    c.utf8.haystack short c.requires.countable 1 (omega arith)
+    rw c.pattern-pattern.ensures.table
+    (can_count (table_of c.args.graph.now) haystack (position_at haystack c.args.start)
+    c.utf8.haystack short c.requires.countable 1 (omega arith))
 
 pub find-requires-clause-all : goal.find-requires-clause-all
-find-requires-clause-all c = all_of_one c.args.graph.now c.start-start.result
-    c.start-start.ensures.same
-    c.start-start.ensures.inside
+find-requires-clause-all c =
+    let pattern = c.pattern-pattern.result in
+    all_of_one (places_of pattern.table.now) pattern.entry pattern.inside
 
 pub returns-clause-found : goal.returns-clause-found
 returns-clause-found c =
@@ -24,4 +26,6 @@ returns-clause-found c =
     let s = position_at c.args.haystack.now c.args.start in
     subst (λ span. IsBestOutcomeOf (table_of graph) haystack (graph.start ∷ []) s (span_told span))
     (sym c.span_of.ensures)
-    (spanned (table_of graph) haystack (graph.start ∷ []) s c.find.result [] c.find.ensures.found)
+    (spanned (table_of graph) haystack (graph.start ∷ []) s c.find.result []
+    (rw (c.pattern-pattern.ensures.table, c.pattern-pattern.ensures.entry) at
+    c.find.ensures.found))

@@ -2,13 +2,15 @@ use Rattle.regex_lite_meta.proofs.Common.{table_of_list, position_at}
 use Rattle.regex_lite_engine.proofs.search.list_patterns.ListStartLemmas.{all_of_entries}
 use Rattle.regex_lite_meta.proofs.lazy_dfa.automaton.LazyDfa.find_in_list.Goals as goal
 
-pub find_while_it_pays-requires-clause-all : goal.find_while_it_pays-requires-clause-all
-find_while_it_pays-requires-clause-all c =
+pub search_while_it_pays-told-requires-clause-all :
+    goal.search_while_it_pays-told-requires-clause-all
+search_while_it_pays-told-requires-clause-all c =
     let told = c.entries-entries.ensures in
     all_of_entries c.args.list.now c.entries-entries.result.now told.same told.inside told.few
 
-pub find_while_it_pays-requires-clause-stands : goal.find_while_it_pays-requires-clause-stands
-find_while_it_pays-requires-clause-stands c =
+pub search_while_it_pays-told-requires-clause-stands :
+    goal.search_while_it_pays-told-requires-clause-stands
+search_while_it_pays-told-requires-clause-stands c =
     let list = c.args.list.now in (
       position_at c.args.haystack.now c.args.start,
       c.requires.counts,

@@ -1,0 +1,21 @@
+use Rattle.regex_lite_engine.proofs.Common.{◌<◌, ◌≤◌, ◌⊎◌, length, subst, inl, inr, arith, cases_lt}
+use Rattle.regex_lite_engine.proofs.Common.{places_of, IsDeadAt}
+use Rattle.regex_lite_engine.proofs.search.FirstStartLemmas.{only_at_start}
+use Rattle.regex_lite_engine.proofs.search.one_pattern.OnePattern.begins_at_start_alone.Goals
+    as goal
+
+pub returns-then-self : goal.returns-then-self
+returns-then-self g c = λ told haystack i low high.
+    let one = c.args.self.now in
+    let table = places_of one.table.now in
+    let heads = g.F.PatternFilter.heads one.filter.now in
+    let by_order : (i < length haystack) ⊎ (length haystack ≤ i)
+    → IsDeadAt table haystack one.entry i = λ order. elim order [
+      | inl before ↦
+          one.heads haystack i
+          (inl (only_at_start heads.first haystack i (c.begins_with_none.ensures told) low before))
+      | inr past ↦
+          subst (IsDeadAt table haystack one.entry) (omega (arith, past, high))
+          (one.ends c.if-self.true haystack)
+    ] in
+    by_order (cases_lt i (length haystack))
