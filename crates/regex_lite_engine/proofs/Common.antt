@@ -79,8 +79,8 @@ pub use Rattle.regex_lite_engine.specs.Nfa.Layout.{patterns_entries}
 pub use Rattle.regex_lite_engine.specs.Nfa.Repetitions.{copies_layout, choices_layout, star_layout}
 pub use Rattle.regex_lite_engine.specs.Nfa.Totals.{reading_of_all}
 pub use Rattle.regex_lite_engine.specs.Pikevm.Again.{all_retold, state_retold, best_again}
-pub use Rattle.regex_lite_engine.specs.Pikevm.Cells.{nth_row, frame_in, round_in, other, place_on}
-pub use Rattle.regex_lite_engine.specs.Pikevm.Cells.{start_on, row_on, threads_on, without_round}
+pub use Rattle.regex_lite_engine.specs.Pikevm.Cells.{nth_row, frame_in, other, place_on}
+pub use Rattle.regex_lite_engine.specs.Pikevm.Cells.{start_on, row_on, threads_on}
 pub use Rattle.regex_lite_engine.specs.Pikevm.Entering.{reads, pushing, reading_on}
 pub use Rattle.regex_lite_engine.specs.Pikevm.Machine.{Thread, thread_at}
 pub use Rattle.regex_lite_engine.specs.Pikevm.Room.{ThreadsBelow, KeepsPosition}

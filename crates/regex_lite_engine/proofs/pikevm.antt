@@ -9,6 +9,7 @@ pub mod InStepMatchLemmas
 pub mod InStepNextLemmas
 pub mod OwnPartLemmas
 pub mod PassLemmas
+pub mod PlaceSetLemmas
 pub mod RoomLemmas
 pub mod RoundLemmas
 pub mod ShortestLemmas

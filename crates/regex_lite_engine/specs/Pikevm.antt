@@ -1,6 +1,7 @@
 -- What the functions of the search by ordered sets promise one another.
 pub mod Machine
 pub mod Cells
+pub mod PlaceSets
 pub mod InStep
 pub mod Walking
 pub mod Entering

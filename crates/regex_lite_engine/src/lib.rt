@@ -12,6 +12,7 @@
 #![tactic(auto)]
 
 pub mod backtrack;
+mod bits;
 mod count;
 pub mod interpolate;
 pub mod laws;

@@ -1,15 +1,15 @@
 -- Bits in words of 64.
 use Rattle.regex_lite_engine.proofs.Common.{◌≡◌, ℕ, ◌-◌, ◌*◌, ◌^◌, ◌<◌, Bool, true, false, ◌↔◌}
-use Rattle.regex_lite_engine.proofs.Common.{List, ◌++◌, length, set, replicate, IsTrue, ◌==◌}
+use Rattle.regex_lite_engine.proofs.Common.{List, [], ◌∷◌, ◌++◌, length, set, replicate, IsTrue, ◌==◌}
 use Rattle.regex_lite_engine.proofs.Common.{slice_index, slice_index_or, slice_set, sym, refl, ap}
 use Rattle.regex_lite_engine.proofs.Common.{◌∙◌, subst, inl, inr, arith, length-set, cases_eq}
 use Rattle.regex_lite_engine.proofs.Common.{cases_lt, nat_tests, get_or-replicate, get_or-set_other}
 use Rattle.regex_lite_engine.proofs.Common.{get_or-set_same, get_or_past, length-replicate}
-use Rattle.regex_lite_engine.proofs.Common.{set-get_or, get_or-map-range_with_len}
+use Rattle.regex_lite_engine.proofs.Common.{get_or-map-range_with_len}
 use Rattle.regex_lite_engine.proofs.Common.{length-map-range_with_len, bits_of, Pairs, pair_number}
 use Rattle.regex_lite_engine.proofs.Common.{was_entered}
 use Rattle.std.proofs.Common.{◌/◌, ◌%◌, bit_and, bit_or}
-use Rattle.std.proofs.lemmas.Nat.Bits.{shr_and_one}
+use Rattle.std.proofs.lemmas.Nat.Bits.{bit_at-lt, shr_and_one}
 use Rattle.std.specs.Int.{bit_at}
 use Rattle.regex_lite_syntax.specs.AsciiMaps.{bit_of_words}
 use Rattle.std.proofs.lemmas.List.{get_or_append_left, get_or-append_right}
@@ -65,35 +65,6 @@ bits_before_zeros words n count =
         bit_of_bits words count k lt
         ∙ sym (ap (λ word. bit_at word (k % 64) == 1) (same_word (k / 64)))
 
--- what is found in a word by a shift
-pub found_by_shift : (words : List ℕ) (count k : ℕ) → k < count
-    → (bit_and (slice_index words (k / 64) / 2 ^ (k % 64)) 1 ≡ 1)
-    ↔ (slice_index_or (bits_of words count) k false ≡ true)
-found_by_shift words count k lt =
-    rw (bit_of_bits words count k lt, shr_and_one) (grind (arith, nat_tests))
-
--- a bit is new where it is not set, and only there
-pub is_new : (bit : Bool) → (bit ≡ true → ⊥) → IsTrue true ↔ (bit ≡ false)
-is_new true clear = absurd (clear refl)
-is_new false clear = (λ t. refl, λ e. refl)
-
-pub is_old : (bit : Bool) → bit ≡ true → IsTrue false ↔ (bit ≡ false)
-is_old true set = (λ t. cc, λ e. cc)
-is_old false set = (λ t. refl, λ e. cc)
-
--- a bit that is set stays so where its word does
-pub set_again : (words : List ℕ) (count k : ℕ) → k < count
-    → bit_and (slice_index words (k / 64) / 2 ^ (k % 64)) 1 ≡ 1
-    → bits_of (slice_set words (k / 64) (slice_index words (k / 64))) count
-    ≡ slice_set (bits_of words count) k true
-set_again words count k lt found =
-    ap (λ z. bits_of z count) (set-get_or words (k / 64) 0)
-    ∙ sym
-    (ap (set bits k) (sym ((found_by_shift words count k lt).0 found)) ∙ set-get_or bits k false)
-  where
-    bits : List Bool
-    bits = bits_of words count
-
 -- what `1 << k % 64` sets in a word
 pub set_by_mask : (words : List ℕ) (count k : ℕ) → k < 64 * length words → k < count
     → bits_of (slice_set words (k / 64)
@@ -119,6 +90,41 @@ set_by_mask words count k inside lt =
           ∙ bit_of_bits words count l below
           ∙ sym (ap (λ bit. bit == 1) (other_bit words k inside l other))
     ]
+
+-- what is new in a word is found by a shift
+pub new_by_shift : (words : List ℕ) (count i : ℕ) → i < count
+    → (bit_and (slice_index words (i / 64) / 2 ^ (i % 64)) 1 ≡ 0)
+    ↔ (slice_index_or (bits_of words count) i false ≡ false)
+new_by_shift words count i lt =
+    let bit = bit_at-lt (slice_index words (i / 64)) (i % 64) in
+    rw (bit_of_bits words count i lt, shr_and_one) (grind (arith, nat_tests, bit))
+
+-- one word
+module _ (word count k : ℕ) (inside : k < 64) (lt : k < count) where
+  first : k / 64 ≡ 0
+  first = omega (arith, inside)
+
+  there : k % 64 ≡ k
+  there = omega (arith, inside)
+
+  pub new_in_word :
+      (bit_and (word / 2 ^ k) 1 ≡ 0) ↔ (slice_index_or (bits_of (word ∷ []) count) k false ≡ false)
+  new_in_word =
+      subst (λ i. (bit_and (word / 2 ^ i) 1 ≡ 0)
+      ↔ (slice_index_or (bits_of (word ∷ []) count) k false ≡ false)) there
+      (subst (λ w. (bit_and (slice_index (word ∷ []) w / 2 ^ (k % 64)) 1 ≡ 0)
+      ↔ (slice_index_or (bits_of (word ∷ []) count) k false ≡ false)) first
+      (new_by_shift (word ∷ []) count k lt))
+
+  pub set_in_word : bits_of (bit_or word (1 * 2 ^ k % 2 ^ 64) ∷ []) count
+      ≡ slice_set (bits_of (word ∷ []) count) k true
+  set_in_word =
+      subst (λ i. bits_of (bit_or word (1 * 2 ^ i % 2 ^ 64) ∷ []) count
+      ≡ slice_set (bits_of (word ∷ []) count) k true) there
+      (subst (λ w. bits_of (slice_set (word ∷ []) w
+      (bit_or (slice_index (word ∷ []) w) (1 * 2 ^ (k % 64) % 2 ^ 64))) count
+      ≡ slice_set (bits_of (word ∷ []) count) k true) first
+      (set_by_mask (word ∷ []) count k (omega (arith, inside)) lt))
 
 -- the pairs that the fields stand for, with the bits of these words
 abbrev pub pairs_of : Inside → List ℕ → Pairs

@@ -1,7 +1,7 @@
 -- A turn that holds again at a position that looks the same.
 use Rattle.regex_lite_engine.proofs.Common.{◌≡◌, ℕ, ◌<◌, Bool, true, false, ◌⊎◌, List, [], ◌∷◌}
 use Rattle.regex_lite_engine.proofs.Common.{◌++◌, length, replicate, if◌then◌else◌, slice_get}
-use Rattle.regex_lite_engine.proofs.Common.{slice_index, slice_index_or, Some, None, Option}
+use Rattle.regex_lite_engine.proofs.Common.{slice_index_or, Some, None, Option}
 use Rattle.regex_lite_engine.proofs.Common.{unwrap_or, sym, refl, ap, ◌∙◌, subst, inl, inr, arith}
 use Rattle.regex_lite_engine.proofs.Common.{map-append, in_ranges, just, holds_between, ClassRange}
 use Rattle.regex_lite_engine.proofs.Common.{with_arrows, place_of, all_retold, state_retold}
@@ -153,7 +153,7 @@ loose_if false frames frames' loose = loose
 -- a new place was entered, and so it would be there
 pub entered_again : (table : List (Place ℕ)) (here there : Here) (i : Told) (tell : Told → Told)
     (m : State) (q : ℕ) (x : code.Place) (e : State) (done : Bool)
-    → q < length m.rounds → (slice_index m.rounds q ≡ m.now → ⊥)
+    → q < length m.entered → (slice_index_or m.entered q false ≡ true → ⊥)
     → slice_get table q ≡ Some (place_of x) → FitsAlike (place_of x) here there
     → Enters here i x (marked_in m q) e done
     → WalksTo table there (tell i) (state_retold tell (record m { frames = explore q ∷ m.frames }))

@@ -1,7 +1,7 @@
 -- Entering a place, by what stands there.
 use Rattle.regex_lite_engine.proofs.Common.{◌≡◌, ℕ, zero, suc, ◌+◌, ◌<◌, Bool, true, false, List}
 use Rattle.regex_lite_engine.proofs.Common.{[], ◌∷◌, ◌++◌, map, length, set, if◌then◌else◌, IsTrue}
-use Rattle.regex_lite_engine.proofs.Common.{slice_get, slice_index, slice_index_or, slice_set, Some}
+use Rattle.regex_lite_engine.proofs.Common.{slice_get, slice_index_or, slice_set, Some}
 use Rattle.regex_lite_engine.proofs.Common.{None, Option, sym, refl, ap, ◌∙◌, subst, inl, inr}
 use Rattle.regex_lite_engine.proofs.Common.{arith, length-map, set-get_or, in_ranges, Set, just}
 use Rattle.regex_lite_engine.proofs.Common.{after, holds_between, ClassRange, Arrow, with_arrows}
@@ -32,9 +32,9 @@ reads_none None = refl
 reads_none (Some c) = refl
 
 module _ (table : List (Place ℕ)) (at : SearchAt) (state : State) (i : Told) (ways : List Thread)
-    (best : Best) (q : ℕ) (short : q < length state.rounds)
+    (best : Best) (q : ℕ) (short : q < length state.entered)
     (walking : IsWalking table at (record state { frames = explore q ∷ state.frames }) i ways best)
-    (new : slice_index state.rounds q ≡ state.now → ⊥) where
+    (new : slice_index_or state.entered q false ≡ true → ⊥) where
   open at use {haystack, p}
 
   abbrev Told_way : Row → Node → List ℕ → Type 0

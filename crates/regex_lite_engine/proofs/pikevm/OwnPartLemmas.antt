@@ -1,10 +1,9 @@
 -- A search stays in the part of the table in which its patterns are entered, and pays for no other.
 use Rattle.regex_lite_engine.proofs.Common.{◌≡◌, ℕ, zero, suc, ◌+◌, ◌<◌, ◌≤◌, List, [], ◌∷◌, length}
-use Rattle.regex_lite_engine.proofs.Common.{take, drop, if◌then◌else◌, ◌==◌, slice_index, Some}
-use Rattle.regex_lite_engine.proofs.Common.{sum_by, Option, sym, ap, subst, arith, length-take}
+use Rattle.regex_lite_engine.proofs.Common.{take, drop, if◌then◌else◌, Bool, true, false, slice_index_or, refl, Some}
+use Rattle.regex_lite_engine.proofs.Common.{sum_by, Option, sym, subst, arith, length-take}
 use Rattle.regex_lite_engine.proofs.Common.{sum_by-cons, IsWithin, row_of, IsOwnPart, InStep}
 use Rattle.regex_lite_engine.proofs.Common.{SearchAt, numbered_step, is_end, StartsOf, Node, Offer}
-use Rattle.std.proofs.lemmas.Bool.{ne_eqb}
 use Rattle.regex_lite_engine.specs.Graph.Places.{Place}
 use Rattle.regex_lite_engine.specs.Pikevm.Room.{left_of}
 use Rattle.regex_lite_engine.proofs.laws.search.NumberedWayLemmas.{leads_within}
@@ -27,43 +26,43 @@ recorded_within table at low len part recorded now next way in_step n v known =
     within : (q : ℕ) → IsWithin low len q → q < length table
     within q inside = let high = part.inside in omega (arith, high, inside.1)
 
-not_entered : (now round value : ℕ) → (round ≡ now → ⊥)
-    → (if round == now then 0 else value) ≡ value
-not_entered now round value other = ap (λ b. if b then 0 else value) (ne_eqb round now other)
+not_entered : (was : Bool) (value : ℕ) → (was ≡ true → ⊥) → (if was then 0 else value) ≡ value
+not_entered true value other = absurd (other refl)
+not_entered false value other = refl
 
--- where just places of the part were entered in this round, the others are left
-pub left_outside : (f : Place ℕ → ℕ) (now : ℕ) (rounds : List ℕ) (table : List (Place ℕ))
-    (low len : ℕ) → length rounds ≡ length table
-    → ((q : ℕ) → q < length rounds → slice_index rounds q ≡ now → IsWithin low len q)
-    → sum_by f table ≤ left_of f now rounds table + sum_by f (row_of table low len)
-left_outside f now [] [] low len same only = omega arith
-left_outside f now [] (x ∷ table) low len same only = absurd (omega (arith, same))
-left_outside f now (round ∷ rounds) [] low len same only = absurd (omega (arith, same))
-left_outside f now (round ∷ rounds) (x ∷ table) (suc low) len same only =
+-- where just places of the part were entered at the position, the others are left
+pub left_outside : (f : Place ℕ → ℕ) (entered : List Bool) (table : List (Place ℕ)) (low len : ℕ)
+    → length entered ≡ length table
+    → ((q : ℕ) → slice_index_or entered q false ≡ true → IsWithin low len q)
+    → sum_by f table ≤ left_of f entered table + sum_by f (row_of table low len)
+left_outside f [] [] low len same only = omega arith
+left_outside f [] (x ∷ table) low len same only = absurd (omega (arith, same))
+left_outside f (was ∷ entered) [] low len same only = absurd (omega (arith, same))
+left_outside f (was ∷ entered) (x ∷ table) (suc low) len same only =
     omega (
       arith,
       sum_by-cons f x table,
-      not_entered now round (f x) (λ e. absurd (omega (arith, (only 0 (omega arith) e).0))),
-      left_outside f now rounds table low len (omega (arith, same)) (λ q lt e. (
-          let inside = only (suc q) (omega (arith, lt)) e in
+      not_entered was (f x) (λ e. absurd (omega (arith, (only 0 e).0))),
+      left_outside f entered table low len (omega (arith, same)) (λ q e. (
+          let inside = only (suc q) e in
           (omega (arith, inside.0), omega (arith, inside.1)))),
     )
-left_outside f now (round ∷ rounds) (x ∷ table) zero (suc len) same only =
+left_outside f (was ∷ entered) (x ∷ table) zero (suc len) same only =
     omega (
       arith,
       sum_by-cons f x table,
       sum_by-cons f x (take len table),
-      left_outside f now rounds table zero len (omega (arith, same)) (λ q lt e. (
-          let inside = only (suc q) (omega (arith, lt)) e in
+      left_outside f entered table zero len (omega (arith, same)) (λ q e. (
+          let inside = only (suc q) e in
           (omega arith, omega (arith, inside.1)))),
     )
-left_outside f now (round ∷ rounds) (x ∷ table) zero zero same only =
+left_outside f (was ∷ entered) (x ∷ table) zero zero same only =
     omega (
       arith,
       sum_by-cons f x table,
-      not_entered now round (f x) (λ e. absurd (omega (arith, (only 0 (omega arith) e).1))),
-      left_outside f now rounds table zero zero (omega (arith, same)) (λ q lt e. (
-          absurd (omega (arith, (only (suc q) (omega (arith, lt)) e).1)))),
+      not_entered was (f x) (λ e. absurd (omega (arith, (only 0 e).1))),
+      left_outside f entered table zero zero (omega (arith, same)) (λ q e. (
+          absurd (omega (arith, (only (suc q) e).1)))),
     )
 
 pub length_row : (table : List (Place ℕ)) (low len : ℕ) → length (row_of table low len) ≤ len

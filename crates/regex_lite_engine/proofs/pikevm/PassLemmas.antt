@@ -18,7 +18,6 @@ module _ (table : List (Place ℕ)) (haystack : Text) (entries : List ℕ) (s : 
       → IsUnderWay table haystack entries s s cache
   begun cache fresh =
       let none = fresh.no_threads in
-      let rounds = fresh.few_rounds in
       record {
         low = omega arith;
         ready = fresh.between;
@@ -29,7 +28,6 @@ module _ (table : List (Place ℕ)) (haystack : Text) (entries : List ℕ) (s : 
             (none_coming table haystack entries s (length haystack) cache.walk.memory.threads none);
         tries = omega (arith, fresh.no_tries, ap length none);
         entries = omega (arith, fresh.no_entries);
-        rounds = omega (arith, rounds);
       }
 
   pub begun_within : {S : Type 0} (cache : Cache S) → IsFresh table cache → (low len : ℕ)

@@ -1,10 +1,10 @@
 -- What entering a place takes of what is left, and what it adds to frames and threads.
 use Rattle.regex_lite_engine.proofs.Common.{◌≡◌, ℕ, zero, suc, ◌+◌, ◌<◌, ◌≤◌, Bool, true, false}
 use Rattle.regex_lite_engine.proofs.Common.{◌⊎◌, List, [], ◌∷◌, ◌++◌, map, length, set}
-use Rattle.regex_lite_engine.proofs.Common.{if◌then◌else◌, ◌==◌, slice_get, slice_index}
+use Rattle.regex_lite_engine.proofs.Common.{if◌then◌else◌, slice_get}
 use Rattle.regex_lite_engine.proofs.Common.{slice_index_or, slice_set, Some, None, sum_by, sym}
 use Rattle.regex_lite_engine.proofs.Common.{refl, ap, ◌∙◌, subst, inl, inr, arith, length-append}
-use Rattle.regex_lite_engine.proofs.Common.{length-set, rules, cases_lt, nat_tests, length-map}
+use Rattle.regex_lite_engine.proofs.Common.{length-set, cases_lt, length-map}
 use Rattle.regex_lite_engine.proofs.Common.{sum_by-cons, in_ranges, Set, just, holds_between}
 use Rattle.regex_lite_engine.proofs.Common.{ClassRange, with_arrows, go, go_marking, go_reading}
 use Rattle.regex_lite_engine.proofs.Common.{one_of, reading_count, kept_back, arrow_count, place_of}
@@ -21,50 +21,36 @@ use Rattle.regex_lite_syntax.proofs.OptionLemmas.{not_there, same_some}
 use Rattle.regex_lite_engine.proofs.pikevm.ThreadLemmas.{at_end, at_front}
 use Rattle.regex_lite_engine.proofs.search.CountLemmas.{test_most}
 
-test_same : (n x : ℕ) → (if n == n then 0 else x) ≡ 0
-test_same n x = go (n == n) (search (rules, nat_tests))
-  where
-    go : (b : Bool) → b ≡ true → (if b then 0 else x) ≡ 0
-    go true e = refl
-    go false e = cc
-
-test_other : (r n x : ℕ) → (r ≡ n → ⊥) → (if r == n then 0 else x) ≡ x
-test_other r n x d = go (r == n) (grind (arith, nat_tests))
-  where
-    go : (b : Bool) → b ≡ false → (if b then 0 else x) ≡ x
-    go true e = cc
-    go false e = refl
-
-pub left_enter : (f : Place ℕ → ℕ) (now : ℕ) (rounds : List ℕ) (table : List (Place ℕ)) (q : ℕ)
+pub left_enter : (f : Place ℕ → ℕ) (entered : List Bool) (table : List (Place ℕ)) (q : ℕ)
     (x : Place ℕ)
-    → slice_get table q ≡ Some x → q < length rounds →
-    (slice_index rounds q ≡ now → ⊥)
-    → left_of f now (set rounds q now) table + f x ≡ left_of f now rounds table
-left_enter f now [] table q x e short new = absurd (omega (arith, short))
-left_enter f now (r ∷ rounds) [] q x e short new = absurd (not_there e)
-left_enter f now (r ∷ rounds) (y ∷ table) zero x e short new =
-    let same : f y ≡ f x = ap f (same_some e) in
-    omega (arith, same, test_same now (f y), test_other r now (f y) new)
-left_enter f now (r ∷ rounds) (y ∷ table) (suc q) x e short new =
-    let more : left_of f now (set rounds q now) table + f x ≡ left_of f now rounds table =
-    left_enter f now rounds table q x e (omega (arith, short)) new in
+    → slice_get table q ≡ Some x → q < length entered →
+    (slice_index_or entered q false ≡ true → ⊥)
+    → left_of f (set entered q true) table + f x ≡ left_of f entered table
+left_enter f [] table q x e short new = absurd (omega (arith, short))
+left_enter f (was ∷ entered) [] q x e short new = absurd (not_there e)
+left_enter f (true ∷ entered) (y ∷ table) zero x e short new = absurd (new refl)
+left_enter f (false ∷ entered) (y ∷ table) zero x e short new =
+    let same : f y ≡ f x = ap f (same_some e) in omega (arith, same)
+left_enter f (was ∷ entered) (y ∷ table) (suc q) x e short new =
+    let more : left_of f (set entered q true) table + f x ≡ left_of f entered table =
+    left_enter f entered table q x e (omega (arith, short)) new in
     omega (arith, more)
 
 -- what is left has room for a place that is new
-pub left_room : (f : Place ℕ → ℕ) (now : ℕ) (rounds : List ℕ) (table : List (Place ℕ)) (q : ℕ)
+pub left_room : (f : Place ℕ → ℕ) (entered : List Bool) (table : List (Place ℕ)) (q : ℕ)
     (x : Place ℕ)
-    → slice_get table q ≡ Some x → q < length rounds →
-    (slice_index rounds q ≡ now → ⊥) → f x ≤ left_of f now rounds table
-left_room f now rounds table q x e short new =
-    let more = left_enter f now rounds table q x e short new in omega (arith, more)
+    → slice_get table q ≡ Some x → q < length entered →
+    (slice_index_or entered q false ≡ true → ⊥) → f x ≤ left_of f entered table
+left_room f entered table q x e short new =
+    let more = left_enter f entered table q x e short new in omega (arith, more)
 
-pub left_most : (f : Place ℕ → ℕ) (now : ℕ) (rounds : List ℕ) (table : List (Place ℕ))
-    → left_of f now rounds table ≤ sum_by f table
-left_most f now [] table = omega arith
-left_most f now (r ∷ rounds) [] = omega arith
-left_most f now (r ∷ rounds) (x ∷ table) =
-    let more = left_most f now rounds table in
-    omega (arith, more, test_most (r == now) (f x), sum_by-cons f x table)
+pub left_most : (f : Place ℕ → ℕ) (entered : List Bool) (table : List (Place ℕ))
+    → left_of f entered table ≤ sum_by f table
+left_most f [] table = omega arith
+left_most f (was ∷ entered) [] = omega arith
+left_most f (was ∷ entered) (x ∷ table) =
+    let more = left_most f entered table in
+    omega (arith, more, test_most was (f x), sum_by-cons f x table)
 
 explores-map : (qs : List ℕ) (fs : List Frame)
     → explores (map (λ q. explore q) qs ++ fs) ≡ explores fs + length qs

@@ -1,6 +1,11 @@
 -- What a round begins with: the room that it needs, and the threads and starts that are followed.
+use Rattle.std.proofs.lemmas.Bool.{false≢true}
+use Rattle.regex_lite_engine.proofs.Common.{true}
+use Rattle.regex_lite_engine.proofs.Common.{length-replicate}
+use Rattle.regex_lite_engine.proofs.Common.{zero, suc}
+use Rattle.regex_lite_engine.proofs.Common.{false}
 use Rattle.regex_lite_engine.proofs.Common.{◌≡◌, ℕ, ◌+◌, ◌-◌, ◌^◌, ◌<◌, ◌≤◌, ◌⊎◌, List, [], ◌∷◌}
-use Rattle.regex_lite_engine.proofs.Common.{◌++◌, length, replicate, slice_index, slice_index_or}
+use Rattle.regex_lite_engine.proofs.Common.{◌++◌, length, replicate, slice_index_or}
 use Rattle.regex_lite_engine.proofs.Common.{Some, None, sum_by, sym, refl, ap, ◌∙◌, subst, inl, inr}
 use Rattle.regex_lite_engine.proofs.Common.{arith, length-append, cases_lt, sum_by-cons}
 use Rattle.regex_lite_engine.proofs.Common.{slice_get-get_or, reading_count, kept_back, arrow_count}
@@ -14,7 +19,7 @@ use Rattle.regex_lite_engine.specs.Pikevm.Room.{HasRoom}
 use Rattle.regex_lite_engine.specs.Pikevm.Turns.{IsReady}
 use Rattle.regex_lite_syntax.proofs.OptionLemmas.{not_there}
 use Rattle.regex_lite_engine.proofs.pikevm.RoomLemmas.{left_most}
-use Rattle.regex_lite_engine.proofs.pikevm.StateLemmas.{BeginsRound}
+use Rattle.regex_lite_engine.proofs.pikevm.StateLemmas.{BeginsPosition}
 use Rattle.regex_lite_engine.proofs.pikevm.ThreadLemmas.{Begun, at_front, at_back, begun_at}
 use Rattle.regex_lite_engine.proofs.pikevm.ThreadLemmas.{begun_length}
 use Rattle.regex_lite_engine.proofs.search.MarkLemmas.{blank_row}
@@ -25,19 +30,18 @@ sum_lone (x ∷ table) = let more = sum_lone table in omega (arith, more, sum_by
 
 pub fit_first : (table : List (Place ℕ)) {S : Type 0} (walk : Walk S) (memory : State)
     (best : BestState) → IsReady table walk.memory best walk.steps
-    → memory ≡ record walk.memory { now = walk.memory.now + 1; ready = memory.ready }
+    → memory ≡ record walk.memory { entered = replicate (length walk.memory.entered) false }
     → walk.steps.tried + arrows_of table < 2 ^ 127 → walk.steps.entered + length table < 2 ^ 127
     → HasRoom table (record walk { memory = memory }) []
 fit_first table walk memory best ready em few fewe =
-    let m = walk.memory in let now = m.now + 1 in
-    let a = left_most kept_back now m.rounds table in let b = left_most lone now m.rounds table in
-    let c = left_most arrow_count now m.rounds table in let d = sum_lone table in
-    let g = left_most reading_count now m.rounds table in
+    let m = walk.memory in let none = replicate (length m.entered) false in
+    let a = left_most kept_back none table in let b = left_most lone none table in
+    let c = left_most arrow_count none table in let d = sum_lone table in
+    let g = left_most reading_count none table in
     let e = ready.stack_room in let cap = ready.cap in
     let z : length m.next ≡ 0 = ap length ready.none_next in
     subst (λ (n : State). HasRoom table (record walk { memory = n }) []) (sym em) (record {
-      all_seen = ready.all_seen;
-      old_rounds = λ r. (let le = ready.old_rounds r in omega (arith, le));
+      all_seen = length-replicate (length m.entered) false ∙ ready.all_seen;
       frames_below = tt;
       threads_below = λ k lt. absurd (omega (arith, lt, z));
       stack_room = omega (arith, a, e);
@@ -91,19 +95,24 @@ start_begun starts at w (Some b) ts = inr ((λ e. not_there (sym e)), refl)
 
 -- the ways of a round that begins
 pub begins_with : (m n : State) (starts : List Start) (told : ℕ → Told) (best : Best)
-    → BeginsRound m n
+    → BeginsPosition m n
     → Begun starts told best m.threads (with_starts starts told best (length n.row) n.threads)
 begins_with m n starts told best round =
     subst (λ ts. Begun starts told best ts (with_starts starts told best (length n.row) n.threads))
     round.threads (start_begun starts told (length n.row) best n.threads)
 
--- no place was entered in it
-pub none_entered : (m n : State) → ((q : ℕ) → slice_index m.rounds q ≤ m.now) → BeginsRound m n
-    → (q : ℕ) → slice_index n.rounds q ≡ n.now → ⊥
-none_entered m n old round q e =
-    let le = old q in let now = round.now in
-    let same = ap (λ x. slice_index x q) round.rounds in
-    omega (arith, le, same, now, e)
+none_at : (n q : ℕ) → slice_index_or (replicate n false) q false ≡ false
+none_at zero q = refl
+none_at (suc n) zero = refl
+none_at (suc n) (suc q) = none_at n q
+
+-- no place was entered at it
+pub none_entered : (m n : State) → BeginsPosition m n
+    → (q : ℕ) → slice_index_or n.entered q false ≡ true → ⊥
+none_entered m n round q e =
+    let none : slice_index_or n.entered q false ≡ false =
+    ap (λ x. slice_index_or x q false) round.entered ∙ none_at (length m.entered) q in
+    false≢true (sym none ∙ e)
 
 -- a thread, or a start after them
 abbrev IsTakenUp : (starts : List Start) (at : ℕ → Told) (w : ℕ) (ts ways : List Thread) (k : ℕ)

@@ -87,10 +87,9 @@ module _ (table : List (Place ℕ)) {S : Type 0} (w x : Walk S) (q : ℕ)
       → due_tries table w + 1 < 2 ^ 127 → HasRoom table w []
       → HasRoom table x (explore q ∷ x.memory.frames)
   room_pushed inside kept few fit =
-      let most = left_most kept_back w.memory.now w.memory.rounds table in
+      let most = left_most kept_back w.memory.entered table in
       subst (λ (z : Walk S). IsFit table z) (sym is_taken) (record {
         all_seen = fit.all_seen;
-        old_rounds = fit.old_rounds;
         frames_below = (inside, tt);
         threads_below = fit.threads_below;
         stack_room = omega (arith, most, kept);
@@ -152,7 +151,6 @@ follows_on {table = table} {here} {ways} {best} {w = w} {x} {y} {start = start} 
           (subst (λ (ts : List Thread). Between table at (state_retold tell w.memory)
           (all_retold tell ts) b) next (v.again tell there b alike at is u));
       kept = record {
-        round = kept.round ∙ ap (λ (m : State). m.now) em ∙ v.kept.round;
         threads = kept.threads ∙ ap (λ (m : State). m.threads) em ∙ v.kept.threads;
         room = kept.room ∙ ap (λ (m : State). m.room) em ∙ v.kept.room;
         row = kept.row ∙ width ∙ v.kept.row;

@@ -1,6 +1,9 @@
 -- From one position to the next: its threads are followed, and after them its starts.
+use Rattle.regex_lite_engine.proofs.Common.{true}
+use Rattle.regex_lite_engine.proofs.Common.{false}
+use Rattle.regex_lite_engine.proofs.Common.{slice_index_or}
 use Rattle.regex_lite_engine.proofs.Common.{◌≡◌, ℕ, suc, ◌+◌, ◌<◌, ◌≤◌, ◌⊎◌, List, [], ◌∷◌, ◌++◌}
-use Rattle.regex_lite_engine.proofs.Common.{length, slice_index, Some, None, Option, sym, refl, ap}
+use Rattle.regex_lite_engine.proofs.Common.{Some, None, Option, sym, refl, ap}
 use Rattle.regex_lite_engine.proofs.Common.{◌∙◌, subst, inl, inr, arith, cases_lt, IsWithin}
 use Rattle.regex_lite_engine.proofs.Common.{IsOwnPart, Thread, StepsTo, IsComing, begun}
 use Rattle.regex_lite_engine.proofs.Common.{ThreadsHold, SearchAt, Told, IsDead, numbered_step}
@@ -63,23 +66,23 @@ module _ (table : List (Place ℕ)) (at : SearchAt) where
   among_offers number entry (start ∷ starts) (inr is) =
       inr (among_offers number entry starts is)
 
--- The position's threads are followed, and after them these starts, where they are not left out. In
--- the round that begins no place was entered, and no thread goes on yet
+-- The position's threads are followed, and after them these starts, where they are not left out. No
+-- place was entered there yet, and no thread goes on
 pub record IsTurn (table : List (Place ℕ)) (at : SearchAt) (here : Here) (cur : List Thread)
     (best : Best) (after : State) (best' : Best) : Type 0 where
   pub is : IsHere at.haystack at.p here
   pub low : at.first ≤ at.p
   pub high : at.p ≤ at.last
-  pub round : State
-  pub new : (q : ℕ) → slice_index round.rounds q ≡ round.now → ⊥
-  pub empty : round.next ≡ []
+  pub first_state : State
+  pub new : (q : ℕ) → slice_index_or first_state.entered q false ≡ true → ⊥
+  pub empty : first_state.next ≡ []
   pub starts : List Start
   pub are : AreStartsAt table at.haystack at.entries at.p starts
   pub told : ℕ → Told
   pub tells : (number : ℕ) → TellsStart (told number) here.at number
   pub ways : List Thread
   pub begins : Begun starts told best cur ways
-  pub steps : StepsTo table here round ways best after [] best'
+  pub steps : StepsTo table here first_state ways best after [] best'
   pub kept : best' ≡ None → best ≡ None
 
 module _ (table : List (Place ℕ)) (at : SearchAt) (here : Here) (cur : List Thread) (best : Best)
@@ -100,13 +103,13 @@ module _ (table : List (Place ℕ)) (at : SearchAt) (here : Here) (cur : List Th
   abbrev Dead : Node → Type 0
   Dead n = IsDead Node (numbered_step table haystack) (is_end table haystack) n
 
-  none_next : Holds (suc p) turn.round.next []
+  none_next : Holds (suc p) turn.first_state.next []
   none_next = subst (λ ts. Holds (suc p) ts []) (sym turn.empty) tt
 
   -- without an own start
   begun_alone : (from : ℕ) (b : Best) (known : Coming b)
       → Steps from known.recorded known.coming [] known.way
-      → turn.ways ≡ cur → Between table (record at { from = from }) turn.round turn.ways b
+      → turn.ways ≡ cur → Between table (record at { from = from }) turn.first_state turn.ways b
   begun_alone from b known state same = record {
     recorded = known.recorded;
     under = [];
@@ -115,7 +118,7 @@ module _ (table : List (Place ℕ)) (at : SearchAt) (here : Here) (cur : List Th
     way = known.way;
     in_step = state;
     seen = λ r v e. absurd (let lt = known.before (r, p) v e in omega (arith, lt));
-    met = λ r lt e. absurd (turn.new r e);
+    met = λ r e. absurd (turn.new r e);
     frames_hold = refl;
     ways_hold = subst (λ ts. Holds p ts known.coming) (sym same) known.hold;
     coming_hold = none_next;
@@ -144,7 +147,7 @@ module _ (table : List (Place ℕ)) (at : SearchAt) (here : Here) (cur : List Th
 
   -- with its own starts
   begun_own : (blank : Row) → IsBlank blank → turn.ways ≡ cur ++ begun turn.told blank turn.starts
-      → Coming None → Between table (record at { from = suc p }) turn.round turn.ways None
+      → Coming None → Between table (record at { from = suc p }) turn.first_state turn.ways None
   begun_own blank blanks pushed u = record {
     recorded = u.recorded;
     under = [];
@@ -160,7 +163,7 @@ module _ (table : List (Place ℕ)) (at : SearchAt) (here : Here) (cur : List Th
         (subst (λ z. Steps z u.recorded u.coming [] None) u.from_is
         (subst (λ z. Steps u.from u.recorded u.coming [] z) u.best_holds u.in_step));
     seen = λ r v e. absurd (let lt = u.before (r, p) v e in omega (arith, lt));
-    met = λ r lt e. absurd (turn.new r e);
+    met = λ r e. absurd (turn.new r e);
     frames_hold = refl;
     ways_hold =
         subst (λ ts. Holds p ts (u.coming ++ begun_offers p turn.starts)) (sym pushed)
@@ -208,12 +211,12 @@ module _ (table : List (Place ℕ)) (at : SearchAt) (here : Here) (cur : List Th
           let e : ◌≡◌ {A = Best} (Some x) None = kept refl in absurd (not_there (sym e))
 
       on : (from : ℕ) (b : Best) → best ≡ b → FromIs (p + 1) from b
-          → Between table (record at { from = from }) turn.round turn.ways b → Turned
+          → Between table (record at { from = from }) turn.first_state turn.ways b → Turned
       on from b e from_is w = (
         from,
         from_kept best best' from (subst (FromIs (p + 1) from) (sym e) from_is) turn.kept,
         turn.steps (record at { from = from }) turn.is
-            (subst (Between table (record at { from = from }) turn.round turn.ways) (sym e) w),
+            (subst (Between table (record at { from = from }) turn.first_state turn.ways) (sym e) w),
       )
 
       go : (b : Best) → Begun turn.starts turn.told b cur turn.ways → best ≡ b → Coming b → Turned
@@ -248,9 +251,9 @@ module _ (table : List (Place ℕ)) (at : SearchAt) (here : Here) (cur : List Th
 
   -- just places of the part were entered
   pub turned_within : Coming best → (begin len : ℕ) → IsOwnPart table s begin len → (q : ℕ)
-      → q < length after.rounds → slice_index after.rounds q ≡ after.now → IsWithin begin len q
-  turned_within u begin len part q lt e =
+      → slice_index_or after.entered q false ≡ true → IsWithin begin len q
+  turned_within u begin len part q e =
       let (from, is, w) = turned u in
-      let (v, known) = w.met q lt e in
+      let (v, known) = w.met q e in
       recorded_within table (record at { from = from }) begin len part w.recorded
       (w.under ++ w.later) w.coming w.way w.in_step (q, p) v known

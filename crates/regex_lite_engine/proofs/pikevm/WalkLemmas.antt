@@ -1,8 +1,10 @@
 -- The steps of a walk over one position of a haystack.
+use Rattle.regex_lite_engine.proofs.Common.{false}
+use Rattle.regex_lite_engine.proofs.Common.{slice_index_or, true}
 use Rattle.regex_lite_engine.proofs.Common.{◌≡◌, ℕ, suc, ◌<◌, ◌⊎◌, List, [], ◌∷◌, ◌++◌, length}
-use Rattle.regex_lite_engine.proofs.Common.{IsTrue, slice_index, slice_set, Some, None, Option, sym}
-use Rattle.regex_lite_engine.proofs.Common.{refl, ap, ◌∙◌, subst, inl, inr, append_assoc, arith}
-use Rattle.regex_lite_engine.proofs.Common.{length-set, cases_eq, get_or-set_other, get_or-set_same}
+use Rattle.regex_lite_engine.proofs.Common.{IsTrue, slice_set, Some, None, Option, sym}
+use Rattle.regex_lite_engine.proofs.Common.{refl, ap, ◌∙◌, subst, inl, inr, append_assoc}
+use Rattle.regex_lite_engine.proofs.Common.{cases_eq, get_or-set_other, get_or-set_same}
 use Rattle.regex_lite_engine.proofs.Common.{Text, Thread, WayTold, ThreadsHold, InStep, SearchAt}
 use Rattle.regex_lite_engine.proofs.Common.{Told, Marks, marked, over, mark_of, marks_along}
 use Rattle.regex_lite_engine.proofs.Common.{place_with, numbered_step, is_end, StartsOf, Best, Node}
@@ -61,7 +63,7 @@ module _ (table : List (Place ℕ)) (haystack : Text) (s : List ℕ) where
 
 -- the place is among those that were entered
 abbrev pub marked_in : State → (q : ℕ) → State
-marked_in state q = record state { rounds = slice_set state.rounds q state.now }
+marked_in state q = record state { entered = slice_set state.entered q true }
 
 module _ (table : List (Place ℕ)) (at : SearchAt) (state : State) (i : Told) (ways : List Thread)
     (best : Best) where
@@ -99,7 +101,7 @@ module _ (table : List (Place ℕ)) (at : SearchAt) (state : State) (i : Told) (
     best_holds = walking.best_holds;
   }
 
-  module _ (q : ℕ) (short : q < length state.rounds)
+  module _ (q : ℕ) (short : q < length state.entered)
       (walking : Walks state.row (explore q ∷ state.frames)) where
     abbrev Took : Type 0
     Took =
@@ -115,8 +117,8 @@ module _ (table : List (Place ℕ)) (at : SearchAt) (state : State) (i : Told) (
         subst (λ z. In_step walking.recorded (z ++ walking.later) walking.coming walking.way) e
         walking.in_step
 
-    pub walk_seen : slice_index state.rounds q ≡ state.now → Walks state.row state.frames
-    walk_seen was = go walking.frames_hold (walking.met q short was)
+    pub walk_seen : slice_index_or state.entered q false ≡ true → Walks state.row state.frames
+    walk_seen was = go walking.frames_hold (walking.met q was)
       where
         go : Took → (v : List ℕ) × (walking.recorded (q, p) ≡ Some v) → Walks state.row state.frames
         go (w, rest, e, holds, waits) (v, r) = record {
@@ -137,7 +139,7 @@ module _ (table : List (Place ℕ)) (at : SearchAt) (state : State) (i : Told) (
         }
 
     -- what the search keeps of an entered place
-    module _ (new : slice_index state.rounds q ≡ state.now → ⊥) where
+    module _ (new : slice_index_or state.entered q false ≡ true → ⊥) where
       fresh : walking.recorded (q, p) ≡ None
       fresh = none_or (walking.recorded (q, p)) (λ v e. new (walking.seen q v e))
 
@@ -145,26 +147,26 @@ module _ (table : List (Place ℕ)) (at : SearchAt) (state : State) (i : Told) (
       recorded_now w = records.extended Node same_node walking.recorded (q, p) w
 
       seen_now : (w : List ℕ) (r : ℕ) (v : List ℕ) → recorded_now w (r, p) ≡ Some v
-          → slice_index (slice_set state.rounds q state.now) r ≡ state.now
+          → slice_index_or (slice_set state.entered q true) r false ≡ true
       seen_now w r v e =
           go (cases_eq r q) (records.back Node same_node walking.recorded (q, p) w (r, p) v e)
         where
           Goal : Type 0
-          Goal = slice_index (slice_set state.rounds q state.now) r ≡ state.now
+          Goal = slice_index_or (slice_set state.entered q true) r false ≡ true
 
           go : (r ≡ q) ⊎ (r ≡ q → ⊥)
               → ((◌≡◌ {A = Node} (r, p) (q, p)) × (v ≡ w)) ⊎ (walking.recorded (r, p) ≡ Some v)
               → Goal
           go (inl d) x =
-              ap (slice_index (slice_set state.rounds q state.now)) d
-              ∙ get_or-set_same state.rounds q state.now 0 short
+              ap (λ i. slice_index_or (slice_set state.entered q true) i false) d
+              ∙ get_or-set_same state.entered q true false short
           go (inr d) (inl x) = absurd (d (ap (λ (z : Node). z.0) x.0))
-          go (inr d) (inr x) = get_or-set_other state.rounds q r state.now 0 d ∙ walking.seen r v x
+          go (inr d) (inr x) = get_or-set_other state.entered q r true false d ∙ walking.seen r v x
 
-      met_now : (w : List ℕ) (r : ℕ) → r < length (slice_set state.rounds q state.now)
-          → slice_index (slice_set state.rounds q state.now) r ≡ state.now
+      met_now : (w : List ℕ) (r : ℕ)
+          → slice_index_or (slice_set state.entered q true) r false ≡ true
           → (v : List ℕ) × (recorded_now w (r, p) ≡ Some v)
-      met_now w r lt e = go (cases_eq r q)
+      met_now w r e = go (cases_eq r q)
         where
           go : (r ≡ q) ⊎ (r ≡ q → ⊥) → (v : List ℕ) × (recorded_now w (r, p) ≡ Some v)
           go (inl d) = (
@@ -173,8 +175,8 @@ module _ (table : List (Place ℕ)) (at : SearchAt) (state : State) (i : Told) (
                 ∙ records.extended_here Node same_node walking.recorded (q, p) w,
           )
           go (inr d) =
-              let r' = walking.met r (omega (arith, lt, length-set state.rounds q state.now))
-              (sym (get_or-set_other state.rounds q r state.now 0 d) ∙ e) in
+              let r' = walking.met r
+              (sym (get_or-set_other state.entered q r true false d) ∙ e) in
               (r'.0, records.kept Node same_node walking.recorded (q, p) w fresh (r, p) r'.0 r'.1)
 
       -- what the place offers to the way

@@ -1,9 +1,11 @@
 -- A frame was taken off: the memory still suffices, and the counts stay within what is left.
-use Rattle.regex_lite_engine.proofs.Common.{◌≡◌, ℕ, ◌+◌, ◌<◌, ◌≤◌, Bool, true, false, ◌⊎◌, List, []}
-use Rattle.regex_lite_engine.proofs.Common.{◌∷◌, length, set, if◌then◌else◌, slice_get, slice_index}
+use Rattle.std.proofs.lemmas.Bool.{false≢true}
+use Rattle.regex_lite_engine.proofs.Common.{slice_index_or}
+use Rattle.regex_lite_engine.proofs.Common.{◌≡◌, ℕ, ◌+◌, ◌<◌, ◌≤◌, Bool, true, false, List, []}
+use Rattle.regex_lite_engine.proofs.Common.{◌∷◌, length, set, if◌then◌else◌, slice_get}
 use Rattle.regex_lite_engine.proofs.Common.{slice_set, Some, Option, unwrap_or, sym, refl, ap, ◌∙◌}
-use Rattle.regex_lite_engine.proofs.Common.{subst, inl, inr, arith, length-set, cases_eq}
-use Rattle.regex_lite_engine.proofs.Common.{get_or-set_other, get_or-set_same, set-get_or}
+use Rattle.regex_lite_engine.proofs.Common.{subst, arith, length-set}
+use Rattle.regex_lite_engine.proofs.Common.{set-get_or}
 use Rattle.regex_lite_engine.proofs.Common.{with_arrows, reading_count, kept_back, arrow_count}
 use Rattle.regex_lite_engine.proofs.Common.{place_of, LeadsBelow, state_retold, Told, StepCounts}
 use Rattle.regex_lite_engine.proofs.Common.{lone, Row, Here}
@@ -32,21 +34,20 @@ walk_is w {m = m} em ec =
 module _ (table : List (Place ℕ)) (here : Here) (i : Told) {S : Type 0} where
   -- the place was entered before
   pub went_seen : (w x : Walk S) (q : ℕ) → HasRoom table w (explore q ∷ w.memory.frames)
-      → slice_index w.memory.rounds q ≡ w.memory.now
-      → x.memory ≡ record w.memory { rounds = slice_set w.memory.rounds q w.memory.now }
+      → slice_index_or w.memory.entered q false ≡ true
+      → x.memory ≡ record w.memory { entered = slice_set w.memory.entered q true }
       → x.steps ≡ record w.steps { tried = w.steps.tried + 1 }
       → Went table here i (with_frames w (explore q ∷ w.memory.frames)) x false
   went_seen w x q fit was em ec =
       let m = w.memory in let few = fit.few_tries in let et = fit.entered_tried in
       let all = fit.all_seen in let lt = fit.frames_below.0 in
-      let same : slice_set m.rounds q m.now ≡ m.rounds =
-      ap (set m.rounds q) (sym was) ∙ set-get_or m.rounds q 0 in
+      let same : slice_set m.entered q true ≡ m.entered =
+      ap (set m.entered q) (sym was) ∙ set-get_or m.entered q false in
       subst (λ (z : Walk S). Went table here i (with_frames w (explore q ∷ m.frames)) z false)
-      (sym (walk_is x (em ∙ ap (λ r. record m { rounds = r }) same) ec))
+      (sym (walk_is x (em ∙ ap (λ r. record m { entered = r }) same) ec))
       (record {
         fit = record {
           all_seen = fit.all_seen;
-          old_rounds = fit.old_rounds;
           frames_below = fit.frames_below.1;
           threads_below = fit.threads_below;
           stack_room = (let left = fit.stack_room in omega (arith, left));
@@ -74,7 +75,7 @@ module _ (table : List (Place ℕ)) (here : Here) (i : Told) {S : Type 0} where
   module _ (w : Walk S) (q : ℕ) (x : code.Place) (e : State) (done : Bool)
       (inside : LeadsBelow (length table) (place_of x))
       (fit : HasRoom table w (explore q ∷ w.memory.frames))
-      (new : slice_index w.memory.rounds q ≡ w.memory.now → ⊥)
+      (new : slice_index_or w.memory.entered q false ≡ true → ⊥)
       (at : slice_get table q ≡ Some (place_of x))
       (enters : Enters here i x (marked_in w.memory q) e done)
       (same : e ≡ record (marked_in w.memory q) {
@@ -88,20 +89,6 @@ module _ (table : List (Place ℕ)) (here : Here) (i : Told) {S : Type 0} where
 
     enters' : Enters here i x (marked_in w.memory q) e' done
     enters' = subst (λ z. Enters here i x (marked_in w.memory q) z done) same enters
-
-    old_after : (r : ℕ) → slice_index (slice_set w.memory.rounds q w.memory.now) r ≤ w.memory.now
-    old_after r = go (cases_eq r q)
-      where
-        go : (r ≡ q) ⊎ (r ≡ q → ⊥)
-            → slice_index (slice_set w.memory.rounds q w.memory.now) r ≤ w.memory.now
-        go (inl d) = let lt = fit.frames_below.0 in let all = fit.all_seen in
-            let at = ap (slice_index (slice_set w.memory.rounds q w.memory.now)) d
-            ∙ get_or-set_same w.memory.rounds q w.memory.now 0 (omega (arith, lt, all)) in
-            omega (arith, at)
-        go (inr d) =
-            let old = fit.old_rounds r in
-            let at = get_or-set_other w.memory.rounds q r w.memory.now 0 d in
-            omega (arith, at, old)
 
     fewer : (b : Bool) → explores (if b then [] else e.frames) ≤ explores e.frames
     fewer true = omega arith
@@ -126,17 +113,17 @@ module _ (table : List (Place ℕ)) (here : Here) (i : Told) {S : Type 0} where
         → Went table here i (with_frames w (explore q ∷ w.memory.frames)) after done
     went_entered after em ec =
         let m = w.memory in
-        let short : q < length m.rounds =
+        let short : q < length m.entered =
         (let all = fit.all_seen in let lt = fit.frames_below.0 in omega (arith, all, lt)) in
         let adds = enters_adds here i (length table) (marked_in m q) fit.frames_below.1
         fit.threads_below e' done x inside enters' in
         let few = adds.few in let long = adds.long in let keeps = adds.keeps in
-        let work_left = left_enter weight m.now m.rounds table q (place_of x) at short new in
-        let stack_left = left_enter kept_back m.now m.rounds table q (place_of x) at short new in
-        let arrows_left = left_enter arrow_count m.now m.rounds table q (place_of x) at short new in
-        let lone_left = left_enter lone m.now m.rounds table q (place_of x) at short new in
+        let work_left = left_enter weight m.entered table q (place_of x) at short new in
+        let stack_left = left_enter kept_back m.entered table q (place_of x) at short new in
+        let arrows_left = left_enter arrow_count m.entered table q (place_of x) at short new in
+        let lone_left = left_enter lone m.entered table q (place_of x) at short new in
         let reading_left =
-        left_enter reading_count m.now m.rounds table q (place_of x) at short new in
+        left_enter reading_count m.entered table q (place_of x) at short new in
         let ends = fewer done in let shorter = not_longer done in
         let stack_room = fit.stack_room in let next_room = fit.next_room in
         let few_tries = fit.few_tries in let few_entries = fit.few_entries in
@@ -146,8 +133,7 @@ module _ (table : List (Place ℕ)) (here : Here) (i : Told) {S : Type 0} where
         (em ∙ ap (λ (z : State). record z { frames = if done then [] else e.frames }) same) ec))
         (record {
           fit = record {
-            all_seen = length-set m.rounds q m.now ∙ fit.all_seen;
-            old_rounds = old_after;
+            all_seen = length-set m.entered q true ∙ fit.all_seen;
             frames_below = frames_kept done adds.frames_below;
             threads_below = adds.threads_below;
             stack_room = omega (arith, stack_left, stack_room, keeps, shorter);
@@ -213,7 +199,6 @@ module _ (table : List (Place ℕ)) (here : Here) (i : Told) {S : Type 0} where
       record {
         fit = record {
           all_seen = fit.all_seen;
-          old_rounds = fit.old_rounds;
           frames_below =
               subst (λ z. FramesBelow (length table) z fs) (sym (length-set m.row slot old))
               fit.frames_below.1;
@@ -269,12 +254,14 @@ module _ (table : List (Place ℕ)) (here : Here) (i : Told) {S : Type 0} where
       (ap (back_at w) is ∙ sym (ap (λ (z : Walk S). with_frames z left) (walk_is x em ec)))
       (went_back w w.memory.frames fit)
 
-pub was_met : (a b : ℕ) (r : Bool) → r ≡ false → ((a ≡ b → ⊥) → r ≡ true) → a ≡ b
-was_met a b r e f = go (cases_eq a b)
-  where
-    go : (a ≡ b) ⊎ (a ≡ b → ⊥) → a ≡ b
-    go (inl d) = d
-    go (inr d) = let t : r ≡ true = f d in cc
+-- a place that is new was not entered before
+pub not_yet : {was : Bool} → was ≡ false → was ≡ true → ⊥
+not_yet none e = false≢true (sym none ∙ e)
+
+-- what isn't new was entered before
+pub was_met : (was new : Bool) → new ≡ false → (was ≡ false → new ≡ true) → was ≡ true
+was_met true new old fresh = refl
+was_met false new old fresh = absurd (false≢true (sym old ∙ fresh refl))
 
 pub goes_on : (o : Onward) → (o ≡ onward.Complete → ⊥) → completes o ≡ false
 goes_on (onward.To place) d = refl

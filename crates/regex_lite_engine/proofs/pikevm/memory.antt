@@ -1,4 +1,4 @@
 pub mod CellLemmas
 pub mod ListLemmas
-pub mod ReadyLemmas
+pub mod TogetherLemmas
 pub mod ViewLemmas

@@ -87,7 +87,6 @@ can_count table bytes s utf8 short countable patterns few_patterns =
           (omega (arith, countable.few_arrows, few_patterns)) (omega (arith, few, short));
       entries = few_products (length table) (characters_left (chars bytes) s + 1)
           (omega (arith, countable.few_places)) (omega (arith, few, short));
-      rounds = omega (arith, few, short);
     }
 
 -- a start inside the haystack is that of a position

@@ -1,5 +1,5 @@
 -- How the working memory of a search lies in its cells and rows.
-use Rattle.std.specs.Prelude.{◌≡◌, Bool, true, ◌+◌, ◌-◌, ◌*◌, ◌≤◌, ◌<◌, ℕ}
+use Rattle.std.specs.Prelude.{◌≡◌, ◌+◌, ◌-◌, ◌*◌, ◌≤◌, ◌<◌, ℕ}
 use Rattle.std.specs.Prelude.{List, [], ◌++◌, take, drop, reverse, replicate}
 use Rattle.std.specs.Prelude.{length, map, None, slice_index, slice_index_or, vec_capacity}
 use Rattle.std.specs.Global.{Vec}
@@ -41,13 +41,6 @@ frame_of (stored.Restore slot old) = restore slot old
 
 abbrev pub frame_in : {S : Type 0} → Cell S → Frame
 frame_in cell = frame_of cell.frame
-
-abbrev pub round_in : {S : Type 0} → Cell S → ℕ
-round_in cell = cell.entered
-
--- of all places: those below `low` have no cell yet, and were not entered
-abbrev pub rounds_in : {S : Type 0} → (low : ℕ) → List (Cell S) → List ℕ
-rounds_in low cells = replicate low 0 ++ map round_in cells
 
 -- the frames of the first cells, the last one next
 abbrev pub frames_in : {S : Type 0} → List (Cell S) → (depth : ℕ) → List Frame
@@ -95,29 +88,21 @@ module _ {S : Type 0} (told : S → Told) (side : Side) (cells : List (Cell S)) 
   abbrev pub threads_on : (n : ℕ) → List Thread
   threads_on n = map thread_on (range_with_len 0 n)
 
--- there is room for what is kept, and for cells of all places
-pub record HoldTogether {S : Type 0} (cells : List (Cell S)) (capacity low : ℕ) (ready : Bool)
+-- there is room for what is kept, and for a cell for each place
+pub record HoldTogether {S : Type 0} (cells : List (Cell S)) (capacity places : ℕ)
     (rows : List Row) (room depth len next_len : ℕ) : Type 0 where
-  pub all_ready : ready ≡ true → low ≡ 0
-  pub cells_fit : low + length cells ≤ capacity
+  pub cells_fit : places ≤ capacity
   pub frames_fit : depth ≤ length cells
   pub threads_fit : len ≤ length cells
   pub next_fit : next_len ≤ length cells
   pub threads_few : len ≤ room
   pub next_few : next_len ≤ room
-  pub room_few : room ≤ low + length cells
+  pub room_few : room ≤ places
   pub rows_fit : length rows ≡ 2 * room + 1
 
--- what a cell holds, except its round
-abbrev pub without_round : {S : Type 0} → Cell S → Cell S
-without_round cell = record cell { entered = 0 }
-
--- more cells are ready, and nothing has changed: each place keeps its round, and each number
--- whatever else it has
-pub record MakesReady {S : Type 0} (low : ℕ) (cells : List (Cell S)) (new_low : ℕ)
-    (new_cells : List (Cell S)) : Type 0 where
-  pub rounds : rounds_in new_low new_cells ≡ rounds_in low cells
-  pub kept : take (length cells) (map without_round new_cells) ≡ map without_round cells
+-- there may be more cells, and those of before are the same
+pub record Continues {S : Type 0} (before after : List (Cell S)) : Type 0 where
+  pub same : take (length before) after ≡ before
 
 -- there is room for at least as many as before
 abbrev pub KeepsCapacity : {X : Type 0} → (before after : Vec X) → Type 0

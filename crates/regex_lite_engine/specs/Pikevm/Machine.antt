@@ -25,9 +25,8 @@ thread_at threads k = slice_index_or threads k (0, untold, [])
 
 -- what the working memory of a search stands for
 pub record State : Type 0 where
-  -- the round in which each place was entered last, and this round
-  pub rounds : List ℕ
-  pub now : ℕ
+  -- whether each place was entered at this position
+  pub entered : List Bool
   -- what is left to do, in that order
   pub frames : List Frame
   -- the row of the way that is followed
@@ -37,8 +36,6 @@ pub record State : Type 0 where
   pub next : List Thread
   -- how many threads there may be in each list
   pub room : ℕ
-  -- whether there is a cell for each place
-  pub ready : Bool
 
 -- what the store of the best match stands for: what is kept of its start, and the offset of its
 -- end; its row, or that of an earlier match

@@ -1,5 +1,5 @@
 -- From one position of a search to a later one.
-use Rattle.std.specs.Prelude.{◌≡◌, ◌⊎◌, ◌+◌, ◌-◌, ◌*◌, ◌^◌, ◌≤◌, ◌<◌, ℕ, List, [], length, None}
+use Rattle.std.specs.Prelude.{◌≡◌, ◌⊎◌, ◌+◌, ◌-◌, ◌*◌, ◌≤◌, ℕ, List, [], length, None}
 use Rattle.regex_lite_syntax.specs.Text.{Text}
 use Rattle.regex_lite_engine.specs.declared.search.here.Here.{Here}
 use Rattle.regex_lite_engine.specs.declared.pikevm.cache.Cache.{Cache}
@@ -40,7 +40,6 @@ module _ (table : List (Place ℕ)) (haystack : Text) (starts : List ℕ) (first
         cache.walk.steps.tried + length cache.walk.memory.threads
         ≤ (arrows_of table + length starts) * (p - first)
     pub entries : cache.walk.steps.entered ≤ length table * (p - first)
-    pub rounds : cache.walk.memory.now < 2 ^ 63 + (p - first)
 
   -- it has gone over a position that is not before p
   pub record Passes {S : Type 0} (p : ℕ) (cache cache' : Cache S) (here : Here) : Type 0 where

@@ -1,7 +1,7 @@
 -- The working memory suffices for what is left to do at a position, and what is left bounds the
 -- counts.
-use Rattle.std.specs.Prelude.{◌≡◌, ◌+◌, ◌^◌, ◌≤◌, ◌<◌, ◌==◌, ℕ, Bool, true, false}
-use Rattle.std.specs.Prelude.{List, [], ◌∷◌, length, Some, slice_index, if◌then◌else◌}
+use Rattle.std.specs.Prelude.{◌≡◌, ◌+◌, ◌^◌, ◌≤◌, ◌<◌, ℕ, Bool, true, false}
+use Rattle.std.specs.Prelude.{List, [], ◌∷◌, length, Some, if◌then◌else◌}
 use Rattle.regex_lite_engine.specs.Search.Beginnings.{Told}
 use Rattle.regex_lite_engine.specs.declared.search.here.Here.{Here}
 use Rattle.regex_lite_engine.specs.declared.pikevm.walk.Walk.{Walk}
@@ -15,12 +15,12 @@ use Rattle.regex_lite_engine.specs.Search.Standing.{IsHere}
 use Rattle.regex_lite_engine.specs.Pikevm.Walking.{SearchAt, IsWalking}
 use Rattle.regex_lite_engine.specs.Search.NumberedOutcomes.{Best}
 
--- the sum over the places that were not entered in this round
-abbrev pub left_of : (Place ℕ → ℕ) → (now : ℕ) → (rounds : List ℕ) → List (Place ℕ) → ℕ
-left_of measure now [] table = 0
-left_of measure now (round ∷ rounds) [] = 0
-left_of measure now (round ∷ rounds) (place ∷ table) =
-    (if round == now then 0 else measure place) + left_of measure now rounds table
+-- the sum over the places that were not entered at this position
+abbrev pub left_of : (Place ℕ → ℕ) → (entered : List Bool) → List (Place ℕ) → ℕ
+left_of measure [] table = 0
+left_of measure (was ∷ entered) [] = 0
+left_of measure (was ∷ entered) (place ∷ table) =
+    (if was then 0 else measure place) + left_of measure entered table
 
 abbrev pub explores : List Frame → ℕ
 explores [] = 0
@@ -48,26 +48,25 @@ module _ (table : List (Place ℕ)) where
       walk.steps.tried
       + (explores walk.memory.frames
       + (length walk.memory.next
-      + left_of arrow_count walk.memory.now walk.memory.rounds table))
+      + left_of arrow_count walk.memory.entered table))
 
   abbrev pub due_entries : {S : Type 0} → Walk S → ℕ
   due_entries walk =
-      walk.steps.entered + left_of lone walk.memory.now walk.memory.rounds table
+      walk.steps.entered + left_of lone walk.memory.entered table
 
   -- how much is left to do at this position
   abbrev pub work : State → ℕ
-  work state = length state.frames + left_of weight state.now state.rounds table
+  work state = length state.frames + left_of weight state.entered table
 
   pub record IsFit {S : Type 0} (walk : Walk S) : Type 0 where
-    pub all_seen : length walk.memory.rounds ≡ length table
-    pub old_rounds : (place : ℕ) → slice_index walk.memory.rounds place ≤ walk.memory.now
+    pub all_seen : length walk.memory.entered ≡ length table
     pub frames_below : FramesBelow (length table) (length walk.memory.row) walk.memory.frames
     pub threads_below : ThreadsBelow (length table) walk.memory.next
     pub stack_room :
-        length walk.memory.frames + left_of kept_back walk.memory.now walk.memory.rounds table
+        length walk.memory.frames + left_of kept_back walk.memory.entered table
         ≤ length table
     pub next_room :
-        length walk.memory.next + left_of reading_count walk.memory.now walk.memory.rounds table
+        length walk.memory.next + left_of reading_count walk.memory.entered table
         ≤ reading_of table
     pub next_cap : reading_of table < walk.memory.room
     pub few_tries : due_tries walk < 2 ^ 127
@@ -123,7 +122,6 @@ module _ (table : List (Place ℕ)) where
 
 -- what a walk over the position leaves as it is
 pub record KeepsPosition (memory memory' : State) : Type 0 where
-  pub round : memory'.now ≡ memory.now
   pub threads : memory'.threads ≡ memory.threads
   pub room : memory'.room ≡ memory.room
   pub row : length memory'.row ≡ length memory.row

@@ -87,12 +87,11 @@ module _ (table : List (Place ℕ)) where
         + (arrows_of (row_of table low len) + starts)
     pub entries : cache'.walk.steps.entered ≤ cache.walk.steps.entered + len
 
--- a search from position s on has not begun. There may have been rounds of others
+-- a search from position s on has not begun. There may have been others
 pub record IsFresh {S : Type 0} (table : List (Place ℕ)) (cache : Cache S) : Type 0 where
   pub between : IsBetween table cache
   pub none : best_of cache.best ≡ None
   pub no_threads : cache.walk.memory.threads ≡ []
-  pub few_rounds : cache.walk.memory.now < 2 ^ 63
   pub no_tries : cache.walk.steps.tried ≡ 0
   pub no_entries : cache.walk.steps.entered ≡ 0
 

@@ -1,6 +1,6 @@
 -- The threads of one position, and from one position to the next.
 use Rattle.std.specs.Prelude.{◌≡◌, ◌≤◌, ◌<◌, ◌⊎◌, ℕ, List, [], ◌∷◌, ◌++◌, length}
-use Rattle.std.specs.Prelude.{replicate, slice_index, Option, Some, None}
+use Rattle.std.specs.Prelude.{replicate, Option, Some, None}
 use Rattle.regex_lite_syntax.specs.Text.{Text}
 use Rattle.regex_lite_engine.specs.declared.search.here.Here.{Here}
 use Rattle.regex_lite_engine.specs.declared.search.patterns.Start.{Start}
@@ -58,8 +58,7 @@ module _ (table : List (Place ℕ)) where
 
   -- the memory of a search between two positions
   pub record IsReady (memory : State) (best : BestState) (counts : StepCounts) : Type 0 where
-    pub all_seen : length memory.rounds ≡ length table
-    pub old_rounds : (place : ℕ) → slice_index memory.rounds place ≤ memory.now
+    pub all_seen : length memory.entered ≡ length table
     pub cap : reading_of table < memory.room
     pub few : length memory.threads ≤ reading_of table
     pub below : ThreadsBelow (length table) memory.threads

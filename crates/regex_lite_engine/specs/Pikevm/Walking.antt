@@ -1,6 +1,6 @@
 -- What a search over a table of numbered places keeps true while it goes over one position.
-use Rattle.std.specs.Prelude.{◌≡◌, ◌<◌, ℕ, suc, IsTrue, List, [], ◌∷◌, ◌++◌}
-use Rattle.std.specs.Prelude.{length, Option, Some, None, slice_set, slice_index}
+use Rattle.std.specs.Prelude.{◌≡◌, ℕ, suc, IsTrue, List, [], ◌∷◌, ◌++◌}
+use Rattle.std.specs.Prelude.{Option, Some, None, slice_set, slice_index_or, true, false}
 use Rattle.regex_lite_syntax.specs.Text.{Text}
 use Rattle.regex_lite_engine.specs.Graph.Places.{Place}
 use Rattle.regex_lite_engine.specs.Graph.Ways.{Leads}
@@ -85,8 +85,8 @@ pub record IsWalking (table : List (Place ℕ)) (at : SearchAt) (state : State) 
       (under ++ later) coming way
   -- just the places with a record at the position are in the set of those entered
   pub seen : (place : ℕ) (own : List ℕ) → recorded (place, at.p) ≡ Some own
-      → slice_index state.rounds place ≡ state.now
-  pub met : (place : ℕ) → place < length state.rounds → slice_index state.rounds place ≡ state.now
+      → slice_index_or state.entered place false ≡ true
+  pub met : (place : ℕ) → slice_index_or state.entered place false ≡ true
       → (own : List ℕ) × (recorded (place, at.p) ≡ Some own)
   pub frames_hold : FramesHold table at.haystack at.entries at.p told state.row state.frames under
   pub ways_hold : ThreadsHold table at.haystack at.entries at.p ways later

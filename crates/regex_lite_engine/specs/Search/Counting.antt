@@ -19,4 +19,3 @@ pub record IsCountable (table : List (Place ℕ)) : Type 0 where
 pub record CanCount (table : List (Place ℕ)) (patterns characters : ℕ) : Type 0 where
   pub tries : (arrows_of table + patterns) * (characters + 1) < 2 ^ 127
   pub entries : length table * (characters + 1) < 2 ^ 127
-  pub rounds : characters < 2 ^ 63

@@ -5,6 +5,7 @@ ghost use Rattle.std.specs.Prelude.{slice_index_or, slice_set, vec_capacity};
 ghost use Rattle.regex_lite_engine.specs.Backtrack.Bits.{bits_of, room_of, words_of};
 ghost use Rattle.regex_lite_engine.specs.Backtrack.Machine.{pair_number, was_entered};
 
+use crate::bits;
 use std::alloc::{AllocError, Global};
 use std::marker::Model;
 
@@ -165,12 +166,7 @@ fn set_bit(words: &mut [u64], k: usize) -> bool
     ensures set { (count : ℕ) → k < count
         → bits_of words.new count ≡ slice_set (bits_of words.old count) k true }
 {
-    let word = &mut words[k / 64];
-    if (*word >> (k % 64)) & 1 == 1 {
-        return false;
-    }
-    *word |= 1 << (k % 64);
-    true
+    bits::set_bit(&mut words[k / 64], k % 64)
 }
 
 /// Like `set_bit`, for words that may end before bit `k`: the missing ones count as 0.

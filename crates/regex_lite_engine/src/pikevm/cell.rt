@@ -1,6 +1,7 @@
 //! What a search keeps for each number.
-ghost use Rattle.std.specs.Prelude.{◌≡◌};
+ghost use Rattle.std.specs.Prelude.{◌≡◌, ◌≤◌, ◌<◌, length, vec_capacity};
 ghost use Rattle.regex_lite_engine.specs.Pikevm.Cells.{other, place_on, start_on, with_thread};
+ghost use Rattle.regex_lite_engine.specs.Pikevm.Cells.{Continues, KeepsCapacity};
 
 use crate::pikevm::beginning::{Beginning, Origin, Unkept};
 use crate::pikevm::slot::Slot;
@@ -23,13 +24,11 @@ pub enum Side {
     Second,
 }
 
-/// What belongs to one number: to the place, the frame and the threads of both lists that have it.
-/// These have nothing else to do with one another, and lie together so that one request gives
-/// memory for all of them.
+/// What belongs to one number: to the frame and the threads of both lists that have it. These have
+/// nothing else to do with one another, and lie together so that one request gives memory for all
+/// of them.
 #[derive(Copy)]
 pub struct Cell<S: Beginning> {
-    /// The round in which the place with this number was entered last.
-    pub entered: u64,
     /// The frame with this number.
     pub frame: Frame,
     /// What is kept of where the ways of the threads with this number began, and where they go on.
@@ -52,14 +51,14 @@ impl<S: Beginning> Clone for Cell<S> {
     }
 }
 
-// A search has one cell for each place.
-const _: () = prove!(size_of::<Cell<usize>>() == 48);
+// A search has room for one cell for each place.
+const _: () = prove!(size_of::<Cell<usize>>() == 40);
 
 // A search for several patterns has larger cells.
-const _: () = prove!(size_of::<Cell<Origin>>() == 64);
+const _: () = prove!(size_of::<Cell<Origin>>() == 56);
 
 // A search that is asked only for an end has smaller cells.
-const _: () = prove!(size_of::<Cell<Unkept>>() == 32);
+const _: () = prove!(size_of::<Cell<Unkept>>() == 24);
 
 impl Side {
     /// The other list.
@@ -75,11 +74,8 @@ impl Side {
 
 impl<S: Beginning> Cell<S> {
     /// A cell of which nothing is known yet.
-    pub fn blank() -> Cell<S>
-        ensures { result.entered ≡ 0 }
-    {
+    fn blank() -> Cell<S> {
         Cell {
-            entered: 0,
             frame: Frame::Explore(0),
             first_start: S::at(0, 0),
             second_start: S::at(0, 0),
@@ -112,5 +108,19 @@ impl<S: Beginning> Cell<S> {
                 self.second_start = start;
             }
         }
+    }
+}
+
+/// Adds the cell with this number, unless it is there. There is room for it.
+#[inline(always)]
+pub(super) fn provide<S: Beginning>(cells: &mut Vec<Cell<S>>, k: usize)
+    requires next { k ≤ length cells.old.items }
+    requires room { k < vec_capacity cells.old }
+    ensures more { Continues cells.old.items cells.new.items }
+    ensures there { k < length cells.new.items }
+    ensures capacity { KeepsCapacity cells.old cells.new }
+{
+    if k == cells.len() {
+        cells.push_reserved(Cell::blank());
     }
 }

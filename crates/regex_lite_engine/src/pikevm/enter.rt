@@ -31,16 +31,10 @@ pub enum Onward {
 /// Returns the first place that this one offers at this position. The others are pushed onto the
 /// stack, and what it offers at the next position is added to the threads there.
 #[inline(always)]
-pub fn enter<S: Beginning, const READY: bool>(
-    place: &Place,
-    here: Here,
-    start: S,
-    memory: &mut Memory<S>,
-) -> Onward
+pub fn enter<S: Beginning>(place: &Place, here: Here, start: S, memory: &mut Memory<S>) -> Onward
     requires room { length memory.old.frames + (kept_back (place_of place.now) + 1)
-        ≤ length memory.old.rounds }
+        ≤ length memory.old.entered }
     requires next_room { length memory.old.next < memory.old.room }
-    requires ready { READY ≡ true → memory.old.ready ≡ true }
     ensures entered { Enters here (S.told start) place.now memory.old
         (record memory.new { frames = onto result memory.new.frames }) (completes result) }
     ensures same { memory.new ≡ record memory.old {
@@ -52,10 +46,10 @@ pub fn enter<S: Beginning, const READY: bool>(
     match place {
         Place::Empty { to } => return Onward::To(*to),
         Place::Char { c, to } => {
-            read_on::<S, READY>(is_read(*c, here.after), *to, start, memory);
+            read_on(is_read(*c, here.after), *to, start, memory);
         }
         Place::Class { to, set } => {
-            read_on::<S, READY>(is_in_set(set, here.after), *to, start, memory);
+            read_on(is_in_set(set, here.after), *to, start, memory);
         }
         Place::Look { look, to } => {
             if look.holds(here.before, here.after) {
@@ -63,14 +57,14 @@ pub fn enter<S: Beginning, const READY: bool>(
             }
         }
         Place::Slot { slot, to } => {
-            mark::<S, READY>(*slot, here.at, memory);
+            mark(*slot, here.at, memory);
             return Onward::To(*to);
         }
         Place::Choice { first, second } => {
-            memory.push::<READY>(Frame::Explore(*second));
+            memory.push(Frame::Explore(*second));
             return Onward::To(*first);
         }
-        Place::Branches(entries) => return branch::<S, READY>(entries, memory),
+        Place::Branches(entries) => return branch(entries, memory),
         Place::Match => return Onward::Complete,
     }
     Onward::Back
@@ -98,20 +92,18 @@ fn is_in_set(set: &MappedClass, after: Option<char>) -> bool
 }
 
 /// Goes on after the character, if it is read.
-fn read_on<S: Beginning, const READY: bool>(reads: bool, to: u32, start: S, memory: &mut Memory<S>)
-    requires room { length memory.old.next < memory.old.room }
-    requires ready { READY ≡ true → memory.old.ready ≡ true }
+fn read_on<S: Beginning>(reads: bool, to: u32, start: S, memory: &mut Memory<S>)
+    requires { length memory.old.next < memory.old.room }
     ensures { memory.new ≡ reading_on reads memory.old (to, S.told start, memory.old.row) }
 {
     if reads {
-        memory.push_next::<READY>(to, start);
+        memory.push_next(to, start);
     }
 }
 
 /// Goes on to the first of these places, and pushes the others.
-fn branch<S: Beginning, const READY: bool>(entries: &[u32], memory: &mut Memory<S>) -> Onward
-    requires room { length memory.old.frames + length entries.now ≤ length memory.old.rounds }
-    requires ready { READY ≡ true → memory.old.ready ≡ true }
+fn branch<S: Beginning>(entries: &[u32], memory: &mut Memory<S>) -> Onward
+    requires { length memory.old.frames + length entries.now ≤ length memory.old.entered }
     ensures onto { onto result memory.new.frames
         ≡ map explore entries.now ++ memory.old.frames }
     ensures open { completes result ≡ false }
@@ -120,17 +112,16 @@ fn branch<S: Beginning, const READY: bool>(entries: &[u32], memory: &mut Memory<
     match entries.split_first() {
         None => Onward::Back,
         Some((first, others)) => {
-            memory.push_all::<READY>(others);
+            memory.push_all(others);
             Onward::To(*first)
         }
     }
 }
 
 /// Marks the slot, if it is kept.
-fn mark<S: Beginning, const READY: bool>(slot: u32, at: usize, memory: &mut Memory<S>)
-    requires room { length memory.old.frames < length memory.old.rounds }
+fn mark<S: Beginning>(slot: u32, at: usize, memory: &mut Memory<S>)
+    requires room { length memory.old.frames < length memory.old.entered }
     requires small { at + 1 < 2 ^ 64 }
-    requires ready { READY ≡ true → memory.old.ready ≡ true }
     ensures marked { (to : ℕ) → SlotMarked at slot to memory.old
         (record memory.new { frames = explore to ∷ memory.new.frames }) }
     ensures same { memory.new
@@ -141,7 +132,7 @@ fn mark<S: Beginning, const READY: bool>(slot: u32, at: usize, memory: &mut Memo
         // If nothing else is left to do, what the slot held isn't needed again.
         if !memory.is_done() {
             let old = row[slot as usize];
-            memory.push::<READY>(Frame::Restore { slot, old });
+            memory.push(Frame::Restore { slot, old });
         }
         memory.put(slot, Slot::marked(at));
     }

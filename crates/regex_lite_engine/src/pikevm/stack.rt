@@ -6,32 +6,29 @@ ghost use Rattle.regex_lite_engine.specs.Pikevm.Machine.{explore, unwound};
 ghost use Rattle.regex_lite_engine.specs.Pikevm.Room.{FramesBelow};
 
 use crate::pikevm::beginning::Beginning;
-use crate::pikevm::cell::Frame;
+use crate::pikevm::cell::{Frame, provide};
 use crate::pikevm::memory::Memory;
-use crate::pikevm::ready::provide;
 
 impl<S: Beginning> Memory<S> {
     /// Pushes the frame.
-    pub fn push<const READY: bool>(&mut self, frame: Frame)
-        requires room { length self.old.frames < length self.old.rounds }
-        requires ready { READY ≡ true → self.old.ready ≡ true }
+    pub fn push(&mut self, frame: Frame)
+        requires { length self.old.frames < length self.old.entered }
         ensures { self.new
             ≡ record self.old { frames = frame_of frame ∷ self.old.frames } }
     {
-        provide::<S, READY>(&mut self.cells, &mut self.low, self.depth);
+        provide(&mut self.cells, self.depth);
         self.cells[self.depth].frame = frame;
         self.depth += 1;
     }
 
     /// Pushes all these places, the first on top.
-    pub fn push_all<const READY: bool>(&mut self, places: &[u32])
-        requires room { length places.now + length self.old.frames ≤ length self.old.rounds }
-        requires ready { READY ≡ true → self.old.ready ≡ true }
+    pub fn push_all(&mut self, places: &[u32])
+        requires { length places.now + length self.old.frames ≤ length self.old.entered }
         ensures { self.new
             ≡ record self.old { frames = map explore places.now ++ self.old.frames } }
     {
         for i in (0..places.len()).rev() {
-            self.push::<READY>(Frame::Explore(places[i]));
+            self.push(Frame::Explore(places[i]));
         }
     }
 

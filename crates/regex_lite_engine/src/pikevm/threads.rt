@@ -6,9 +6,8 @@ ghost use Rattle.regex_lite_engine.specs.Pikevm.Cells.{row_on};
 ghost use Rattle.regex_lite_engine.specs.Pikevm.Machine.{thread_at};
 
 use crate::pikevm::beginning::Beginning;
-use crate::pikevm::cell::Side;
+use crate::pikevm::cell::{Side, provide};
 use crate::pikevm::memory::Memory;
-use crate::pikevm::ready::provide;
 
 impl<S: Beginning> Memory<S> {
     /// How many threads the position has.
@@ -51,10 +50,9 @@ impl<S: Beginning> Memory<S> {
 
     /// Adds a thread to the next position, with the row of the way that is followed.
     ///
-    /// Condition: there is room for one more, and all cells are ready if `READY` says so.
-    pub fn push_next<const READY: bool>(&mut self, place: u32, start: S)
-        requires room { length self.old.next < self.old.room }
-        requires ready { READY ≡ true → self.old.ready ≡ true }
+    /// Condition: there is room for one more.
+    pub fn push_next(&mut self, place: u32, start: S)
+        requires { length self.old.next < self.old.room }
         ensures { self.new ≡ record self.old {
           next = self.old.next
               ++ (place, S.told start, self.old.row) ∷ [];
@@ -63,7 +61,7 @@ impl<S: Beginning> Memory<S> {
         let side = self.side.other();
         let k = self.next_len;
         self.rows.copy(0, row_of(side, k));
-        provide::<S, READY>(&mut self.cells, &mut self.low, k);
+        provide(&mut self.cells, k);
         self.cells[k].put_thread(side, place, start);
         self.next_len = k + 1;
     }

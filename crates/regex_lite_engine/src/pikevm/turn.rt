@@ -41,7 +41,6 @@ impl<S: Beginning> Cache<S> {
             < 2 ^ 127 }
         requires few_ways { length self.old.walk.memory.threads + length (P.starts patterns.now)
             < 2 ^ 64 }
-        requires few_rounds { self.old.walk.memory.now + 1 < 2 ^ 64 }
         ensures ready { IsBetween (P.table patterns.now) self.new }
         ensures comes { (haystack : Text) (entries : List ℕ) (p first last : ℕ)
             → IsHere haystack p here → first ≤ p → p ≤ last
@@ -69,9 +68,8 @@ impl<S: Beginning> Cache<S> {
             → SpendsWithin (P.table patterns.now) low len (length (P.starts patterns.now)) self.old
             self.new }
         ensures counts { StaysCounted self.old.walk.steps self.new.walk.steps }
-        ensures round { self.new.walk.memory.now ≡ self.old.walk.memory.now + 1 }
     {
-        self.walk.memory.begin_round();
+        self.walk.memory.begin_position();
         let hit = self.follow(patterns, here);
         self.walk.memory.turn_over();
         hit
@@ -101,39 +99,9 @@ impl<S: Beginning> Cache<S> {
         ensures entry { (best_of self.new.best ≡ best_of self.old.best)
             ⊎ (0 < self.new.walk.steps.entered) }
     {
-        if self.walk.memory.is_ready() {
-            return self.follow_ways::<true, P>(patterns, here);
-        }
-        self.follow_ways::<false, P>(patterns, here)
-    }
-
-    /// The same. `READY` says that all cells are ready.
-    #[inline(always)]
-    fn follow_ways<const READY: bool, P: Patterns>(&mut self, patterns: &P, here: Here) -> bool
-        requires placed { IsPlaced (P.table patterns.now)
-            (ways_at (P.starts patterns.now) (S.told_of here.at) self.old) self.old }
-        requires inside { All (λ start. start.place < length (P.table patterns.now))
-            (P.starts patterns.now) }
-        requires room { HasRoom (P.table patterns.now) self.old.walk [] }
-        requires few_ways { length self.old.walk.memory.threads + length (P.starts patterns.now)
-            < 2 ^ 64 }
-        requires ready { READY ≡ true → self.old.walk.memory.ready ≡ true }
-        ensures followed { Follows (P.table patterns.now) here
-            (ways_at (P.starts patterns.now) (S.told_of here.at) self.old) self.old self.new }
-        ensures again { FollowsAgain (P.table patterns.now) here
-            (ways_at (P.starts patterns.now) (S.told_of here.at) self.old) self.old self.new
-            result }
-        ensures hit { IsHit result (best_of self.old.best) (best_of self.new.best) }
-        ensures room { HasRoom (P.table patterns.now) self.new.walk [] }
-        ensures ends { EndsAt here.at (best_of self.old.best) (best_of self.new.best) }
-        ensures kept { best_of self.new.best ≡ None → best_of self.old.best ≡ None }
-        ensures counts { StaysCounted self.old.walk.steps self.new.walk.steps }
-        ensures entry { (best_of self.new.best ≡ best_of self.old.best)
-            ⊎ (0 < self.new.walk.steps.entered) }
-    {
         'ways: for k in 0..self.ways(patterns) {
             let (place, start) = self.walk.take_up(k, patterns, here.at);
-            if self.walk.explore::<READY, P>(place, patterns, here, start) {
+            if self.walk.explore(place, patterns, here, start) {
                 self.best.set(start, here.at, self.walk.memory.row());
                 return true;
             }

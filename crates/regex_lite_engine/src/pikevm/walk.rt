@@ -51,54 +51,38 @@ impl<S: Beginning> Walk<S> {
 
     /// Explores this place and all that is on the stack, the ways of one thread that started at
     /// `start`. Stops where a match is complete, and returns whether one is: what is left then is
-    /// less preferred. `READY` says that all cells are ready.
+    /// less preferred.
     #[inline(always)]
-    pub fn explore<const READY: bool, P: Patterns>(
-        &mut self,
-        first: u32,
-        patterns: &P,
-        here: Here,
-        start: S,
-    ) -> bool
-        requires room { HasRoom (P.table patterns.now) self.old
+    pub fn explore<P: Patterns>(&mut self, first: u32, patterns: &P, here: Here, start: S) -> bool
+        requires { HasRoom (P.table patterns.now) self.old
             (explore first ∷ self.old.memory.frames) }
-        requires ready { READY ≡ true → self.old.memory.ready ≡ true }
         ensures room { HasRoom (P.table patterns.now) self.new [] }
         ensures explored { Explores (P.table patterns.now) here (S.told start) self.old self.new
             (explore first ∷ self.old.memory.frames) result }
         ensures empty { self.new.memory.frames ≡ [] }
         ensures kept { KeepsPosition self.old.memory self.new.memory }
-        ensures ready { self.new.memory.ready ≡ self.old.memory.ready }
         ensures counts { StaysCounted self.old.steps self.new.steps }
         ensures entry { result ≡ true → 0 < self.new.steps.entered }
     {
-        self.explore_in::<READY>(first, patterns.table(), here, start)
+        self.explore_in(first, patterns.table(), here, start)
     }
 
     /// Like `explore`, in a table.
     #[inline(always)]
-    fn explore_in<const READY: bool>(
-        &mut self,
-        first: u32,
-        table: &Table,
-        here: Here,
-        start: S,
-    ) -> bool
-        requires room { HasRoom (places_of table.now) self.old
+    fn explore_in(&mut self, first: u32, table: &Table, here: Here, start: S) -> bool
+        requires { HasRoom (places_of table.now) self.old
             (explore first ∷ self.old.memory.frames) }
-        requires ready { READY ≡ true → self.old.memory.ready ≡ true }
         ensures room { HasRoom (places_of table.now) self.new [] }
         ensures explored { Explores (places_of table.now) here (S.told start) self.old self.new
             (explore first ∷ self.old.memory.frames) result }
         ensures empty { self.new.memory.frames ≡ [] }
         ensures kept { KeepsPosition self.old.memory self.new.memory }
-        ensures ready { self.new.memory.ready ≡ self.old.memory.ready }
         ensures counts { StaysCounted self.old.steps self.new.steps }
         ensures entry { result ≡ true → 0 < self.new.steps.entered }
     {
         let mut place = first;
         'places: loop {
-            place = match self.come_to::<READY>(place, table, here, start) {
+            place = match self.come_to(place, table, here, start) {
                 Onward::To(next) => next,
                 Onward::Back => match self.memory.next_place() {
                     Some(next) => next,
@@ -111,32 +95,24 @@ impl<S: Beginning> Walk<S> {
 
     /// Visits a place, and enters it if it is new at this position.
     #[inline(always)]
-    fn come_to<const READY: bool>(
-        &mut self,
-        place: u32,
-        table: &Table,
-        here: Here,
-        start: S,
-    ) -> Onward
-        requires room { HasRoom (places_of table.now) self.old
+    fn come_to(&mut self, place: u32, table: &Table, here: Here, start: S) -> Onward
+        requires { HasRoom (places_of table.now) self.old
             (explore place ∷ self.old.memory.frames) }
-        requires ready { READY ≡ true → self.old.memory.ready ≡ true }
         ensures taken { TakesFrame (places_of table.now) here (S.told start) self.old
             (explore place ∷ self.old.memory.frames) self.new
             (onto result self.new.memory.frames) (completes result) }
         ensures kept { KeepsPosition self.old.memory self.new.memory }
-        ensures ready { self.new.memory.ready ≡ self.old.memory.ready }
         ensures tries { self.new.steps.tried ≡ self.old.steps.tried + 1 }
         ensures counts { StaysCounted self.old.steps self.new.steps }
         ensures entry { completes result ≡ true → 0 < self.new.steps.entered }
     {
         self.steps.count_try();
-        if !self.memory.insert::<READY>(place) {
+        if !self.memory.insert(place) {
             return Onward::Back;
         }
         self.steps.count_entry();
         let found = table.look(place, &mut self.steps);
-        let onward = enter::<S, READY>(found, here, start, &mut self.memory);
+        let onward = enter(found, here, start, &mut self.memory);
         if let Onward::Complete = onward {
             self.memory.drop_frames();
         }

@@ -56,7 +56,6 @@ module _ (table : List (Place ℕ)) (h : Text) (entries : List ℕ) (s : ℕ) wh
     coming = on.coming;
     tries = on.tries;
     entries = on.entries_left;
-    rounds = on.rounds;
   }
 
   pub on_its_way : {S : Type 0} {p : ℕ} {cache : Cache S} → IsUnderWay table h entries s p cache
@@ -68,7 +67,6 @@ module _ (table : List (Place ℕ)) (h : Text) (entries : List ℕ) (s : ℕ) wh
     coming = on.coming;
     tries = on.tries;
     entries_left = on.entries;
-    rounds = on.rounds;
     width = width;
   }
 

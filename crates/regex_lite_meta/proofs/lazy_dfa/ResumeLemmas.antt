@@ -150,8 +150,7 @@ module _ (table : List (Place ℕ)) (h : Text) (entries : List ℕ) (s from p : 
       → length new.walk.memory.threads ≤ reading_of table
       → ThreadsBelow (length table) new.walk.memory.threads → IsBetween table new
   between_again entered few below = record {
-    all_seen = kept.rounds ∙ on.ready.all_seen;
-    old_rounds = kept.entered;
+    all_seen = kept.entered ∙ on.ready.all_seen;
     cap = subst (λ n. reading_of table < n) (sym kept.room) on.ready.cap;
     few = few;
     below = below;
@@ -190,7 +189,7 @@ module _ (table : List (Place ℕ)) (h : Text) (entries : List ℕ) (s from p : 
         moved_on table h entries s from p q old new on
         (between_again match_entered few_threads (subst (ThreadsBelow (length table)) (sym threads)
         (below_at (length table) stuck.first ws scanning.state.ways ways fits.below)))
-        kept.steps kept.now later scanning.later (let few = few_threads in let more = reads_within
+        kept.steps later scanning.later (let few = few_threads in let more = reads_within
         table in
         omega (arith, few, more)) kept.row
         (subst (λ ts. IsComing table h entries from (length h) q ts (best_of new.best)) (sym
@@ -260,7 +259,7 @@ module _ (table : List (Place ℕ)) (h : Text) (entries : List ℕ) (s from p : 
       (between_again (λ some. absurd (some none))
       (let n = ap (λ (ts : List Thread). length ts) threads in omega (arith, n))
       (subst (ThreadsBelow (length table)) (sym threads) (λ k lt. absurd (omega (arith, lt)))))
-      kept.steps kept.now later (let after = on.after in omega (arith, after, later))
+      kept.steps later (let after = on.after in omega (arith, after, later))
       (let n = ap (λ (ts : List Thread). length ts) threads in omega (arith, n)) kept.row
       (subst (λ ts. IsComing table h entries from (length h) idle.r ts (best_of new.best))
       (sym threads)
@@ -310,7 +309,7 @@ module _ (table : List (Place ℕ)) (h : Text) (entries : List ℕ) (s from p : 
         (between_again (λ some. absurd (some none))
         (let n = ap (λ (ts : List Thread). length ts) threads in omega (arith, n))
         (subst (ThreadsBelow (length table)) (sym threads) (λ k lt. absurd (omega (arith, lt)))))
-        kept.steps kept.now later (omega arith)
+        kept.steps later (omega arith)
         (let n = ap (λ (ts : List Thread). length ts) threads in omega (arith, n)) kept.row
         (subst (λ b. IsComing table h entries r (length h) r new.walk.memory.threads b) (sym none)
         (none_coming table h entries r (length h) new.walk.memory.threads threads));

@@ -59,7 +59,7 @@ module _ (table : List (Place ℕ)) (h : Text) (entries : List ℕ) (s from : �
   passed_over p cache here on idle none passes =
       let low = on.low in let after = on.after in let later = passes.later in let tries = on.tries
       in
-      let entered = on.entries_left in let rounds = on.rounds in
+      let entered = on.entries_left in
       let most : (arrows_of table + length entries) * (p - s)
       ≤ (arrows_of table + length entries) * (passes.q - s) =
       mul-le-mul_left (arrows_of table + length entries) (omega (arith, low, later)) in
@@ -79,20 +79,19 @@ module _ (table : List (Place ℕ)) (h : Text) (entries : List ℕ) (s from : �
             none on.coming));
         tries = omega (arith, tries, most);
         entries_left = omega (arith, entered, most_entered);
-        rounds = omega (arith, rounds, low, later);
         width = on.width;
       }
 
   -- the search is taken up at a later position, with no more threads than arrows
   pub moved_on : {before : ℕ} (p r : ℕ) (cache now : Cache S)
       → IsOnItsWay table h entries s before p cache
-      → IsBetween table now → now.walk.steps ≡ cache.walk.steps → now.walk.memory.now < 2 ^ 63
+      → IsBetween table now → now.walk.steps ≡ cache.walk.steps
       → p < r → from ≤ r →
       length now.walk.memory.threads ≤ arrows_of table
       → length now.walk.memory.row ≡ length cache.walk.memory.row →
       IsComing table h entries from (length h) r now.walk.memory.threads (best_of now.best)
       → IsOnItsWay table h entries s from r now
-  moved_on p r cache now on ready steps fresh later after few width coming =
+  moved_on p r cache now on ready steps later after few width coming =
       let low = on.low in let tries = on.tries in let entered = on.entries_left in
       let same_tried : now.walk.steps.tried ≡ cache.walk.steps.tried =
       ap (λ (c : StepCounts). c.tried) steps in
@@ -107,7 +106,6 @@ module _ (table : List (Place ℕ)) (h : Text) (entries : List ℕ) (s from : �
         coming = coming;
         tries = omega (arith, tries, same_tried, few, most);
         entries_left = omega (arith, entered, same_entered, most_entered);
-        rounds = omega (arith, fresh);
         width = width ∙ on.width;
       }
 
@@ -225,7 +223,6 @@ begun_on table h entries s cache fresh width =
       coming = u.coming;
       tries = u.tries;
       entries_left = u.entries;
-      rounds = u.rounds;
       width = width;
     }
 

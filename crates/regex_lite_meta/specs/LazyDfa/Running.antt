@@ -34,7 +34,6 @@ module _ (table : List (Place ℕ)) (haystack : Text) (entries : List ℕ) (s : 
         cache.walk.steps.tried + length cache.walk.memory.threads
         ≤ (arrows_of table + length entries) * (p - s)
     pub entries_left : cache.walk.steps.entered ≤ length table * (p - s)
-    pub rounds : cache.walk.memory.now < 2 ^ 63 + (p - s)
     pub width : length cache.walk.memory.row ≡ 0
 
   -- that is where it stands, and its state, if that is known
@@ -62,9 +61,7 @@ thread_from first way = (way.place, started_at first way.number, [])
 -- the memory and the counts are as before, but for what there is to go on from
 pub record GoesOnWith {S : Type 0} (old new : Cache S) : Type 0 where
   pub steps : new.walk.steps ≡ old.walk.steps
-  pub rounds : length new.walk.memory.rounds ≡ length old.walk.memory.rounds
-  pub now : new.walk.memory.now < 2 ^ 63
-  pub entered : (q : ℕ) → slice_index new.walk.memory.rounds q ≤ new.walk.memory.now
+  pub entered : length new.walk.memory.entered ≡ length old.walk.memory.entered
   pub room : new.walk.memory.room ≡ old.walk.memory.room
   pub row : length new.walk.memory.row ≡ length old.walk.memory.row
   pub frames : new.walk.memory.frames ≡ []

@@ -174,8 +174,6 @@ pub(super) fn go_over<P: Patterns>(
 
 /// Goes on from nothing: without a thread, and without a match.
 pub(super) fn let_go(cache: &mut Cache<Origin>)
-    requires old { (q : ℕ) → slice_index cache.old.walk.memory.rounds q
-        ≤ cache.old.walk.memory.now }
     ensures threads { cache.new.walk.memory.threads ≡ [] }
     ensures none { best_of cache.new.best ≡ None }
     ensures kept { GoesOnWith cache.old cache.new }
@@ -203,15 +201,13 @@ pub(super) fn take_up_ways(
     requires few { length ways.now < cache.old.walk.memory.room }
     requires width { length cache.old.walk.memory.row ≡ 0 }
     requires best_width { length cache.old.best.row ≡ 0 }
-    requires old { (q : ℕ) → slice_index cache.old.walk.memory.rounds q
-        ≤ cache.old.walk.memory.now }
     ensures threads { cache.new.walk.memory.threads ≡ map (thread_from first) ways.now }
     ensures best { best_of cache.new.best ≡ best_told found }
     ensures kept { GoesOnWith cache.old cache.new }
 {
     let_go(cache);
     for way in ways {
-        cache.walk.memory.push_next::<false>(
+        cache.walk.memory.push_next(
             way.place,
             Origin {
                 at: first,

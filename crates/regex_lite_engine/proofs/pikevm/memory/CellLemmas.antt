@@ -1,11 +1,10 @@
 -- What a change of one cell changes.
-use Rattle.regex_lite_engine.proofs.Common.{◌≡◌, ℕ, zero, suc, ◌+◌, ◌-◌, ◌*◌, ◌<◌, ◌≤◌, ◌⊎◌, List}
+use Rattle.regex_lite_engine.proofs.Common.{◌≡◌, ℕ, zero, suc, ◌+◌, ◌-◌, ◌*◌, ◌<◌, ◌≤◌, List}
 use Rattle.regex_lite_engine.proofs.Common.{[], ◌∷◌, ◌++◌, map, reverse, length, take, set}
-use Rattle.regex_lite_engine.proofs.Common.{slice_index, slice_index_or, sym, refl, ap, ◌∙◌, inl}
-use Rattle.regex_lite_engine.proofs.Common.{inr, arith, length-map, length-take-le, map-set}
-use Rattle.regex_lite_engine.proofs.Common.{frame_in, round_in, other, place_on, start_on, row_on}
+use Rattle.regex_lite_engine.proofs.Common.{slice_index_or, sym, refl, ap, ◌∙◌}
+use Rattle.regex_lite_engine.proofs.Common.{arith, length-map, length-take-le, map-set}
+use Rattle.regex_lite_engine.proofs.Common.{frame_in, other, place_on, start_on, row_on}
 use Rattle.regex_lite_engine.proofs.Common.{Thread, Row, Cell}
-use Rattle.std.specs.List.{AllByRecursion}
 use Rattle.std.proofs.Math.Seq.{map-set_same}
 use Rattle.std.proofs.lemmas.List.{length-reverse, reverse-append, take_more, take_more_set}
 use Rattle.regex_lite_engine.specs.declared.pikevm.cell.Frame as code
@@ -16,10 +15,6 @@ use Rattle.regex_lite_engine.specs.Pikevm.Machine.{Frame, State}
 
 -- a cell with a thread more
 module _ {S : Type 0} (place : ℕ) (start : S) (x : Cell S) where
-  pub same_round : (s : Side) → round_in (with_thread s place start x) ≡ round_in x
-  same_round First = refl
-  same_round Second = refl
-
   pub same_frame : (s : Side) → frame_in (with_thread s place start x) ≡ frame_in x
   same_frame First = refl
   same_frame Second = refl
@@ -110,48 +105,18 @@ frames_long cells depth le =
     ∙ length-take-le depth (map frame_in cells) (omega (arith, le, length-map cells frame_in))
 
 -- a state in which these parts are the same
-pub state_with : (m : State) {rounds : List ℕ} {frames : List Frame} {row : Row}
-    {threads next : List Thread} → rounds ≡ m.rounds → frames ≡ m.frames → row ≡ m.row
-    → threads ≡ m.threads → next ≡ m.next →
-    record m { rounds = rounds; frames = frames; row = row; threads = threads; next = next } ≡ m
-state_with m {frames = frames} {row} {threads} {next} er ef ew et en =
-    ap (λ z. record m { rounds = z; frames = frames; row = row; threads = threads; next = next }) er
-    ∙ ap (λ z. record m { frames = z; row = row; threads = threads; next = next }) ef
+pub state_with : (m : State) {frames : List Frame} {row : Row} {threads next : List Thread}
+    → frames ≡ m.frames → row ≡ m.row → threads ≡ m.threads → next ≡ m.next →
+    record m { frames = frames; row = row; threads = threads; next = next } ≡ m
+state_with m {row = row} {threads} {next} ef ew et en =
+    ap (λ z. record m { frames = z; row = row; threads = threads; next = next }) ef
     ∙ ap (λ z. record m { row = z; threads = threads; next = next }) ew
     ∙ ap (λ z. record m { threads = z; next = next }) et
     ∙ ap (λ z. record m { next = z }) en
 
--- what a cell without threads of its own change keeps of its threads
-pub with_round : {S : Type 0} (s : Side) (x : Cell S) (round : ℕ)
-    → (place_on s (record x { entered = round }) ≡ place_on s x)
-    × (start_on s (record x { entered = round }) ≡ start_on s x)
-with_round First x round = (refl, refl)
-with_round Second x round = (refl, refl)
-
+-- what a cell whose frame is written over keeps of its threads
 pub with_frame : {S : Type 0} (s : Side) (x : Cell S) (frame : code.Frame)
     → (place_on s (record x { frame = frame }) ≡ place_on s x)
     × (start_on s (record x { frame = frame }) ≡ start_on s x)
 with_frame First x frame = (refl, refl)
 with_frame Second x frame = (refl, refl)
-
--- cells that were cloned from one of which nothing is known
-pub clones_blank : {S : Type 0} (x : Cell S) → x.entered ≡ 0 → (cells : List (Cell S))
-    → AllByRecursion (λ y. (y ≡ x) ⊎ (y ≡ x)) cells →
-    (q : ℕ) → slice_index (map round_in cells) q ≤ 0
-clones_blank x e [] all q = omega arith
-clones_blank x e (y ∷ cells) (inl is, all) zero =
-    let round = ap (λ (z : Cell _). z.entered) is in omega (arith, round, e)
-clones_blank x e (y ∷ cells) (inr is, all) zero =
-    let round = ap (λ (z : Cell _). z.entered) is in omega (arith, round, e)
-clones_blank x e (y ∷ cells) (first, all) (suc q) = clones_blank x e cells all q
-
--- one more cell whose place was not entered
-pub cleared_more : {S : Type 0} (cells : List (Cell S)) (k : ℕ) (x : Cell S) → x.entered ≡ 0
-    → ((q : ℕ) → q < k → slice_index (map round_in cells) q ≤ 0) →
-    (q : ℕ) → q < k + 1 → slice_index (map round_in (set cells k x)) q ≤ 0
-cleared_more [] k x e cleared q lt = omega arith
-cleared_more (y ∷ cells) zero x e cleared zero lt = omega (arith, e)
-cleared_more (y ∷ cells) zero x e cleared (suc q) lt = absurd (omega (arith, lt))
-cleared_more (y ∷ cells) (suc k) x e cleared zero lt = cleared zero (omega arith)
-cleared_more (y ∷ cells) (suc k) x e cleared (suc q) lt =
-    cleared_more cells k x e (λ r low. cleared (suc r) (omega (arith, low))) q (omega (arith, lt))

@@ -3,7 +3,7 @@ use Rattle.regex_lite_engine.proofs.Common.{◌≡◌, ℕ, ◌+◌, ◌*◌, �
 use Rattle.regex_lite_engine.proofs.Common.{length, set, slice_index, slice_index_or, sym, ap, ◌∙◌}
 use Rattle.regex_lite_engine.proofs.Common.{arith, get_or-set_other, get_or-set_same, length-map}
 use Rattle.regex_lite_engine.proofs.Common.{map-set, get_or-map-range_with_len}
-use Rattle.regex_lite_engine.proofs.Common.{length-map-range_with_len, nth_row, frame_in, round_in}
+use Rattle.regex_lite_engine.proofs.Common.{length-map-range_with_len, nth_row, frame_in}
 use Rattle.regex_lite_engine.proofs.Common.{other, place_on, start_on, row_on, threads_on, Thread}
 use Rattle.regex_lite_engine.proofs.Common.{thread_at, Told, untold, Row, Cell}
 use Rattle.regex_lite_engine.specs.Pikevm.Cells.{start_told, with_thread, thread_on}
@@ -12,7 +12,7 @@ use Rattle.regex_lite_engine.specs.declared.pikevm.cell.Side.{Side}
 use Rattle.regex_lite_engine.proofs.pikevm.memory.CellLemmas.{own_place, own_start, other_place}
 use Rattle.regex_lite_engine.proofs.pikevm.memory.CellLemmas.{other_start, row_apart, row_other}
 use Rattle.regex_lite_engine.proofs.pikevm.memory.CellLemmas.{row_fits, row_after_first, not_told}
-use Rattle.regex_lite_engine.proofs.pikevm.memory.CellLemmas.{same_round, same_frame, told_at}
+use Rattle.regex_lite_engine.proofs.pikevm.memory.CellLemmas.{same_frame, told_at}
 use Rattle.regex_lite_engine.proofs.pikevm.rows.RowLemmas.{listed_alike}
 
 pub threads_long : {S : Type 0} (told : S → Told) (s : Side) (cells : List (Cell S))
@@ -167,7 +167,6 @@ pub list_grown : {S : Type 0} (told : S → Told) (s : Side) {t : Side} (cells :
     → t ≡ other s → x ≡ slice_index_or cells n x → y ≡ with_thread s place start x
     → rows' ≡ set rows (row_on s n) row → n < room → m ≤ room → n < length cells
     → length rows ≡ 2 * room + 1 → record {
-      rounds : map round_in (set cells n y) ≡ map round_in cells;
       frames : map frame_in (set cells n y) ≡ map frame_in cells;
       first : nth_row rows' 0 ≡ nth_row rows 0;
       own : threads_on told s (set cells n y) rows' room (n + 1)
@@ -177,7 +176,6 @@ pub list_grown : {S : Type 0} (told : S → Told) (s : Side) {t : Side} (cells :
     }
 list_grown told s {t} cells rows {rows'} {room} {n} {m} place start row {x} {y} apart is
     written copied lt le fits all = record {
-      rounds = not_told round_in cells n x y is (ap round_in written ∙ same_round place start x s);
       frames = not_told frame_in cells n x y is (ap frame_in written ∙ same_frame place start x s);
       first =
           ap (λ z. nth_row z 0) copied

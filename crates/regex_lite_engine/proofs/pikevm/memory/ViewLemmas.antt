@@ -1,5 +1,5 @@
--- What a memory stands for, where its parts are written or its cells made ready.
-use Rattle.regex_lite_engine.proofs.Common.{◌≡◌, ℕ, ◌+◌, ◌<◌, Bool, List, []}
+-- What a memory stands for, where its parts are written or it gets more cells.
+use Rattle.regex_lite_engine.proofs.Common.{◌≡◌, ℕ, ◌+◌, ◌<◌, List, []}
 use Rattle.regex_lite_engine.proofs.Common.{◌∷◌, ◌++◌, reverse, length, take, set}
 use Rattle.regex_lite_engine.proofs.Common.{slice_index_or, sym, refl, ap, ◌∙◌}
 use Rattle.regex_lite_engine.proofs.Common.{nth_row, other, place_on, start_on}
@@ -7,32 +7,28 @@ use Rattle.regex_lite_engine.proofs.Common.{row_on, threads_on, Thread}
 use Rattle.regex_lite_engine.proofs.Common.{Told, vec_capacity, Row, Cell}
 use Rattle.regex_lite_engine.specs.declared.pikevm.cell.Side.{Side}
 use Rattle.regex_lite_engine.specs.declared.pikevm.memory.Memory.TheInside.{Inside}
-use Rattle.regex_lite_engine.specs.Pikevm.Cells.{frames_in, with_thread, rounds_in}
-use Rattle.regex_lite_engine.specs.Pikevm.Cells.{HoldTogether, MakesReady}
+use Rattle.regex_lite_engine.specs.Pikevm.Cells.{frames_in, with_thread, Continues, HoldTogether}
 use Rattle.regex_lite_engine.specs.Pikevm.Machine.{Frame, State}
 use Rattle.regex_lite_engine.proofs.pikevm.memory.CellLemmas.{back, frames_long}
 use Rattle.regex_lite_engine.proofs.pikevm.memory.CellLemmas.{state_with}
 use Rattle.regex_lite_engine.proofs.pikevm.memory.ListLemmas.{list_grown, list_kept, threads_kept}
 use Rattle.regex_lite_engine.proofs.pikevm.memory.ListLemmas.{threads_long}
-use Rattle.regex_lite_engine.proofs.pikevm.memory.ReadyLemmas.{rounds_still, frames_stay}
-use Rattle.regex_lite_engine.proofs.pikevm.memory.ReadyLemmas.{threads_stay, rounds_long}
+use Rattle.regex_lite_engine.proofs.pikevm.memory.TogetherLemmas.{frames_stay, threads_stay}
 
 -- what a memory with these parts stands for
 abbrev stands : {S : Type 0} → (S → Told) → Inside S → State
 stands told i = record {
-  rounds = rounds_in i.low i.cells.items;
-  now = i.round;
+  entered = i.entered;
   frames = frames_in i.cells.items i.depth;
   row = nth_row i.rows 0;
   threads = threads_on told i.side i.cells.items i.rows i.room i.len;
   next = threads_on told (other i.side) i.cells.items i.rows i.room i.next_len;
   room = i.room;
-  ready = i.ready;
 }
 
 module _ {S : Type 0} (told : S → Told) (i : Inside S) {m : State} (is : stands told i ≡ m)
-    (fit : HoldTogether i.cells.items (vec_capacity i.cells) i.low i.ready i.rows i.room i.depth
-    i.len i.next_len) where
+    (fit : HoldTogether i.cells.items (vec_capacity i.cells) (length i.entered) i.rows i.room
+    i.depth i.len i.next_len) where
   abbrev threads_in : List (Cell S) → List Row → List Thread
   threads_in cells rows = threads_on told i.side cells rows i.room i.len
 
@@ -40,10 +36,10 @@ module _ {S : Type 0} (told : S → Told) (i : Inside S) {m : State} (is : stand
   next_in cells rows = threads_on told (other i.side) cells rows i.room i.next_len
 
   -- what is counted of it
-  pub counted : (length m.rounds ≡ i.low + length i.cells.items) × (length m.frames ≡ i.depth)
+  pub counted : (length m.entered ≡ length i.entered) × (length m.frames ≡ i.depth)
       × (length m.threads ≡ i.len) × (length m.next ≡ i.next_len)
   counted = (
-    sym (ap (λ (z : State). length z.rounds) is) ∙ rounds_long i.low i.cells.items,
+    sym (ap (λ (z : State). length z.entered) is),
     sym (ap (λ (z : State). length z.frames) is) ∙ frames_long i.cells.items i.depth fit.frames_fit,
     sym (ap (λ (z : State). length z.threads) is)
         ∙ threads_long told i.side i.cells.items i.rows i.room i.len,
@@ -60,72 +56,55 @@ module _ {S : Type 0} (told : S → Told) (i : Inside S) {m : State} (is : stand
         next = next_in i.cells.items rows';
       } ≡ record m { row = row' }
   stands_put {rows'} row {row'} put first =
-      state_with (record (stands told i) { row = row' }) refl refl first
+      state_with (record (stands told i) { row = row' }) refl first
       (list_kept i.rows rows' row put told i.side i.cells.items i.room i.len)
       (list_kept i.rows rows' row put told (other i.side) i.cells.items i.room i.next_len)
       ∙ ap (λ (z : State). record z { row = row' }) is
 
-  -- where more cells are ready
-  module _ {low' : ℕ} {cells' : List (Cell S)} (made : MakesReady i.low i.cells.items low' cells')
-    where
-      threads_made : threads_in cells' i.rows ≡ threads_in i.cells.items i.rows
-      threads_made = threads_stay made told i.side i.rows i.room fit.threads_fit
+  -- where there are more cells
+  module _ {cells' : List (Cell S)} (more : Continues i.cells.items cells') where
+    threads_made : threads_in cells' i.rows ≡ threads_in i.cells.items i.rows
+    threads_made = threads_stay more told i.side i.rows i.room fit.threads_fit
 
-      next_made : next_in cells' i.rows ≡ next_in i.cells.items i.rows
-      next_made = threads_stay made told (other i.side) i.rows i.room fit.next_fit
+    next_made : next_in cells' i.rows ≡ next_in i.cells.items i.rows
+    next_made = threads_stay more told (other i.side) i.rows i.room fit.next_fit
 
-      pub still_stands : (ready' : Bool) → record (stands told i) {
-        rounds = rounds_in low' cells';
-        frames = frames_in cells' i.depth;
-        threads = threads_in cells' i.rows;
-        next = next_in cells' i.rows;
-        ready = ready';
-      } ≡ record m { ready = ready' }
-      still_stands ready' =
-          state_with (record (stands told i) { ready = ready' }) made.rounds
-          (frames_stay made fit.frames_fit) refl threads_made next_made
-          ∙ ap (λ (z : State). record z { ready = ready' }) is
+    -- and one of them is written over, which has the threads that it had
+    pub stands_set : (k : ℕ) {x : Cell S} (y : Cell S) → x ≡ slice_index_or cells' k x
+        → ((s : Side) → (place_on s y ≡ place_on s x) × (start_on s y ≡ start_on s x))
+        → (depth' : ℕ) {frames' : List Frame} → frames_in (set cells' k y) depth' ≡ frames'
+        → record (stands told i) {
+          frames = frames_in (set cells' k y) depth';
+          threads = threads_in (set cells' k y) i.rows;
+          next = next_in (set cells' k y) i.rows;
+        } ≡ record m { frames = frames' }
+    stands_set k {x} y at same depth' {frames'} frames =
+        state_with (record (stands told i) { frames = frames' }) frames refl
+        (threads_kept told i.side cells' i.rows i.room i.len k x y at (same i.side)
+        ∙ threads_made)
+        (threads_kept told (other i.side) cells' i.rows i.room i.next_len k x y at
+        (same (other i.side)) ∙ next_made)
+        ∙ ap (λ (z : State). record z { frames = frames' }) is
 
-      -- and one of them is written over, which has the threads that it had
-      pub stands_set : (k : ℕ) {x : Cell S} (y : Cell S) → x ≡ slice_index_or cells' k x
-          → ((s : Side) → (place_on s y ≡ place_on s x) × (start_on s y ≡ start_on s x))
-          → (depth' : ℕ) {rounds' : List ℕ} {frames' : List Frame}
-          → rounds_in low' (set cells' k y) ≡ rounds' → frames_in (set cells' k y) depth' ≡ frames'
-          → record (stands told i) {
-            rounds = rounds_in low' (set cells' k y);
-            frames = frames_in (set cells' k y) depth';
-            threads = threads_in (set cells' k y) i.rows;
-            next = next_in (set cells' k y) i.rows;
-          } ≡ record m { rounds = rounds'; frames = frames' }
-      stands_set k {x} y at same depth' {rounds'} {frames'} rounds frames =
-          state_with (record (stands told i) { rounds = rounds'; frames = frames' }) rounds frames
-          refl
-          (threads_kept told i.side cells' i.rows i.room i.len k x y at (same i.side)
-          ∙ threads_made)
-          (threads_kept told (other i.side) cells' i.rows i.room i.next_len k x y at
-          (same (other i.side)) ∙ next_made)
-          ∙ ap (λ (z : State). record z { rounds = rounds'; frames = frames' }) is
-
-      -- and one of them gets a thread of the next position
-      pub stands_grown : (place : ℕ) (start : S) {x y : Cell S} {rows' : List Row}
-          → x ≡ slice_index_or cells' i.next_len x → y ≡ with_thread (other i.side) place start x
-          → rows' ≡ set i.rows (row_on (other i.side) i.next_len) (nth_row i.rows 0)
-          → i.next_len < i.room → i.next_len < length cells' →
-          record (stands told i) {
-            rounds = rounds_in low' (set cells' i.next_len y);
-            frames = frames_in (set cells' i.next_len y) i.depth;
-            row = nth_row rows' 0;
-            threads = threads_in (set cells' i.next_len y) rows';
-            next = threads_on told (other i.side) (set cells' i.next_len y) rows' i.room
-                (i.next_len + 1);
-          } ≡ record m { next = m.next ++ (place, told start, m.row) ∷ [] }
-      stands_grown place start {y = y} at written copied few fits =
-          let w = list_grown told (other i.side) cells' i.rows place start (nth_row i.rows 0)
-          (back i.side) at written copied few fit.threads_few fits fit.rows_fit in
-          state_with (record (stands told i) {
-            next = next_in i.cells.items i.rows ++ (place, told start, nth_row i.rows 0) ∷ [];
-          }) (rounds_still made (set cells' i.next_len y) w.rounds refl)
-          (ap (λ fs. reverse (take i.depth fs)) w.frames ∙ frames_stay made fit.frames_fit) w.first
-          (w.others ∙ threads_made)
-          (w.own ∙ ap (λ ts. ts ++ (place, told start, nth_row i.rows 0) ∷ []) next_made)
-          ∙ ap (λ (z : State). record z { next = z.next ++ (place, told start, z.row) ∷ [] }) is
+    -- and one of them gets a thread of the next position
+    pub stands_grown : (place : ℕ) (start : S) {x y : Cell S} {rows' : List Row}
+        → x ≡ slice_index_or cells' i.next_len x → y ≡ with_thread (other i.side) place start x
+        → rows' ≡ set i.rows (row_on (other i.side) i.next_len) (nth_row i.rows 0)
+        → i.next_len < i.room → i.next_len < length cells' →
+        record (stands told i) {
+          frames = frames_in (set cells' i.next_len y) i.depth;
+          row = nth_row rows' 0;
+          threads = threads_in (set cells' i.next_len y) rows';
+          next = threads_on told (other i.side) (set cells' i.next_len y) rows' i.room
+              (i.next_len + 1);
+        } ≡ record m { next = m.next ++ (place, told start, m.row) ∷ [] }
+    stands_grown place start {y = y} at written copied few fits =
+        let w = list_grown told (other i.side) cells' i.rows place start (nth_row i.rows 0)
+        (back i.side) at written copied few fit.threads_few fits fit.rows_fit in
+        state_with (record (stands told i) {
+          next = next_in i.cells.items i.rows ++ (place, told start, nth_row i.rows 0) ∷ [];
+        })
+        (ap (λ fs. reverse (take i.depth fs)) w.frames ∙ frames_stay more fit.frames_fit) w.first
+        (w.others ∙ threads_made)
+        (w.own ∙ ap (λ ts. ts ++ (place, told start, nth_row i.rows 0) ∷ []) next_made)
+        ∙ ap (λ (z : State). record z { next = z.next ++ (place, told start, z.row) ∷ [] }) is

@@ -1,5 +1,5 @@
 use Rattle.regex_lite_engine.proofs.Common.{◌≡◌, ◌<◌, map, length, sym, ap, ◌∙◌, subst, arith}
-use Rattle.regex_lite_engine.proofs.Common.{length-map, place_of}
+use Rattle.regex_lite_engine.proofs.Common.{false, length-map, length-replicate, place_of}
 use Rattle.regex_lite_engine.proofs.pikevm.cache.cache_for.Goals as goal
 
 pub overflow_add-room : goal.overflow_add-room
@@ -19,11 +19,11 @@ returns-clause-fresh g c =
     let kept = c.places-places.ensures.kept_back (subst (λ n. 0 < n) (sym places) c.requires) in
     let blank = c.in_ok-blank.ensures in
     let tried = c.no_steps.ensures.tried in let entered = c.no_steps.ensures.entered in
-    let rounds = blank.rounds in let now = blank.now in let room = blank.room in
+    let room = blank.room in
+    let long = ap length blank.entered ∙ length-replicate c.places-places.result false in
     record {
       between = record {
-        all_seen = omega (arith, rounds, places, count);
-        old_rounds = λ q. (let le = blank.old q in let e = blank.now in omega (arith, le, e));
+        all_seen = omega (arith, long, places, count);
         cap = omega (arith, room, c.reading-room.ensures.each);
         few = omega (arith, ap length blank.threads);
         below = λ k lt. absurd (omega (arith, lt, ap length blank.threads));
@@ -37,7 +37,6 @@ returns-clause-fresh g c =
       };
       none = c.in_ok-best.ensures.none;
       no_threads = blank.threads;
-      few_rounds = omega (arith, now);
       no_tries = tried;
       no_entries = entered;
     }

@@ -27,8 +27,6 @@ returns-clause-on g c = λ s from p is on.
     let all = c.requires.all in
     let low = on.low in
     let after = on.after in
-    let now = c.turn.ensures.round in
-    let rounds = on.rounds in
     let tries = c.turn.ensures.tries in
     let few = all.few in
     record {
@@ -45,7 +43,6 @@ returns-clause-on g c = λ s from p is on.
       entries_left =
           bound_on table h entries s old.walk.steps.entered new.walk.steps.entered p p
           (length table) low (omega arith) on.entries_left c.turn.ensures.entries;
-      rounds = omega (arith, rounds, now, low);
       width =
           sym c.turn.ensures.ready.best_width ∙ c.turn.ensures.width ∙ on.ready.best_width
           ∙ on.width;

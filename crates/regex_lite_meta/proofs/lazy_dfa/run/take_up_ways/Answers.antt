@@ -9,8 +9,8 @@ use Rattle.regex_lite_meta.proofs.lazy_dfa.run.take_up_ways.Goals as goal
 pub loop-way-preserved : goal.loop-way-preserved
 loop-way-preserved c = grind (arith, common_steps)
 
-pub push_next-requires-clause-room : goal.push_next-requires-clause-room
-push_next-requires-clause-room c =
+pub push_next-requires : goal.push_next-requires
+push_next-requires c =
     let ways = c.args.ways.now in
     let k = c.loop-way.way-index in
     let next = ap length c.loop-way.invariant.next

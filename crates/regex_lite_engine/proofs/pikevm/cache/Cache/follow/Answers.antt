@@ -1,26 +1,270 @@
-use Rattle.regex_lite_engine.proofs.Common.{sym, ◌∙◌}
+use Rattle.regex_lite_engine.proofs.Common.{◌≡◌, ℕ, suc, ◌+◌, ◌<◌, ◌≤◌, true, List, [], ◌∷◌, ◌++◌}
+use Rattle.regex_lite_engine.proofs.Common.{length, drop, replicate, Some, None, sym, refl, ap, ◌∙◌}
+use Rattle.regex_lite_engine.proofs.Common.{subst, arith, drop-cons, state_retold, best_again}
+use Rattle.regex_lite_engine.proofs.Common.{Thread, thread_at, KeepsPosition, best_of, StepsTo}
+use Rattle.regex_lite_engine.proofs.Common.{begun, with_starts, Told, untold, StaysCounted, Best}
+use Rattle.regex_lite_engine.proofs.Common.{Row, Start, all_retold, inl, inr}
+use Rattle.regex_lite_engine.specs.Pikevm.Machine.{BestState, State}
+use Rattle.std.proofs.Math.ListN.{drop_of_length-le}
+use Rattle.regex_lite_engine.specs.Pikevm.Room.{explores}
+use Rattle.regex_lite_engine.specs.Pikevm.Searching.{ways_at}
+use Rattle.regex_lite_engine.proofs.search.CountLemmas.{counted_at_first, still_counted}
+use Rattle.regex_lite_engine.proofs.pikevm.StateLemmas.{takes_up}
+use Rattle.regex_lite_engine.proofs.pikevm.StepLemmas.{follows_on, room_pushed, HasFollowed}
+use Rattle.regex_lite_engine.proofs.pikevm.RoundLemmas.{begun_below, start_begun, start_taken}
+use Rattle.regex_lite_engine.proofs.pikevm.cache.Cache.follow.Given as given
 use Rattle.regex_lite_engine.proofs.pikevm.cache.Cache.follow.Goals as goal
+use Rattle.regex_lite_engine.proofs.pikevm.cache.Cache.follow.Goals.{After-explore}
 
-pub follow_ways-requires : goal.follow_ways-requires
-follow_ways-requires g c = record {
-  placed = c.requires.placed;
-  inside = c.requires.inside;
+-- the best match with a row that is the same
+has_row : (best : Best) (i : Told) (at : ℕ) (row row' : Row) → best ≡ Some (i, at, row) → row ≡ row'
+    → best ≡ Some (i, at, row')
+has_row best i at row row' is same = cc
+
+-- the k-th of the ways is taken up
+module _ (starts : List Start) (told : ℕ → Told) (best : Best) (m w : State) (k : ℕ)
+    (kept : KeepsPosition m w) where
+  abbrev ways : List Thread
+  ways = with_starts starts told best (length m.row) m.threads
+
+  taken_at : k < length ways → (thread : Thread)
+      → thread_at (w.threads ++ begun told (replicate (length w.row) None) starts) k ≡ thread
+      → thread_at ways k ≡ thread
+  taken_at lt thread is =
+      (start_taken starts told (length m.row) best m.threads k lt).1
+      ∙ ap (λ ts. thread_at (ts ++ begun told (replicate (length m.row) None) starts) k)
+      (sym kept.threads)
+      ∙ ap (λ n. thread_at (w.threads ++ begun told (replicate n None) starts) k) (sym kept.row)
+      ∙ is
+
+  taken_first : k < length ways → (thread : Thread)
+      → thread_at (w.threads ++ begun told (replicate (length w.row) None) starts) k ≡ thread
+      → drop k ways ≡ thread ∷ drop (k + 1) ways
+  taken_first lt thread is =
+      let next : suc k ≡ k + 1 = omega arith in
+      drop-cons ways k (0, untold, []) lt
+      ∙ ap (λ t. t ∷ drop (suc k) ways) (taken_at lt thread is)
+      ∙ ap (λ j. thread ∷ drop j ways) next
+
+pub take_up-place-requires : goal.take_up-place-requires
+take_up-place-requires g c =
+    let a = c.args in let i = a.self.now.walk.memory in let v = c.ways.invariant in
+    let lt : c.ways.k < length
+    (ways_at (g.P.Patterns.starts a.patterns.now) (g.S.Beginning.told_of a.here.at) a.self.now) =
+    (let t = c.ways-test.true in let e = c.ways-k-end.ensures (g.S.Beginning.told_of a.here.at) in
+    omega (arith, t, e)) in
+    let taken = start_taken (g.P.Patterns.starts a.patterns.now) (g.S.Beginning.told_of a.here.at)
+    (length i.row) (best_of a.self.now.best) i.threads c.ways.k lt in
+    let few = taken.0 in let same = ap (λ (ts : List Thread). length ts) v.followed.kept.threads in
+    omega (arith, few, same)
+
+pub explore-requires : goal.explore-requires
+explore-requires g c =
+    let a = c.args in let i = a.self.now.walk.memory in let w = c.ways.self.walk in
+    let v = c.ways.invariant in let up = c.take_up-place.ensures in
+    let x = c.take_up-place.new.self in let table = g.P.Patterns.table a.patterns.now in
+    let starts = g.P.Patterns.starts a.patterns.now in let told = g.S.Beginning.told_of a.here.at in
+    let ws = ways_at starts told a.self.now in
+    let lt : c.ways.k < length ws =
+    (let t = c.ways-test.true in let e = c.ways-k-end.ensures told in omega (arith, t, e)) in
+    let at = taken_at starts told (best_of a.self.now.best) i w.memory c.ways.k v.followed.kept lt
+    (c.take_up-place.result.0, g.S.Beginning.told c.take_up-place.result.1, x.memory.row)
+    up.thread in
+    let below = begun_below (length table) (best_of a.self.now.best) starts told i.threads ws
+    c.requires.inside c.requires.placed.below
+    (start_begun starts told (length i.row) (best_of a.self.now.best) i.threads) in
+    let budget = c.requires.placed.budget in let spent = v.followed.spent in
+    room_pushed table w x c.take_up-place.result.0
+    (takes_up w.memory x.memory up.memory v.followed.empty)
+    up.steps (subst (λ (t : Thread). t.0 < length table) at (below c.ways.k lt))
+    c.requires.placed.stack_room (omega (arith, budget, spent, lt)) v.room
+
+pub ways-init : goal.ways-init
+ways-init g c = record {
   room = c.requires.room;
-  few_ways = c.requires.few_ways;
-  ready = λ all. sym c.is_ready.ensures ∙ c.if-is_ready.true;
+  followed = record {
+    steps = λ at is u. u;
+    again = λ tell there b alike at is u. u;
+    kept = record { threads = refl; room = refl; row = refl };
+    spent = omega arith;
+    spent_entries = omega arith;
+    empty = c.requires.placed.stack_empty;
+  };
+  best = refl;
+  counts = counted_at_first;
 }
 
-pub returns-then-is_ready : goal.returns-then-is_ready
-returns-then-is_ready g c = c.follow_ways.ensures
+-- the k-th of the ways was followed
+went : (g : given.Over) (c : After-explore g) → HasFollowed
+    (g.P.Patterns.table c.args.patterns.now) c.args.here
+    (ways_at (g.P.Patterns.starts c.args.patterns.now) (g.S.Beginning.told_of c.args.here.at)
+    c.args.self.now) (best_of c.args.self.now.best) c.args.self.now.walk
+    (g.S.Beginning.told c.take_up-place.result.1) c.explore.new.self (c.ways.k + 1) c.explore.result
+went g c =
+    let a = c.args in let i = a.self.now.walk in let v = c.ways.invariant in
+    let up = c.take_up-place.ensures in let more = c.explore.ensures in
+    let starts = g.P.Patterns.starts a.patterns.now in let told = g.S.Beginning.told_of a.here.at in
+    let lt : c.ways.k < length (ways_at starts told a.self.now) =
+    (let t = c.ways-test.true in let e = c.ways-k-end.ensures told in omega (arith, t, e)) in
+    follows_on {ways = ways_at starts told a.self.now} v.followed
+    (taken_first starts told (best_of a.self.now.best) i.memory c.ways.self.walk.memory c.ways.k
+    v.followed.kept lt (
+      c.take_up-place.result.0,
+      g.S.Beginning.told c.take_up-place.result.1,
+      c.take_up-place.new.self.memory.row,
+    ) up.thread)
+    up.memory up.row up.steps more.explored more.empty more.kept
 
-pub follow_ways-requires-2 : goal.follow_ways-requires-2
-follow_ways-requires-2 g c = record {
-  placed = c.requires.placed;
-  inside = c.requires.inside;
-  room = c.requires.room;
-  few_ways = c.requires.few_ways;
-  ready = λ all. cc;
-}
+pub ways-preserved : goal.ways-preserved
+ways-preserved g c =
+    let a = c.args in let v = c.ways.invariant in let up = c.take_up-place.ensures in
+    let y = c.explore.new.self in let more = c.explore.ensures in
+    let told = g.S.Beginning.told_of a.here.at in
+    let w = subst (HasFollowed (g.P.Patterns.table a.patterns.now) a.here
+    (ways_at (g.P.Patterns.starts a.patterns.now) told a.self.now) (best_of a.self.now.best)
+    a.self.now.walk (g.S.Beginning.told c.take_up-place.result.1) y (c.ways.k + 1))
+    c.if-explore.false (went g (goal.at.ways-preserved g c).After-explore) in
+    record {
+      room = more.room;
+      followed = record {
+        steps = w.steps;
+        again = w.again;
+        kept = w.kept;
+        spent = w.spent;
+        spent_entries = w.spent_entries;
+        empty = w.empty;
+      };
+      best = v.best;
+      counts = still_counted v.counts
+          (subst (λ s. StaysCounted s y.steps) up.steps more.counts);
+    }
 
-pub returns : goal.returns
-returns g c = c.follow_ways-2.ensures
+-- it comes to a match, and nothing is left
+matched : (g : given.Over) (c : After-explore g) → c.explore.result ≡ true → HasFollowed
+    (g.P.Patterns.table c.args.patterns.now) c.args.here
+    (ways_at (g.P.Patterns.starts c.args.patterns.now) (g.S.Beginning.told_of c.args.here.at)
+    c.args.self.now) (best_of c.args.self.now.best) c.args.self.now.walk
+    (g.S.Beginning.told c.take_up-place.result.1) c.explore.new.self (c.ways.k + 1) true
+matched g c is = rw is at (went g c)
+
+pub returns-then-explore-clause-followed : goal.returns-then-explore-clause-followed
+returns-then-explore-clause-followed g c =
+    let a = c.args in let y = c.explore.new.self in
+    let told = g.S.Beginning.told_of a.here.at in
+    let ws = ways_at (g.P.Patterns.starts a.patterns.now) told a.self.now in
+    let lt : c.ways.k < length ws =
+    (let t = c.ways-test.true in let e = c.ways-k-end.ensures told in omega (arith, t, e)) in
+    let w = matched g (goal.at.returns-then-explore-clause-followed g c).After-explore
+    c.if-explore.true in
+    let spent = w.spent in let idle = ap (λ fs. explores fs) w.empty in
+    let found = has_row (best_of c.set.new.self) (g.S.Beginning.told c.take_up-place.result.1)
+    a.here.at c.row.result.now y.memory.row c.set.ensures.found c.row.ensures in
+    record {
+      steps =
+          subst (λ z. StepsTo (g.P.Patterns.table a.patterns.now) a.here a.self.now.walk.memory ws
+          (best_of a.self.now.best) y.memory [] z) (sym found) w.steps;
+      spent = omega (arith, spent, idle, lt);
+      spent_entries = w.spent_entries;
+      stack_empty = w.empty;
+      kept = w.kept;
+      best_width =
+          c.set.ensures.width ∙ ap (λ (b : BestState). length b.row) c.ways.invariant.best;
+    }
+
+pub returns-then-explore-clause-again : goal.returns-then-explore-clause-again
+returns-then-explore-clause-again g c = λ tell there b alike.
+    let a = c.args in let y = c.explore.new.self in
+    let told = g.S.Beginning.told_of a.here.at in
+    let ws = ways_at (g.P.Patterns.starts a.patterns.now) told a.self.now in
+    let w = matched g (goal.at.returns-then-explore-clause-again g c).After-explore
+    c.if-explore.true in
+    let found = has_row (best_of c.set.new.self) (g.S.Beginning.told c.take_up-place.result.1)
+    a.here.at c.row.result.now y.memory.row c.set.ensures.found c.row.ensures in
+    subst (λ z. StepsTo (g.P.Patterns.table a.patterns.now) there
+    (state_retold tell a.self.now.walk.memory) (all_retold tell ws) b (state_retold tell y.memory)
+    [] (best_again tell there.at true z b)) (sym found) (w.again tell there b alike)
+
+pub returns-clause-followed : goal.returns-clause-followed
+returns-clause-followed g c =
+    let a = c.args in let v = c.ways.invariant in
+    let table = g.P.Patterns.table a.patterns.now in
+    let told = g.S.Beginning.told_of a.here.at in
+    let ws = ways_at (g.P.Patterns.starts a.patterns.now) told a.self.now in
+    let e = c.ways-k-end.ensures told in
+    let far : c.ways.k ≤ c.ways-k-end.result = search in
+    let spent = v.followed.spent in
+    record {
+      steps =
+          subst (λ b. StepsTo table a.here a.self.now.walk.memory ws (best_of a.self.now.best)
+          c.ways.self.walk.memory [] b) (sym (ap best_of v.best))
+          (subst (λ ts. StepsTo table a.here a.self.now.walk.memory ws (best_of a.self.now.best)
+          c.ways.self.walk.memory ts (best_of a.self.now.best))
+          (drop_of_length-le ws (omega (arith, c.ways-test.false, e))) v.followed.steps);
+      spent = omega (arith, e, far, spent);
+      spent_entries = v.followed.spent_entries;
+      stack_empty = v.followed.empty;
+      kept = v.followed.kept;
+      best_width = ap (λ (b : BestState). length b.row) v.best;
+    }
+
+pub returns-clause-again : goal.returns-clause-again
+returns-clause-again g c = λ tell there b alike.
+    let a = c.args in let i = a.self.now.walk.memory in
+    let told = g.S.Beginning.told_of a.here.at in
+    let ws = ways_at (g.P.Patterns.starts a.patterns.now) told a.self.now in
+    let e = c.ways-k-end.ensures told in
+    subst (λ (ts : List Thread). StepsTo (g.P.Patterns.table a.patterns.now) there
+    (state_retold tell i) (all_retold tell ws) b (state_retold tell c.ways.self.walk.memory)
+    (all_retold tell ts) b) (drop_of_length-le ws (omega (arith, c.ways-test.false, e)))
+    (c.ways.invariant.followed.again tell there b alike)
+
+pub returns-then-explore-clause-hit : goal.returns-then-explore-clause-hit
+returns-then-explore-clause-hit g c = λ none.
+    absurd (let both = sym c.set.ensures.found ∙ none in cc)
+
+pub returns-then-explore-clause-room : goal.returns-then-explore-clause-room
+returns-then-explore-clause-room g c = c.explore.ensures.room
+
+pub returns-then-explore-clause-ends : goal.returns-then-explore-clause-ends
+returns-then-explore-clause-ends g c =
+    inr (g.S.Beginning.told c.take_up-place.result.1, c.row.result.now, c.set.ensures.found)
+
+pub returns-then-explore-clause-kept : goal.returns-then-explore-clause-kept
+returns-then-explore-clause-kept g c = λ none.
+    absurd (let both = sym c.set.ensures.found ∙ none in cc)
+
+pub returns-then-explore-clause-counts : goal.returns-then-explore-clause-counts
+returns-then-explore-clause-counts g c =
+    let y = c.explore.new.self in
+    still_counted c.ways.invariant.counts
+    (subst (λ s. StaysCounted s y.steps) c.take_up-place.ensures.steps c.explore.ensures.counts)
+
+pub returns-then-explore-clause-entry : goal.returns-then-explore-clause-entry
+returns-then-explore-clause-entry g c = inr (c.explore.ensures.entry c.if-explore.true)
+
+pub returns-clause-hit : goal.returns-clause-hit
+returns-clause-hit g c = ap best_of c.ways.invariant.best
+
+pub returns-clause-room : goal.returns-clause-room
+returns-clause-room g c = c.ways.invariant.room
+
+pub returns-clause-ends : goal.returns-clause-ends
+returns-clause-ends g c = inl (ap best_of c.ways.invariant.best)
+
+pub returns-clause-kept : goal.returns-clause-kept
+returns-clause-kept g c = λ none. sym (ap best_of c.ways.invariant.best) ∙ none
+
+pub returns-clause-counts : goal.returns-clause-counts
+returns-clause-counts g c = c.ways.invariant.counts
+
+pub returns-clause-entry : goal.returns-clause-entry
+returns-clause-entry g c = inl (ap best_of c.ways.invariant.best)
+
+pub ways-k-end-requires : goal.ways-k-end-requires
+ways-k-end-requires g c = c.requires.few_ways
+
+pub set-requires : goal.set-requires
+set-requires g c =
+    ap length c.row.ensures ∙ c.explore.ensures.kept.row ∙ c.take_up-place.ensures.row
+    ∙ c.ways.invariant.followed.kept.row ∙ sym c.requires.placed.best_width
+    ∙ sym (ap (λ (b : BestState). length b.row) c.ways.invariant.best)

@@ -37,7 +37,6 @@ returns-clause-passes g c s p is before =
     let low = on.low in
     let later = w.later in
     let first : s ≤ w.q = omega (arith, low, later) in
-    let rounds = on.rounds in
     let tries = c.turn.ensures.tries in
     let few = c.come_to.ensures.few in
     record {
@@ -58,7 +57,6 @@ returns-clause-passes g c s p is before =
         entries = bound_on table haystack entries s old.walk.steps.entered
             new.walk.steps.entered p w.q (length table) low later on.entries
             c.turn.ensures.entries;
-        rounds = omega (arith, rounds, c.turn.ensures.round, first, later);
       };
       own = λ begin len part spent. (
           let spends = c.turn.ensures.own haystack entries w.q s (length haystack) begin len w.is
@@ -109,7 +107,3 @@ turn-requires-clause-few_entries g c =
     c.requires.3.entries in
     let places = ap length c.come_to.ensures.table in
     omega (arith, most, places)
-
-pub turn-requires-clause-few_rounds : goal.turn-requires-clause-few_rounds
-turn-requires-clause-few_rounds g c =
-    omega (arith, c.requires.2.inside, c.requires.4.rounds, c.requires.3.rounds)

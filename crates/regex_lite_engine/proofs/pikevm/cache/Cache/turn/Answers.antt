@@ -6,7 +6,7 @@ use Rattle.regex_lite_engine.specs.Pikevm.Room.{explores}
 use Rattle.regex_lite_engine.proofs.pikevm.AgainLemmas.{best_kept, start_retold}
 use Rattle.regex_lite_engine.proofs.pikevm.OwnPartLemmas.{left_outside, length_row}
 use Rattle.regex_lite_engine.proofs.pikevm.RoomLemmas.{left_most}
-use Rattle.regex_lite_engine.proofs.pikevm.StateLemmas.{begins_round, turns_over}
+use Rattle.regex_lite_engine.proofs.pikevm.StateLemmas.{begins_position, turns_over}
 use Rattle.regex_lite_engine.proofs.pikevm.RoundLemmas.{begins_with, fit_first, none_entered}
 use Rattle.regex_lite_engine.proofs.pikevm.RoundLemmas.{sum_lone, begun_len, start_begun}
 use Rattle.regex_lite_engine.proofs.pikevm.ThreadLemmas.{Begun}
@@ -27,14 +27,14 @@ search_at haystack entries first last p = record {
 pub follow-hit-requires-clause-room : goal.follow-hit-requires-clause-room
 follow-hit-requires-clause-room g c =
     let a = c.args in let r = c.requires in
-    fit_first (g.P.Patterns.table a.patterns.now) a.self.now.walk c.begin_round.new.self
-    a.self.now.best r.ready c.begin_round.ensures
+    fit_first (g.P.Patterns.table a.patterns.now) a.self.now.walk c.begin_position.new.self
+    a.self.now.best r.ready c.begin_position.ensures
     (let few = r.few_tries in omega (arith, few)) (let few = r.few_entries in omega (arith, few))
 
 pub follow-hit-requires-clause-placed : goal.follow-hit-requires-clause-placed
 follow-hit-requires-clause-placed g c =
     let a = c.args in let m = a.self.now.walk.memory in let r = c.requires in
-    let n = c.begin_round.new.self in let round = begins_round m n c.begin_round.ensures in
+    let n = c.begin_position.new.self in let round = begins_position m n c.begin_position.ensures in
     let starts = g.P.Patterns.starts a.patterns.now in let told = g.S.Beginning.told_of a.here.at in
     let best = best_of a.self.now.best in
     let none : length n.next ≡ 0 = ap length round.next ∙ ap length r.ready.none_next in
@@ -43,7 +43,7 @@ follow-hit-requires-clause-placed g c =
     let one = begun_len best starts told m.threads
     (with_starts starts told best (length n.row) n.threads)
     (begins_with m n starts told best round) in
-    let most = left_most arrow_count n.now n.rounds (g.P.Patterns.table a.patterns.now) in
+    let most = left_most arrow_count n.entered (g.P.Patterns.table a.patterns.now) in
     record {
       stack_empty = round.frames ∙ r.ready.stack_empty;
       stack_room = r.ready.stack_room;
@@ -57,7 +57,7 @@ follow-hit-requires-clause-placed g c =
 pub returns-clause-tries : goal.returns-clause-tries
 returns-clause-tries g c =
     let a = c.args in let m = a.self.now.walk.memory in let r = c.requires in
-    let n = c.begin_round.new.self in let round = begins_round m n c.begin_round.ensures in
+    let n = c.begin_position.new.self in let round = begins_position m n c.begin_position.ensures in
     let starts = g.P.Patterns.starts a.patterns.now in let told = g.S.Beginning.told_of a.here.at in
     let best = best_of a.self.now.best in
     let none : length n.next ≡ 0 = ap length round.next ∙ ap length r.ready.none_next in
@@ -66,22 +66,22 @@ returns-clause-tries g c =
     let one = begun_len best starts told m.threads
     (with_starts starts told best (length n.row) n.threads)
     (begins_with m n starts told best round) in
-    let most = left_most arrow_count n.now n.rounds (g.P.Patterns.table a.patterns.now) in
+    let most = left_most arrow_count n.entered (g.P.Patterns.table a.patterns.now) in
     let over = ap length
     (turns_over c.follow-hit.new.self.walk.memory c.turn_over.new.self c.turn_over.ensures) in
     omega (arith, none, idle, one, most, c.follow-hit.ensures.followed.spent, over)
 
 pub returns-clause-entries : goal.returns-clause-entries
 returns-clause-entries g c =
-    let a = c.args in let n = c.begin_round.new.self in
-    let most = left_most lone n.now n.rounds (g.P.Patterns.table a.patterns.now) in
+    let a = c.args in let n = c.begin_position.new.self in
+    let most = left_most lone n.entered (g.P.Patterns.table a.patterns.now) in
     let all = sum_lone (g.P.Patterns.table a.patterns.now) in
     omega (arith, most, all, c.follow-hit.ensures.followed.spent_entries)
 
 pub returns-clause-comes : goal.returns-clause-comes
 returns-clause-comes g c = λ haystack entries p first last is low high are coming.
     let a = c.args in let m = a.self.now.walk.memory in let r = c.requires in
-    let n = c.begin_round.new.self in let round = begins_round m n c.begin_round.ensures in
+    let n = c.begin_position.new.self in let round = begins_position m n c.begin_position.ensures in
     let starts = g.P.Patterns.starts a.patterns.now in let told = g.S.Beginning.told_of a.here.at in
     let best = best_of a.self.now.best in let f = c.follow-hit.new.self in
     subst (λ z. IsComing (g.P.Patterns.table a.patterns.now) haystack entries first last (p + 1) z
@@ -91,8 +91,8 @@ returns-clause-comes g c = λ haystack entries p first last is low high are comi
       is = is;
       low = low;
       high = high;
-      round = n;
-      new = none_entered m n r.ready.old_rounds round;
+      first_state = n;
+      new = none_entered m n round;
       empty = round.next ∙ r.ready.none_next;
       starts = starts;
       are = are;
@@ -107,7 +107,7 @@ returns-clause-comes g c = λ haystack entries p first last is low high are comi
 pub returns-clause-own : goal.returns-clause-own
 returns-clause-own g c = λ haystack entries p first last begin len is low high are coming part.
     let a = c.args in let m = a.self.now.walk.memory in let r = c.requires in
-    let n = c.begin_round.new.self in let round = begins_round m n c.begin_round.ensures in
+    let n = c.begin_position.new.self in let round = begins_position m n c.begin_position.ensures in
     let table = g.P.Patterns.table a.patterns.now in
     let starts = g.P.Patterns.starts a.patterns.now in let told = g.S.Beginning.told_of a.here.at in
     let best = best_of a.self.now.best in let f = c.follow-hit.new.self in
@@ -120,8 +120,8 @@ returns-clause-own g c = λ haystack entries p first last begin len is low high 
       is = is;
       low = low;
       high = high;
-      round = n;
-      new = none_entered m n r.ready.old_rounds round;
+      first_state = n;
+      new = none_entered m n round;
       empty = round.next ∙ r.ready.none_next;
       starts = starts;
       are = are;
@@ -133,15 +133,15 @@ returns-clause-own g c = λ haystack entries p first last begin len is low high 
       kept = followed.kept;
     }) coming begin len part in
     let outside =
-    left_outside arrow_count left.now left.rounds table begin len followed.room.all_seen only in
+    left_outside arrow_count left.entered table begin len followed.room.all_seen only in
     let others =
-    left_outside lone left.now left.rounds table begin len followed.room.all_seen only in
+    left_outside lone left.entered table begin len followed.room.all_seen only in
     let none : length n.next ≡ 0 = ap length round.next ∙ ap length r.ready.none_next in
     let idle : explores n.frames ≡ 0 =
     ap (λ fs. explores fs) (round.frames ∙ r.ready.stack_empty) in
     let one = begun_len best starts told m.threads ways begins in
-    let most = left_most arrow_count n.now n.rounds table in
-    let each = left_most lone n.now n.rounds table in
+    let most = left_most arrow_count n.entered table in
+    let each = left_most lone n.entered table in
     let over = ap length (turns_over left c.turn_over.new.self c.turn_over.ensures) in
     record {
       tries = omega (arith, none, idle, one, most, followed.followed.spent, over, outside);
@@ -159,7 +159,7 @@ pub returns-clause-again : goal.returns-clause-again
 returns-clause-again g c =
     λ tell there best alike tells to back haystack entries p first last is low high are coming.
     let a = c.args in let m = a.self.now.walk.memory in let r = c.requires in
-    let n = c.begin_round.new.self in let round = begins_round m n c.begin_round.ensures in
+    let n = c.begin_position.new.self in let round = begins_position m n c.begin_position.ensures in
     let table = g.P.Patterns.table a.patterns.now in
     let starts = g.P.Patterns.starts a.patterns.now in let told = g.S.Beginning.told_of a.here.at in
     let retells : ℕ → Told = λ k. tell (told k) in
@@ -177,8 +177,8 @@ returns-clause-again g c =
       is = is;
       low = low;
       high = high;
-      round = state_retold tell n;
-      new = none_entered m n r.ready.old_rounds round;
+      first_state = state_retold tell n;
+      new = none_entered m n round;
       empty = ap (all_retold tell) round.next ∙ ap (all_retold tell) r.ready.none_next;
       starts = starts;
       are = are;

@@ -1,6 +1,6 @@
 use Rattle.regex_lite_engine.proofs.Common.{[], refl, ap, arith}
 use Rattle.regex_lite_engine.specs.Pikevm.Machine.{State}
-use Rattle.regex_lite_engine.proofs.pikevm.memory.ReadyLemmas.{together_with}
+use Rattle.regex_lite_engine.proofs.pikevm.memory.TogetherLemmas.{together_with}
 use Rattle.regex_lite_engine.proofs.pikevm.memory.Memory.drop_frames.Goals as goal
 
 pub invariant_of-self : goal.invariant_of-self

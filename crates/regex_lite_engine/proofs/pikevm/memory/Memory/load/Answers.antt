@@ -3,7 +3,7 @@ use Rattle.regex_lite_engine.proofs.Common.{length-set, nth_row, thread_at, Row}
 use Rattle.regex_lite_engine.specs.Pikevm.Machine.{State}
 use Rattle.regex_lite_engine.proofs.pikevm.memory.CellLemmas.{row_after_first, row_fits}
 use Rattle.regex_lite_engine.proofs.pikevm.memory.ListLemmas.{first_put, thread_read}
-use Rattle.regex_lite_engine.proofs.pikevm.memory.ReadyLemmas.{together_with}
+use Rattle.regex_lite_engine.proofs.pikevm.memory.TogetherLemmas.{together_with}
 use Rattle.regex_lite_engine.proofs.pikevm.memory.ViewLemmas.{counted, stands_put}
 use Rattle.regex_lite_engine.proofs.pikevm.memory.Memory.load.Goals as goal
 

@@ -1,7 +1,7 @@
 use Rattle.regex_lite_engine.proofs.Common.{◌-◌, ◌<◌, sym, refl, ap, ◌∙◌, arith}
 use Rattle.regex_lite_engine.specs.Pikevm.Machine.{State}
 use Rattle.regex_lite_engine.proofs.pikevm.memory.CellLemmas.{frame_taken}
-use Rattle.regex_lite_engine.proofs.pikevm.memory.ReadyLemmas.{together_with}
+use Rattle.regex_lite_engine.proofs.pikevm.memory.TogetherLemmas.{together_with}
 use Rattle.regex_lite_engine.specs.Pikevm.Cells.{frames_in}
 use Rattle.regex_lite_engine.proofs.pikevm.memory.Memory.pop.Goals as goal
 

@@ -7,8 +7,8 @@ use Rattle.regex_lite_engine.proofs.pikevm.memory.Memory.push_all.Goals as goal
 pub loop-i-init : goal.loop-i-init
 loop-i-init g c = grind (arith, common_steps)
 
-pub push-requires-clause-room : goal.push-requires-clause-room
-push-requires-clause-room g c = grind (arith, common_steps)
+pub push-requires : goal.push-requires
+push-requires g c = grind (arith, common_steps)
 
 pub loop-i-preserved : goal.loop-i-preserved
 loop-i-preserved g c = grind (arith, common_steps)

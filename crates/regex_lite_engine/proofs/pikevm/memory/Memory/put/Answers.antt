@@ -2,7 +2,7 @@ use Rattle.regex_lite_engine.proofs.Common.{◌≡◌, ◌<◌, length, set, ap,
 use Rattle.regex_lite_engine.proofs.Common.{nth_row, Row}
 use Rattle.regex_lite_engine.specs.Pikevm.Machine.{State}
 use Rattle.regex_lite_engine.proofs.pikevm.memory.ListLemmas.{first_put}
-use Rattle.regex_lite_engine.proofs.pikevm.memory.ReadyLemmas.{together_with}
+use Rattle.regex_lite_engine.proofs.pikevm.memory.TogetherLemmas.{together_with}
 use Rattle.regex_lite_engine.proofs.pikevm.memory.ViewLemmas.{stands_put}
 use Rattle.regex_lite_engine.proofs.pikevm.memory.Memory.put.Goals as goal
 

@@ -4,7 +4,6 @@ use Rattle.regex_lite_engine.proofs.pikevm.memory.Memory.turn_over.Goals as goal
 pub invariant_of-self : goal.invariant_of-self
 invariant_of-self g c =
     let fit = c.self.invariant in record {
-      all_ready = fit.all_ready;
       cells_fit = fit.cells_fit;
       frames_fit = fit.frames_fit;
       threads_fit = fit.next_fit;

@@ -10,9 +10,10 @@ use Rattle.regex_lite_engine.specs.Pikevm.Room.{TakesFrame}
 use Rattle.regex_lite_engine.proofs.search.CountLemmas.{counted_all, entered_once, tried_once}
 use Rattle.regex_lite_engine.proofs.pikevm.RoomLemmas.{left_room}
 use Rattle.regex_lite_engine.proofs.pikevm.StateLemmas.{later_same, still_fits}
-use Rattle.regex_lite_engine.proofs.pikevm.StateLemmas.{keeps_dropped, keeps_position, keeps_ready}
+use Rattle.regex_lite_engine.proofs.pikevm.StateLemmas.{keeps_dropped, keeps_position}
 use Rattle.regex_lite_engine.proofs.pikevm.WalkLemmas.{marked_in}
-use Rattle.regex_lite_engine.proofs.pikevm.WentLemmas.{goes_on, was_met, went_entered, went_seen}
+use Rattle.regex_lite_engine.proofs.pikevm.WentLemmas.{goes_on, not_yet, was_met, went_entered}
+use Rattle.regex_lite_engine.proofs.pikevm.WentLemmas.{went_seen}
 use Rattle.regex_lite_engine.proofs.search.PlaceLemmas.{got_place}
 use Rattle.regex_lite_engine.specs.declared.nfa.place.Place.{Place}
 use Rattle.regex_lite_engine.specs.declared.nfa.place.Place.TheVariants as stored
@@ -24,19 +25,19 @@ pub returns-then-not-insert-clause-taken : goal.returns-then-not-insert-clause-t
 returns-then-not-insert-clause-taken g c =
     let a = c.args in let w = a.self.now in
     went_seen (places_of a.table.now) a.here (g.S.Beginning.told a.start) w
-    (record w { memory = c.insert.new.self; steps = c.count_try.new.self }) a.place c.requires.room
-    (was_met _ _ c.insert.result (search rules) c.insert.ensures.fresh.1) c.insert.ensures.added
+    (record w { memory = c.insert.new.self; steps = c.count_try.new.self }) a.place c.requires
+    (was_met _ c.insert.result (search rules) c.insert.ensures.fresh.1) c.insert.ensures.added
     c.count_try.ensures
 
 pub enter-onward-requires-clause-room : goal.enter-onward-requires-clause-room
 enter-onward-requires-clause-room g c =
-    let a = c.args in let m = a.self.now.memory in let all = c.requires.room.all_seen in
-    let room = c.requires.room.stack_room in
-    let left = left_room kept_back m.now m.rounds (places_of a.table.now) a.place
+    let a = c.args in let m = a.self.now.memory in let all = c.requires.all_seen in
+    let room = c.requires.stack_room in
+    let left = left_room kept_back m.entered (places_of a.table.now) a.place
     (place_of c.look-found.result.now)
     (got_place a.table.now.places a.place c.look-found.result.now c.look-found.ensures.found)
-    (let lt = c.requires.room.frames_below.0 in omega (arith, all, lt))
-    (c.insert.ensures.fresh.0 (search rules)) in
+    (let lt = c.requires.frames_below.0 in omega (arith, all, lt))
+    (not_yet (c.insert.ensures.fresh.0 (search rules))) in
     still_fits a.place m c.insert.new.self c.insert.ensures.added
     (kept_back (place_of c.look-found.result.now) + 1) (omega (arith, left, room, all))
 
@@ -61,7 +62,7 @@ returns-in-Complete-clause-taken g c =
     (sym c.in-Complete.is)
     (went_entered (places_of a.table.now) a.here told w a.place x e true
     (subst (λ z. LeadsBelow z (place_of x)) (sym size) c.look-found.ensures.inside)
-    c.requires.room (c.insert.ensures.fresh.0 (search rules))
+    c.requires (not_yet (c.insert.ensures.fresh.0 (search rules)))
     (got_place a.table.now.places a.place x c.look-found.ensures.found) enters same after
     c.drop_frames.ensures
     (counted_all w.steps c.count_try.ensures c.count_entry.ensures c.look-found.ensures.counted))
@@ -81,7 +82,7 @@ returns-in_default-clause-taken g c =
     c.enter-onward.ensures.same) in
     went_entered (places_of a.table.now) a.here told w a.place x e (completes o)
     (subst (λ z. LeadsBelow z (place_of x)) (sym size) c.look-found.ensures.inside)
-    c.requires.room (c.insert.ensures.fresh.0 (search rules))
+    c.requires (not_yet (c.insert.ensures.fresh.0 (search rules)))
     (got_place a.table.now.places a.place x c.look-found.ensures.found) enters same
     (record w { memory = e; steps = c.look-found.new.steps })
     (ap (λ b. record e { frames = if b then [] else left })
@@ -91,7 +92,7 @@ returns-in_default-clause-taken g c =
 pub look-found-requires-clause-inside : goal.look-found-requires-clause-inside
 look-found-requires-clause-inside g c =
     let places = c.args.table.now.places in
-    subst (λ n. c.args.place < n) (length-map places place_of) c.requires.room.frames_below.0
+    subst (λ n. c.args.place < n) (length-map places place_of) c.requires.frames_below.0
 
 reading_width : (b : Bool) (m : State) (thread : Thread)
     → length (reading_on b m thread).row ≡ length m.row
@@ -130,19 +131,14 @@ returns-in_default-clause-kept g c =
     (enters_width a.here (g.S.Beginning.told a.start) n (record e { frames = onto o e.frames })
     (completes o) c.look-found.result.now c.enter-onward.ensures.entered)
 
-pub insert-requires-clause-place : goal.insert-requires-clause-place
-insert-requires-clause-place g c =
-    omega (arith, c.requires.room.all_seen, c.requires.room.frames_below.0)
+pub insert-requires : goal.insert-requires
+insert-requires g c =
+    omega (arith, c.requires.all_seen, c.requires.frames_below.0)
 
 pub returns-then-not-insert-clause-kept : goal.returns-then-not-insert-clause-kept
 returns-then-not-insert-clause-kept g c =
     let n = c.insert.new.self in
     keeps_position c.args.place c.args.self.now.memory n n c.insert.ensures.added refl refl
-
-pub returns-then-not-insert-clause-ready : goal.returns-then-not-insert-clause-ready
-returns-then-not-insert-clause-ready g c =
-    let n = c.insert.new.self in
-    keeps_ready c.args.place c.args.self.now.memory n n c.insert.ensures.added refl
 
 pub returns-then-not-insert-clause-tries : goal.returns-then-not-insert-clause-tries
 returns-then-not-insert-clause-tries g c =
@@ -161,12 +157,6 @@ returns-in-Complete-clause-kept g c =
     (enters_width a.here (g.S.Beginning.told a.start) n (record e { frames = onto o e.frames })
     (completes o) c.look-found.result.now c.enter-onward.ensures.entered))
 
-pub returns-in-Complete-clause-ready : goal.returns-in-Complete-clause-ready
-returns-in-Complete-clause-ready g c =
-    ap (λ (z : State). z.ready) c.drop_frames.ensures
-    ∙ keeps_ready c.args.place c.args.self.now.memory c.insert.new.self c.enter-onward.new.memory
-    c.insert.ensures.added c.enter-onward.ensures.same
-
 pub returns-in-Complete-clause-tries : goal.returns-in-Complete-clause-tries
 returns-in-Complete-clause-tries g c =
     (entered_once c.args.self.now.steps c.count_try.ensures c.count_entry.ensures
@@ -181,11 +171,6 @@ pub returns-in-Complete-clause-entry : goal.returns-in-Complete-clause-entry
 returns-in-Complete-clause-entry g c = λ done.
     (entered_once c.args.self.now.steps c.count_try.ensures c.count_entry.ensures
     c.look-found.ensures.counted).1
-
-pub returns-in_default-clause-ready : goal.returns-in_default-clause-ready
-returns-in_default-clause-ready g c =
-    keeps_ready c.args.place c.args.self.now.memory c.insert.new.self c.enter-onward.new.memory
-    c.insert.ensures.added c.enter-onward.ensures.same
 
 pub returns-in_default-clause-tries : goal.returns-in_default-clause-tries
 returns-in_default-clause-tries g c =

@@ -56,13 +56,11 @@ places-preserved g c =
       on = goes_further table a.here told first here (with_frames next left) false v.on
           (goes_further table a.here told here x (with_frames next left) false went.on back.on);
       kept = record {
-        round = kept.now ∙ c.in-Back.ensures.kept.round ∙ v.kept.round;
         threads = kept.threads ∙ c.in-Back.ensures.kept.threads ∙ v.kept.threads;
         room = kept.room ∙ c.in-Back.ensures.kept.room ∙ v.kept.room;
         row = c.next_place.ensures.width ∙ c.in-Back.ensures.kept.row ∙ v.kept.row;
       };
       counts = still_counted v.counts c.in-Back.ensures.counts;
-      ready = kept.ready ∙ c.in-Back.ensures.ready ∙ v.ready;
     }
 
 pub returns-in-Complete-clause-explored : goal.returns-in-Complete-clause-explored
@@ -88,13 +86,11 @@ places-preserved-in-To g c =
       on = goes_further (places_of a.table.now) a.here (g.S.Beginning.told a.start) first here to
           false v.on c.in-To.ensures.taken.on;
       kept = record {
-        round = c.in-To.ensures.kept.round ∙ v.kept.round;
         threads = c.in-To.ensures.kept.threads ∙ v.kept.threads;
         room = c.in-To.ensures.kept.room ∙ v.kept.room;
         row = c.in-To.ensures.kept.row ∙ v.kept.row;
       };
       counts = still_counted v.counts c.in-To.ensures.counts;
-      ready = c.in-To.ensures.ready ∙ v.ready;
     }
 
 pub next_place-requires : goal.next_place-requires
@@ -126,14 +122,13 @@ places-smaller-in-To g c = c.in-To.ensures.taken.less refl
 
 pub places-init : goal.places-init
 places-init g c = record {
-  room = c.requires.room;
+  room = c.requires;
   on = record {
     walks = λ at is ways best walking. walking;
     again = λ tell there alike at is ways best walking. walking;
     spent = omega arith;
     spent_entries = omega arith;
   };
-  kept = record { round = refl; threads = refl; room = refl; row = refl };
+  kept = record { threads = refl; room = refl; row = refl };
   counts = counted_at_first;
-  ready = refl;
 }

@@ -1,4 +1,4 @@
-use Rattle.regex_lite_engine.proofs.Common.{◌≡◌, false, ◌∷◌, places_of, KeepsPosition, StaysCounted}
+use Rattle.regex_lite_engine.proofs.Common.{false, ◌∷◌, places_of, KeepsPosition, StaysCounted}
 use Rattle.regex_lite_engine.specs.Pikevm.Machine.{explore}
 use Rattle.regex_lite_engine.specs.Pikevm.Room.{with_frames, GoesOn, HasRoom, work}
 use Rattle.regex_lite_engine.proofs.pikevm.walk.Walk.explore_in.Given as goal
@@ -11,7 +11,6 @@ invariant-places g l = record {
       (with_frames l.self (explore l.place ∷ l.self.memory.frames)) false;
   kept : KeepsPosition l.initial.self.memory l.self.memory;
   counts : StaysCounted l.initial.self.steps l.self.steps;
-  ready : l.self.memory.ready ≡ l.initial.self.memory.ready;
 }
 
 abbrev pub decreases-places : goal.decreases-places

@@ -2,7 +2,7 @@ use Rattle.regex_lite_engine.proofs.Common.{◌≡◌, false, [], best_of, untol
 use Rattle.regex_lite_engine.specs.Pikevm.Room.{HasRoom}
 use Rattle.regex_lite_engine.specs.Pikevm.Searching.{ways_at}
 use Rattle.regex_lite_engine.proofs.pikevm.StepLemmas.{HasFollowed}
-use Rattle.regex_lite_engine.proofs.pikevm.cache.Cache.follow_ways.Given as goal
+use Rattle.regex_lite_engine.proofs.pikevm.cache.Cache.follow.Given as goal
 
 abbrev pub invariant-ways : goal.invariant-ways
 invariant-ways g l = record {
@@ -12,5 +12,4 @@ invariant-ways g l = record {
       (best_of l.initial.self.best) l.initial.self.walk untold l.self.walk l.k false;
   best : l.self.best ≡ l.initial.self.best;
   counts : StaysCounted l.initial.self.walk.steps l.self.walk.steps;
-  ready : l.self.walk.memory.ready ≡ l.initial.self.walk.memory.ready;
 }

@@ -1,0 +1,157 @@
+//! The places that were entered at the position that a search has come to.
+ghost use Rattle.std.specs.Prelude.{◌≡◌, ◌+◌, ◌-◌, ◌≤◌, ◌<◌, ◌↔◌, ℕ, IfOk, IsTrue, false, true};
+ghost use Rattle.std.specs.Prelude.{length, replicate, slice_index, slice_index_or, slice_set};
+ghost use Rattle.std.specs.Prelude.{vec_capacity};
+ghost use Rattle.regex_lite_engine.specs.Backtrack.Bits.{bits_of};
+ghost use Rattle.regex_lite_engine.specs.Pikevm.PlaceSets.{is_stamped, AreStamps};
+
+use crate::bits::set_bit;
+use std::alloc::{AllocError, Global};
+use std::marker::Model;
+
+/// So many places have their bits in the value itself, which takes no request for memory.
+const FEW: usize = 64;
+
+/// How many stamps are added when a search comes to a place that has none.
+const BLOCK: usize = 64;
+
+/// A set of places that is emptied in one step.
+#[derive(Drop)]
+pub struct PlaceSet {
+    /// How many places there are.
+    places: usize,
+    marks: Marks,
+}
+
+/// Which places are in the set.
+#[derive(Drop)]
+enum Marks {
+    /// A bit for each place.
+    Bits(u64),
+    Stamps(Stamps),
+}
+
+/// A stamp for each place.
+#[derive(Drop)]
+struct Stamps {
+    /// From the last place down to the first one that a search has come to. There is room for all.
+    /// A graph is written from its end, so that a search begins with the last places, and in a
+    /// short haystack often comes to no others.
+    stamps: Vec<u16>,
+    /// The places with this stamp are in the set.
+    round: u16,
+}
+
+impl Model for PlaceSet {
+    ghost use Rattle.std.specs.Prelude.{List, Bool};
+    ghost use Rattle.regex_lite_engine.specs.Pikevm.PlaceSets.{members, FitPlaces};
+
+    ghost Value = { List Bool };
+
+    ghost view = { λ set. members set.marks set.places };
+
+    ghost invariant = { λ set. FitPlaces set.marks set.places };
+}
+
+impl PlaceSet {
+    /// The empty set, for this number of places.
+    #[inline(always)]
+    pub fn empty(alloc: Global, places: usize) -> Result<PlaceSet, AllocError>
+        ensures { IfOk result (λ set. set ≡ replicate places false) }
+    {
+        if places <= FEW {
+            return Ok(PlaceSet {
+                places,
+                marks: Marks::Bits(0),
+            });
+        }
+        let stamps = Vec::with_capacity(alloc, places)?;
+        Ok(PlaceSet {
+            places,
+            marks: Marks::Stamps(Stamps { stamps, round: 1 }),
+        })
+    }
+
+    /// Empties the set. Its memory is kept.
+    #[inline(always)]
+    pub fn clear(&mut self)
+        ensures { self.new ≡ replicate (length self.old) false }
+    {
+        match &mut self.marks {
+            Marks::Bits(bits) => *bits = 0,
+            Marks::Stamps(stamps) => stamps.clear(),
+        }
+    }
+
+    /// Adds the place, and returns whether it is new.
+    #[inline(always)]
+    pub fn insert(&mut self, place: u32) -> bool
+        requires { place < length self.old }
+        ensures fresh { IsTrue result ↔ (slice_index_or self.old place false ≡ false) }
+        ensures added { self.new ≡ slice_set self.old place true }
+    {
+        let place = place as usize;
+        match &mut self.marks {
+            Marks::Bits(bits) => set_bit(bits, place),
+            Marks::Stamps(stamps) => stamps.insert(self.places - place),
+        }
+    }
+}
+
+impl Stamps {
+    /// Empties the set.
+    #[inline(always)]
+    fn clear(&mut self)
+        requires { AreStamps self.old.stamps.items self.old.round }
+        ensures none { (k : ℕ) → is_stamped self.new.stamps.items self.new.round k ≡ false }
+        ensures stamps { AreStamps self.new.stamps.items self.new.round }
+        ensures capacity { vec_capacity self.old.stamps ≤ vec_capacity self.new.stamps }
+    {
+        if self.round == u16::MAX {
+            self.stamps.clear();
+            self.round = 0;
+        }
+        self.round += 1;
+    }
+
+    /// Adds the place from which on there are so many, and returns whether it is new.
+    #[inline(always)]
+    fn insert(&mut self, left: usize) -> bool
+        requires some { 0 < left }
+        requires room { left ≤ vec_capacity self.old.stamps }
+        requires stamps { AreStamps self.old.stamps.items self.old.round }
+        ensures fresh { IsTrue result
+            ↔ (is_stamped self.old.stamps.items self.old.round left ≡ false) }
+        ensures added { is_stamped self.new.stamps.items self.new.round left ≡ true }
+        ensures others { (k : ℕ) → (k ≡ left → ⊥) → 0 < k
+            → is_stamped self.new.stamps.items self.new.round k
+            ≡ is_stamped self.old.stamps.items self.old.round k }
+        ensures stamps { AreStamps self.new.stamps.items self.new.round }
+        ensures capacity { vec_capacity self.old.stamps ≤ vec_capacity self.new.stamps }
+    {
+        if left > self.stamps.len() {
+            extend(&mut self.stamps, left);
+        }
+        let stamp = &mut self.stamps[left - 1];
+        let fresh = *stamp != self.round;
+        *stamp = self.round;
+        fresh
+    }
+}
+
+/// Adds stamps of places that were never in the set, so that there are at least so many. There is
+/// room for them.
+// Not inlined, so that the loop of a search has only the test.
+#[inline(never)]
+fn extend(stamps: &mut Vec<u16>, count: usize)
+    requires { count ≤ vec_capacity stamps.old }
+    ensures same { (k : ℕ) → slice_index stamps.new.items k ≡ slice_index stamps.old.items k }
+    ensures count { count ≤ length stamps.new.items }
+    ensures capacity { vec_capacity stamps.old ≤ vec_capacity stamps.new }
+{
+    let blank = [0; BLOCK];
+    'blocks: while stamps.len() < count {
+        let more = (stamps.capacity() - stamps.len()).min(BLOCK);
+        let _ = stamps.extend_from_slice(&blank[..more]);
+    }
+}
