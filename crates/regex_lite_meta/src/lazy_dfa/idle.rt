@@ -15,13 +15,11 @@ use crate::lazy_dfa::automaton::LazyDfa;
 use crate::lazy_dfa::run::Progress;
 use crate::lazy_dfa::scan::Standing;
 use crate::lazy_dfa::state::Hit;
+use crate::strategy::NEAR;
 use regex_lite_engine::pikevm::beginning::Origin;
 use regex_lite_engine::pikevm::cache::Cache;
 use regex_lite_engine::search::here::Here;
 use regex_lite_engine::search::patterns::Patterns;
-
-/// Turns over no more bytes than these are faster than passing over them.
-const NEAR: usize = 4;
 
 impl LazyDfa {
     /// Where there is neither a thread nor a match, passes over positions at which no match can

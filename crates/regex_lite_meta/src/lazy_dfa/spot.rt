@@ -15,6 +15,7 @@ use crate::lazy_dfa::classes::Ahead;
 use crate::lazy_dfa::interval::Interval;
 use crate::lazy_dfa::scan::Standing;
 use crate::lazy_dfa::state::{Effect, Hit};
+use crate::strategy::MOST_IDLE;
 use regex_lite_engine::search::here::Here;
 use regex_lite_engine::search::patterns::Patterns;
 
@@ -46,10 +47,6 @@ enum Step {
     /// The turn isn't taken.
     Stuck,
 }
-
-/// After this many turns in a row with nothing to go on from, it is faster to pass over the
-/// positions at which no match can begin.
-const MOST_IDLE: u32 = 8;
 
 impl LazyDfa {
     /// Goes on while turns are remembered, up to the last of them before the end of the search or,

@@ -1,4 +1,4 @@
-use Rattle.regex_lite_engine.proofs.Common.{◌≡◌, ℕ, ◌*◌, ◌^◌, ◌<◌, ◌≤◌, length, sum_by, ◌∙◌}
+use Rattle.regex_lite_engine.proofs.Common.{◌≡◌, ℕ, ◌*◌, ◌^◌, ◌<◌, ◌≤◌, length, sum_by}
 use Rattle.regex_lite_engine.proofs.Common.{sym, subst, arith, rules, kept_back_with, places_of}
 use Rattle.regex_lite_engine.proofs.Common.{position_at}
 use Rattle.regex_lite_engine.specs.Backtrack.Searching.{IsFresh}
