@@ -183,11 +183,10 @@ impl<'g> Searched<'g> {
     }
 
     /// How the span of a match is found before its slots, where that pays: in long haystacks, by an
-    /// automaton. For a list it takes from a hundredth of the instructions, where all patterns are
-    /// tried at most characters, to 1.04 times as many, where each match is empty or a character. A
-    /// list without looks needs none, since a search for one pattern between known ends costs less
-    /// than keeping the slots of all: it takes 0.69 to 0.95 of the instructions, and up to 1.29
-    /// times as many where looks may see beyond the end.
+    /// automaton. For a list it takes 0.07 of the instructions for two word endings, and 0.81 to
+    /// 1.05 where each match is a character; where each is empty, up to 1.32. A list without looks
+    /// needs none, since a search for one pattern between known ends costs less than keeping the
+    /// slots of all: it takes 0.69 to 0.95, and up to 1.29 where looks may see beyond the end.
     fn span_first(&self, wanted: Wanted, bytes: usize) -> Option<SpanSearch> {
         if bytes < LONG_BETWEEN_MATCHES || !wanted.may_search_twice() {
             return None;
