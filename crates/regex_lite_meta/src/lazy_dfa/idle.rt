@@ -4,9 +4,8 @@ ghost use Rattle.std.specs.Prelude.{◌≡◌, ◌<◌, ◌≤◌, [], ℕ, List
 ghost use Rattle.std.specs.Prelude.{chars, false, length, slice_get, true};
 ghost use Rattle.regex_lite_meta.specs.LazyDfa.Automaton.{IsEmptyState, Remembers, State};
 ghost use Rattle.regex_lite_meta.specs.LazyDfa.Running.{Stands, StandsIdle};
-ghost use Rattle.regex_lite_meta.specs.LazyDfa.Scanning.{best_told, IsScanning, IsSince};
+ghost use Rattle.regex_lite_meta.specs.LazyDfa.Scanning.{EndsWith, GoesOn, IsScanning};
 ghost use Rattle.regex_lite_engine.specs.Graph.Places.{Place};
-ghost use Rattle.regex_lite_engine.specs.Search.NumberedOutcomes.{IsBestOutcomeOf};
 ghost use Rattle.regex_lite_engine.specs.Search.Standing.{IsHere};
 ghost use Rattle.regex_lite_engine.specs.Search.Starts.{PassesTo};
 ghost use Rattle.regex_lite_engine.specs.Search.Starts.{AreDeadAt};
@@ -122,16 +121,10 @@ impl LazyDfa {
         requires none { EARLIEST ≡ true → at.old.best ≡ None }
         requires scanning { (low p : ℕ) × IsScanning (P.table patterns.now) (P.entries patterns.now)
             (chars haystack.now) low p self.now at.old }
-        ensures over { result ≡ true → (low p : ℕ) → IsScanning (P.table patterns.now)
-            (P.entries patterns.now) (chars haystack.now) low p self.now at.old
-            → IsBestOutcomeOf (P.table patterns.now) (chars haystack.now) (P.entries patterns.now)
-            low (best_told at.new.best) }
-        ensures on { result ≡ false → (low p : ℕ) → IsScanning (P.table patterns.now)
-            (P.entries patterns.now) (chars haystack.now) low p self.now at.old
-            → (q : ℕ) × (p ≤ q) × IsScanning (P.table patterns.now) (P.entries patterns.now)
-            (chars haystack.now) low q self.now at.new
-            × IsSince (P.table patterns.now) (P.entries patterns.now) (chars haystack.now) low p
-            at.old.first at.new.first }
+        ensures over { result ≡ true → EndsWith (P.table patterns.now) (P.entries patterns.now)
+            (chars haystack.now) self.now at.old at.new.best }
+        ensures on { result ≡ false → GoesOn (P.table patterns.now) (P.entries patterns.now)
+            (chars haystack.now) self.now at.old at.new }
         ensures none { EARLIEST ≡ true → (result ≡ false) × (at.new.best ≡ None) }
     {
         if self.run::<P, EARLIEST>(patterns, haystack, at) {
@@ -153,16 +146,10 @@ impl LazyDfa {
         requires none { EARLIEST ≡ true → at.old.best ≡ None }
         requires scanning { (low p : ℕ) × IsScanning (P.table patterns.now) (P.entries patterns.now)
             (chars haystack.now) low p self.now at.old }
-        ensures over { result ≡ true → (low p : ℕ) → IsScanning (P.table patterns.now)
-            (P.entries patterns.now) (chars haystack.now) low p self.now at.old
-            → IsBestOutcomeOf (P.table patterns.now) (chars haystack.now) (P.entries patterns.now)
-            low (best_told at.new.best) }
-        ensures on { result ≡ false → (low p : ℕ) → IsScanning (P.table patterns.now)
-            (P.entries patterns.now) (chars haystack.now) low p self.now at.old
-            → (q : ℕ) × (p ≤ q) × IsScanning (P.table patterns.now) (P.entries patterns.now)
-            (chars haystack.now) low q self.now at.new
-            × IsSince (P.table patterns.now) (P.entries patterns.now) (chars haystack.now) low p
-            at.old.first at.new.first }
+        ensures over { result ≡ true → EndsWith (P.table patterns.now) (P.entries patterns.now)
+            (chars haystack.now) self.now at.old at.new.best }
+        ensures on { result ≡ false → GoesOn (P.table patterns.now) (P.entries patterns.now)
+            (chars haystack.now) self.now at.old at.new }
         ensures none { EARLIEST ≡ true → (result ≡ false) × (at.new.best ≡ None) }
     {
         'leaps: loop {
@@ -182,12 +169,8 @@ impl LazyDfa {
     fn leap<P: Patterns>(&self, patterns: &P, haystack: &str, at: &mut Standing) -> bool
         requires scanning { (low p : ℕ) × IsScanning (P.table patterns.now) (P.entries patterns.now)
             (chars haystack.now) low p self.now at.old }
-        ensures on { result ≡ true → (low p : ℕ) → IsScanning (P.table patterns.now)
-            (P.entries patterns.now) (chars haystack.now) low p self.now at.old
-            → (q : ℕ) × (p ≤ q) × IsScanning (P.table patterns.now) (P.entries patterns.now)
-            (chars haystack.now) low q self.now at.new
-            × IsSince (P.table patterns.now) (P.entries patterns.now) (chars haystack.now) low p
-            at.old.first at.new.first }
+        ensures on { result ≡ true → GoesOn (P.table patterns.now) (P.entries patterns.now)
+            (chars haystack.now) self.now at.old at.new }
         ensures later { result ≡ true → at.old.here.at < at.new.here.at }
         ensures same { result ≡ false → at.new ≡ at.old }
         ensures none { at.new.best ≡ at.old.best }
