@@ -1,19 +1,21 @@
 //! Which way a search goes. One function, [`choose`], decides it for one pattern and for several,
-//! by what is searched, what is wanted, and how many bytes there are. All ways return the same, so a
-//! choice costs time and never a match.
+//! by what is searched, what is wanted, and how many bytes there are. All ways return the same, so
+//! a choice costs time and never a match.
 //!
-//! All constants that decide are here, each with the measurement that set it, in instructions. Those
-//! that decide nothing are where they are used: how much an automaton holds, how many classes it
-//! tells apart and how it finds its states (`room`, `boundaries` and `lookup` in `lazy_dfa`) is
-//! bounded by memory and by the sizes of types, and so are the widths of vectors and of sets in the
-//! crates below.
+//! All constants that decide are here, each with a measurement, in instructions. Those that decide
+//! nothing are where they are used: how much an automaton holds, how many classes it tells apart
+//! and how it finds its states (`room`, `boundaries` and `lookup` in `lazy_dfa`) is bounded by
+//! memory and by the sizes of types, and so are the widths of vectors and of sets in the crates
+//! below.
 ghost use Rattle.std.specs.Prelude.{◌≡◌, ◌+◌, ◌*◌, ◌<◌, ◌≤◌, ◌↔◌, IsTrue, length};
 
 mod searched;
+mod wanted;
 
 use crate::slots::has_looks;
 use searched::Beginning;
 pub(crate) use searched::Searched;
+pub(crate) use wanted::Wanted;
 
 /// From this number of bytes on a lazy automaton pays for one pattern, if no slots are kept. A
 /// search of 1,000 bytes takes 0.39 to 0.63 of what it takes without one if there is no match, and
@@ -21,19 +23,20 @@ pub(crate) use searched::Searched;
 /// for its memory.
 const LONG: usize = 1000;
 
-/// From this number on it pays if the first character of a match is looked for, if slots are kept,
-/// or for several patterns. All matches of eight words took 1.12 times as many in 1,000 bytes, 1.03
-/// in 4,096 and 0.64 in 16,384.
+/// From this number of bytes on an automaton pays if the first character of a match is looked for,
+/// if slots are kept, or for several patterns. All matches of eight words took 1.12 times as many
+/// with it in 1,000 bytes, 1.03 in 4,096 and 0.64 in 16,384.
 const LONG_BETWEEN_MATCHES: usize = 4096;
 
-/// In a graph of at most this number of places it finds where matches with slots start and end. Its
-/// searches take 5,440 bytes there, 64 for each place. In larger ones it saves much or costs
-/// something: with 1,000, `([a-z]{20,80})x` took 0.05 and 40 words in a group 0.26, but these words
-/// beside `(\w+)` 1.13 and `(?s)(.{50})(.{60})` 1.49.
+/// In a graph of at most this number of places an automaton finds where matches with slots start
+/// and end. Its searches take 5,440 bytes there, 64 for each place. In larger ones it saves much or
+/// costs something: with 1,000, `([a-z]{20,80})x` took 0.05 and 40 words in a group 0.26, but these
+/// words beside `(\w+)` 1.13 and `(?s)(.{50})(.{60})` 1.49.
 const MOST_PLACES: usize = 85;
 
-/// In the graph of several patterns it does in at most this number, where they take 64 KB. Larger
-/// lists often have states that find no room: 300 words and `(\w+)` took 2.2 times as many.
+/// In the graph of several patterns it does so in at most this number of places, where its searches
+/// take 64 KB. An automaton of a larger list often finds no room for its states: 300 words and
+/// `(\w+)` took 2.2 times as many.
 const MOST_PLACES_OF_LIST: usize = 1024;
 
 /// One search of at most this number of pairs of a place and an offset goes depth first. It keeps a
@@ -46,10 +49,10 @@ const MOST_PAIRS: usize = 262_144;
 /// took 1.04 to 1.08 times as many, and 0.83 where they are whole sentences.
 const MOST_PAIRS_OF_SPAN: usize = 2048;
 
-/// A searcher that is kept for one text after another, and one for several patterns, does so for
-/// this number: some 300 bytes in a graph of a hundred places, the lines of a log. It keeps 4 KB of
-/// bits, and mostly touches little of the memory for frames. With 2,048, lines of 150 bytes took
-/// 2.7 times as many, and those of a log for a list 3.4 times.
+/// A searcher that is kept for one text after another, and one for several patterns, searches for
+/// slots depth first up to this number of pairs: some 300 bytes in a graph of a hundred places, the
+/// lines of a log. It keeps 4 KB of bits, and mostly touches little of the memory for frames. With
+/// 2,048, lines of 150 bytes took 2.7 times as many, and those of a log for a list 3.4 times.
 pub(crate) const MOST_PAIRS_OF_LINE: usize = 32_768;
 
 /// One search goes over this number of positions before it gets an automaton. A match near the
@@ -64,17 +67,17 @@ pub(crate) const TURNS_WITHOUT: u32 = 64;
 /// 1.25 times as many; with 64 as many.
 pub(crate) const MOST_IDLE: u32 = 8;
 
-/// Over at most this number of bytes at which no match can begin, it takes transitions. With 0,
-/// words and their endings took 1.22 to 1.33 times as many; with 16, words that are ten digits
-/// apart 1.68 times.
+/// Over at most this number of bytes at which no match can begin, an automaton takes transitions.
+/// With 0, words and their endings took 1.22 to 1.33 times as many; with 16, words that are ten
+/// digits apart 1.68 times.
 pub(crate) const NEAR: usize = 4;
 
 /// Searches for several patterns give an automaton up if of this number of bytes more than one
 /// transition finds no room. With 8, 200 words and `\w+=` took 2.4 times as many: they kept it.
 pub(crate) const BYTES_FOR_ONE: usize = 32;
 
-/// But not before they have gone over this number of bytes, since what a text begins with may be
-/// unlike the rest. With 1,024, the same list took 0.35, and twenty others as many.
+/// They don't give it up before they have gone over this number of bytes, since what a text begins
+/// with may be unlike the rest. With 1,024, that list took 0.35, and twenty others as many.
 const SPARE: usize = 8192;
 
 /// The way in which a search goes.
@@ -106,19 +109,6 @@ impl Strategy {
 pub(crate) enum SpanSearch {
     OrderedSets,
     LazyDfa,
-}
-
-/// What is wanted.
-#[derive(Clone, Copy)]
-pub(crate) enum Wanted {
-    /// One match at or after this offset, and what its search does.
-    Match { start: usize },
-    /// One match at or after this offset, by any number of searches.
-    Uncounted { start: usize },
-    /// The earliest end of any match, once.
-    Earliest,
-    /// One match after another, by searches in the same memory.
-    EachMatch,
 }
 
 /// The way of a search that keeps this number of slots and goes over this number of bytes, or about
@@ -269,40 +259,6 @@ impl<'g> Searched<'g> {
             0
         } else {
             MOST_PAIRS_OF_SPAN
-        }
-    }
-}
-
-impl Wanted {
-    /// Whether it is one match, whatever its slots.
-    #[inline(always)]
-    fn is_one(self) -> bool {
-        matches!(self, Wanted::Match { .. } | Wanted::Uncounted { .. })
-    }
-
-    /// Whether it is one match from a later offset than the haystack's start.
-    #[inline(always)]
-    fn is_later(self) -> bool {
-        match self {
-            Wanted::Match { start } | Wanted::Uncounted { start } => start > 0,
-            Wanted::Earliest | Wanted::EachMatch => false,
-        }
-    }
-
-    /// Whether there are mostly many searches.
-    #[inline(always)]
-    fn is_each(self) -> bool {
-        matches!(self, Wanted::EachMatch)
-    }
-
-    /// Whether one search may find a match and another its slots, which isn't so if both would be
-    /// counted together, nor for a search that is soon over.
-    #[inline(always)]
-    fn may_search_twice(self) -> bool {
-        match self {
-            Wanted::Uncounted { start } => start == 0,
-            Wanted::EachMatch => true,
-            Wanted::Match { .. } | Wanted::Earliest => false,
         }
     }
 }

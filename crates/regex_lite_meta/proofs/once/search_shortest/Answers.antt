@@ -82,7 +82,8 @@ returns-in_default-first_start-clause-cost c = λ tree is.
     steps.entered steps.looked
     (none_tried (length (table_of graph)) (arrows_of (table_of graph)) (chars c.args.haystack.now)
     (position_at c.args.haystack.now c.args.start) steps.tried steps.entered steps.looked
-    c.no_steps-in_default-first_start.ensures.tried c.no_steps-in_default-first_start.ensures.entered
+    c.no_steps-in_default-first_start.ensures.tried
+    c.no_steps-in_default-first_start.ensures.entered
     c.no_steps-in_default-first_start.ensures.looked)
 
 -- It has an answer because the prover would try other calls first, which takes long
