@@ -2,6 +2,7 @@
 //! by a look-up.
 pub(crate) mod automaton;
 pub(crate) mod boundaries;
+mod build;
 pub(crate) mod classes;
 pub(crate) mod find;
 pub(crate) mod idle;
@@ -10,7 +11,6 @@ pub(crate) mod learn;
 pub(crate) mod list_spans;
 pub(crate) mod lookup;
 pub(crate) mod reach;
-pub(crate) mod remembering;
 mod resume;
 mod room;
 pub(crate) mod run;

@@ -14,6 +14,7 @@ mod once;
 mod searcher;
 mod slot_searcher;
 mod slots;
+mod strategy;
 
 pub use list_searcher::ListSearcher;
 pub use once::{search, search_list, search_list_any, search_list_uncounted, search_shortest};

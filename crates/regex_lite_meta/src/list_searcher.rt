@@ -12,18 +12,14 @@ ghost use Rattle.regex_lite_engine.specs.Search.NumberedOutcomes.{with_origin_ke
 ghost use Rattle.regex_lite_engine.specs.Search.Outcomes.{IsSpanOutcomeOfList};
 
 use crate::lazy_dfa::list_spans::ListSpanSearcher;
-use crate::lazy_dfa::remembering::{pays_for_list, pays_for_list_with_slots, pays_to_find_first};
 use crate::slots::SlotCache;
+use crate::strategy::{Searched, SpanSearch, Strategy, Wanted, choose};
 use regex_lite_engine::nfa::list::GraphList;
 use regex_lite_engine::pikevm::beginning::Origin;
 use regex_lite_engine::pikevm::best::numbered;
 use regex_lite_engine::pikevm::cache::cache_for_list;
 use std::alloc::{AllocError, Global};
 use std::marker::Model;
-
-/// Searches of at most this number of pairs of a place and an offset go depth first between the
-/// offsets of a match.
-const SHORT: usize = 32_768;
 
 /// The graph of several patterns, and the memory in which it is searched, search after search.
 #[derive(Drop)]
@@ -62,6 +58,8 @@ impl<'g> ListSearcher<'g> {
     /// # Errors
     ///
     /// If memory runs out without which it can't search.
+    // Not inlined, since what an inlined one needs is cleared each time.
+    #[inline(never)]
     pub fn new(
         alloc: Global,
         graph: &'g GraphList,
@@ -71,10 +69,14 @@ impl<'g> ListSearcher<'g> {
         ensures graph { IfOk result (λ searcher. searcher.graph ≡ graph.now) }
         ensures slots { IfOk result (λ searcher. length searcher.slots ≡ slots) }
     {
-        if slots > 0 && pays_to_find_first(graph, bytes) {
-            return ListSearcher::for_known(alloc, graph, slots, bytes);
-        }
-        let spans = ListSpanSearcher::new(alloc, graph, slots, pays_for_list(graph, bytes))?;
+        let by = match choose(&Searched::several(graph), Wanted::EachMatch, slots, bytes) {
+            Strategy::SpanFirst { by, pairs } => {
+                return ListSearcher::span_first(alloc, graph, slots, by, pairs);
+            }
+            Strategy::LazyDfa => SpanSearch::LazyDfa,
+            _ => SpanSearch::OrderedSets,
+        };
+        let spans = ListSpanSearcher::new(alloc, graph, slots, by)?;
         Ok(ListSearcher {
             graph,
             spans,
@@ -82,20 +84,21 @@ impl<'g> ListSearcher<'g> {
         })
     }
 
-    /// One that finds a match first, and then its slots.
-    fn for_known(
+    /// One that finds a match first, in this way, and then its slots: depth first if there are at
+    /// most this number of pairs.
+    pub(crate) fn span_first(
         alloc: Global,
         graph: &'g GraphList,
         slots: usize,
-        bytes: usize,
+        by: SpanSearch,
+        pairs: usize,
     ) -> Result<ListSearcher<'g>, AllocError>
         ensures graph { IfOk result (λ searcher. searcher.graph ≡ graph.now) }
         ensures slots { IfOk result (λ searcher. length searcher.slots ≡ slots) }
     {
-        let pays = pays_for_list_with_slots(graph, bytes);
-        let spans = ListSpanSearcher::new(alloc, graph, 0, pays)?;
+        let spans = ListSpanSearcher::new(alloc, graph, 0, by)?;
         let cache = cache_for_list(alloc, graph, slots)?;
-        let memory = SlotCache::new(alloc, cache, graph.table(), SHORT);
+        let memory = SlotCache::new(alloc, cache, graph.table(), pairs);
         Ok(ListSearcher {
             graph,
             spans,

@@ -1,4 +1,4 @@
-//! Which search is taken for a search by itself.
+//! Searches by themselves, each by the way that `strategy` chooses.
 ghost use Rattle.std.specs.Prelude.{◌≡◌, ◌<◌, ◌≤◌, ◌⊎◌, ◌↔◌, List, IfOk, IfSome, IsCharBoundary};
 ghost use Rattle.std.specs.Prelude.{IsTrue, chars, length};
 ghost use Rattle.regex_lite_syntax.specs.Tree.{Tree};
@@ -11,10 +11,10 @@ ghost use Rattle.regex_lite_engine.specs.Search.Offsets.{search_start};
 ghost use Rattle.regex_lite_engine.specs.Search.Outcomes.{IsOutcome, IsEndOutcome, HasCost};
 ghost use Rattle.regex_lite_engine.specs.Search.Outcomes.{HasCostOfList, IsOutcomeOfList};
 
-use crate::lazy_dfa::remembering::{pays_for_list, pays_for_list_with_slots, pays_from, pays_once};
 use crate::lazy_dfa::single::graph::{search_remembering, search_shortest_remembering};
 use crate::lazy_dfa::single::list::{search_any_remembering, search_list_remembering};
 use crate::list_searcher::ListSearcher;
+use crate::strategy::{Searched, Strategy, Wanted, choose};
 use regex_lite_engine::nfa::list::GraphList;
 use regex_lite_engine::pikevm::beginning::Unkept;
 use regex_lite_engine::pikevm::cache::{Cache, cache_for};
@@ -51,13 +51,12 @@ pub fn search(
     if start > haystack.len() {
         return Ok((None, no_steps()));
     }
-    if slots == 0 && pays_from(graph, start, haystack.len() - start) {
-        return search_remembering(graph, alloc, haystack, start);
+    let left = haystack.len() - start;
+    match choose(&Searched::one(graph), Wanted::Match { start }, slots, left) {
+        Strategy::LazyDfa => search_remembering(graph, alloc, haystack, start),
+        Strategy::DepthFirst => graph.search_depth_first(alloc, haystack, start, slots),
+        _ => graph.search_in_step(alloc, haystack, start, slots),
     }
-    if graph.has_few_pairs(haystack, start) {
-        return graph.search_depth_first(alloc, haystack, start, slots);
-    }
-    graph.search_in_step(alloc, haystack, start, slots)
 }
 
 /// The least end of any match that starts at or after this offset, and what the search did. It
@@ -84,7 +83,8 @@ pub fn search_shortest(
     if start > haystack.len() {
         return Ok((None, no_steps()));
     }
-    if pays_once(graph, haystack.len() - start) {
+    let left = haystack.len() - start;
+    if let Strategy::LazyDfa = choose(&Searched::one(graph), Wanted::Earliest, 0, left) {
         return search_shortest_remembering(graph, alloc, haystack, start);
     }
     let mut pattern = graph.pattern();
@@ -122,12 +122,18 @@ pub fn search_list(
         → HasCostOfList trees haystack.now start told.1) }
     ensures entered { IfOk result (λ told. IfSome told.0 (λ _. 0 < told.1.entered)) }
 {
-    if slots == 0 && may_remember(list, haystack, start) {
-        return search_list_remembering(list, alloc, haystack, start);
+    let left = haystack.len().saturating_sub(start);
+    match choose(
+        &Searched::several(list),
+        Wanted::Match { start },
+        slots,
+        left,
+    ) {
+        Strategy::LazyDfa => search_list_remembering(list, alloc, haystack, start),
+        // With slots an automaton would find the match and another search its slots: both together
+        // may try more places than are allowed.
+        _ => list.search(alloc, haystack, start, slots),
     }
-    // With slots the automaton would find the match and another search its slots: both together
-    // may try more places than are allowed.
-    list.search(alloc, haystack, start, slots)
 }
 
 /// [`search_list`] without its cost. Two searches may then find the match and its slots, where that
@@ -151,12 +157,18 @@ pub fn search_list_uncounted(
     ensures slots { IfOk result (λ told. IfSome told
         (λ found. length found.1.slots.items ≡ slots)) }
 {
-    // A search that doesn't start with the haystack is mostly one of many, and soon over.
-    if start > 0 || !pays_for_list_with_slots(list, haystack.len()) {
+    let left = haystack.len().saturating_sub(start);
+    let strategy = choose(
+        &Searched::several(list),
+        Wanted::Uncounted { start },
+        slots,
+        left,
+    );
+    let Strategy::SpanFirst { by, pairs } = strategy else {
         let (told, _) = search_list(list, alloc, haystack, start, slots)?;
         return Ok(told);
-    }
-    let mut searcher = ListSearcher::new(alloc, list, slots, haystack.len())?;
+    };
+    let mut searcher = ListSearcher::span_first(alloc, list, slots, by, pairs)?;
     let Some((number, (from, end))) = searcher.search(haystack, start) else {
         return Ok(None);
     };
@@ -192,17 +204,9 @@ pub fn search_list_any(
         → HasCostOfList trees haystack.now start told.1) }
     ensures entered { IfOk result (λ told. IsTrue told.0 → 0 < told.1.entered) }
 {
-    if may_remember(list, haystack, start) {
-        return search_any_remembering(list, alloc, haystack, start);
+    let left = haystack.len().saturating_sub(start);
+    match choose(&Searched::several(list), Wanted::Earliest, 0, left) {
+        Strategy::LazyDfa => search_any_remembering(list, alloc, haystack, start),
+        _ => list.search_any(alloc, haystack, start),
     }
-    list.search_any(alloc, haystack, start)
-}
-
-/// Whether there is a pattern and a haystack to search from this offset on, and it pays to remember
-/// turns.
-fn may_remember(list: &GraphList, haystack: &str, start: usize) -> bool
-    ensures places { IsTrue result → 0 < length list.now.places }
-    ensures inside { IsTrue result → start ≤ length haystack.now }
-{
-    list.len() > 0 && start <= haystack.len() && pays_for_list(list, haystack.len() - start)
 }

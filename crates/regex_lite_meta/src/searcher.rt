@@ -12,17 +12,13 @@ ghost use Rattle.regex_lite_engine.specs.Search.Offsets.{position_at};
 ghost use Rattle.regex_lite_engine.specs.Search.Outcomes.{IsSpanOutcome};
 
 use crate::lazy_dfa::automaton::LazyDfa;
-use crate::lazy_dfa::remembering::{pays, pays_with_slots};
 use crate::lazy_dfa::spans::SpanSearcher;
-use crate::slots::{SlotCache, has_looks};
+use crate::slots::SlotCache;
+use crate::strategy::{Searched, Strategy, Wanted, choose};
 use regex_lite_engine::Graph;
 use regex_lite_engine::pikevm::cache::{cache_for, restart};
 use std::alloc::{AllocError, Global};
 use std::marker::Model;
-
-/// Where slots are kept, searches of at most this number of pairs of a place and an offset go depth
-/// first between the offsets that an automaton has found.
-const SHORT: usize = 2048;
 
 /// A graph, and the memory in which it is searched, search after search.
 #[derive(Drop)]
@@ -73,23 +69,16 @@ impl<'g> Searcher<'g> {
         ensures graph { IfOk result (λ searcher. searcher.graph ≡ graph.now) }
         ensures slots { IfOk result (λ searcher. length searcher.slots ≡ slots) }
     {
-        let passes = slots > 0 && pays_with_slots(graph, bytes);
-        let pairs = if passes && !has_looks(graph.table()) {
-            SHORT
-        } else {
-            0
-        };
+        let strategy = choose(&Searched::one(graph), Wanted::EachMatch, slots, bytes);
         let cache = cache_for(alloc, graph.table(), slots)?;
-        let memory = SlotCache::new(alloc, cache, graph.table(), pairs);
-        let dfa = if slots == 0 && pays(graph, bytes) {
-            automaton_for(alloc, graph)
-        } else {
-            None
+        let memory = SlotCache::new(alloc, cache, graph.table(), strategy.pairs());
+        let dfa = match strategy {
+            Strategy::LazyDfa => automaton_for(alloc, graph),
+            _ => None,
         };
-        let spans = if passes {
-            SpanSearcher::for_graph(alloc, graph)
-        } else {
-            None
+        let spans = match strategy {
+            Strategy::SpanFirst { .. } => SpanSearcher::for_graph(alloc, graph),
+            _ => None,
         };
         Ok(Searcher {
             graph,

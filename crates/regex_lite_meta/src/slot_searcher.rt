@@ -7,15 +7,11 @@ ghost use Rattle.regex_lite_engine.specs.Search.Outcomes.{IsSpanOutcome};
 ghost use Rattle.regex_lite_meta.specs.Searching.{FindsSpan};
 
 use crate::slots::SlotCache;
+use crate::strategy::MOST_PAIRS_OF_LINE;
 use regex_lite_engine::Graph;
 use regex_lite_engine::pikevm::cache::cache_for;
 use std::alloc::{AllocError, Global};
 use std::marker::Model;
-
-/// Searches of at most this number of pairs of a place and an offset go depth first: some 300 bytes
-/// in a graph of a hundred places. They keep 4 KB of bits, and mostly touch little of the memory
-/// for frames.
-const SHORT: usize = 32_768;
 
 /// A graph, and the memory in which the slots of its matches are searched for, match after match.
 #[derive(Drop)]
@@ -56,7 +52,7 @@ impl<'g> SlotSearcher<'g> {
         ensures slots { IfOk result (λ searcher. length searcher.slots ≡ slots) }
     {
         let cache = cache_for(alloc, graph.table(), slots)?;
-        let memory = SlotCache::new(alloc, cache, graph.table(), SHORT);
+        let memory = SlotCache::new(alloc, cache, graph.table(), MOST_PAIRS_OF_LINE);
         Ok(SlotSearcher { graph, memory })
     }
 

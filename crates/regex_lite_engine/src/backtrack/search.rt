@@ -1,6 +1,5 @@
 //! A depth-first search, from its working memory to its outcome.
-ghost use Rattle.std.specs.Prelude.{◌≡◌, ◌+◌, ◌-◌, ◌*◌, ◌≤◌, ◌<◌, ◌↔◌};
-ghost use Rattle.std.specs.Prelude.{IfOk, IfSome, IsCharBoundary, IsTrue, length};
+ghost use Rattle.std.specs.Prelude.{◌≡◌, ◌<◌, IfOk, IfSome, IsCharBoundary, length};
 ghost use Rattle.regex_lite_syntax.specs.Tree.{Tree};
 ghost use Rattle.regex_lite_syntax.specs.Tree.Regular.{IsRegular};
 ghost use Rattle.regex_lite_engine.specs.Backtrack.Searching.{IsFresh};
@@ -11,7 +10,6 @@ ghost use Rattle.regex_lite_engine.specs.Search.Counting.{IsCountable};
 ghost use Rattle.regex_lite_engine.specs.Search.NumberedOutcomes.{match_told, best_at};
 
 use crate::Graph;
-use crate::backtrack::MOST_PAIRS;
 use crate::backtrack::run::run;
 use crate::backtrack::stack::Stack;
 use crate::backtrack::visited::Visited;
@@ -53,20 +51,6 @@ impl Graph {
         let found = run(&mut walk, &pattern, haystack, first);
         let Walk { stack, steps, .. } = walk;
         Ok((outcome_of(found, stack), steps))
-    }
-
-    /// Whether the pairs of a place and an offset from this one on are few enough to keep a bit for
-    /// each.
-    ///
-    /// Condition: the offset is on a character boundary.
-    pub fn has_few_pairs(&self, haystack: &str, start: usize) -> bool
-        requires { IsCharBoundary haystack.now start }
-        ensures { IsTrue result
-            ↔ (length self.now.places * ((length haystack.now - start) + 1) ≤ 262144) }
-    {
-        let left = haystack.len() - start;
-        // Not by characters: each search in a loop over a long haystack would count them anew.
-        left < MOST_PAIRS / self.places()
     }
 
     /// All the memory of a search from this offset that keeps this number of slots, asked for

@@ -91,7 +91,7 @@ impl Table {
     }
 
     /// How many arrows there are.
-    pub(crate) fn arrows(&self) -> usize
+    pub fn arrows(&self) -> usize
         ensures same { result ≡ self.now.arrows }
         ensures all { result ≡ arrows_of (places_of self.now) }
         ensures few { result < 2 ^ 34 }

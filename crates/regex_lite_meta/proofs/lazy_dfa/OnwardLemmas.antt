@@ -7,7 +7,7 @@ use Rattle.regex_lite_meta.proofs.Common.{position_at, IsHere, Origin, Here, Aut
 use Rattle.regex_lite_meta.proofs.Common.{IsIdleAt, IsSince, IsScanning, Standing}
 use Rattle.regex_lite_engine.specs.Graph.Places.{Place}
 use Rattle.regex_lite_meta.specs.LazyDfa.Automaton.{KeptOrigin, State}
-use Rattle.regex_lite_meta.specs.LazyDfa.Scanning.{LedTo}
+use Rattle.regex_lite_meta.specs.LazyDfa.Scanning.{GoesOn, LedTo}
 use Rattle.regex_lite_meta.specs.LazyDfa.Stored.{known_hit}
 use Rattle.regex_lite_meta.specs.declared.lazy_dfa.spot.Spot.{Spot}
 use Rattle.regex_lite_meta.specs.declared.lazy_dfa.spot.Turn.{Turn}
@@ -19,13 +19,6 @@ use Rattle.regex_lite_meta.proofs.lazy_dfa.ScanLemmas.{IsFirstAfter, scanned_on}
 use Rattle.regex_lite_meta.proofs.lazy_dfa.SpotLemmas.{IsSpotAt, since_led, since_on, spot_edge}
 use Rattle.regex_lite_meta.proofs.lazy_dfa.SpotLemmas.{spot_of, spot_on, spot_over, spot_since}
 use Rattle.regex_lite_meta.proofs.lazy_dfa.SpotLemmas.{standing_there}
-
--- a search goes on from one place to another, at the same position or a later one
-abbrev pub GoesOn : List (Place ℕ) → List ℕ → Text → Automaton → (from at : Standing) → Type 0
-GoesOn table entries h automaton from at = (low p : ℕ)
-    → IsScanning table entries h low p automaton from
-    → (q : ℕ) × (p ≤ q) × IsScanning table entries h low q automaton at
-    × IsSince table entries h low p from.first at.first
 
 -- the same by offsets alone
 abbrev pub GoesToSpot : List (Place ℕ) → List ℕ → Text → Automaton → (from : Standing) → Spot

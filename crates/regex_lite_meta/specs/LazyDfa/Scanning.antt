@@ -10,7 +10,8 @@ use Rattle.regex_lite_engine.specs.declared.search.here.Here.{Here}
 use Rattle.regex_lite_engine.specs.Graph.Places.{Place}
 use Rattle.regex_lite_meta.specs.LazyDfa.Automaton.{Automaton, State, Suits, threads_of}
 use Rattle.regex_lite_meta.specs.LazyDfa.Intervals.{side_of}
-use Rattle.regex_lite_engine.specs.Search.NumberedOutcomes.{IsFoundOf, IsNumberedEndOf}
+use Rattle.regex_lite_engine.specs.Search.NumberedOutcomes.{IsBestOutcomeOf, IsFoundOf}
+use Rattle.regex_lite_engine.specs.Search.NumberedOutcomes.{IsNumberedEndOf}
 use Rattle.regex_lite_engine.specs.Search.NumberedOutcomes.{Best, best_at, best_kept}
 use Rattle.regex_lite_engine.specs.Search.NumberedOutcomes.{with_start_kept}
 use Rattle.regex_lite_engine.specs.Search.Standing.{IsHere}
@@ -79,3 +80,17 @@ module _ (table : List (Place ℕ)) (entries : List ℕ) (haystack : Text) (low 
   ScansTo earliest p automaton (stored.Found best) =
       IsFoundOf earliest table haystack entries low (best_told best)
   ScansTo earliest p automaton (stored.Stuck at idle) = IsStuckAt p automaton at idle
+
+-- a search goes on from one place to another, at the same position or a later one
+abbrev pub GoesOn : List (Place ℕ) → List ℕ → Text → Automaton → (from at : Standing) → Type 0
+GoesOn table entries haystack automaton from at = (low p : ℕ)
+    → IsScanning table entries haystack low p automaton from
+    → (q : ℕ) × (p ≤ q) × IsScanning table entries haystack low q automaton at
+    × IsSince table entries haystack low p from.first at.first
+
+-- a search that goes on from there is over, and this is its match
+abbrev pub EndsWith : List (Place ℕ) → List ℕ → Text → Automaton → (from : Standing)
+    → Option (Origin × ℕ) → Type 0
+EndsWith table entries haystack automaton from best = (low p : ℕ)
+    → IsScanning table entries haystack low p automaton from
+    → IsBestOutcomeOf table haystack entries low (best_told best)

@@ -13,11 +13,9 @@ use crate::lazy_dfa::room::{MOST_STATES, Room};
 use crate::lazy_dfa::run::Progress;
 use crate::lazy_dfa::side::Side;
 use crate::lazy_dfa::state::{Effect, Hit, StoredState, StoredWay, Target};
+use crate::strategy::BYTES_FOR_ONE;
 use std::alloc::{AllocError, Global};
 use std::marker::Model;
-
-/// They do if of this number of bytes more than one turn finds no room.
-const BYTES_FOR_ONE: usize = 32;
 
 /// Stands for the state to which a turn leads that isn't remembered.
 const UNKNOWN: u16 = 0xFFFF;

@@ -4,9 +4,8 @@ ghost use Rattle.std.specs.Prelude.{◌≡◌, ◌<◌, ◌≤◌, [], ℕ, List
 ghost use Rattle.std.specs.Prelude.{chars, false, length, slice_get, true};
 ghost use Rattle.regex_lite_meta.specs.LazyDfa.Automaton.{IsEmptyState, Remembers, State};
 ghost use Rattle.regex_lite_meta.specs.LazyDfa.Running.{Stands, StandsIdle};
-ghost use Rattle.regex_lite_meta.specs.LazyDfa.Scanning.{best_told, IsScanning, IsSince};
+ghost use Rattle.regex_lite_meta.specs.LazyDfa.Scanning.{EndsWith, GoesOn, IsScanning};
 ghost use Rattle.regex_lite_engine.specs.Graph.Places.{Place};
-ghost use Rattle.regex_lite_engine.specs.Search.NumberedOutcomes.{IsBestOutcomeOf};
 ghost use Rattle.regex_lite_engine.specs.Search.Standing.{IsHere};
 ghost use Rattle.regex_lite_engine.specs.Search.Starts.{PassesTo};
 ghost use Rattle.regex_lite_engine.specs.Search.Starts.{AreDeadAt};
@@ -15,13 +14,11 @@ use crate::lazy_dfa::automaton::LazyDfa;
 use crate::lazy_dfa::run::Progress;
 use crate::lazy_dfa::scan::Standing;
 use crate::lazy_dfa::state::Hit;
+use crate::strategy::NEAR;
 use regex_lite_engine::pikevm::beginning::Origin;
 use regex_lite_engine::pikevm::cache::Cache;
 use regex_lite_engine::search::here::Here;
 use regex_lite_engine::search::patterns::Patterns;
-
-/// Turns over no more bytes than these are faster than passing over them.
-const NEAR: usize = 4;
 
 impl LazyDfa {
     /// Where there is neither a thread nor a match, passes over positions at which no match can
@@ -124,16 +121,10 @@ impl LazyDfa {
         requires none { EARLIEST ≡ true → at.old.best ≡ None }
         requires scanning { (low p : ℕ) × IsScanning (P.table patterns.now) (P.entries patterns.now)
             (chars haystack.now) low p self.now at.old }
-        ensures over { result ≡ true → (low p : ℕ) → IsScanning (P.table patterns.now)
-            (P.entries patterns.now) (chars haystack.now) low p self.now at.old
-            → IsBestOutcomeOf (P.table patterns.now) (chars haystack.now) (P.entries patterns.now)
-            low (best_told at.new.best) }
-        ensures on { result ≡ false → (low p : ℕ) → IsScanning (P.table patterns.now)
-            (P.entries patterns.now) (chars haystack.now) low p self.now at.old
-            → (q : ℕ) × (p ≤ q) × IsScanning (P.table patterns.now) (P.entries patterns.now)
-            (chars haystack.now) low q self.now at.new
-            × IsSince (P.table patterns.now) (P.entries patterns.now) (chars haystack.now) low p
-            at.old.first at.new.first }
+        ensures over { result ≡ true → EndsWith (P.table patterns.now) (P.entries patterns.now)
+            (chars haystack.now) self.now at.old at.new.best }
+        ensures on { result ≡ false → GoesOn (P.table patterns.now) (P.entries patterns.now)
+            (chars haystack.now) self.now at.old at.new }
         ensures none { EARLIEST ≡ true → (result ≡ false) × (at.new.best ≡ None) }
     {
         if self.run::<P, EARLIEST>(patterns, haystack, at) {
@@ -155,16 +146,10 @@ impl LazyDfa {
         requires none { EARLIEST ≡ true → at.old.best ≡ None }
         requires scanning { (low p : ℕ) × IsScanning (P.table patterns.now) (P.entries patterns.now)
             (chars haystack.now) low p self.now at.old }
-        ensures over { result ≡ true → (low p : ℕ) → IsScanning (P.table patterns.now)
-            (P.entries patterns.now) (chars haystack.now) low p self.now at.old
-            → IsBestOutcomeOf (P.table patterns.now) (chars haystack.now) (P.entries patterns.now)
-            low (best_told at.new.best) }
-        ensures on { result ≡ false → (low p : ℕ) → IsScanning (P.table patterns.now)
-            (P.entries patterns.now) (chars haystack.now) low p self.now at.old
-            → (q : ℕ) × (p ≤ q) × IsScanning (P.table patterns.now) (P.entries patterns.now)
-            (chars haystack.now) low q self.now at.new
-            × IsSince (P.table patterns.now) (P.entries patterns.now) (chars haystack.now) low p
-            at.old.first at.new.first }
+        ensures over { result ≡ true → EndsWith (P.table patterns.now) (P.entries patterns.now)
+            (chars haystack.now) self.now at.old at.new.best }
+        ensures on { result ≡ false → GoesOn (P.table patterns.now) (P.entries patterns.now)
+            (chars haystack.now) self.now at.old at.new }
         ensures none { EARLIEST ≡ true → (result ≡ false) × (at.new.best ≡ None) }
     {
         'leaps: loop {
@@ -184,12 +169,8 @@ impl LazyDfa {
     fn leap<P: Patterns>(&self, patterns: &P, haystack: &str, at: &mut Standing) -> bool
         requires scanning { (low p : ℕ) × IsScanning (P.table patterns.now) (P.entries patterns.now)
             (chars haystack.now) low p self.now at.old }
-        ensures on { result ≡ true → (low p : ℕ) → IsScanning (P.table patterns.now)
-            (P.entries patterns.now) (chars haystack.now) low p self.now at.old
-            → (q : ℕ) × (p ≤ q) × IsScanning (P.table patterns.now) (P.entries patterns.now)
-            (chars haystack.now) low q self.now at.new
-            × IsSince (P.table patterns.now) (P.entries patterns.now) (chars haystack.now) low p
-            at.old.first at.new.first }
+        ensures on { result ≡ true → GoesOn (P.table patterns.now) (P.entries patterns.now)
+            (chars haystack.now) self.now at.old at.new }
         ensures later { result ≡ true → at.old.here.at < at.new.here.at }
         ensures same { result ≡ false → at.new ≡ at.old }
         ensures none { at.new.best ≡ at.old.best }

@@ -14,6 +14,7 @@ ghost use Rattle.regex_lite_engine.specs.Pikevm.Searching.{IsBetween, IsFresh};
 
 use crate::lazy_dfa::automaton::LazyDfa;
 use crate::lazy_dfa::run::Progress;
+use crate::strategy::SpanSearch;
 use regex_lite_engine::nfa::list::GraphList;
 use regex_lite_engine::pikevm::beginning::Origin;
 use regex_lite_engine::pikevm::cache::{Cache, cache_for_list, restart};
@@ -34,8 +35,8 @@ pub(crate) struct ListSpanSearcher<'g> {
 }
 
 impl<'g> ListSpanSearcher<'g> {
-    /// One for this list, whose matches have this number of slots. If that pays and there are none,
-    /// it remembers its turns, unless the memory for that is refused.
+    /// One for this list, whose matches have this number of slots, and whose searches go this way.
+    /// Where the memory for an automaton is refused, they go by ordered sets.
     ///
     /// # Errors
     ///
@@ -44,17 +45,17 @@ impl<'g> ListSpanSearcher<'g> {
         alloc: Global,
         list: &'g GraphList,
         slots: usize,
-        pays: bool,
+        by: SpanSearch,
     ) -> Result<ListSpanSearcher<'g>, AllocError>
+        requires slots { by ≡ SpanSearch.LazyDfa → slots ≡ 0 }
         ensures finds { IfOk result (FindsSpansInList list.now) }
         ensures width { IfOk result (λ searcher. length searcher.cache.best.row ≡ slots) }
     {
         let patterns = ListPatterns::new(alloc, list)?;
         let cache = cache_for_list(alloc, list, slots)?;
-        let dfa = if pays && slots == 0 {
-            automaton_for(alloc, list)
-        } else {
-            None
+        let dfa = match by {
+            SpanSearch::LazyDfa => automaton_for(alloc, list),
+            SpanSearch::OrderedSets => None,
         };
         Ok(ListSpanSearcher {
             patterns,

@@ -15,6 +15,7 @@ ghost use Rattle.regex_lite_engine.specs.Pikevm.Turns.{best_of};
 
 use crate::lazy_dfa::automaton::LazyDfa;
 use crate::lazy_dfa::run::Progress;
+use crate::strategy::TURNS_WITHOUT;
 use regex_lite_engine::pikevm::beginning::Origin;
 use regex_lite_engine::pikevm::cache::Cache;
 use regex_lite_engine::pikevm::run::advance;
@@ -24,13 +25,6 @@ use std::alloc::Global;
 
 pub(crate) mod graph;
 pub(crate) mod list;
-
-/// A search takes this number of turns before it gets an automaton. A match near the start is found
-/// sooner than one is made, which takes some 2,000 instructions and two or three requests for
-/// memory. With 16 turns, loops of `find_at` in long texts took up to 1.44 times what they take
-/// without automata, where matches are 20 bytes apart, and with 64 up to 1.03 times. With 256, a
-/// search of 1,000 bytes without a match took up to half as much again as with 64.
-const TURNS_WITHOUT: u32 = 64;
 
 /// The start and the end of the match that a search by itself finds, with the number of its
 /// pattern. With EARLIEST it is one with the least end, and its start and number say nothing.

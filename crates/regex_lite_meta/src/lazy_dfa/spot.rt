@@ -1,20 +1,20 @@
 //! Scans that go by offsets, without the characters beside them.
-ghost use Rattle.std.specs.Prelude.{◌≡◌, ◌+◌, ◌<◌, ◌≤◌, [], ℕ, IfSome, IsCharBoundary};
+ghost use Rattle.std.specs.Prelude.{◌≡◌, ◌+◌, ◌<◌, [], ℕ, IfSome, IsCharBoundary};
 ghost use Rattle.std.specs.Prelude.{None, Option, Some, chars, false, true, length, slice_get};
 ghost use Rattle.regex_lite_meta.specs.LazyDfa.Automaton.{KeptOrigin, Remembers, State};
 ghost use Rattle.regex_lite_meta.specs.LazyDfa.Intervals.{IsInterval};
-ghost use Rattle.regex_lite_meta.specs.LazyDfa.Scanning.{best_told, IsScanning, IsSince};
+ghost use Rattle.regex_lite_meta.specs.LazyDfa.Scanning.{EndsWith, GoesOn, IsScanning};
 ghost use Rattle.regex_lite_meta.specs.LazyDfa.Spots.{IsTurn, Takes, TakesToNothing};
 ghost use Rattle.regex_lite_meta.specs.LazyDfa.Stored.{hit_in, known_hit};
 ghost use Rattle.regex_lite_engine.specs.Search.Offsets.{position_at};
 ghost use Rattle.regex_lite_engine.specs.Search.Standing.{IsHere};
-ghost use Rattle.regex_lite_engine.specs.Search.NumberedOutcomes.{IsBestOutcomeOf};
 
 use crate::lazy_dfa::automaton::LazyDfa;
 use crate::lazy_dfa::classes::Ahead;
 use crate::lazy_dfa::interval::Interval;
 use crate::lazy_dfa::scan::Standing;
 use crate::lazy_dfa::state::{Effect, Hit};
+use crate::strategy::MOST_IDLE;
 use regex_lite_engine::search::here::Here;
 use regex_lite_engine::search::patterns::Patterns;
 
@@ -47,10 +47,6 @@ enum Step {
     Stuck,
 }
 
-/// After this many turns in a row with nothing to go on from, it is faster to pass over the
-/// positions at which no match can begin.
-const MOST_IDLE: u32 = 8;
-
 impl LazyDfa {
     /// Goes on while turns are remembered, up to the last of them before the end of the search or,
     /// with EARLIEST, before the first that completes a match. Returns whether nothing leads on
@@ -67,16 +63,10 @@ impl LazyDfa {
         requires none { EARLIEST ≡ true → at.old.best ≡ None }
         requires scanning { (low p : ℕ) × IsScanning (P.table patterns.now) (P.entries patterns.now)
             (chars haystack.now) low p self.now at.old }
-        ensures over { result ≡ true → (low p : ℕ) → IsScanning (P.table patterns.now)
-            (P.entries patterns.now) (chars haystack.now) low p self.now at.old
-            → IsBestOutcomeOf (P.table patterns.now) (chars haystack.now) (P.entries patterns.now)
-            low (best_told at.new.best) }
-        ensures on { result ≡ false → (low p : ℕ) → IsScanning (P.table patterns.now)
-            (P.entries patterns.now) (chars haystack.now) low p self.now at.old
-            → (q : ℕ) × (p ≤ q) × IsScanning (P.table patterns.now) (P.entries patterns.now)
-            (chars haystack.now) low q self.now at.new
-            × IsSince (P.table patterns.now) (P.entries patterns.now) (chars haystack.now) low p
-            at.old.first at.new.first }
+        ensures over { result ≡ true → EndsWith (P.table patterns.now) (P.entries patterns.now)
+            (chars haystack.now) self.now at.old at.new.best }
+        ensures on { result ≡ false → GoesOn (P.table patterns.now) (P.entries patterns.now)
+            (chars haystack.now) self.now at.old at.new }
         ensures none { EARLIEST ≡ true → (result ≡ false) × (at.new.best ≡ None) }
     {
         let mut near = Interval::none();

@@ -13,14 +13,14 @@ search_depth_first-requires c = on_boundary _ _ c.requires c.if-start-haystack.f
 pub search_in_step-requires : goal.search_in_step-requires
 search_in_step-requires c = on_boundary _ _ c.requires c.if-start-haystack.false
 
-pub returns-then-pays_from-clause-found : goal.returns-then-pays_from-clause-found
-returns-then-pays_from-clause-found c = c.search_remembering.ensures.found
+pub returns-in-LazyDfa-clause-found : goal.returns-in-LazyDfa-clause-found
+returns-in-LazyDfa-clause-found c = c.search_remembering.ensures.found
 
-pub returns-then-pays_from-clause-cost : goal.returns-then-pays_from-clause-cost
-returns-then-pays_from-clause-cost c = c.search_remembering.ensures.cost
+pub returns-in-LazyDfa-clause-cost : goal.returns-in-LazyDfa-clause-cost
+returns-in-LazyDfa-clause-cost c = c.search_remembering.ensures.cost
 
-pub returns-then-has_few_pairs : goal.returns-then-has_few_pairs
-returns-then-has_few_pairs c = c.search_depth_first.ensures
+pub returns-in-DepthFirst : goal.returns-in-DepthFirst
+returns-in-DepthFirst c = c.search_depth_first.ensures
 
-pub returns : goal.returns
-returns c = c.search_in_step.ensures
+pub returns-in_default : goal.returns-in_default
+returns-in_default c = c.search_in_step.ensures

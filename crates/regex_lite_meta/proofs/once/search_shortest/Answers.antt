@@ -63,27 +63,28 @@ returns-clause-cost c = λ tree is.
     (chars c.args.haystack.now) s m steps.tried steps.entered steps.looked before.from
     (rw c.pattern-pattern.ensures.table at c.run_shortest.ensures.bounded))
 
-pub returns-in_default-clause-found : goal.returns-in_default-clause-found
-returns-in_default-clause-found c = λ tree regular is. (
+pub returns-in_default-first_start-clause-found : goal.returns-in_default-first_start-clause-found
+returns-in_default-first_start-clause-found c = λ tree regular is. (
     let over = c.if-start-haystack.false in
     end_told tree regular c.args.graph.now is c.args.haystack.now c.args.start (omega (arith, over))
     None
     (none_from (table_of c.args.graph.now) (chars c.args.haystack.now) c.args.graph.now.start
     (position_at c.args.haystack.now c.args.start)
     (rw (c.pattern-pattern.ensures.table, c.pattern-pattern.ensures.entry) at
-    (c.first_start.ensures.none c.in_default.is))))
+    (c.first_start.ensures.none c.in_default-first_start.is))))
 
-pub returns-in_default-clause-cost : goal.returns-in_default-clause-cost
-returns-in_default-clause-cost c = λ tree is.
+pub returns-in_default-first_start-clause-cost : goal.returns-in_default-first_start-clause-cost
+returns-in_default-first_start-clause-cost c = λ tree is.
     let over = c.if-start-haystack.false in
     let graph = c.args.graph.now in
-    let steps = c.no_steps-in_default.result in
+    let steps = c.no_steps-in_default-first_start.result in
     cost_told tree graph is c.args.haystack.now c.args.start (omega (arith, over)) steps.tried
     steps.entered steps.looked
     (none_tried (length (table_of graph)) (arrows_of (table_of graph)) (chars c.args.haystack.now)
     (position_at c.args.haystack.now c.args.start) steps.tried steps.entered steps.looked
-    c.no_steps-in_default.ensures.tried c.no_steps-in_default.ensures.entered
-    c.no_steps-in_default.ensures.looked)
+    c.no_steps-in_default-first_start.ensures.tried
+    c.no_steps-in_default-first_start.ensures.entered
+    c.no_steps-in_default-first_start.ensures.looked)
 
 -- It has an answer because the prover would try other calls first, which takes long
 pub returns-then-start-haystack-clause-found : goal.returns-then-start-haystack-clause-found
@@ -94,5 +95,5 @@ search_shortest_remembering-requires c = record {
   boundary = on_boundary _ _ c.requires c.if-start-haystack.false;
 }
 
-pub returns-then-pays_once : goal.returns-then-pays_once
-returns-then-pays_once c = c.search_shortest_remembering.ensures
+pub returns-in-LazyDfa : goal.returns-in-LazyDfa
+returns-in-LazyDfa c = c.search_shortest_remembering.ensures

@@ -4,11 +4,11 @@ ghost use Rattle.std.specs.Prelude.{chars, length};
 ghost use Rattle.regex_lite_meta.specs.LazyDfa.Scanning.{best_told};
 ghost use Rattle.regex_lite_syntax.specs.Tree.{Tree};
 ghost use Rattle.regex_lite_engine.specs.Graph.SideBySide.{AreRegularPatterns};
-ghost use Rattle.regex_lite_engine.specs.Graph.StoredList.{IsGraphOfList};
+ghost use Rattle.regex_lite_engine.specs.Graph.StoredList.{IsGraphOfList, table_of_list};
 ghost use Rattle.regex_lite_engine.specs.Search.AnswerOfList.{AnyMatchesFrom};
-ghost use Rattle.regex_lite_engine.specs.Search.NumberedOutcomes.{numbered_told};
+ghost use Rattle.regex_lite_engine.specs.Search.NumberedOutcomes.{IsFoundOf, numbered_told};
 ghost use Rattle.regex_lite_engine.specs.Search.NumberedOutcomes.{with_origin_kept};
-ghost use Rattle.regex_lite_engine.specs.Search.Offsets.{search_start};
+ghost use Rattle.regex_lite_engine.specs.Search.Offsets.{position_at, search_start};
 ghost use Rattle.regex_lite_engine.specs.Search.Outcomes.{HasCostOfList, IsOutcomeOfList};
 
 use crate::lazy_dfa::single::find_once;
@@ -38,14 +38,8 @@ pub(crate) fn search_list_remembering(
         → HasCostOfList trees haystack.now start told.1) }
     ensures entered { IfOk result (λ told. IfSome told.0 (λ _. 0 < told.1.entered)) }
 {
-    let mut patterns = ListPatterns::new(alloc, list)?;
-    let mut cache = cache_for::<Origin>(alloc, list.table(), 0)?;
-    // Each place is one of the graph.
-    let _entries = list.entries();
-    let all = AllOfList { list };
-    let found = find_once::<_, _, false>(&mut patterns, &all, alloc, &mut cache, haystack, start);
-    let Cache { walk, .. } = cache;
-    Ok((without_slots(alloc, found), walk.steps))
+    let (found, steps) = find_match::<false>(list, alloc, haystack, start)?;
+    Ok((without_slots(alloc, found), steps))
 }
 
 /// What `search_list_any` returns, by an automaton if it isn't over soon.
@@ -64,14 +58,43 @@ pub(crate) fn search_any_remembering(
         → HasCostOfList trees haystack.now start told.1) }
     ensures entered { IfOk result (λ told. IsTrue told.0 → 0 < told.1.entered) }
 {
+    let (found, steps) = find_match::<true>(list, alloc, haystack, start)?;
+    Ok((found.is_some(), steps))
+}
+
+/// Where the match starts and ends and of which pattern it is, and what the search did. With
+/// EARLIEST it is one with the least end, and its start and number say nothing.
+#[inline(always)]
+fn find_match<const EARLIEST: bool>(
+    list: &GraphList,
+    alloc: Global,
+    haystack: &str,
+    start: usize,
+) -> Result<(Option<(Origin, usize)>, Steps), AllocError>
+    requires boundary { IsCharBoundary haystack.now start }
+    requires places { 0 < length list.now.places }
+    ensures found { IfOk result (λ told. IsFoundOf EARLIEST (table_of_list list.now)
+        (chars haystack.now) list.now.entries (position_at haystack.now start)
+        (best_told told.0)) }
+    ensures cost { IfOk result (λ told. (trees : List Tree) → IsGraphOfList trees list.now
+        → HasCostOfList trees haystack.now start told.1) }
+    ensures entered { IfOk result (λ told. IfSome told.0 (λ _. 0 < told.1.entered)) }
+{
     let mut patterns = ListPatterns::new(alloc, list)?;
     let mut cache = cache_for::<Origin>(alloc, list.table(), 0)?;
     // Each place is one of the graph.
     let _entries = list.entries();
     let all = AllOfList { list };
-    let found = find_once::<_, _, true>(&mut patterns, &all, alloc, &mut cache, haystack, start);
+    let found = find_once::<_, _, EARLIEST>(
+        &mut patterns,
+        &all,
+        alloc,
+        &mut cache,
+        haystack,
+        start,
+    );
     let Cache { walk, .. } = cache;
-    Ok((found.is_some(), walk.steps))
+    Ok((found, walk.steps))
 }
 
 /// The match that starts and ends there, with the number of its pattern.

@@ -1,7 +1,8 @@
 use Rattle.regex_lite_meta.proofs.Common.{◌≡◌, true, chars, sym, refl, ◌∙◌, subst, arith, rules}
 use Rattle.regex_lite_meta.proofs.Common.{true≢false}
 use Rattle.regex_lite_meta.proofs.lazy_dfa.RunLemmas.{at_later}
-use Rattle.regex_lite_meta.proofs.lazy_dfa.OnwardLemmas.{GoesOn, stays_there, then_on}
+use Rattle.regex_lite_meta.specs.LazyDfa.Scanning.{GoesOn}
+use Rattle.regex_lite_meta.proofs.lazy_dfa.OnwardLemmas.{stays_there, then_on}
 use Rattle.regex_lite_engine.proofs.search.here.HereLemmas.{at_most}
 use Rattle.regex_lite_meta.proofs.lazy_dfa.automaton.LazyDfa.leap_on.Goals as goal
 

@@ -1,5 +1,5 @@
 use Rattle.regex_lite_meta.proofs.Common.{◌≡◌, ◌-◌, ◌==◌, true, length, None, chars, not}
-use Rattle.regex_lite_meta.proofs.lazy_dfa.OnwardLemmas.{GoesOn}
+use Rattle.regex_lite_meta.specs.LazyDfa.Scanning.{GoesOn}
 use Rattle.regex_lite_meta.proofs.lazy_dfa.automaton.LazyDfa.leap_on.Given as goal
 
 abbrev pub invariant-leaps : goal.invariant-leaps

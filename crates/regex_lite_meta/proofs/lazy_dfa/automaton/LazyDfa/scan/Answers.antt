@@ -1,7 +1,8 @@
 use Rattle.regex_lite_meta.proofs.Common.{◌≡◌, ◌==◌, true, chars, ap, ◌∙◌, arith, rules, Standing}
 use Rattle.regex_lite_meta.proofs.Common.{not, sym, true≢false}
 use Rattle.regex_lite_engine.proofs.pikevm.ShortestLemmas.{not_true}
-use Rattle.regex_lite_meta.proofs.lazy_dfa.OnwardLemmas.{GoesOn, idle_edge, state_there}
+use Rattle.regex_lite_meta.specs.LazyDfa.Scanning.{GoesOn}
+use Rattle.regex_lite_meta.proofs.lazy_dfa.OnwardLemmas.{idle_edge, state_there}
 use Rattle.regex_lite_meta.proofs.lazy_dfa.OnwardLemmas.{stays_there, stuck_there, then_on}
 use Rattle.regex_lite_meta.proofs.lazy_dfa.OnwardLemmas.{then_skipped, then_turned}
 use Rattle.regex_lite_meta.proofs.lazy_dfa.ScanLemmas.{leads_on, scan_found, preferred}

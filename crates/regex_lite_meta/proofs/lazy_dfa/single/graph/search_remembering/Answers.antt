@@ -1,17 +1,8 @@
-use Rattle.regex_lite_meta.proofs.Common.{◌^◌, ◌<◌, [], ◌∷◌, length, chars, arith, rules}
-use Rattle.regex_lite_meta.proofs.Common.{places_of, table_of, span_of, position_at, span_told}
+use Rattle.regex_lite_meta.proofs.Common.{[], ◌∷◌, chars, table_of, span_of, position_at, span_told}
 use Rattle.regex_lite_meta.proofs.lazy_dfa.OnceLemmas.{spanned}
 use Rattle.regex_lite_engine.proofs.pikevm.EndLemmas.{one_best}
-use Rattle.regex_lite_engine.proofs.search.OutcomeLemmas.{answer_told, can_count, cost_told}
+use Rattle.regex_lite_engine.proofs.search.OutcomeLemmas.{answer_told}
 use Rattle.regex_lite_meta.proofs.lazy_dfa.single.graph.search_remembering.Goals as goal
-
-pub find_once-found-requires-clause-counts : goal.find_once-found-requires-clause-counts
-find_once-found-requires-clause-counts c =
-    let haystack = c.args.haystack.now in
-    let short : length haystack < 2 ^ 63 = search rules in
-    can_count (places_of c.pattern-pattern.result.table.now) haystack
-    (position_at haystack c.args.start) c.utf8.haystack short c.in_ok-cache.ensures.countable 1
-    (omega arith)
 
 pub returns-clause-found : goal.returns-clause-found
 returns-clause-found c = λ tree regular is. (
@@ -19,17 +10,9 @@ returns-clause-found c = λ tree regular is. (
     let haystack = c.args.haystack.now in
     let found = one_best (table_of graph) (chars haystack) graph.start
     (position_at haystack c.args.start)
-    (span_told (span_of c.find_once-found.result))
+    (span_told (span_of c.in_ok-found.found))
     (spanned (table_of graph) (chars haystack) (graph.start ∷ [])
-    (position_at haystack c.args.start) c.find_once-found.result []
-    (rw (c.pattern-pattern.ensures.table, c.pattern-pattern.ensures.entry) at
-    c.find_once-found.ensures.found)) in
+    (position_at haystack c.args.start) c.in_ok-found.found []
+    c.in_ok-found.ensures.found) in
     answer_told tree regular graph is haystack c.args.start c.requires.boundary.0
     c.without_slots.result (rw c.without_slots.ensures.told found))
-
-pub returns-clause-cost : goal.returns-clause-cost
-returns-clause-cost c = λ tree is.
-    let steps = c.find_once-found.new.cache.walk.steps in
-    cost_told tree c.args.graph.now is c.args.haystack.now c.args.start c.requires.boundary.0
-    steps.tried steps.entered steps.looked
-    (rw c.pattern-pattern.ensures.table at c.find_once-found.ensures.bounded)

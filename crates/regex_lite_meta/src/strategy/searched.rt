@@ -1,0 +1,95 @@
+//! What is searched, as far as the choice of a way depends on it: one pattern or several.
+ghost use Rattle.std.specs.Prelude.{◌≡◌};
+
+use regex_lite_engine::Graph;
+use regex_lite_engine::nfa::list::GraphList;
+use regex_lite_engine::nfa::table::Table;
+use regex_lite_syntax::prefilter::{Filter, ListHeads, Prefilter};
+
+/// The graph of one pattern or of several, and where their matches can begin. What it takes time to
+/// find out is found out only where it is asked for.
+#[derive(Clone, Copy)]
+pub(crate) struct Searched<'g> {
+    pub(super) table: &'g Table,
+    heads: HeadsOf<'g>,
+}
+
+/// What is known of the characters with which a match begins.
+#[derive(Clone, Copy)]
+enum HeadsOf<'g> {
+    One(&'g Filter),
+    Several(&'g ListHeads),
+}
+
+/// How a match begins.
+#[derive(Clone, Copy)]
+pub(super) enum Beginning {
+    /// With one of many characters.
+    Often,
+    /// With a character of a range, which is looked for.
+    InRange,
+    /// With one of a few bytes, or of a few pairs of them, which are looked for.
+    Rarely,
+    /// With any character, since the pattern reads none.
+    Unread,
+    /// At few positions, which an index of several patterns finds.
+    Indexed,
+}
+
+impl<'g> Searched<'g> {
+    /// One pattern.
+    #[inline(always)]
+    pub(crate) fn one(graph: &'g Graph) -> Searched<'g>
+        ensures { result.table.now.places ≡ graph.now.places }
+    {
+        Searched {
+            table: graph.table(),
+            heads: HeadsOf::One(graph.filter()),
+        }
+    }
+
+    /// Several patterns.
+    #[inline(always)]
+    pub(crate) fn several(list: &'g GraphList) -> Searched<'g>
+        ensures { result.table.now.places ≡ list.now.places }
+    {
+        Searched {
+            table: list.table(),
+            heads: HeadsOf::Several(list.heads()),
+        }
+    }
+
+    /// How a match begins.
+    #[inline(always)]
+    pub(super) fn beginning(&self) -> Beginning {
+        match self.heads {
+            HeadsOf::One(filter) => match filter.prefilter() {
+                None if self.table.reading() == 0 => Beginning::Unread,
+                None => Beginning::Often,
+                Some(Prefilter::Range(_, _)) => Beginning::InRange,
+                Some(_) => Beginning::Rarely,
+            },
+            HeadsOf::Several(heads) => {
+                if heads.begin_often() {
+                    Beginning::Often
+                } else {
+                    Beginning::Indexed
+                }
+            }
+        }
+    }
+
+    /// Whether characters are read, and something branches.
+    pub(super) fn branches(&self) -> bool {
+        self.table.reading() > 0 && self.table.arrows() >= self.table.places()
+    }
+
+    /// Whether there are several patterns, or none.
+    #[inline(always)]
+    pub(super) fn are_several(&self) -> bool {
+        match self.heads {
+            HeadsOf::One(_) => false,
+            HeadsOf::Several(_) => true,
+        }
+    }
+}
