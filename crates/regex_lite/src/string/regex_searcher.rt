@@ -112,7 +112,7 @@ impl<'r> RegexSearcher<'r> {
         ensures found { IsTrue result ↔ MatchesFrom self.old haystack.now 0 }
         ensures same { self.new ≡ self.old }
     {
-        self.find(haystack).is_some()
+        self.matches.search_shortest(haystack, 0).is_some()
     }
 
     /// [`Regex::find`], which is never refused here.

@@ -6,7 +6,7 @@ ghost use Rattle.regex_lite_meta.specs.LazyDfa.Automaton.{IsEmptyState, Remember
 ghost use Rattle.regex_lite_meta.specs.LazyDfa.Running.{Stands, StandsIdle};
 ghost use Rattle.regex_lite_meta.specs.LazyDfa.Scanning.{best_told, IsScanning, IsSince};
 ghost use Rattle.regex_lite_engine.specs.Graph.Places.{Place};
-ghost use Rattle.regex_lite_engine.specs.Search.NumberedOutcomes.{IsBestOutcomeOf};
+ghost use Rattle.regex_lite_engine.specs.Search.NumberedOutcomes.{IsFoundOf};
 ghost use Rattle.regex_lite_engine.specs.Search.Standing.{IsHere};
 ghost use Rattle.regex_lite_engine.specs.Search.Starts.{PassesTo};
 ghost use Rattle.regex_lite_engine.specs.Search.Starts.{AreDeadAt};
@@ -111,9 +111,9 @@ impl LazyDfa {
         next
     }
 
-    /// Goes on by remembered turns, and over positions at which no match can begin; with EARLIEST,
-    /// up to the first turn that completes a match. Returns whether nothing leads on from the last
-    /// match, which is the answer then.
+    /// Goes on by remembered turns, and over positions at which no match can begin. Returns whether
+    /// the last match is the answer: nothing leads on from it or, with EARLIEST, it is the first
+    /// that a turn completes, of which only the end is known.
     pub(super) fn run_on<P: Patterns, const EARLIEST: bool>(
         &self,
         patterns: &P,
@@ -126,7 +126,7 @@ impl LazyDfa {
             (chars haystack.now) low p self.now at.old }
         ensures over { result ≡ true → (low p : ℕ) → IsScanning (P.table patterns.now)
             (P.entries patterns.now) (chars haystack.now) low p self.now at.old
-            → IsBestOutcomeOf (P.table patterns.now) (chars haystack.now) (P.entries patterns.now)
+            → IsFoundOf EARLIEST (P.table patterns.now) (chars haystack.now) (P.entries patterns.now)
             low (best_told at.new.best) }
         ensures on { result ≡ false → (low p : ℕ) → IsScanning (P.table patterns.now)
             (P.entries patterns.now) (chars haystack.now) low p self.now at.old
@@ -134,7 +134,7 @@ impl LazyDfa {
             (chars haystack.now) low q self.now at.new
             × IsSince (P.table patterns.now) (P.entries patterns.now) (chars haystack.now) low p
             at.old.first at.new.first }
-        ensures none { EARLIEST ≡ true → (result ≡ false) × (at.new.best ≡ None) }
+        ensures none { EARLIEST ≡ true → result ≡ false → at.new.best ≡ None }
     {
         if self.run::<P, EARLIEST>(patterns, haystack, at) {
             return true;
@@ -157,7 +157,7 @@ impl LazyDfa {
             (chars haystack.now) low p self.now at.old }
         ensures over { result ≡ true → (low p : ℕ) → IsScanning (P.table patterns.now)
             (P.entries patterns.now) (chars haystack.now) low p self.now at.old
-            → IsBestOutcomeOf (P.table patterns.now) (chars haystack.now) (P.entries patterns.now)
+            → IsFoundOf EARLIEST (P.table patterns.now) (chars haystack.now) (P.entries patterns.now)
             low (best_told at.new.best) }
         ensures on { result ≡ false → (low p : ℕ) → IsScanning (P.table patterns.now)
             (P.entries patterns.now) (chars haystack.now) low p self.now at.old
@@ -165,7 +165,7 @@ impl LazyDfa {
             (chars haystack.now) low q self.now at.new
             × IsSince (P.table patterns.now) (P.entries patterns.now) (chars haystack.now) low p
             at.old.first at.new.first }
-        ensures none { EARLIEST ≡ true → (result ≡ false) × (at.new.best ≡ None) }
+        ensures none { EARLIEST ≡ true → result ≡ false → at.new.best ≡ None }
     {
         'leaps: loop {
             if !self.leap(patterns, haystack, at) {

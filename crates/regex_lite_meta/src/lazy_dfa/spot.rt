@@ -8,7 +8,7 @@ ghost use Rattle.regex_lite_meta.specs.LazyDfa.Spots.{IsTurn, Takes, TakesToNoth
 ghost use Rattle.regex_lite_meta.specs.LazyDfa.Stored.{hit_in, known_hit};
 ghost use Rattle.regex_lite_engine.specs.Search.Offsets.{position_at};
 ghost use Rattle.regex_lite_engine.specs.Search.Standing.{IsHere};
-ghost use Rattle.regex_lite_engine.specs.Search.NumberedOutcomes.{IsBestOutcomeOf};
+ghost use Rattle.regex_lite_engine.specs.Search.NumberedOutcomes.{IsFoundOf};
 
 use crate::lazy_dfa::automaton::LazyDfa;
 use crate::lazy_dfa::classes::Ahead;
@@ -52,9 +52,9 @@ enum Step {
 const MOST_IDLE: u32 = 8;
 
 impl LazyDfa {
-    /// Goes on while turns are remembered, up to the last of them before the end of the search or,
-    /// with EARLIEST, before the first that completes a match. Returns whether nothing leads on
-    /// from the last match, which is the answer then.
+    /// Goes on while turns are remembered, up to the last of them before the end of the search.
+    /// Returns whether the last match is the answer: nothing leads on from it or, with EARLIEST, it
+    /// is the first that a turn completes, of which only the end is known.
     // Not inlined, since what an inlined one needs is cleared each time.
     #[inline(never)]
     pub(super) fn run<P: Patterns, const EARLIEST: bool>(
@@ -69,7 +69,7 @@ impl LazyDfa {
             (chars haystack.now) low p self.now at.old }
         ensures over { result ≡ true → (low p : ℕ) → IsScanning (P.table patterns.now)
             (P.entries patterns.now) (chars haystack.now) low p self.now at.old
-            → IsBestOutcomeOf (P.table patterns.now) (chars haystack.now) (P.entries patterns.now)
+            → IsFoundOf EARLIEST (P.table patterns.now) (chars haystack.now) (P.entries patterns.now)
             low (best_told at.new.best) }
         ensures on { result ≡ false → (low p : ℕ) → IsScanning (P.table patterns.now)
             (P.entries patterns.now) (chars haystack.now) low p self.now at.old
@@ -77,7 +77,7 @@ impl LazyDfa {
             (chars haystack.now) low q self.now at.new
             × IsSince (P.table patterns.now) (P.entries patterns.now) (chars haystack.now) low p
             at.old.first at.new.first }
-        ensures none { EARLIEST ≡ true → (result ≡ false) × (at.new.best ≡ None) }
+        ensures none { EARLIEST ≡ true → result ≡ false → at.new.best ≡ None }
     {
         let mut near = Interval::none();
         let mut spot = Spot::of(at);
@@ -91,7 +91,8 @@ impl LazyDfa {
                 break;
             };
             if self.is_last::<EARLIEST>(turn) {
-                break;
+                at.complete(0, spot.at);
+                return true;
             }
             match self.take(spot, turn, at) {
                 Step::On(on) => spot = on,
@@ -244,8 +245,10 @@ impl LazyDfa {
         requires effect { (hit : Option KeptOrigin) → known_hit turn.effect ≡ Some hit
             → (state : State) → slice_get self.now.states turn.to ≡ Some state
             → ¬ (state.ways ≡ []) × (state.hit ≡ hit) }
-        ensures { (state : State) → slice_get self.now.states turn.to ≡ Some state
+        ensures none { (state : State) → slice_get self.now.states turn.to ≡ Some state
             → EARLIEST ≡ true → result ≡ false → state.hit ≡ None }
+        ensures hit { (state : State) → slice_get self.now.states turn.to ≡ Some state
+            → result ≡ true → (EARLIEST ≡ true) × ¬ (state.hit ≡ None) }
     {
         if !EARLIEST {
             return false;

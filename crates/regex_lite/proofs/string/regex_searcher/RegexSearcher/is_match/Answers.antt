@@ -1,10 +1,16 @@
-use Rattle.regex_lite.proofs.Common.{◌↔◌, IsTrue, sym, subst, MatchesFrom, IsMatchOf}
-use Rattle.regex_lite.proofs.string.AgreementLemmas.{answer_told}
+use Rattle.regex_lite.proofs.Common.{◌↔◌, IsTrue, inr, subst, Expression, IsCharBoundary-start}
+use Rattle.regex_lite.proofs.Common.{MatchesFrom}
+use Rattle.regex_lite.proofs.string.OneTreeLemmas.{matches_told}
 use Rattle.regex_lite.proofs.string.regex_searcher.RegexSearcher.is_match.Goals as goal
+
+pub search_shortest-requires : goal.search_shortest-requires
+search_shortest-requires c = inr (IsCharBoundary-start _ c.utf8.haystack)
 
 pub returns-clause-found : goal.returns-clause-found
 returns-clause-found c =
-    let re = c.args.self.now in
     let bytes = c.args.haystack.now in
-    subst (λ found. IsTrue found ↔ MatchesFrom re bytes 0) (sym c.is_some.ensures)
-    (answer_told re bytes 0 (λ tree. IsMatchOf bytes) c.find.result c.find.ensures.found)
+    let told = c.search_shortest in
+    let own = c.self.invariant.0 in
+    subst (λ (re : Expression). IsTrue c.is_some.result ↔ MatchesFrom re bytes 0) c.self.view_is
+    (matches_told c.self.inside.regex.now bytes 0 told.result c.is_some.result c.is_some.ensures
+    (own.0, own.1, told.ensures.found own.0 own.2.0 own.2.1))

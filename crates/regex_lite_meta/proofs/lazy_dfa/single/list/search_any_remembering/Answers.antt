@@ -1,5 +1,5 @@
 use Rattle.std.specs.Prelude.{◌↔◌, IsTrue}
-use Rattle.regex_lite_meta.proofs.Common.{◌^◌, ◌<◌, length, chars, sym, ap}
+use Rattle.regex_lite_meta.proofs.Common.{◌^◌, ◌<◌, [], length, chars, sym, ap}
 use Rattle.regex_lite_meta.proofs.Common.{◌∙◌, subst, arith, rules, places_of, table_of_list}
 use Rattle.regex_lite_meta.proofs.Common.{position_at, best_told}
 use Rattle.regex_lite_engine.specs.Search.AnswerOfList.{AnyMatchesFrom}
@@ -7,7 +7,7 @@ use Rattle.regex_lite_engine.specs.Search.Offsets.{search_start}
 use Rattle.regex_lite_engine.proofs.search.ListOutcomeLemmas.{cost_of_list, any_told}
 use Rattle.regex_lite_engine.proofs.search.OutcomeLemmas.{can_count}
 use Rattle.regex_lite_engine.proofs.search.list_patterns.ListStartLemmas.{all_of_entries}
-use Rattle.regex_lite_meta.proofs.lazy_dfa.ScanLemmas.{some_end}
+use Rattle.regex_lite_meta.proofs.lazy_dfa.ScanLemmas.{some_kept}
 use Rattle.regex_lite_meta.proofs.lazy_dfa.single.list.search_any_remembering.Goals as goal
 
 pub cache_for-requires : goal.cache_for-requires
@@ -46,7 +46,7 @@ returns-clause-found c = λ trees regular is.
     (best_told found) (rw c.in_ok-patterns.ensures.list at c.find_once-found.ensures.found) in
     subst (λ some. IsTrue some
     ↔ AnyMatchesFrom trees (chars haystack) (search_start haystack c.args.start))
-    (sym (c.is_some.ensures ∙ some_end found)) told
+    (sym (c.is_some.ensures ∙ some_kept found [])) told
 
 pub returns-clause-cost : goal.returns-clause-cost
 returns-clause-cost c = λ trees is.
