@@ -11,7 +11,7 @@ use Rattle.regex_lite.specs.CompiledList.{IsBuiltList}
 use Rattle.regex_lite.specs.Scanning.{IsMatchOfSearch}
 use Rattle.regex_lite.proofs.string.ListBuildLemmas.{one_list, own_tree}
 use Rattle.regex_lite.proofs.string.ListGroupLemmas.{found_groups, found_there}
-use Rattle.regex_lite.proofs.string.ListSlotLemmas.{most_are}
+use Rattle.regex_lite.proofs.string.ListSlotLemmas.{width_kept}
 use Rattle.regex_lite.proofs.string.ScanLemmas.{whole_of_groups}
 
 -- what is returned is this answer of some search for the patterns, and these are its slots
@@ -52,10 +52,7 @@ module _ (bytes : List ℕ) (utf8 : IsUtf8 bytes) (list : List Expression) (comp
       (one_list list last.1.0 built.trees last.1.1 given) last.1.2)
 
   width : length kept ≡ compiled.kept_slots
-  width = room.2
-      ∙ ap (λ (trees : List Tree). kept_slots (most_captures trees))
-      (one_list list room.0 built.trees room.1 given) ∙ sym (built.slots ∙ ap kept_slots
-      (most_are built.trees compiled.graph.groups built.groups.all built.groups.each))
+  width = width_kept list compiled built given (length kept) room
 
   -- its pattern is there
   pub last_there : told.0 < length compiled.graph.groups
