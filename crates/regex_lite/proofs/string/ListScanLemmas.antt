@@ -1,10 +1,10 @@
 -- The slots that a searcher keeps for several patterns determine the groups of the last match.
 use Rattle.regex_lite.proofs.Common.{◌≡◌, ℕ, ◌*◌, ◌<◌, List, length, take, Some, IsUtf8, Option}
-use Rattle.regex_lite.proofs.Common.{chars, sym, ap, ◌∙◌, subst, Tree, StoredGroups, Found}
+use Rattle.regex_lite.proofs.Common.{chars, sym, ◌∙◌, subst, StoredGroups, Found}
 use Rattle.regex_lite.proofs.Common.{IsFoundInList, groups_of, groups_at, Expression, Groups}
 use Rattle.regex_lite.proofs.Common.{whole_span, AreGroups, AreGroupsFoundInList, IsAnswerOf}
-use Rattle.regex_lite.proofs.Common.{IsAnswerOfPatterns, span_of_match, AreTrees, most_captures}
-use Rattle.regex_lite.proofs.Common.{AreSlotsForAllGroups, offsets, kept_slots, all_slots}
+use Rattle.regex_lite.proofs.Common.{IsAnswerOfPatterns, span_of_match, AreTrees}
+use Rattle.regex_lite.proofs.Common.{AreSlotsForAllGroups, offsets, all_slots}
 use Rattle.regex_lite.proofs.Common.{CompiledList, Match}
 use Rattle.regex_lite_syntax.proofs.OptionLemmas.{same_some}
 use Rattle.regex_lite.specs.CompiledList.{IsBuiltList}
