@@ -1,5 +1,5 @@
 -- What the parts of a regex, and of a searcher, have to do with one another.
-use Rattle.std.specs.Prelude.{◌≡◌, ℕ, List, Option, chars, map, option_map, string_bytes}
+use Rattle.std.specs.Prelude.{◌≡◌, ℕ, List, Option, chars, map, option_map}
 use Rattle.std.specs.Rc.{rc_str_bytes}
 use Rattle.regex_lite_syntax.specs.Tree.{Tree}
 use Rattle.regex_lite_syntax.specs.Grammar.{IsTree}
@@ -16,7 +16,7 @@ use Rattle.regex_lite.specs.declared.string.compiled.Compiled.{Compiled}
 -- a regex is built of a tree that the grammar gives its pattern, and that exceeds no limit
 pub record IsBuilt (compiled : Compiled) : Type 0 where
   pub tree : Tree
-  pub given : IsTree compiled.flags (chars (string_bytes compiled.pattern)) tree
+  pub given : IsTree compiled.pattern.flags (chars compiled.pattern.pattern) tree
   pub regular : IsRegular tree
   pub fits : (size_limit : ℕ) × Fits size_limit tree
   -- the graph is that of the tree

@@ -6,6 +6,8 @@ use Rattle.regex_lite_engine.specs.Graph.SideBySide.{AreRegularPatterns}
 use Rattle.regex_lite_engine.specs.Graph.StoredList.{IsGraphOfList}
 use Rattle.regex_lite_engine.specs.Search.Answer.{Found}
 use Rattle.regex_lite_engine.specs.Search.Offsets.{HasSlots, search_start}
+use Rattle.regex_lite_engine.specs.Search.Outcomes.{IsOutcomeOfList}
+use Rattle.regex_lite_engine.specs.declared.search.outcome.Outcome.{Outcome}
 use Rattle.regex_lite_meta.specs.Searching as engine
 use Rattle.regex_lite.specs.declared.string.iter.cursor.Cursor.{Cursor}
 use Rattle.regex_lite.specs.declared.string.matches.Match.{Match}
@@ -98,6 +100,12 @@ IsAfterAnswer found_of Answers cursor =
 -- this many slots are kept for the groups
 abbrev pub AreSlotsForGroups : Expression → (slots : ℕ) → Type 0
 AreSlotsForGroups re slots = OfTree re (λ tree. slots ≡ kept_slots (captures_len tree))
+
+-- a search for the patterns from this offset on has this outcome
+abbrev pub TellsOutcomeOfList : List Expression → (haystack : List ℕ) → (start : ℕ)
+    → Option (ℕ × Outcome) → Type 0
+TellsOutcomeOfList list haystack start told =
+    OfTrees list (λ trees. IsOutcomeOfList trees haystack start told)
 
 -- how many groups the pattern has that has the most
 abbrev pub most_captures : List Tree → ℕ

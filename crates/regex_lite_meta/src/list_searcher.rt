@@ -1,14 +1,15 @@
 //! Searches for several patterns, one after another, in the same working memory.
-ghost use Rattle.std.specs.Prelude.{◌≡◌, ◌<◌, ◌⊎◌, ℕ, List, IfOk, IsCharBoundary, Some, chars};
-ghost use Rattle.std.specs.Prelude.{length};
-ghost use Rattle.std.specs.Prelude.{option_map};
+ghost use Rattle.std.specs.Prelude.{◌≡◌, ◌<◌, ◌⊎◌, ◌↔◌, ℕ, List, IfOk, IsCharBoundary, IsTrue};
+ghost use Rattle.std.specs.Prelude.{Some, chars, length, option_map};
 ghost use Rattle.regex_lite_meta.specs.LazyDfa.Scanning.{best_told};
 ghost use Rattle.regex_lite_meta.specs.Slots.{FindsListSlots, FindsSlotsIn, kept_row};
 ghost use Rattle.regex_lite_syntax.specs.Tree.{Tree};
 ghost use Rattle.regex_lite_engine.specs.Graph.SideBySide.{AreRegularPatterns};
 ghost use Rattle.regex_lite_engine.specs.Graph.StoredList.{IsGraphOfList, table_of_list};
+ghost use Rattle.regex_lite_engine.specs.Search.AnswerOfList.{AnyMatchesFrom};
 ghost use Rattle.regex_lite_engine.specs.Search.NumberedOutcomes.{IsBestOutcomeOf, numbered_at};
 ghost use Rattle.regex_lite_engine.specs.Search.NumberedOutcomes.{with_origin_kept};
+ghost use Rattle.regex_lite_engine.specs.Search.Offsets.{search_start};
 ghost use Rattle.regex_lite_engine.specs.Search.Outcomes.{IsSpanOutcomeOfList};
 
 use crate::lazy_dfa::list_spans::ListSpanSearcher;
@@ -122,11 +123,32 @@ impl<'g> ListSearcher<'g> {
         if start > haystack.len() || self.graph.len() == 0 {
             return None;
         }
-        let found = self.spans.find(self.graph, haystack, start)?;
+        let found = self.spans.find::<false>(self.graph, haystack, start)?;
         let Some(slots) = &mut self.slots else {
             return numbered(Some(found));
         };
         find_slots(self.graph, slots, haystack, found)
+    }
+
+    /// Whether any pattern has a match that starts at or after this offset. The search is over at
+    /// the first match that it comes to, and takes no memory. What [`ListSearcher::slots`] has then
+    /// is of no match.
+    ///
+    /// Condition: the start is above the haystack's length or on a character boundary.
+    pub fn search_any(&mut self, haystack: &str, start: usize) -> bool
+        requires { (length haystack.now < start) ⊎ IsCharBoundary haystack.now start }
+        ensures found { (trees : List Tree) → AreRegularPatterns trees
+            → IsGraphOfList trees self.old.graph → (IsTrue result
+            ↔ AnyMatchesFrom trees (chars haystack.now) (search_start haystack.now start)) }
+        ensures graph { self.new.graph ≡ self.old.graph }
+        ensures slots { length self.new.slots ≡ length self.old.slots }
+    {
+        if start > haystack.len() || self.graph.len() == 0 {
+            return false;
+        }
+        self.spans
+            .find::<true>(self.graph, haystack, start)
+            .is_some()
     }
 
     /// The slots of the last match that was found, none of them marked before the first. Slots 2k

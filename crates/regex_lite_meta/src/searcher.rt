@@ -9,14 +9,16 @@ ghost use Rattle.regex_lite_engine.specs.Graph.Stored.{table_of};
 ghost use Rattle.regex_lite_engine.specs.Search.NumberedAnswer.{NoneStartsBefore};
 ghost use Rattle.regex_lite_engine.specs.Search.NumberedOutcomes.{IsNumberedOutcome, best_at};
 ghost use Rattle.regex_lite_engine.specs.Search.Offsets.{position_at};
-ghost use Rattle.regex_lite_engine.specs.Search.Outcomes.{IsSpanOutcome};
+ghost use Rattle.regex_lite_engine.specs.Search.Outcomes.{IsEndOutcome, IsSpanOutcome};
 
 use crate::lazy_dfa::automaton::LazyDfa;
+use crate::lazy_dfa::single::graph::end_of;
 use crate::lazy_dfa::spans::SpanSearcher;
 use crate::slots::SlotCache;
 use crate::strategy::{Searched, Strategy, Wanted, choose};
 use regex_lite_engine::Graph;
 use regex_lite_engine::pikevm::cache::{cache_for, restart};
+use regex_lite_engine::pikevm::run::advance;
 use std::alloc::{AllocError, Global};
 use std::marker::Model;
 
@@ -113,6 +115,33 @@ impl<'g> Searcher<'g> {
         };
         let span = spans.find(self.graph, haystack, start)?;
         self.memory.find_known(&mut pattern, haystack, span)
+    }
+
+    /// The least end of any match that starts at or after this offset. The search is over at the
+    /// first match that it comes to, and needs no memory. What [`Searcher::slots`] has then is of no
+    /// match.
+    ///
+    /// Condition: the start is above the haystack's length or on a character boundary.
+    pub fn search_shortest(&mut self, haystack: &str, start: usize) -> Option<usize>
+        requires { (length haystack.now < start) ⊎ IsCharBoundary haystack.now start }
+        ensures found { (tree : Tree) → IsRegular tree → IsGraphOf tree self.old.graph
+            → IsEndOutcome tree haystack.now start result }
+        ensures graph { self.new.graph ≡ self.old.graph }
+        ensures slots { length self.new.slots ≡ length self.old.slots }
+    {
+        if start > haystack.len() {
+            return None;
+        }
+        let mut pattern = self.graph.pattern();
+        let first = pattern.first_start(haystack, start)?;
+        let cache = &mut self.memory.cache;
+        restart(cache);
+        let Some(dfa) = &mut self.dfa else {
+            advance::<_, _, true>(cache, &mut pattern, haystack, first, None);
+            return cache.best.end();
+        };
+        pattern.may_start = true;
+        end_of(dfa.find::<_, true>(&mut pattern, cache, haystack, first))
     }
 
     /// The slots of the last match that was found, none of them marked before the first. Slots 2k

@@ -1,5 +1,5 @@
 -- What a searcher that callers keep returns of a match, and of its groups.
-use Rattle.regex_lite.proofs.Common.{◌≡◌, ℕ, ◌*◌, ◌≤◌, List, [], length, take, Some, IsUtf8}
+use Rattle.regex_lite.proofs.Common.{◌≡◌, ℕ, ◌*◌, ◌≤◌, List, [], length, take, Some, None, IsUtf8}
 use Rattle.regex_lite.proofs.Common.{Option, option_map, chars, sym, refl, ap, ◌∙◌, subst, arith}
 use Rattle.regex_lite.proofs.Common.{Tree, captures_len, IsGraphOf, Found, offset}
 use Rattle.regex_lite.proofs.Common.{search_start, HasSlots, IsSpanOutcome, Expression}
@@ -10,12 +10,24 @@ use Rattle.regex_lite_meta.specs.Searching.{FindsSpan, Searching}
 use Rattle.regex_lite_engine.specs.Graph.Stored.{StoredGraph}
 use Rattle.regex_lite_syntax.proofs.OptionLemmas.{same_some}
 use Rattle.regex_lite_syntax.specs.Tree.Regular.{IsRegular}
+use Rattle.regex_lite.specs.Answers.{TellsOfAnswer}
 use Rattle.regex_lite.specs.Keeping.{SearchesForGroups}
+use Rattle.regex_lite.specs.Scanning.{IsMatchWithSlots}
 use Rattle.regex_lite.specs.Searches.{CanRead}
 use Rattle.regex_lite.proofs.string.CapturedLemmas.{held_all}
 use Rattle.regex_lite.proofs.string.FoundLemmas.{first_told, length_spans, slots_told}
 use Rattle.regex_lite.proofs.string.LawfulLemmas.{regex_lawful}
 use Rattle.regex_lite.proofs.string.OneTreeLemmas.{one_tree}
+
+-- what is returned of the answer of a search is the match that the search returns
+pub match_answered : (re : Expression) (bytes : List ℕ) (start : ℕ) (slots : List (Option ℕ))
+    (told : Option (Unit {0} × Match))
+    → TellsOfAnswer (IsAnswerOf re (chars bytes))
+    (IsMatchWithSlots (λ own. own) (λ own. tt {0}) bytes slots) (search_start bytes start) told
+    → TellsMatch re bytes start (option_map (λ told. told.1) told)
+match_answered re bytes start slots None own = own
+match_answered re bytes start slots (Some told) (found, (tree, given, is), with_slots) =
+    (tree, given, (found, is, with_slots.is_match))
 
 -- after a search a searcher still finds groups
 pub still_searches : (re : Expression) (old new : Searching) → SearchesForGroups re (Some old)

@@ -1,17 +1,17 @@
 -- The slots that a searcher keeps for several patterns determine the groups of the last match.
 use Rattle.regex_lite.proofs.Common.{◌≡◌, ℕ, ◌*◌, ◌<◌, List, length, take, Some, IsUtf8, Option}
-use Rattle.regex_lite.proofs.Common.{chars, sym, ap, ◌∙◌, subst, Tree, StoredGroups, Found}
+use Rattle.regex_lite.proofs.Common.{chars, sym, ◌∙◌, subst, StoredGroups, Found}
 use Rattle.regex_lite.proofs.Common.{IsFoundInList, groups_of, groups_at, Expression, Groups}
 use Rattle.regex_lite.proofs.Common.{whole_span, AreGroups, AreGroupsFoundInList, IsAnswerOf}
-use Rattle.regex_lite.proofs.Common.{IsAnswerOfPatterns, span_of_match, AreTrees, most_captures}
-use Rattle.regex_lite.proofs.Common.{AreSlotsForAllGroups, offsets, kept_slots, all_slots}
+use Rattle.regex_lite.proofs.Common.{IsAnswerOfPatterns, span_of_match, AreTrees}
+use Rattle.regex_lite.proofs.Common.{AreSlotsForAllGroups, offsets, all_slots}
 use Rattle.regex_lite.proofs.Common.{CompiledList, Match}
 use Rattle.regex_lite_syntax.proofs.OptionLemmas.{same_some}
 use Rattle.regex_lite.specs.CompiledList.{IsBuiltList}
 use Rattle.regex_lite.specs.Scanning.{IsMatchOfSearch}
 use Rattle.regex_lite.proofs.string.ListBuildLemmas.{one_list, own_tree}
 use Rattle.regex_lite.proofs.string.ListGroupLemmas.{found_groups, found_there}
-use Rattle.regex_lite.proofs.string.ListSlotLemmas.{most_are}
+use Rattle.regex_lite.proofs.string.ListSlotLemmas.{width_kept}
 use Rattle.regex_lite.proofs.string.ScanLemmas.{whole_of_groups}
 
 -- what is returned is this answer of some search for the patterns, and these are its slots
@@ -52,10 +52,7 @@ module _ (bytes : List ℕ) (utf8 : IsUtf8 bytes) (list : List Expression) (comp
       (one_list list last.1.0 built.trees last.1.1 given) last.1.2)
 
   width : length kept ≡ compiled.kept_slots
-  width = room.2
-      ∙ ap (λ (trees : List Tree). kept_slots (most_captures trees))
-      (one_list list room.0 built.trees room.1 given) ∙ sym (built.slots ∙ ap kept_slots
-      (most_are built.trees compiled.graph.groups built.groups.all built.groups.each))
+  width = width_kept list compiled built given (length kept) room
 
   -- its pattern is there
   pub last_there : told.0 < length compiled.graph.groups

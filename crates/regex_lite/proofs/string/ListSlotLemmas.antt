@@ -2,17 +2,26 @@
 use Rattle.regex_lite.proofs.Common.{◌≡◌, ℕ, zero, suc, ◌*◌, ◌<◌, ◌≤◌, List, [], ◌∷◌, length, take}
 use Rattle.regex_lite.proofs.Common.{IfSome, slice_get, Some, None, Option, sym, refl, ap, ◌∙◌}
 use Rattle.regex_lite.proofs.Common.{arith, Tree, StoredGroups, Outcome, groups_at, most_captures}
-use Rattle.regex_lite.proofs.Common.{kept_slots, all_slots, most_groups}
+use Rattle.regex_lite.proofs.Common.{kept_slots, all_slots, most_groups, Expression, AreTrees}
+use Rattle.regex_lite.proofs.Common.{AreSlotsForAllGroups, CompiledList}
+use Rattle.regex_lite.specs.CompiledList.{IsBuiltList}
+use Rattle.regex_lite.proofs.string.ListBuildLemmas.{one_list}
 use Rattle.regex_lite_engine.specs.Graph.StoredList.{TellGroupsOf}
-use Rattle.regex_lite_syntax.proofs.OptionLemmas.{not_there, same_some}
 
--- as many slots are kept as were asked for
-pub kept_width : (told : Option (ℕ × Outcome)) (number : ℕ) (outcome : Outcome) (n : ℕ)
-    → IfSome told (λ found. length found.1.slots.items ≡ n) → told ≡ Some (number, outcome)
-    → length outcome.slots.items ≡ n
-kept_width None number outcome n len is = absurd (not_there is)
-kept_width (Some found) number outcome n len is =
-    ap (λ (own : ℕ × Outcome). length own.1.slots.items) (sym (same_some is)) ∙ len
+-- a search has kept as many slots as were asked for
+module _ (n : ℕ) where
+  pub room_kept : (list : List Expression) (told : Option (ℕ × Outcome))
+      → IfSome told (λ found. length found.1.slots.items ≡ n) → AreSlotsForAllGroups list n
+      → IfSome told (λ found. AreSlotsForAllGroups list (length found.1.slots.items))
+  room_kept list None len room = tt
+  room_kept list (Some found) len room = (room.0, room.1, len ∙ room.2)
+
+  -- where none were, there is room for those of the whole match
+  pub room_whole : (whole : List (Option ℕ)) (told : Option (ℕ × Outcome))
+      → IfSome told (λ found. length found.1.slots.items ≡ n) → (n ≡ 0 → length whole ≡ 2)
+      → IfSome told (λ found. found.1.slots.items ≡ [] → length whole ≡ 2)
+  room_whole whole None len room = tt
+  room_whole whole (Some found) len room = λ none. room (sym len ∙ ap (λ slots. length slots) none)
 
 -- no pattern has more groups than the one with the most
 pub most_at : (all : List StoredGroups) (number : ℕ) → number < length all
@@ -49,3 +58,12 @@ most_are (tree ∷ trees) (own ∷ rest) same tell =
     let others = most_are trees rest (omega (arith, same))
     (λ number t o there at. tell (suc number) t o there at) in
     rw (first, others) refl
+
+-- as many are kept as the list does
+pub width_kept : (list : List Expression) (compiled : CompiledList) (built : IsBuiltList compiled)
+    → AreTrees list built.trees → (n : ℕ) → AreSlotsForAllGroups list n → n ≡ compiled.kept_slots
+width_kept list compiled built given n room =
+    room.2
+    ∙ ap (λ (trees : List Tree). kept_slots (most_captures trees))
+    (one_list list room.0 built.trees room.1 given) ∙ sym (built.slots ∙ ap kept_slots
+    (most_are built.trees compiled.graph.groups built.groups.all built.groups.each))

@@ -14,7 +14,7 @@ use Rattle.regex_lite_meta.specs.Searching.{ListSearching}
 use Rattle.regex_lite_engine.proofs.laws.several.ListAnswerLemmas.{list_answers}
 use Rattle.regex_lite_syntax.proofs.OptionLemmas.{same_some}
 use Rattle.regex_lite.specs.CompiledList.{IsBuiltList}
-use Rattle.regex_lite.specs.Scanning.{SearchesForList, TellsListSpan}
+use Rattle.regex_lite.specs.Scanning.{SearchesForList, TellsListSpan, TellsOutcomeOfList}
 use Rattle.regex_lite.specs.RegexList.{OfTrees}
 use Rattle.regex_lite.specs.RegexListSearches.{TellsAnswerOfList}
 use Rattle.regex_lite.proofs.string.FoundLemmas.{found_lies}
@@ -64,6 +64,29 @@ any_told list trees haystack start found given told = (
   λ any. told.1 (subst (λ own. AnyMatchesFrom own (chars haystack) (search_start haystack start))
       (one_list list any.0 trees any.1 given) any.2),
 )
+
+-- what a search of the graph returns holds for the patterns' trees
+module _ (list : List Expression) (compiled : CompiledList) (built : IsBuiltList compiled)
+    (given : AreTrees list built.trees) (bytes : List ℕ) (start : ℕ)
+    (told : Option (ℕ × Outcome)) where
+  pub outcome_given : (graph : StoredList) → graph ≡ compiled.graph
+      → ((trees : List Tree) → AreRegularPatterns trees → IsGraphOfList trees graph
+      → IsOutcomeOfList trees bytes start told)
+      → TellsOutcomeOfList list bytes start told
+  outcome_given graph same tells = (
+    built.trees,
+    given,
+    tells built.trees built.regular (subst (IsGraphOfList built.trees) (sym same) built.graph),
+  )
+
+  -- and they are those of which the list is built
+  pub outcome_built : (number : ℕ) (outcome : Outcome) → told ≡ Some (number, outcome)
+      → TellsOutcomeOfList list bytes start told
+      → IsOutcomeOfList built.trees bytes start (Some (number, outcome))
+  outcome_built number outcome is (trees, other, tells) =
+      subst (IsOutcomeOfList built.trees bytes start) is
+      (subst (λ own. IsOutcomeOfList own bytes start told)
+      (one_list list trees built.trees other given) tells)
 
 -- what holds for the graph holds for the trees
 pub outcome_of_list : (compiled : CompiledList) (built : IsBuiltList compiled) (graph : StoredList)

@@ -103,7 +103,7 @@ module _ (bytes : List ℕ) (utf8 : IsUtf8 bytes) (start : ℕ) (re : Expression
 
     all_held : AreAllSlots (chars bytes) built.tree of_built.0 all
     all_held = all_told (chars bytes) built.tree (search_start bytes start) of_built.0
-        (compiled.flags, _, built.given) of_built.1 slots all span filled enough of_built.2.slots
+        (compiled.pattern.flags, _, built.given) of_built.1 slots all span filled enough of_built.2.slots
         (same_pair of_built.2.start of_built.2.end)
 
     -- all slots hold groups, which are what is returned
@@ -111,7 +111,7 @@ module _ (bytes : List ℕ) (utf8 : IsUtf8 bytes) (start : ℕ) (re : Expression
         × ((groups : Groups) → groups ≡ groups_of bytes all shared
         → TellsGroups re bytes start (Some groups))
     groups_told =
-        let own = captured bytes utf8 built.tree (compiled.flags, _, built.given)
+        let own = captured bytes utf8 built.tree (compiled.pattern.flags, _, built.given)
         (search_start bytes start) of_built.0 of_built.1 all all_held shared
         (subst (λ c. NamesGroups built.tree (names_of c) c.static_captures_len) (sym same)
         (built_shares compiled built)) in (

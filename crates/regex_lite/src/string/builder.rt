@@ -8,8 +8,7 @@ ghost use Rattle.regex_lite.specs.Expression.{Builds, IsDue, IsReadAs, expressio
 ghost use Rattle.regex_lite.specs.RegexList.{IsAcceptedAs};
 
 use crate::owner::Shared;
-use crate::string::compiled::Compiled;
-use crate::string::list::compiled::Pattern;
+use crate::string::compiled::{Compiled, Pattern};
 use crate::string::regex::Regex;
 use regex_lite_engine::{Graph, GraphList, Measured};
 use regex_lite_syntax::{Config, Error, Flags, Hir};
@@ -240,8 +239,7 @@ impl RegexBuilder {
         let hir = self.hir()?;
         let graph = Graph::new(alloc, &hir, self.size_limit)?;
         let compiled = Compiled {
-            pattern: self.pattern.clone()?,
-            flags: self.flags,
+            pattern: self.to_pattern()?,
             graph,
         };
         let compiled = Shared::new(alloc, compiled)?;

@@ -21,17 +21,13 @@ pub struct Regex {
 }
 
 impl Model for Regex {
-    ghost use Rattle.std.specs.Prelude.{string_bytes};
     ghost use Rattle.regex_lite.specs.Expression.{Expression};
 
     ghost Value = { Expression };
 
     ghost use Rattle.regex_lite.specs.Compiled.{IsBuilt};
 
-    ghost view = { λ regex. record {
-      pattern = string_bytes regex.compiled.pattern;
-      flags = regex.compiled.flags;
-    } };
+    ghost view = { λ regex. regex.compiled.pattern };
 
     ghost invariant = { λ regex. IsBuilt regex.compiled };
 }
@@ -106,7 +102,7 @@ impl Regex {
     pub fn as_str(&self) -> &str
         ensures { result.now ≡ self.now.pattern }
     {
-        self.compiled.pattern.as_str()
+        self.compiled.pattern.text.as_str()
     }
 }
 

@@ -7,16 +7,17 @@ ghost use Rattle.regex_lite_syntax.specs.Tree.Regular.{IsRegular};
 ghost use Rattle.regex_lite_engine.specs.Graph.Renumbered.{IsGraphOf};
 ghost use Rattle.regex_lite_engine.specs.Search.Outcomes.{IsSpanOutcome};
 ghost use Rattle.regex_lite_meta.specs.Searching.{FindsSpan};
-ghost use Rattle.regex_lite.specs.Compiled.{SearchesFor};
 ghost use Rattle.regex_lite.specs.Groups.{spans_of};
 ghost use Rattle.regex_lite.specs.Keeping.{SearchesForGroups};
 ghost use Rattle.regex_lite.specs.Searches.{CanRead, CanStartAt, MatchesFrom};
 ghost use Rattle.regex_lite.specs.Searches.{TellsLocations, TellsMatch};
 
+use crate::string::iter::scan::match_at;
 use crate::string::locations::CaptureLocations;
 use crate::string::matches::Match;
 use crate::string::regex::Regex;
-use regex_lite_meta::{Searcher, SlotSearcher};
+use crate::string::searcher::Searcher;
+use regex_lite_meta::SlotSearcher;
 use regex_lite_syntax::Error;
 use std::fmt;
 use std::marker::Model;
@@ -40,23 +41,20 @@ pub(crate) const ENDLESS: usize = usize::MAX;
 /// The test `examples::many_haystacks` in tests/unit runs this example.
 #[derive(Drop)]
 pub struct RegexSearcher<'r> {
-    regex: &'r Regex,
     matches: Searcher<'r>,
     /// Finds the slots of all groups, where there are more than the whole match.
     groups: Option<SlotSearcher<'r>>,
 }
 
 impl<'r> Model for RegexSearcher<'r> {
-    ghost use Rattle.regex_lite.specs.Compiled.{SearchesFor};
     ghost use Rattle.regex_lite.specs.Expression.{Expression};
     ghost use Rattle.regex_lite.specs.Keeping.{SearchesForGroups};
 
     ghost Value = { Expression };
 
-    ghost view = { λ searcher. searcher.regex.now };
+    ghost view = { λ searcher. searcher.matches.regex };
 
-    ghost invariant = { λ searcher. SearchesFor searcher.regex.now searcher.matches
-        × SearchesForGroups searcher.regex.now searcher.groups };
+    ghost invariant = { λ searcher. SearchesForGroups searcher.matches.regex searcher.groups };
 }
 
 impl Regex {
@@ -73,22 +71,9 @@ impl Regex {
         ensures regex { IfOk result (λ searcher. searcher ≡ self.now) }
         ensures refused { IfErr result (λ error. error ≡ out_of_memory) }
     {
-        let matches = self.memory_for_matches()?;
+        let matches = Searcher::new(self, 0, ENDLESS)?;
         let groups = self.memory_for_groups()?;
-        Ok(RegexSearcher {
-            regex: self,
-            matches,
-            groups,
-        })
-    }
-
-    /// Memory for searches that find matches, without their groups.
-    fn memory_for_matches(&self) -> Result<Searcher<'_>, Error>
-        ensures searches { IfOk result (λ searcher. SearchesFor self.now searcher) }
-        ensures refused { IfErr result (λ error. error ≡ out_of_memory) }
-    {
-        let inner = Searcher::new(self.alloc, &self.compiled.graph, 0, ENDLESS)?;
-        Ok(inner)
+        Ok(RegexSearcher { matches, groups })
     }
 
     /// Memory for searches that find the groups of a match, where there are more than the whole
@@ -112,7 +97,7 @@ impl<'r> RegexSearcher<'r> {
         ensures found { IsTrue result ↔ MatchesFrom self.old haystack.now 0 }
         ensures same { self.new ≡ self.old }
     {
-        self.find(haystack).is_some()
+        self.matches.is_match(haystack)
     }
 
     /// [`Regex::find`], which is never refused here.
@@ -131,8 +116,8 @@ impl<'r> RegexSearcher<'r> {
         ensures found { TellsMatch self.old haystack.now start result }
         ensures same { self.new ≡ self.old }
     {
-        let (from, to) = self.matches.search(haystack, start)?;
-        Some(Match::new(haystack, from, to))
+        let (_, found) = match_at(&mut self.matches, haystack, start)?;
+        Some(found)
     }
 
     /// [`Regex::captures_read`], which is never refused here.
@@ -238,6 +223,8 @@ fn read_slots(
 /// Writes the regex as the only field of `RegexSearcher`.
 impl<'r> fmt::Debug for RegexSearcher<'r> {
     fn fmt<W: fmt::Write>(&self, f: &mut fmt::Formatter<W>) -> fmt::Result {
-        f.debug_tuple("RegexSearcher").field(&self.regex).finish()
+        f.debug_tuple("RegexSearcher")
+            .field(&self.matches.regex())
+            .finish()
     }
 }

@@ -1,8 +1,9 @@
 //! Searches, one after another, in the same memory.
-ghost use Rattle.std.specs.Prelude.{◌≡◌, IfOk, IfErr, IfSome, length};
+ghost use Rattle.std.specs.Prelude.{◌≡◌, ◌↔◌, IfOk, IfErr, IfSome, IsTrue, length};
 ghost use Rattle.regex_lite_syntax.specs.Errors.{out_of_memory};
 ghost use Rattle.regex_lite.specs.Compiled.{AreOfRegex, SharesGroups};
 ghost use Rattle.regex_lite.specs.Scanning.{AreSlotsForGroups};
+ghost use Rattle.regex_lite.specs.Searches.{MatchesFrom};
 
 use crate::string::captures::Captures;
 use crate::string::iter::finds::Finds;
@@ -56,6 +57,22 @@ impl<'r> Searcher<'r> {
         ensures refused { IfErr result (λ error. error ≡ out_of_memory) }
     {
         Searcher::new(regex, regex.kept_slots(), bytes)
+    }
+
+    /// The regex.
+    pub fn regex(&self) -> &'r Regex
+        ensures { result.now ≡ self.now.regex }
+    {
+        self.regex
+    }
+
+    /// Whether the pattern matches.
+    pub fn is_match(&mut self, haystack: &str) -> bool
+        ensures found { IsTrue result ↔ MatchesFrom self.old.regex haystack.now 0 }
+        ensures regex { self.new.regex ≡ self.old.regex }
+        ensures slots { length self.new.slots ≡ length self.old.slots }
+    {
+        self.inner.search_shortest(haystack, 0).is_some()
     }
 
     /// Those of the spare groups, or new ones with room for the slots that are kept.

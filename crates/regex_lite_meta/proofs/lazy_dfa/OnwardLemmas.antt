@@ -3,6 +3,7 @@ use Rattle.regex_lite_meta.proofs.Common.{◌≡◌, ℕ, ◌+◌, ◌^◌, ◌<
 use Rattle.regex_lite_meta.proofs.Common.{slice_get, Some, None, IsUtf8, Option, chars}
 use Rattle.regex_lite_meta.proofs.Common.{IsCharBoundary, sym, refl, ap, ◌∙◌, subst, inl, inr}
 use Rattle.regex_lite_meta.proofs.Common.{arith, slice_get_within, Text, IsBestOutcomeOf}
+use Rattle.regex_lite_meta.proofs.Common.{Bool, IsFoundOf, true}
 use Rattle.regex_lite_meta.proofs.Common.{position_at, IsHere, Origin, Here, Automaton, best_told}
 use Rattle.regex_lite_meta.proofs.Common.{IsIdleAt, IsSince, IsScanning, Standing}
 use Rattle.regex_lite_engine.specs.Graph.Places.{Place}
@@ -17,8 +18,8 @@ use Rattle.regex_lite_syntax.proofs.OptionLemmas.{same_some}
 use Rattle.regex_lite_engine.proofs.PositionLemmas.{position_of}
 use Rattle.regex_lite_meta.proofs.lazy_dfa.ScanLemmas.{IsFirstAfter, scanned_on}
 use Rattle.regex_lite_meta.proofs.lazy_dfa.SpotLemmas.{IsSpotAt, since_led, since_on, spot_edge}
-use Rattle.regex_lite_meta.proofs.lazy_dfa.SpotLemmas.{spot_of, spot_on, spot_over, spot_since}
-use Rattle.regex_lite_meta.proofs.lazy_dfa.SpotLemmas.{standing_there}
+use Rattle.regex_lite_meta.proofs.lazy_dfa.SpotLemmas.{spot_completed, spot_of, spot_on, spot_over}
+use Rattle.regex_lite_meta.proofs.lazy_dfa.SpotLemmas.{spot_since, standing_there}
 
 -- the same by offsets alone
 abbrev pub GoesToSpot : List (Place ℕ) → List ℕ → Text → Automaton → (from : Standing) → Spot
@@ -193,6 +194,18 @@ module _ {table : List (Place ℕ)} {entries : List ℕ} {automaton : Automaton}
                 (spot_since table entries bs u fits low v.0 automaton spot told v.2 turn leads
                 after on taken),
           )
+
+      -- the turn completes a match where the least end is asked for
+      pub completes_there : {earliest : Bool} → earliest ≡ true → told.best ≡ None
+          → (leads.to.hit ≡ None → ⊥) → (origin : Origin) → (after : Standing)
+          → after ≡ record told { best = Some (origin, spot.at) } → (low p : ℕ)
+          → IsScanning table entries (chars bs) low p automaton from →
+          IsFoundOf earliest table (chars bs) entries low (best_told after.best)
+      completes_there {earliest} is none some origin after same low p scanning =
+          let v = there low p scanning in
+          rw (is, same)
+          (spot_completed table entries bs u fits low v.0 automaton spot told v.2 turn leads none
+          some origin)
 
       -- the turn leads from a match to nothing
       pub ends_there : (after : Standing) → EndsScan spot leads.to told after → (low p : ℕ)

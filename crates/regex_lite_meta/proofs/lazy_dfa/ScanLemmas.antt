@@ -269,10 +269,10 @@ pub preferred : (table : List (Place ℕ)) (h : Text) (entries : List ℕ) (s : 
 preferred table h entries s best false never is = is
 preferred table h entries s best true never is = absurd (never refl)
 
-pub some_end : (found : Option (Origin × ℕ))
-    → is_some found ≡ is_some (option_map (λ best. best.1) (best_told found))
-some_end None = refl
-some_end (Some found) = refl
+pub some_kept : (found : Option (Origin × ℕ)) (row : Row)
+    → is_some found ≡ is_some (option_map (λ best. best.1) (best_kept found row))
+some_kept None row = refl
+some_kept (Some found) row = refl
 
 pub none_found : {best : Best} (found : Option (Origin × ℕ)) (row : Row)
     → best ≡ best_kept found row → best ≡ None → found ≡ None

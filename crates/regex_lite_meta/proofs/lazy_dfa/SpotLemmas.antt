@@ -3,18 +3,19 @@ use Rattle.regex_lite_meta.proofs.Common.{◌≡◌, ℕ, suc, ◌+◌, ◌^◌,
 use Rattle.regex_lite_meta.proofs.Common.{drop, slice_get, Some, None, IsUtf8, Option, chars}
 use Rattle.regex_lite_meta.proofs.Common.{IsCharBoundary, sym, refl, ap, ◌∙◌, subst, inl, inr}
 use Rattle.regex_lite_meta.proofs.Common.{arith, len_utf8, Text, IsComing, IsBestOutcomeOf}
+use Rattle.regex_lite_meta.proofs.Common.{IsNumberedEndOf, true, true≢false}
 use Rattle.regex_lite_meta.proofs.Common.{IsOffset, position_at, IsHere, Origin, Here, Automaton}
 use Rattle.regex_lite_meta.proofs.Common.{threads_of, best_left, class_of, side_of, best_told}
 use Rattle.regex_lite_meta.proofs.Common.{IsSince, IsScanning, Standing}
 use Rattle.regex_lite_engine.specs.Graph.Places.{Place}
-use Rattle.regex_lite_meta.specs.LazyDfa.Automaton.{State}
+use Rattle.regex_lite_meta.specs.LazyDfa.Automaton.{KeptOrigin, State}
 use Rattle.regex_lite_meta.specs.LazyDfa.Scanning.{LedTo}
 use Rattle.regex_lite_meta.specs.declared.lazy_dfa.spot.Spot.{Spot}
 use Rattle.regex_lite_meta.specs.declared.lazy_dfa.spot.Turn.{Turn}
 use Rattle.regex_lite_meta.specs.LazyDfa.Spots.{EndsScan, IsTaken, IsTurn}
 use Rattle.regex_lite_engine.proofs.PositionLemmas.{position_of, after_at}
-use Rattle.regex_lite_meta.proofs.lazy_dfa.ScanLemmas.{IsFirstAfter, led_step, scan_over}
-use Rattle.regex_lite_meta.proofs.lazy_dfa.ScanLemmas.{scanned_on}
+use Rattle.regex_lite_meta.proofs.lazy_dfa.ScanLemmas.{IsFirstAfter, TurnsTo, completed, led_step}
+use Rattle.regex_lite_meta.proofs.lazy_dfa.ScanLemmas.{scan_over, scanned_on}
 use Rattle.regex_lite_syntax.proofs.OptionLemmas.{same_some}
 use Rattle.regex_lite_engine.proofs.OffsetLemmas.{boundary_at}
 use Rattle.regex_lite_engine.proofs.search.here.HereLemmas.{here_next, moved}
@@ -119,20 +120,23 @@ module _ (table : List (Place ℕ)) (entries : List ℕ) (bs : List ℕ) (u : Is
           subst (λ z. z ≤ length bs)
           (ap (λ z. z + len_utf8 next_character) is.at ∙ sym leads.ahead.ends) edge.0
 
+      turns : TurnsTo table entries automaton spot.state is.here.after turn.to leads.to.hit
+      turns = record {
+        class = leads.class;
+        is_class = ap (class_of automaton.intervals.boundaries) after_is ∙ leads.ahead.class;
+        from = leads.from;
+        is_from = leads.is_from;
+        to = leads.to;
+        is_to = leads.is_to;
+        leads = leads.leads;
+        is_hit = refl;
+      }
+
       led_with : (best : Option (Origin × ℕ))
           → best_told best ≡ best_left leads.to.hit told.first spot.at (best_told told.best) →
           LedTo table entries (chars bs) low p automaton from turn.to best
       led_with best left =
-          led_step table entries (chars bs) low p automaton from is.scanning (record {
-            class = leads.class;
-            is_class = ap (class_of automaton.intervals.boundaries) after_is ∙ leads.ahead.class;
-            from = leads.from;
-            is_from = leads.is_from;
-            to = leads.to;
-            is_to = leads.is_to;
-            leads = leads.leads;
-            is_hit = refl;
-          }) best
+          led_step table entries (chars bs) low p automaton from is.scanning turns best
           (left ∙ ap (λ z. best_left leads.to.hit told.first z (best_told told.best)) (sym is.at))
 
       module _ (after : Standing) (on : Spot)
@@ -193,6 +197,21 @@ module _ (table : List (Place ℕ)) (entries : List ℕ) (bs : List ℕ) (u : Is
         spot_since =
             since_led table entries (chars bs) low p automaton from turn.to after.best led next
             after.first next_is free first_is
+
+      -- the turn completes a match where the least end is asked for
+      pub spot_completed : told.best ≡ None → (leads.to.hit ≡ None → ⊥) → (origin : Origin)
+          → IsNumberedEndOf table (chars bs) entries low (best_told (Some (origin, spot.at)))
+      spot_completed none some origin =
+          subst (λ z. IsNumberedEndOf table (chars bs) entries low (best_told (Some (origin, z))))
+          is.at (by_hit leads.to.hit refl)
+        where
+          by_hit : (hit : Option KeptOrigin) → leads.to.hit ≡ hit
+              → IsNumberedEndOf table (chars bs) entries low
+              (best_told (Some (origin, is.here.at)))
+          by_hit None same = absurd (some same)
+          by_hit (Some kept) same =
+              completed table entries (chars bs) low p automaton from is.scanning turns true
+              origin same (λ _. none) (λ other. absurd (true≢false other))
 
       -- the turn leads from a match to nothing
       pub spot_over : (after : Standing) → EndsScan spot leads.to told after

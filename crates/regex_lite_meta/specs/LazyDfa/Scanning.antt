@@ -88,9 +88,10 @@ GoesOn table entries haystack automaton from at = (low p : ℕ)
     → (q : ℕ) × (p ≤ q) × IsScanning table entries haystack low q automaton at
     × IsSince table entries haystack low p from.first at.first
 
--- a search that goes on from there is over, and this is its match
-abbrev pub EndsWith : List (Place ℕ) → List ℕ → Text → Automaton → (from : Standing)
-    → Option (Origin × ℕ) → Type 0
-EndsWith table entries haystack automaton from best = (low p : ℕ)
+-- a search that goes on from there is over, and this is its match or, where the least end is asked
+-- for, one that ends there
+abbrev pub EndsWith : List (Place ℕ) → List ℕ → Text → Automaton → (earliest : Bool)
+    → (from : Standing) → Option (Origin × ℕ) → Type 0
+EndsWith table entries haystack automaton earliest from best = (low p : ℕ)
     → IsScanning table entries haystack low p automaton from
-    → IsBestOutcomeOf table haystack entries low (best_told best)
+    → IsFoundOf earliest table haystack entries low (best_told best)

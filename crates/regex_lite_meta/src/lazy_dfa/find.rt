@@ -1,5 +1,5 @@
 //! A whole search that remembers its turns, and goes by those that it remembers.
-ghost use Rattle.std.specs.Prelude.{◌≡◌, ◌+◌, ◌≤◌, [], ℕ, IfErr, IfOk, IfSome, IsCharBoundary};
+ghost use Rattle.std.specs.Prelude.{◌≡◌, ◌+◌, ◌≤◌, [], ℕ, IfErr, IfOk, IfSome};
 ghost use Rattle.std.specs.Prelude.{MatchOption, None, chars, false, length, true};
 ghost use Rattle.regex_lite_meta.specs.LazyDfa.Automaton.{Remembers};
 ghost use Rattle.regex_lite_meta.specs.LazyDfa.Learning.{HasTurned, IsIn};
@@ -8,9 +8,9 @@ ghost use Rattle.regex_lite_meta.specs.LazyDfa.Scanning.{best_told};
 ghost use Rattle.regex_lite_engine.specs.Graph.Renumbered.{arrows_of};
 ghost use Rattle.regex_lite_engine.specs.Search.Starts.{AreAllStarts};
 ghost use Rattle.regex_lite_engine.specs.Search.Bounds.{IsBoundedBy, characters_left};
-ghost use Rattle.regex_lite_engine.specs.Search.Offsets.{position_at};
+ghost use Rattle.regex_lite_engine.specs.Search.Standing.{IsHere};
 ghost use Rattle.regex_lite_engine.specs.Search.Counting.{CanCount};
-ghost use Rattle.regex_lite_engine.specs.Search.NumberedOutcomes.{IsBestOutcomeOf, IsFoundOf};
+ghost use Rattle.regex_lite_engine.specs.Search.NumberedOutcomes.{IsFoundOf};
 ghost use Rattle.regex_lite_engine.specs.Pikevm.Searching.{IsFresh, IsBetween};
 ghost use Rattle.regex_lite_engine.specs.Pikevm.Turns.{best_of};
 
@@ -21,41 +21,44 @@ use crate::lazy_dfa::scan::{Scanned, Standing};
 use regex_lite_engine::pikevm::beginning::Origin;
 use regex_lite_engine::pikevm::cache::Cache;
 use regex_lite_engine::pikevm::run::{advance, is_done};
+use regex_lite_engine::search::here::Here;
 use regex_lite_engine::search::patterns::Patterns;
 
 impl LazyDfa {
     /// Where the most preferred match starts and ends, from the least start at or after this
-    /// offset, with the number of its pattern.
+    /// position, with the number of its pattern. With EARLIEST it is a match with the least end of
+    /// all that start there or later, and its start and number say nothing.
     // Not inlined, so that a search without an automaton costs no more than the test for it.
     #[inline(never)]
-    pub(crate) fn find<P: Patterns>(
+    pub(crate) fn find<P: Patterns, const EARLIEST: bool>(
         &mut self,
         patterns: &mut P,
         cache: &mut Cache<Origin>,
         haystack: &str,
-        start: usize,
+        from: Here,
     ) -> Option<(Origin, usize)>
         requires all { AreAllStarts (P.table patterns.old) (P.entries patterns.old)
             (P.starts patterns.old) }
-        requires boundary { IsCharBoundary haystack.now start }
         requires remembers { Remembers (P.table patterns.old) (P.entries patterns.old) self.old }
         requires none_pending { self.old.pending ≡ [] }
         requires fresh { IsFresh (P.table patterns.old) cache.old }
-        requires counts { CanCount (P.table patterns.old) (length (P.entries patterns.old))
-            (characters_left (chars haystack.now) (position_at haystack.now start)) }
+        requires on { (s : ℕ) × IsHere (chars haystack.now) s from
+            × CanCount (P.table patterns.old) (length (P.entries patterns.old))
+            (characters_left (chars haystack.now) s) }
         requires width { length cache.old.walk.memory.row ≡ 0 }
-        ensures found { IsBestOutcomeOf (P.table patterns.old) (chars haystack.now)
-            (P.entries patterns.old) (position_at haystack.now start) (best_told result) }
+        ensures found { (s : ℕ) → IsHere (chars haystack.now) s from
+            → IsFoundOf EARLIEST (P.table patterns.old) (chars haystack.now)
+            (P.entries patterns.old) s (best_told result) }
         ensures remembers { Remembers (P.table patterns.old) (P.entries patterns.old) self.new }
         ensures none_pending { self.new.pending ≡ [] }
         ensures between { IsBetween (P.table patterns.old) cache.new }
         ensures width { length cache.new.walk.memory.row ≡ 0 }
     {
-        let begun = Progress::begun(haystack, start);
-        match self.search_while_it_pays::<_, false>(patterns, cache, haystack, begun, 0) {
+        let begun = Progress::begun(from);
+        match self.search_while_it_pays::<_, EARLIEST>(patterns, cache, haystack, begun, 0) {
             Ok(found) => found,
             Err(at) => {
-                advance::<_, _, false>(cache, patterns, haystack, at.here, None);
+                advance::<_, _, EARLIEST>(cache, patterns, haystack, at.here, None);
                 cache.best.found()
             }
         }

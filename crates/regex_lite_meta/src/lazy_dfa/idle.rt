@@ -108,9 +108,9 @@ impl LazyDfa {
         next
     }
 
-    /// Goes on by remembered turns, and over positions at which no match can begin; with EARLIEST,
-    /// up to the first turn that completes a match. Returns whether nothing leads on from the last
-    /// match, which is the answer then.
+    /// Goes on by remembered turns, and over positions at which no match can begin. Returns whether
+    /// the last match is the answer: nothing leads on from it or, with EARLIEST, it is the first
+    /// that a turn completes, of which only the end is known.
     pub(super) fn run_on<P: Patterns, const EARLIEST: bool>(
         &self,
         patterns: &P,
@@ -122,10 +122,10 @@ impl LazyDfa {
         requires scanning { (low p : ℕ) × IsScanning (P.table patterns.now) (P.entries patterns.now)
             (chars haystack.now) low p self.now at.old }
         ensures over { result ≡ true → EndsWith (P.table patterns.now) (P.entries patterns.now)
-            (chars haystack.now) self.now at.old at.new.best }
+            (chars haystack.now) self.now EARLIEST at.old at.new.best }
         ensures on { result ≡ false → GoesOn (P.table patterns.now) (P.entries patterns.now)
             (chars haystack.now) self.now at.old at.new }
-        ensures none { EARLIEST ≡ true → (result ≡ false) × (at.new.best ≡ None) }
+        ensures none { EARLIEST ≡ true → result ≡ false → at.new.best ≡ None }
     {
         if self.run::<P, EARLIEST>(patterns, haystack, at) {
             return true;
@@ -147,10 +147,10 @@ impl LazyDfa {
         requires scanning { (low p : ℕ) × IsScanning (P.table patterns.now) (P.entries patterns.now)
             (chars haystack.now) low p self.now at.old }
         ensures over { result ≡ true → EndsWith (P.table patterns.now) (P.entries patterns.now)
-            (chars haystack.now) self.now at.old at.new.best }
+            (chars haystack.now) self.now EARLIEST at.old at.new.best }
         ensures on { result ≡ false → GoesOn (P.table patterns.now) (P.entries patterns.now)
             (chars haystack.now) self.now at.old at.new }
-        ensures none { EARLIEST ≡ true → (result ≡ false) × (at.new.best ≡ None) }
+        ensures none { EARLIEST ≡ true → result ≡ false → at.new.best ≡ None }
     {
         'leaps: loop {
             if !self.leap(patterns, haystack, at) {

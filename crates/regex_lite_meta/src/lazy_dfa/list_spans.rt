@@ -8,7 +8,7 @@ ghost use Rattle.regex_lite_meta.specs.LazyDfa.Scanning.{best_told};
 ghost use Rattle.regex_lite_engine.specs.Graph.StoredList.{table_of_list};
 ghost use Rattle.regex_lite_engine.specs.Search.Bounds.{characters_left};
 ghost use Rattle.regex_lite_engine.specs.Search.Counting.{CanCount};
-ghost use Rattle.regex_lite_engine.specs.Search.NumberedOutcomes.{IsBestOutcomeOf, best_kept};
+ghost use Rattle.regex_lite_engine.specs.Search.NumberedOutcomes.{IsFoundOf, best_kept};
 ghost use Rattle.regex_lite_engine.specs.Search.Offsets.{position_at};
 ghost use Rattle.regex_lite_engine.specs.Pikevm.Searching.{IsBetween, IsFresh};
 
@@ -18,8 +18,9 @@ use crate::strategy::SpanSearch;
 use regex_lite_engine::nfa::list::GraphList;
 use regex_lite_engine::pikevm::beginning::Origin;
 use regex_lite_engine::pikevm::cache::{Cache, cache_for_list, restart};
-use regex_lite_engine::pikevm::run::run;
+use regex_lite_engine::pikevm::run::advance;
 use regex_lite_engine::search::all_of_list::AllOfList;
+use regex_lite_engine::search::here::Here;
 use regex_lite_engine::search::list_patterns::ListPatterns;
 use std::alloc::{AllocError, Global};
 
@@ -65,11 +66,12 @@ impl<'g> ListSpanSearcher<'g> {
     }
 
     /// Where the match starts and ends that starts first at or after this offset, and the number of
-    /// its pattern: the lowest of those that match there. Its slots are in the row. It takes no
-    /// memory.
+    /// its pattern: the lowest of those that match there. Its slots are in the row. With EARLIEST
+    /// it is a match of any pattern with the least end of all that start there or later, of which
+    /// nothing else is known. It takes no memory.
     ///
     /// Conditions: the list has a pattern, and the start is on a character boundary.
-    pub(crate) fn find(
+    pub(crate) fn find<const EARLIEST: bool>(
         &mut self,
         list: &GraphList,
         haystack: &str,
@@ -78,7 +80,7 @@ impl<'g> ListSpanSearcher<'g> {
         requires some { 0 < length list.now.entries }
         requires boundary { IsCharBoundary haystack.now start }
         requires finds { FindsSpansInList list.now self.old }
-        ensures found { IsBestOutcomeOf (table_of_list list.now) (chars haystack.now)
+        ensures found { IsFoundOf EARLIEST (table_of_list list.now) (chars haystack.now)
             list.now.entries (position_at haystack.now start)
             (best_kept result self.new.cache.best.row) }
         ensures finds { FindsSpansInList list.now self.new }
@@ -87,7 +89,7 @@ impl<'g> ListSpanSearcher<'g> {
         // Each has a number of 32 bits, since there are no more.
         let _entries = list.entries();
         restart(&mut self.cache);
-        if let Some(found) = find_remembering(
+        if let Some(found) = find_remembering::<EARLIEST>(
             &mut self.dfa,
             list,
             &mut self.cache,
@@ -96,7 +98,8 @@ impl<'g> ListSpanSearcher<'g> {
         ) {
             return found;
         }
-        run(&mut self.cache, &mut self.patterns, haystack, start);
+        let here = Here::at(haystack, start);
+        advance::<_, _, EARLIEST>(&mut self.cache, &mut self.patterns, haystack, here, None);
         self.cache.best.found()
     }
 
@@ -118,9 +121,10 @@ fn automaton_for(alloc: Global, list: &GraphList) -> Option<Box<LazyDfa>>
     Box::new(alloc, dfa).ok()
 }
 
-/// What a search by remembered turns finds. None if there is no automaton, or if it is given up:
-/// then it is dropped, and no search has begun.
-fn find_remembering(
+/// What a search by remembered turns finds: the match that starts first or, with EARLIEST, one with
+/// the least end. None if there is no automaton, or if it is given up: then it is dropped, and no
+/// search has begun.
+fn find_remembering<const EARLIEST: bool>(
     dfa: &mut Option<Box<LazyDfa>>,
     list: &GraphList,
     cache: &mut Cache<Origin>,
@@ -133,7 +137,7 @@ fn find_remembering(
     requires fresh { IsFresh (table_of_list list.now) cache.old }
     requires counts { CanCount (table_of_list list.now) (length list.now.entries)
         (characters_left (chars haystack.now) (position_at haystack.now start)) }
-    ensures found { IfSome result (λ found. IsBestOutcomeOf (table_of_list list.now)
+    ensures found { IfSome result (λ found. IsFoundOf EARLIEST (table_of_list list.now)
         (chars haystack.now) list.now.entries (position_at haystack.now start)
         (best_told found)) }
     ensures remembers { IsRememberingList list.now (length cache.new.best.row)
@@ -146,7 +150,7 @@ fn find_remembering(
     let Some(automaton) = dfa else {
         return None;
     };
-    if let Some(found) = automaton.find_in_list(list, cache, haystack, start) {
+    if let Some(found) = automaton.find_in_list::<EARLIEST>(list, cache, haystack, start) {
         return Some(found);
     }
     restart(cache);
@@ -155,9 +159,10 @@ fn find_remembering(
 }
 
 impl LazyDfa {
-    /// What a search for all patterns of this list finds. None if it is given up because too many
-    /// turns find no room.
-    pub(crate) fn find_in_list(
+    /// What a search for all patterns of this list finds: the match that starts first or, with
+    /// EARLIEST, one with the least end. None if it is given up because too many turns find no
+    /// room.
+    pub(crate) fn find_in_list<const EARLIEST: bool>(
         &mut self,
         list: &GraphList,
         cache: &mut Cache<Origin>,
@@ -170,7 +175,7 @@ impl LazyDfa {
         requires counts { CanCount (table_of_list list.now) (length list.now.entries)
             (characters_left (chars haystack.now) (position_at haystack.now start)) }
         requires width { length cache.old.walk.memory.row ≡ 0 }
-        ensures found { IfSome result (λ found. IsBestOutcomeOf (table_of_list list.now)
+        ensures found { IfSome result (λ found. IsFoundOf EARLIEST (table_of_list list.now)
             (chars haystack.now) list.now.entries (position_at haystack.now start)
             (best_told found)) }
         ensures remembers { RemembersFor (table_of_list list.now) list.now.entries self.new }
@@ -180,8 +185,9 @@ impl LazyDfa {
         // Each place is one of the graph.
         let _entries = list.entries();
         let all = AllOfList { list };
-        let begun = Progress::begun(haystack, start);
-        let told = self.search_while_it_pays::<_, false>(&all, cache, haystack, begun, 0);
+        let from = Here::at(haystack, start);
+        let begun = Progress::begun(from);
+        let told = self.search_while_it_pays::<_, EARLIEST>(&all, cache, haystack, begun, 0);
         let Ok(found) = told else {
             return None;
         };

@@ -40,14 +40,12 @@ pub(crate) struct Progress {
 
 impl Progress {
     /// Where a search stands before its first turn.
-    pub(crate) fn begun(haystack: &str, start: usize) -> Progress
-        requires { IsCharBoundary haystack.now start }
-        ensures { (table : List (Place ℕ)) (entries : List ℕ) (automaton : Automaton)
-            (cache : Cache Origin) → IsFresh table cache → length cache.walk.memory.row ≡ 0
-            → Stands table (chars haystack.now) entries (position_at haystack.now start) automaton
-            result cache }
+    pub(crate) fn begun(here: Here) -> Progress
+        ensures { (table : List (Place ℕ)) (haystack : Text) (entries : List ℕ) (s : ℕ)
+            (automaton : Automaton) (cache : Cache Origin) → IsHere haystack s here
+            → IsFresh table cache → length cache.walk.memory.row ≡ 0
+            → Stands table haystack entries s automaton result cache }
     {
-        let here = Here::at(haystack, start);
         Progress {
             here,
             state: None,

@@ -15,6 +15,7 @@ use regex_lite_engine::Graph;
 use regex_lite_engine::pikevm::beginning::Origin;
 use regex_lite_engine::pikevm::best::span_of;
 use regex_lite_engine::pikevm::cache::{Cache, cache_for, restart};
+use regex_lite_engine::search::here::Here;
 use std::alloc::Global;
 
 /// An automaton, and the memory of the searches whose turns it remembers.
@@ -79,6 +80,7 @@ impl LazyDfa {
     {
         let mut pattern = graph.pattern();
         pattern.may_start = true;
-        span_of(self.find(&mut pattern, cache, haystack, start))
+        let from = Here::at(haystack, start);
+        span_of(self.find::<_, false>(&mut pattern, cache, haystack, from))
     }
 }

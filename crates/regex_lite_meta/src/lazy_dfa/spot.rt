@@ -48,9 +48,9 @@ enum Step {
 }
 
 impl LazyDfa {
-    /// Goes on while turns are remembered, up to the last of them before the end of the search or,
-    /// with EARLIEST, before the first that completes a match. Returns whether nothing leads on
-    /// from the last match, which is the answer then.
+    /// Goes on while turns are remembered, up to the last of them before the end of the search.
+    /// Returns whether the last match is the answer: nothing leads on from it or, with EARLIEST, it
+    /// is the first that a turn completes, of which only the end is known.
     // Not inlined, since what an inlined one needs is cleared each time.
     #[inline(never)]
     pub(super) fn run<P: Patterns, const EARLIEST: bool>(
@@ -64,10 +64,10 @@ impl LazyDfa {
         requires scanning { (low p : ℕ) × IsScanning (P.table patterns.now) (P.entries patterns.now)
             (chars haystack.now) low p self.now at.old }
         ensures over { result ≡ true → EndsWith (P.table patterns.now) (P.entries patterns.now)
-            (chars haystack.now) self.now at.old at.new.best }
+            (chars haystack.now) self.now EARLIEST at.old at.new.best }
         ensures on { result ≡ false → GoesOn (P.table patterns.now) (P.entries patterns.now)
             (chars haystack.now) self.now at.old at.new }
-        ensures none { EARLIEST ≡ true → (result ≡ false) × (at.new.best ≡ None) }
+        ensures none { EARLIEST ≡ true → result ≡ false → at.new.best ≡ None }
     {
         let mut near = Interval::none();
         let mut spot = Spot::of(at);
@@ -81,7 +81,8 @@ impl LazyDfa {
                 break;
             };
             if self.is_last::<EARLIEST>(turn) {
-                break;
+                at.complete(0, spot.at);
+                return true;
             }
             match self.take(spot, turn, at) {
                 Step::On(on) => spot = on,
@@ -234,8 +235,10 @@ impl LazyDfa {
         requires effect { (hit : Option KeptOrigin) → known_hit turn.effect ≡ Some hit
             → (state : State) → slice_get self.now.states turn.to ≡ Some state
             → ¬ (state.ways ≡ []) × (state.hit ≡ hit) }
-        ensures { (state : State) → slice_get self.now.states turn.to ≡ Some state
+        ensures none { (state : State) → slice_get self.now.states turn.to ≡ Some state
             → EARLIEST ≡ true → result ≡ false → state.hit ≡ None }
+        ensures hit { (state : State) → slice_get self.now.states turn.to ≡ Some state
+            → result ≡ true → (EARLIEST ≡ true) × ¬ (state.hit ≡ None) }
     {
         if !EARLIEST {
             return false;

@@ -9,8 +9,9 @@ ghost use Rattle.regex_lite.specs.Slots.{kept_slots, most_groups};
 
 use crate::owner::Shared;
 use crate::string::builder::RegexBuilder;
+use crate::string::compiled::Pattern;
 use crate::string::list::RegexList;
-use crate::string::list::compiled::{CompiledList, Pattern};
+use crate::string::list::compiled::CompiledList;
 use regex_lite_engine::{GraphList, Measured};
 use regex_lite_syntax::Error;
 use std::alloc::{AllocError, Global};

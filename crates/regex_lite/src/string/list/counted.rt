@@ -8,9 +8,8 @@ ghost use Rattle.regex_lite.specs.Searches.{CanStartAt};
 use crate::string::captures::Captures;
 use crate::string::list::RegexList;
 use crate::string::matches::Match;
-use crate::string::slots::{slots_with, whole_slots};
-use crate::string::source::Source;
-use regex_lite_engine::{Outcome, Steps};
+use crate::string::slots::whole_slots;
+use regex_lite_engine::Steps;
 use regex_lite_meta::{search_list, search_list_any};
 use regex_lite_syntax::Error;
 
@@ -88,18 +87,11 @@ impl RegexList {
         ensures entered { IfOk result (λ told. IfSome told.0 (λ _. 0 < told.1.entered)) }
         ensures refused { IfErr result (λ error. error ≡ out_of_memory) }
     {
-        let count = self.compiled.kept_slots;
+        let count = self.kept_slots();
         let whole = whole_slots(self.alloc, count)?;
         let graph = &self.compiled.graph;
         let (told, steps) = search_list(graph, self.alloc, haystack, start, count)?;
-        let Some((number, Outcome { start, end, slots })) = told else {
-            return Ok((None, steps));
-        };
-        let mut slots = slots_with(slots, whole, (start, end));
-        let source = Source::of_listed(self.compiled.clone()?, number);
-        // A search keeps slots for the pattern with the most groups. This one may have fewer.
-        slots.truncate(source.slots());
-        let caps = Captures::new(haystack, slots, source);
-        Ok((Some((number, caps)), steps))
+        let found = self.captured(haystack, told, whole)?;
+        Ok((found, steps))
     }
 }

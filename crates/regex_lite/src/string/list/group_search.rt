@@ -1,9 +1,9 @@
 //! Searches for the groups of a match of one of several patterns.
-ghost use Rattle.std.specs.Prelude.{◌≡◌, None, IfOk, IfErr, IfSome, max, replicate};
+ghost use Rattle.std.specs.Prelude.{◌≡◌, ℕ, [], None, IfOk, IfErr, IfSome, length, max, replicate};
 ghost use Rattle.regex_lite_syntax.specs.Errors.{out_of_memory};
 ghost use Rattle.regex_lite.specs.RegexList.{OfTrees};
 ghost use Rattle.regex_lite.specs.RegexListSearches.{AreOfPattern, TellsGroupsOfList};
-ghost use Rattle.regex_lite.specs.Scanning.{most_captures};
+ghost use Rattle.regex_lite.specs.Scanning.{AreSlotsForAllGroups, TellsOutcomeOfList, most_captures};
 ghost use Rattle.regex_lite.specs.Searches.{CanStartAt};
 
 use crate::string::captures::Captures;
@@ -62,10 +62,36 @@ impl RegexList {
         ensures of_match { IfOk result (λ found. IfSome found (AreOfPattern self.now)) }
         ensures refused { IfErr result (λ error. error ≡ out_of_memory) }
     {
-        let count = self.compiled.kept_slots;
+        let count = self.kept_slots();
         let whole = whole_slots(self.alloc, count)?;
         let graph = &self.compiled.graph;
         let told = search_list_uncounted(graph, self.alloc, haystack, start, count)?;
+        self.captured(haystack, told, whole)
+    }
+
+    /// The groups of the match that a search of this haystack has found, with the number of its
+    /// pattern. If the search kept no slots, the second slots are room for those of the whole match.
+    ///
+    /// # Errors
+    ///
+    /// `Memory` if memory runs out.
+    pub(super) fn captured<'h>(
+        &self,
+        haystack: &'h str,
+        told: Option<(usize, Outcome)>,
+        whole: Vec<Option<usize>>,
+    ) -> Result<Option<(usize, Captures<'h>)>, Error>
+        requires told { (start : ℕ) × TellsOutcomeOfList self.now haystack.now start told }
+        requires slots { IfSome told
+            (λ found. AreSlotsForAllGroups self.now (length found.1.slots.items)) }
+        requires whole { IfSome told
+            (λ found. found.1.slots.items ≡ [] → length whole.items ≡ 2) }
+        ensures found { (start : ℕ) → TellsOutcomeOfList self.now haystack.now start told
+            → IfOk result (TellsGroupsOfList self.now haystack.now start) }
+        ensures of_match { IfOk result (λ found. IfSome found (AreOfPattern self.now)) }
+        ensures none { told ≡ None → IfOk result (λ found. found ≡ None) }
+        ensures refused { IfErr result (λ error. error ≡ out_of_memory) }
+    {
         let Some((number, Outcome { start, end, slots })) = told else {
             return Ok(None);
         };

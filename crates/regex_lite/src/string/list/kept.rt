@@ -90,7 +90,7 @@ impl<'r> RegexListSearcher<'r> {
         ensures found { IsTrue result ↔ AnyMatches self.old haystack.now 0 }
         ensures same { self.new ≡ self.old }
     {
-        self.find(haystack).is_some()
+        self.matches.is_match(haystack)
     }
 
     /// [`RegexList::find`], which is never refused here.

@@ -1,7 +1,7 @@
 //! Searches for several patterns, one after another, in the same memory.
-ghost use Rattle.std.specs.Prelude.{◌≡◌, None, IfOk, IfErr, length};
+ghost use Rattle.std.specs.Prelude.{◌≡◌, ◌↔◌, None, IfOk, IfErr, IsTrue, length};
 ghost use Rattle.regex_lite_syntax.specs.Errors.{out_of_memory};
-ghost use Rattle.regex_lite.specs.RegexListSearches.{TellsLocationsOfList};
+ghost use Rattle.regex_lite.specs.RegexListSearches.{AnyMatches, TellsLocationsOfList};
 ghost use Rattle.regex_lite.specs.Scanning.{AreSlotsForAllGroups};
 ghost use Rattle.regex_lite.specs.Searches.{CanStartAt};
 
@@ -58,6 +58,15 @@ impl<'r> ListSearcher<'r> {
         ensures refused { IfErr result (λ error. error ≡ out_of_memory) }
     {
         ListSearcher::new(list, list.kept_slots(), bytes)
+    }
+
+    /// Whether any pattern matches.
+    pub fn is_match(&mut self, haystack: &str) -> bool
+        ensures found { IsTrue result ↔ AnyMatches self.old.list haystack.now 0 }
+        ensures list { self.new.list ≡ self.old.list }
+        ensures slots { length self.new.slots ≡ length self.old.slots }
+    {
+        self.inner.search_any(haystack, 0)
     }
 
     /// The first match that starts at this offset or later, with the number of its pattern, whose

@@ -1,14 +1,13 @@
 use Rattle.regex_lite_meta.proofs.Common.{◌^◌, ◌<◌, length, chars, sym, subst, arith, rules}
-use Rattle.regex_lite_meta.proofs.Common.{places_of, table_of, best_of, position_at, None}
+use Rattle.regex_lite_meta.proofs.Common.{places_of, table_of, best_of, position_at}
 use Rattle.regex_lite_meta.proofs.Common.{arrows_of}
 use Rattle.std.proofs.lemmas.Grind.{common_steps}
 use Rattle.regex_lite_engine.specs.Search.Outcomes.{IsEndOutcome}
-use Rattle.regex_lite_engine.proofs.pikevm.ShortestLemmas.{one_end}
 use Rattle.regex_lite_engine.proofs.search.FirstStartLemmas.{bounded_from, first_boundary}
-use Rattle.regex_lite_engine.proofs.search.FirstStartLemmas.{none_before_first, none_from}
-use Rattle.regex_lite_engine.proofs.search.FirstStartLemmas.{none_tried}
-use Rattle.regex_lite_engine.proofs.search.OutcomeLemmas.{can_count, cost_told, end_from, end_told}
+use Rattle.regex_lite_engine.proofs.search.FirstStartLemmas.{none_before_first, none_tried}
+use Rattle.regex_lite_engine.proofs.search.OutcomeLemmas.{can_count, cost_told}
 use Rattle.regex_lite_engine.proofs.nfa.BoundaryLemmas.{on_boundary}
+use Rattle.regex_lite_meta.proofs.EndLemmas.{end_told, none_told}
 use Rattle.regex_lite_meta.proofs.once.search_shortest.Goals as goal
 
 pub first_start-requires : goal.first_start-requires
@@ -29,22 +28,16 @@ run_shortest-requires c = record {
 }
 
 pub returns-clause-found : goal.returns-clause-found
-returns-clause-found c = λ tree regular is. (
+returns-clause-found c = λ tree regular is.
     let over = c.if-start-haystack.false in
-    let table = table_of c.args.graph.now in
-    let s = position_at c.args.haystack.now c.args.start in
-    let m = position_at c.args.haystack.now c.in-Some.first.at in
-    let best = best_of c.run_shortest.new.cache.best in
-    subst (λ z. IsEndOutcome tree c.args.haystack.now c.args.start z) (sym c.end.ensures)
-    (end_told tree regular c.args.graph.now is c.args.haystack.now c.args.start
-    (omega (arith, over)) best
-    (end_from table (chars c.args.haystack.now) c.args.graph.now.start s m
-    (none_before_first table c.args.haystack.now c.utf8.haystack c.args.graph.now.start s
-    c.in-Some.first (rw (c.pattern-pattern.ensures.table, c.pattern-pattern.ensures.entry) at
-    (rw c.in-Some.is at c.first_start.ensures.first))) best
-    (one_end table (chars c.args.haystack.now) c.args.graph.now.start m best
-    (rw (c.pattern-pattern.ensures.table, c.pattern-pattern.ensures.entry) at
-    c.run_shortest.ensures.found)))))
+    let haystack = c.args.haystack.now in
+    let own = c.pattern-pattern.ensures in
+    subst (IsEndOutcome tree haystack c.args.start) (sym c.end.ensures)
+    (end_told c.args.graph.now haystack c.args.start (omega (arith, over)) tree regular is
+    c.utf8.haystack c.in-Some.first
+    (rw (own.table, own.entry) at (rw c.in-Some.is at c.first_start.ensures.first))
+    (best_of c.run_shortest.new.cache.best)
+    (rw (own.table, own.entry) at c.run_shortest.ensures.found))
 
 pub returns-clause-cost : goal.returns-clause-cost
 returns-clause-cost c = λ tree is.
@@ -64,14 +57,12 @@ returns-clause-cost c = λ tree is.
     (rw c.pattern-pattern.ensures.table at c.run_shortest.ensures.bounded))
 
 pub returns-in_default-first_start-clause-found : goal.returns-in_default-first_start-clause-found
-returns-in_default-first_start-clause-found c = λ tree regular is. (
+returns-in_default-first_start-clause-found c = λ tree regular is.
     let over = c.if-start-haystack.false in
-    end_told tree regular c.args.graph.now is c.args.haystack.now c.args.start (omega (arith, over))
-    None
-    (none_from (table_of c.args.graph.now) (chars c.args.haystack.now) c.args.graph.now.start
-    (position_at c.args.haystack.now c.args.start)
+    none_told c.args.graph.now c.args.haystack.now c.args.start (omega (arith, over)) tree regular
+    is
     (rw (c.pattern-pattern.ensures.table, c.pattern-pattern.ensures.entry) at
-    (c.first_start.ensures.none c.in_default-first_start.is))))
+    (c.first_start.ensures.none c.in_default-first_start.is))
 
 pub returns-in_default-first_start-clause-cost : goal.returns-in_default-first_start-clause-cost
 returns-in_default-first_start-clause-cost c = λ tree is.

@@ -95,7 +95,7 @@ fn without_slots(alloc: Global, found: Option<(Origin, usize)>) -> Option<Outcom
 }
 
 /// Where the match ends.
-fn end_of(found: Option<(Origin, usize)>) -> Option<usize>
+pub(crate) fn end_of(found: Option<(Origin, usize)>) -> Option<usize>
     ensures { result ≡ option_map (λ best. best.1) (best_told found) }
 {
     let (_, end) = found?;

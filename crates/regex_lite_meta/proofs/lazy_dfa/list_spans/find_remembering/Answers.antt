@@ -2,12 +2,12 @@ use Rattle.regex_lite_meta.proofs.Common.{sym, ◌∙◌, table_of_list}
 use Rattle.regex_lite_meta.proofs.lazy_dfa.list_spans.find_remembering.Goals as goal
 
 pub find_in_list-requires-clause-width : goal.find_in_list-requires-clause-width
-find_in_list-requires-clause-width c =
+find_in_list-requires-clause-width g c =
     let before = rw c.in-Some.is at c.requires.remembers in
     sym c.requires.fresh.between.best_width ∙ before.1
 
 pub returns-in-Some-find_in_list : goal.returns-in-Some-find_in_list
-returns-in-Some-find_in_list c = record {
+returns-in-Some-find_in_list g c = record {
   found = c.in-Some-find_in_list.ensures.found;
   remembers =
       let told = c.find_in_list.ensures in
@@ -22,20 +22,20 @@ returns-in-Some-find_in_list c = record {
 }
 
 pub returns-clause-fresh : goal.returns-clause-fresh
-returns-clause-fresh c = λ _.
+returns-clause-fresh g c = λ _.
     c.restart.ensures.fresh (table_of_list c.args.list.now)
     c.in_default-find_in_list.ensures.between
 
 pub returns-clause-between : goal.returns-clause-between
-returns-clause-between c =
+returns-clause-between g c =
     (c.restart.ensures.fresh (table_of_list c.args.list.now)
     c.in_default-find_in_list.ensures.between).between
 
 pub returns-clause-width : goal.returns-clause-width
-returns-clause-width c =
+returns-clause-width g c =
     let told = c.find_in_list.ensures in
     let before = rw c.in-Some.is at c.requires.remembers in
     c.restart.ensures.width ∙ (told.between.best_width ∙ told.width ∙ sym before.1)
 
 pub returns-in_default-clause-between : goal.returns-in_default-clause-between
-returns-in_default-clause-between c = c.requires.fresh.between
+returns-in_default-clause-between g c = c.requires.fresh.between

@@ -23,8 +23,20 @@ pub returns : goal.returns
 returns c =
     let read = c.in_ok-hir.ensures.read in
     record {
-      ok = rw (c.in_ok-compiled.ensures.ok, c.in_ok-clone.ensures.cases, ← c.self.view_is) refl;
+      ok = rw (c.in_ok-compiled.ensures.ok, c.in_ok-to_pattern.ensures, ← c.self.view_is) refl;
       accepted = (tree_of c.in_ok-hir.hir, read, rw (← c.self.view_is) c.in_ok-graph.ensures.fits);
       refused = tt;
       complete = tt;
     }
+
+pub invariant_of-result : goal.invariant_of-result
+invariant_of-result c =
+    let read = c.in_ok-hir.ensures.read in
+    rw (c.in_ok-compiled.ensures.ok) (record {
+      tree = tree_of c.in_ok-hir.hir;
+      given = rw (c.in_ok-to_pattern.ensures) (read.0, read.1, read.2);
+      regular = c.in_ok-hir.ensures.regular;
+      fits = (_, c.in_ok-graph.ensures.fits);
+      graph = c.in_ok-graph.ensures.ok;
+      groups = c.in_ok-graph.ensures.groups;
+    })

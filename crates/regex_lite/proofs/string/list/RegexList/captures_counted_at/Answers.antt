@@ -1,50 +1,37 @@
-use Rattle.regex_lite.proofs.Common.{◌≡◌, ◌*◌, length, take, Some, ap, ◌∙◌, groups_of, groups_at}
-use Rattle.regex_lite.proofs.Common.{Groups, AreGroups, TellsGroupsOfList, CompiledList}
-use Rattle.regex_lite.proofs.string.ListGroupLemmas.{listed_groups, listed_of_pattern}
-use Rattle.regex_lite.proofs.string.ListSlotLemmas.{kept_width}
-use Rattle.regex_lite.proofs.string.ListToldLemmas.{outcome_of_list}
+use Rattle.regex_lite.proofs.Common.{◌≡◌, ℕ, ◌<◌, Option, Some, None, IfSome, refl, sym, ap}
+use Rattle.regex_lite.proofs.Common.{CompiledList}
+use Rattle.regex_lite_syntax.proofs.OptionLemmas.{not_there}
+use Rattle.regex_lite.proofs.string.ListSlotLemmas.{room_kept, room_whole}
+use Rattle.regex_lite.proofs.string.ListToldLemmas.{outcome_given}
 use Rattle.regex_lite.proofs.string.list.RegexList.captures_counted_at.Goals as goal
-use Rattle.regex_lite.proofs.string.list.RegexList.captures_counted_at.Goals.{After-truncate}
 
--- the slots hold the groups that the search told of
-listed : (c : After-truncate)
-    → AreGroups (groups_of c.args.haystack.now c.truncate.new.self.items c.of_listed-source.result)
-    × ((groups : Groups)
-    → groups ≡ groups_of c.args.haystack.now c.truncate.new.self.items c.of_listed-source.result
-    → TellsGroupsOfList c.args.self.now c.args.haystack.now c.args.start
-    (Some (c.in-Some.number, groups)))
-listed c =
-    let a = c.args in
-    let own = c.self.inside.compiled in
+pub captured-requires : goal.captured-requires
+captured-requires c =
+    let told = c.in_ok-told in
     let built = c.self.invariant in
-    let number = c.in-Some.number in
-    let outcome = c.in-Some.field-0-1 in
-    let told = outcome_of_list own built c.deref-2.result.now.graph a.haystack.now a.start
-    c.in_ok-told.told number outcome
-    (ap (λ (compiled : CompiledList). compiled.graph) c.deref-2.ensures) c.in_ok-told.ensures.found
-    c.in-Some.is in
-    let width = kept_width c.in_ok-told.told number outcome c.deref.result.now.kept_slots
-    c.in_ok-told.ensures.slots c.in-Some.is
-    ∙ ap (λ (compiled : CompiledList). compiled.kept_slots) c.deref.ensures in
-    let shared = c.of_listed-source.result in
-    let stored = c.of_listed-source.ensures
-    ∙ ap (λ (compiled : CompiledList). groups_at compiled.graph.groups number)
-    c.in_ok-clone.ensures.cases in
-    let filled = c.truncate.ensures.items
-    ∙ ap (λ n. take n c.slots_with-slots.result.items) c.slots.ensures
-    ∙ ap (take (2 * length shared.capture_names)) c.slots_with-slots.ensures in
-    listed_groups a.haystack.now c.utf8.haystack a.start a.self.now own built
-    (rw (← c.self.view_is) built.given) number outcome told width c.truncate.new.self.items shared
-    stored filled
+    let count = c.kept_slots-count in
+    record {
+      told = (
+        c.args.start,
+        outcome_given c.args.self.now c.self.inside.compiled built
+            (rw (← c.self.view_is) built.given) c.args.haystack.now c.args.start told.told
+            c.deref.result.now.graph
+            (ap (λ (compiled : CompiledList). compiled.graph) c.deref.ensures)
+            told.ensures.found,
+      );
+      slots = room_kept count.result c.args.self.now told.told told.ensures.slots count.ensures;
+      whole = room_whole count.result c.in_ok-whole.whole.items told.told told.ensures.slots
+          c.in_ok-whole.ensures;
+    }
 
-pub new-caps-requires : goal.new-caps-requires
-new-caps-requires c = (listed (goal.at.new-caps-requires c).After-truncate).0
+-- a search that finds something has entered a place
+found_entered : {A B : Type 0} (n : ℕ) (told : Option A) (found : Option B)
+    → IfSome told (λ _. 0 < n) → (told ≡ None → found ≡ None) → IfSome found (λ _. 0 < n)
+found_entered n told None entered none = tt
+found_entered n None (Some found) entered none = absurd (not_there (sym (none refl)))
+found_entered n (Some told) (Some found) entered none = entered
 
-pub returns-clause-found : goal.returns-clause-found
-returns-clause-found c =
-    (listed (goal.at.returns-clause-found c).After-truncate).1 c.new-caps.result c.new-caps.ensures
-
-pub returns-clause-of_match : goal.returns-clause-of_match
-returns-clause-of_match c =
-    listed_of_pattern c.args.haystack.now c.args.start c.args.self.now c.in-Some.number
-    c.new-caps.result (returns-clause-found c)
+pub returns-clause-entered : goal.returns-clause-entered
+returns-clause-entered c =
+    found_entered c.in_ok-told.steps.entered c.in_ok-told.told c.in_ok-found.found
+    c.in_ok-told.ensures.entered c.in_ok-found.ensures.none

@@ -17,7 +17,7 @@ returns-in_default-clause-locations c = λ start told.
     let bytes = a.haystack.now in
     let m = a.found.now in
     let only = subst (λ (re : Expression). SearchesForGroups re None) c.self.view_is
-    (subst (SearchesForGroups c.self.inside.regex.now) c.in_default.is c.self.invariant.1) in
+    (subst (SearchesForGroups c.self.inside.matches.regex) c.in_default.is c.self.invariant) in
     let slots = all_slots [] (span_of_match m) in
     let held = slots_of_whole re bytes c.utf8.haystack start m told in
     let enough : OfTree re (λ tree. length slots ≡ 2 * captures_len tree) =
@@ -36,7 +36,7 @@ read_slots-requires-clause-known c =
     let told = c.requires.found in
     let own =
     subst (λ (re : Expression). SearchesForGroups re (Some c.in-Some.groups)) c.self.view_is
-    (subst (SearchesForGroups c.self.inside.regex.now) c.in-Some.is c.self.invariant.1) in (
+    (subst (SearchesForGroups c.self.inside.matches.regex) c.in-Some.is c.self.invariant) in (
       own.0.0,
       own.0.2.0,
       own.0.2.1,
@@ -53,17 +53,15 @@ pub read_slots-requires-clause-room : goal.read_slots-requires-clause-room
 read_slots-requires-clause-room c =
     let own =
     subst (λ (re : Expression). SearchesForGroups re (Some c.in-Some.groups)) c.self.view_is
-    (subst (SearchesForGroups c.self.inside.regex.now) c.in-Some.is c.self.invariant.1) in
+    (subst (SearchesForGroups c.self.inside.matches.regex) c.in-Some.is c.self.invariant) in
     room_for c.args.self.now c.in-Some.groups own c.args.locs.now c.requires.few
 
 pub invariant_of-self-2 : goal.invariant_of-self-2
 invariant_of-self-2 c =
-    let re = c.self.inside.regex.now in
-    let own = subst (SearchesForGroups re) c.in-Some.is c.self.invariant.1 in (
-      c.self.invariant.0,
-      still_searches re c.in-Some.groups c.read_slots.new.searcher own c.read_slots.ensures.graph
-          c.read_slots.ensures.slots,
-    )
+    let re = c.self.inside.matches.regex in
+    let own = subst (SearchesForGroups re) c.in-Some.is c.self.invariant in
+    still_searches re c.in-Some.groups c.read_slots.new.searcher own c.read_slots.ensures.graph
+    c.read_slots.ensures.slots
 
 pub returns-clause-locations : goal.returns-clause-locations
 returns-clause-locations c = λ start told.
@@ -75,7 +73,7 @@ returns-clause-locations c = λ start told.
     let span : ℕ × ℕ = (c.start-2.result, c.end-2.result) in
     let own =
     subst (λ (re : Expression). SearchesForGroups re (Some c.in-Some.groups)) c.self.view_is
-    (subst (SearchesForGroups c.self.inside.regex.now) c.in-Some.is c.self.invariant.1) in
+    (subst (SearchesForGroups c.self.inside.matches.regex) c.in-Some.is c.self.invariant) in
     let finds = subst (FindsSpan own.0.0 bytes start)
     (sym (same_pair c.start-2.ensures c.end-2.ensures))
     (finds_span re bytes c.utf8.haystack start m told c.in-Some.groups.graph own.0) in

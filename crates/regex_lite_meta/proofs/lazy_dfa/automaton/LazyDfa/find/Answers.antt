@@ -1,37 +1,42 @@
-use Rattle.regex_lite_meta.proofs.Common.{false, refl, sym, ◌∙◌, position_at}
+use Rattle.regex_lite_meta.proofs.Common.{◌==◌, not, refl, sym, ◌∙◌}
 use Rattle.regex_lite_meta.proofs.lazy_dfa.OnceLemmas.{found_kept, stands_under_way}
 use Rattle.regex_lite_engine.proofs.pikevm.StopLemmas.{over_found}
 use Rattle.regex_lite_meta.proofs.lazy_dfa.automaton.LazyDfa.find.Goals as goal
 
 pub search_while_it_pays-requires-clause-stands : goal.search_while_it_pays-requires-clause-stands
 search_while_it_pays-requires-clause-stands g c = (
-  position_at c.args.haystack.now c.args.start,
-  c.requires.counts,
-  c.begun-begun.ensures _ _ c.args.self.now c.args.cache.now c.requires.fresh c.requires.width,
+  c.requires.on.0,
+  c.requires.on.2,
+  c.begun-begun.ensures _ _ _ _ c.args.self.now c.args.cache.now c.requires.on.1 c.requires.fresh
+      c.requires.width,
 )
 
 pub advance-requires-clause-on : goal.advance-requires-clause-on
 advance-requires-clause-on g c =
-    let s = position_at c.args.haystack.now c.args.start in
+    let s = c.requires.on.0 in
     let stands = c.in-Err.ensures.stands s
-    (c.begun-begun.ensures _ _ c.args.self.now c.args.cache.now c.requires.fresh c.requires.width)
-    in (
+    (c.begun-begun.ensures _ _ _ s c.args.self.now c.args.cache.now c.requires.on.1
+    c.requires.fresh c.requires.width) in (
       s,
       stands.p,
       stands.is,
-      c.requires.counts,
+      c.requires.on.2,
       stands_under_way stands c.in-Err.ensures.own,
     )
 
 pub returns-in-Err : goal.returns-in-Err
 returns-in-Err g c =
-    let s = position_at c.args.haystack.now c.args.start in
-    let stands = c.in-Err.ensures.stands s
-    (c.begun-begun.ensures _ _ c.args.self.now c.args.cache.now c.requires.fresh c.requires.width)
-    in
-    let width = c.advance.ensures.width ∙ stands.on.ready.best_width ∙ stands.on.width in
+    let on = c.in-Err.ensures.stands c.requires.on.0
+    (c.begun-begun.ensures _ _ _ _ c.args.self.now c.args.cache.now c.requires.on.1
+    c.requires.fresh c.requires.width) in
+    let width = c.advance.ensures.width ∙ on.on.ready.best_width ∙ on.on.width in
     record {
-      found = found_kept _ _ _ s false c.advance.new.cache c.found.result width c.found.ensures
+      found = λ s is.
+          let stands = c.in-Err.ensures.stands s
+          (c.begun-begun.ensures _ _ _ s c.args.self.now c.args.cache.now is c.requires.fresh
+          c.requires.width) in
+          found_kept _ _ _ s (not (g.row.EARLIEST == 0)) c.advance.new.cache c.found.result width
+          c.found.ensures
           (over_found (rw (c.advance.ensures.all refl) at c.advance.ensures.stops s stands.p
           stands.is (stands_under_way stands c.in-Err.ensures.own)));
       remembers = c.search_while_it_pays.ensures.remembers;
@@ -41,6 +46,7 @@ returns-in-Err g c =
     }
 
 pub returns-in-Ok-clause-found : goal.returns-in-Ok-clause-found
-returns-in-Ok-clause-found g c =
-    c.in-Ok.ensures.found (position_at c.args.haystack.now c.args.start)
-    (c.begun-begun.ensures _ _ c.args.self.now c.args.cache.now c.requires.fresh c.requires.width)
+returns-in-Ok-clause-found g c = λ s is.
+    c.in-Ok.ensures.found s
+    (c.begun-begun.ensures _ _ _ s c.args.self.now c.args.cache.now is c.requires.fresh
+    c.requires.width)

@@ -6,13 +6,17 @@ use Rattle.regex_lite_meta.proofs.lazy_dfa.RunLemmas.{all_of_one}
 use Rattle.regex_lite_engine.proofs.search.OutcomeLemmas.{can_count}
 use Rattle.regex_lite_meta.proofs.lazy_dfa.automaton.LazyDfa.find_in_graph.Goals as goal
 
-pub find-requires-clause-counts : goal.find-requires-clause-counts
-find-requires-clause-counts c =
+pub find-requires-clause-on : goal.find-requires-clause-on
+find-requires-clause-on c =
     let haystack = c.args.haystack.now in
-    let short : length haystack < 2 ^ 63 = search rules in
-    rw c.pattern-pattern.ensures.table
-    (can_count (table_of c.args.graph.now) haystack (position_at haystack c.args.start)
-    c.utf8.haystack short c.requires.countable 1 (omega arith))
+    let s = position_at haystack c.args.start in
+    let short : length haystack < 2 ^ 63 = search rules in (
+      s,
+      c.at-from.ensures.here,
+      rw c.pattern-pattern.ensures.table
+          (can_count (table_of c.args.graph.now) haystack s c.utf8.haystack short
+          c.requires.countable 1 (omega arith)),
+    )
 
 pub find-requires-clause-all : goal.find-requires-clause-all
 find-requires-clause-all c =
@@ -28,4 +32,4 @@ returns-clause-found c =
     (sym c.span_of.ensures)
     (spanned (table_of graph) haystack (graph.start ∷ []) s c.find.result []
     (rw (c.pattern-pattern.ensures.table, c.pattern-pattern.ensures.entry) at
-    c.find.ensures.found))
+    (c.find.ensures.found s c.at-from.ensures.here)))

@@ -1,5 +1,4 @@
-use Rattle.regex_lite_meta.proofs.Common.{◌≡◌, true, chars, sym, refl, ◌∙◌, subst, arith, rules}
-use Rattle.regex_lite_meta.proofs.Common.{true≢false}
+use Rattle.regex_lite_meta.proofs.Common.{◌≡◌, true, chars, sym, ◌∙◌, subst, arith, rules}
 use Rattle.regex_lite_meta.proofs.lazy_dfa.RunLemmas.{at_later}
 use Rattle.regex_lite_meta.specs.LazyDfa.Scanning.{GoesOn}
 use Rattle.regex_lite_meta.proofs.lazy_dfa.OnwardLemmas.{stays_there, then_on}
@@ -46,7 +45,7 @@ leaps-smaller g c =
 
 pub leaps-preserved : goal.leaps-preserved
 leaps-preserved g c = record {
-  none = λ earliest. (c.run.ensures.none earliest).1;
+  none = λ earliest. c.run.ensures.none earliest c.if-run.false;
   on =
       then_on c.leaps.invariant.on
       (then_on (c.leap.ensures.on (search rules)) (c.run.ensures.on c.if-run.false));
@@ -56,11 +55,5 @@ pub run-requires-clause-none : goal.run-requires-clause-none
 run-requires-clause-none g c = λ earliest. c.leap.ensures.none ∙ c.leaps.invariant.none earliest
 
 pub returns-then-not-leap-clause-none : goal.returns-then-not-leap-clause-none
-returns-then-not-leap-clause-none g c = λ earliest. (
-  refl,
-  c.leap.ensures.none ∙ c.leaps.invariant.none earliest,
-)
-
-pub returns-then-run-clause-none : goal.returns-then-run-clause-none
-returns-then-run-clause-none g c = λ earliest.
-    absurd (true≢false (sym c.if-run.true ∙ (c.run.ensures.none earliest).0))
+returns-then-not-leap-clause-none g c = λ earliest _.
+    c.leap.ensures.none ∙ c.leaps.invariant.none earliest

@@ -1,12 +1,14 @@
-use Rattle.regex_lite_meta.proofs.Common.{◌≡◌, refl, ap, ◌∙◌, arith, best_told, Standing}
-use Rattle.regex_lite_meta.proofs.lazy_dfa.OnwardLemmas.{ends_there, from_spot, next_spot}
+use Rattle.regex_lite_meta.proofs.Common.{◌≡◌, ◌==◌, not, chars, ap, ◌∙◌, arith}
+use Rattle.regex_lite_meta.proofs.Common.{best_told, Standing}
+use Rattle.regex_lite_meta.proofs.lazy_dfa.ScanLemmas.{preferred}
+use Rattle.regex_lite_meta.proofs.lazy_dfa.OnwardLemmas.{completes_there, ends_there, from_spot}
+use Rattle.regex_lite_meta.proofs.lazy_dfa.OnwardLemmas.{next_spot}
 use Rattle.regex_lite_meta.proofs.lazy_dfa.OnwardLemmas.{spot_boundary, state_at_spot, to_spot}
 use Rattle.regex_lite_meta.proofs.lazy_dfa.OnwardLemmas.{turn_effect, turn_within}
 use Rattle.regex_lite_meta.proofs.lazy_dfa.automaton.LazyDfa.run.Given as given
 use Rattle.regex_lite_meta.proofs.lazy_dfa.automaton.LazyDfa.run.Goals as goal
 use Rattle.regex_lite_meta.proofs.lazy_dfa.automaton.LazyDfa.run.Goals.{
   in_default,
-  in-Some+then-is_last,
   in-Some+else-is_last+in-Stuck,
 }
 
@@ -41,7 +43,7 @@ turns-preserved g c =
       near = c.turn.ensures.near;
       none = λ earliest.
           c.take.ensures.same turn.to turn.is_to
-          (c.is_last.ensures turn.to turn.is_to earliest c.if-is_last.false)
+          (c.is_last.ensures.none turn.to turn.is_to earliest c.if-is_last.false)
           ∙ c.turns.invariant.none earliest;
       on =
           next_spot c.args.haystack.now c.utf8.haystack (omega arith) c.turns.invariant.on turn
@@ -49,18 +51,25 @@ turns-preserved g c =
     }
 
 pub returns-in-Over-clause-over : goal.returns-in-Over-clause-over
-returns-in-Over-clause-over g c = λ _.
+returns-in-Over-clause-over g c = λ _ low p from.
     let turn = c.in-Some.ensures.turn in
-    ends_there c.args.haystack.now c.utf8.haystack (omega arith) c.turns.invariant.on turn
-    c.take.new.at (c.in-Over.ensures.taken turn.to turn.is_to)
-
-pub returns-in-Over-clause-none : goal.returns-in-Over-clause-none
-returns-in-Over-clause-none g c = λ earliest.
-    let turn = c.in-Some.ensures.turn in
-    absurd ((c.in-Over.ensures.taken turn.to turn.is_to).some (ap best_told
+    let ends = c.in-Over.ensures.taken turn.to turn.is_to in
+    preferred (g.P.Patterns.table c.args.patterns.now) (chars c.args.haystack.now)
+    (g.P.Patterns.entries c.args.patterns.now) low _ (not (g.row.EARLIEST == 0))
+    (λ earliest. ends.some (ap best_told
     (c.take.ensures.same turn.to turn.is_to
-    (c.is_last.ensures turn.to turn.is_to earliest c.if-is_last.false)
+    (c.is_last.ensures.none turn.to turn.is_to earliest c.if-is_last.false)
     ∙ c.turns.invariant.none earliest)))
+    (ends_there c.args.haystack.now c.utf8.haystack (omega arith) c.turns.invariant.on turn
+    c.take.new.at ends low p from)
+
+-- a turn completes a match where the least end is asked for
+pub returns-then-is_last-clause-over : goal.returns-then-is_last-clause-over
+returns-then-is_last-clause-over g c = λ _ low p from.
+    let turn = c.in-Some.ensures.turn in
+    let hit = c.is_last.ensures.hit turn.to turn.is_to c.if-is_last.true in
+    completes_there c.args.haystack.now c.utf8.haystack (omega arith) c.turns.invariant.on turn
+    hit.0 (c.turns.invariant.none hit.0) hit.1 _ c.complete.new.self c.complete.ensures low p from
 
 pub settle-requires : goal.settle-requires
 settle-requires g c =
@@ -80,7 +89,6 @@ returns-then-spot-haystack-clause-on g c = λ _.
 
 stays : (g : given.Over) (c : goal.After-settle-2 g) → c.match-turn.at ≡ c.turns.at
 stays g c = elim c.match-turn.branch [
-  | in-Some+then-is_last w ↦ w.at-is
   | in-Some+else-is_last+in-Stuck w ↦
       let turn = w.in-Some.ensures.turn in
       w.at-is ∙ w.in-Stuck.ensures.taken turn.to turn.is_to
@@ -99,17 +107,13 @@ returns-clause-on g c = λ _.
     (stays g c))
 
 pub returns-then-spot-haystack-clause-none : goal.returns-then-spot-haystack-clause-none
-returns-then-spot-haystack-clause-none g c = λ earliest. (
-  refl,
-  ap (λ (s : Standing). s.best) c.settle.ensures.same ∙ c.turns.invariant.none earliest,
-)
+returns-then-spot-haystack-clause-none g c = λ earliest _.
+    ap (λ (s : Standing). s.best) c.settle.ensures.same ∙ c.turns.invariant.none earliest
 
 pub returns-clause-none : goal.returns-clause-none
-returns-clause-none g c = λ earliest. (
-  refl,
-  ap (λ (s : Standing). s.best) c.settle-2.ensures.same ∙ ap (λ (s : Standing). s.best) (stays g c)
-      ∙ c.turns.invariant.none earliest,
-)
+returns-clause-none g c = λ earliest _.
+    ap (λ (s : Standing). s.best) c.settle-2.ensures.same ∙ ap (λ (s : Standing). s.best) (stays g c)
+    ∙ c.turns.invariant.none earliest
 
 pub is_last-requires-clause-to : goal.is_last-requires-clause-to
 is_last-requires-clause-to g c = turn_within c.in-Some.ensures.turn

@@ -1,4 +1,3 @@
-use Rattle.regex_lite_meta.proofs.Common.{sym, ◌∙◌, true≢false}
 use Rattle.regex_lite_meta.proofs.lazy_dfa.OnwardLemmas.{then_on}
 use Rattle.regex_lite_meta.proofs.lazy_dfa.automaton.LazyDfa.run_on.Goals as goal
 
@@ -18,8 +17,4 @@ pub returns-clause-on : goal.returns-clause-on
 returns-clause-on g c = λ is. then_on (c.run.ensures.on c.if-run.false) (c.leap_on.ensures.on is)
 
 pub leap_on-requires-clause-none : goal.leap_on-requires-clause-none
-leap_on-requires-clause-none g c = λ earliest. (c.run.ensures.none earliest).1
-
-pub returns-then-run-clause-none : goal.returns-then-run-clause-none
-returns-then-run-clause-none g c = λ earliest.
-    absurd (true≢false (sym c.if-run.true ∙ (c.run.ensures.none earliest).0))
+leap_on-requires-clause-none g c = λ earliest. c.run.ensures.none earliest c.if-run.false

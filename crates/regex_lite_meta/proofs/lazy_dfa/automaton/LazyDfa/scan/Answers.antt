@@ -1,11 +1,11 @@
 use Rattle.regex_lite_meta.proofs.Common.{◌≡◌, ◌==◌, true, chars, ap, ◌∙◌, arith, rules, Standing}
-use Rattle.regex_lite_meta.proofs.Common.{not, sym, true≢false}
+use Rattle.regex_lite_meta.proofs.Common.{not}
 use Rattle.regex_lite_engine.proofs.pikevm.ShortestLemmas.{not_true}
 use Rattle.regex_lite_meta.specs.LazyDfa.Scanning.{GoesOn}
 use Rattle.regex_lite_meta.proofs.lazy_dfa.OnwardLemmas.{idle_edge, state_there}
 use Rattle.regex_lite_meta.proofs.lazy_dfa.OnwardLemmas.{stays_there, stuck_there, then_on}
 use Rattle.regex_lite_meta.proofs.lazy_dfa.OnwardLemmas.{then_skipped, then_turned}
-use Rattle.regex_lite_meta.proofs.lazy_dfa.ScanLemmas.{leads_on, scan_found, preferred}
+use Rattle.regex_lite_meta.proofs.lazy_dfa.ScanLemmas.{leads_on, scan_found}
 use Rattle.regex_lite_engine.proofs.pikevm.EndLemmas.{some_after}
 use Rattle.regex_lite_engine.proofs.search.here.HereLemmas.{less_left}
 use Rattle.regex_lite_meta.proofs.lazy_dfa.automaton.LazyDfa.scan.Given as given
@@ -65,7 +65,7 @@ returns-in_default-step-clause-to g c =
 
 pub step-requires-clause-none : goal.step-requires-clause-none
 step-requires-clause-none g c = λ earliest.
-    c.in-Some.ensures.none (c.run_on.ensures.none earliest).1
+    c.in-Some.ensures.none (c.run_on.ensures.none earliest c.if-run_on.false)
 
 pub is_over-requires : goal.is_over-requires
 is_over-requires g c = c.in-Some-step.ensures.state
@@ -76,7 +76,7 @@ returns-then-is_over-clause-to g c = λ low p from.
     scan_found (g.P.Patterns.table c.args.patterns.now) (g.P.Patterns.entries c.args.patterns.now)
     (chars c.args.haystack.now) low on.0 c.args.self.now c.in-Some.on c.in-Some-step.to
     (not (g.row.EARLIEST == 0)) c.in-Some-step.best on.2
-    (λ earliest. c.in-Some.ensures.none (c.run_on.ensures.none earliest).1)
+    (λ earliest. c.in-Some.ensures.none (c.run_on.ensures.none earliest c.if-run_on.false))
     (c.in-Some-step.ensures.led (chars c.args.haystack.now) low on.0 on.2)
     (λ state is preferred. c.if-is_over.ensures.over state is (search rules) preferred)
     (c.is_over.ensures.earliest (search rules))
@@ -123,7 +123,4 @@ positions-preserved g c =
 pub returns-then-run_on-clause-to : goal.returns-then-run_on-clause-to
 returns-then-run_on-clause-to g c = λ low p from.
     let v = c.positions.invariant.on low p from in
-    preferred (g.P.Patterns.table c.args.patterns.now) (chars c.args.haystack.now)
-    (g.P.Patterns.entries c.args.patterns.now) low _ (not (g.row.EARLIEST == 0))
-    (λ earliest. true≢false (sym c.if-run_on.true ∙ (c.run_on.ensures.none earliest).0))
-    (c.run_on.ensures.over c.if-run_on.true low v.0 v.2)
+    c.run_on.ensures.over c.if-run_on.true low v.0 v.2

@@ -1,10 +1,13 @@
-use Rattle.regex_lite_meta.proofs.Common.{◌^◌, ◌<◌, length, ap, arith, rules, position_at}
-use Rattle.regex_lite_meta.proofs.Common.{table_of_list, nil_from_length}
+use Rattle.regex_lite_meta.proofs.Common.{◌^◌, ◌<◌, ◌==◌, not, length, chars, refl, ap, subst, arith}
+use Rattle.regex_lite_meta.proofs.Common.{rules, position_at, table_of_list, nil_from_length}
+use Rattle.regex_lite_meta.proofs.Common.{IsFoundOf}
+use Rattle.regex_lite_engine.proofs.pikevm.PassLemmas.{begun}
+use Rattle.regex_lite_engine.proofs.pikevm.StopLemmas.{over_found}
 use Rattle.regex_lite_engine.proofs.search.OutcomeLemmas.{can_count}
 use Rattle.regex_lite_meta.proofs.lazy_dfa.list_spans.ListSpanSearcher.find.Goals as goal
 
 pub find_remembering-requires-clause-counts : goal.find_remembering-requires-clause-counts
-find_remembering-requires-clause-counts c =
+find_remembering-requires-clause-counts g c =
     let list = c.args.list.now in
     let haystack = c.args.haystack.now in
     let short : length haystack < 2 ^ 63 = search rules in
@@ -13,19 +16,40 @@ find_remembering-requires-clause-counts c =
     can_count (table_of_list list) haystack (position_at haystack c.args.start) c.utf8.haystack
     short (c.requires.finds.goes_on c.requires.some).1 (length list.entries) few
 
-pub run-requires-clause-counts : goal.run-requires-clause-counts
-run-requires-clause-counts c =
+pub advance-requires-clause-on : goal.advance-requires-clause-on
+advance-requires-clause-on g c =
     let list = c.args.list.now in
     let haystack = c.args.haystack.now in
+    let s = position_at haystack c.args.start in
     let short : length haystack < 2 ^ 63 = search rules in
     let told = c.entries-entries.ensures in
-    let few : length list.entries < 2 ^ 32 = omega (arith, told.few, ap length told.same) in
-    rw (c.requires.finds.table, c.requires.finds.entries)
-    (can_count (table_of_list list) haystack (position_at haystack c.args.start) c.utf8.haystack
-    short (c.requires.finds.goes_on c.requires.some).1 (length list.entries) few)
+    let few : length list.entries < 2 ^ 32 = omega (arith, told.few, ap length told.same) in (
+      s,
+      s,
+      c.at-here.ensures.here,
+      rw (c.requires.finds.table, c.requires.finds.entries)
+          (can_count (table_of_list list) haystack s c.utf8.haystack short
+          (c.requires.finds.goes_on c.requires.some).1 (length list.entries) few),
+      rw (c.requires.finds.table, c.requires.finds.entries)
+          (begun _ _ _ s c.find_remembering.new.cache
+          (c.find_remembering.ensures.fresh c.in_default.is)),
+    )
+
+pub returns-clause-found : goal.returns-clause-found
+returns-clause-found g c =
+    let haystack = c.args.haystack.now in
+    let s = position_at haystack c.args.start in
+    let fresh = c.find_remembering.ensures.fresh c.in_default.is in
+    let stops = c.advance.ensures.stops s s c.at-here.ensures.here
+    (rw (c.requires.finds.table, c.requires.finds.entries)
+    (begun _ _ _ s c.find_remembering.new.cache fresh)) in
+    subst (IsFoundOf (not (g.row.EARLIEST == 0)) (table_of_list c.args.list.now) (chars haystack)
+    c.args.list.now.entries s) c.found.ensures
+    (rw (c.requires.finds.table, c.requires.finds.entries) at
+    (over_found (rw (c.advance.ensures.all refl) at stops)))
 
 pub returns-in-Some-clause-found : goal.returns-in-Some-clause-found
-returns-in-Some-clause-found c =
+returns-in-Some-clause-found g c =
     let row = nil_from_length c.find_remembering.new.cache.best.row
     c.in-Some.ensures.without_slots in
     rw row c.in-Some.ensures.found

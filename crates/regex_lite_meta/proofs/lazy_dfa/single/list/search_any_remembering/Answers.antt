@@ -1,9 +1,9 @@
 use Rattle.std.specs.Prelude.{◌↔◌, IsTrue}
-use Rattle.regex_lite_meta.proofs.Common.{chars, sym, ◌∙◌, subst, best_told}
+use Rattle.regex_lite_meta.proofs.Common.{[], chars, sym, ◌∙◌, subst, best_told}
 use Rattle.regex_lite_engine.specs.Search.AnswerOfList.{AnyMatchesFrom}
 use Rattle.regex_lite_engine.specs.Search.Offsets.{search_start}
 use Rattle.regex_lite_engine.proofs.search.ListOutcomeLemmas.{any_told}
-use Rattle.regex_lite_meta.proofs.lazy_dfa.ScanLemmas.{some_end}
+use Rattle.regex_lite_meta.proofs.lazy_dfa.ScanLemmas.{some_kept}
 use Rattle.regex_lite_meta.proofs.lazy_dfa.single.list.search_any_remembering.Goals as goal
 
 pub returns-clause-found : goal.returns-clause-found
@@ -15,4 +15,4 @@ returns-clause-found c = λ trees regular is.
     (best_told found) c.in_ok-found.ensures.found in
     subst (λ some. IsTrue some
     ↔ AnyMatchesFrom trees (chars haystack) (search_start haystack c.args.start))
-    (sym (c.is_some.ensures ∙ some_end found)) told
+    (sym (c.is_some.ensures ∙ some_kept found [])) told

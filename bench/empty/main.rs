@@ -1,0 +1,3 @@
+//! The program of main.rt.txt in Rust.
+
+fn main() {}
