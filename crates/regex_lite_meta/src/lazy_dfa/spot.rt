@@ -69,8 +69,8 @@ impl LazyDfa {
             (chars haystack.now) low p self.now at.old }
         ensures over { result ≡ true → (low p : ℕ) → IsScanning (P.table patterns.now)
             (P.entries patterns.now) (chars haystack.now) low p self.now at.old
-            → IsFoundOf EARLIEST (P.table patterns.now) (chars haystack.now) (P.entries patterns.now)
-            low (best_told at.new.best) }
+            → IsFoundOf EARLIEST (P.table patterns.now) (chars haystack.now)
+            (P.entries patterns.now) low (best_told at.new.best) }
         ensures on { result ≡ false → (low p : ℕ) → IsScanning (P.table patterns.now)
             (P.entries patterns.now) (chars haystack.now) low p self.now at.old
             → (q : ℕ) × (p ≤ q) × IsScanning (P.table patterns.now) (P.entries patterns.now)
