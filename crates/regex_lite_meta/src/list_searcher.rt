@@ -132,7 +132,7 @@ impl<'g> ListSearcher<'g> {
 
     /// Whether any pattern has a match that starts at or after this offset. The search is over at
     /// the first match that it comes to, and takes no memory. What [`ListSearcher::slots`] has then
-    /// is of no match.
+    /// belongs to no match.
     ///
     /// Condition: the start is above the haystack's length or on a character boundary.
     pub fn search_any(&mut self, haystack: &str, start: usize) -> bool

@@ -118,8 +118,8 @@ impl<'g> Searcher<'g> {
     }
 
     /// The least end of any match that starts at or after this offset. The search is over at the
-    /// first match that it comes to, and needs no memory. What [`Searcher::slots`] has then is of no
-    /// match.
+    /// first match that it comes to, and needs no memory. What [`Searcher::slots`] has then belongs
+    /// to no match.
     ///
     /// Condition: the start is above the haystack's length or on a character boundary.
     pub fn search_shortest(&mut self, haystack: &str, start: usize) -> Option<usize>

@@ -103,8 +103,8 @@ module _ (bytes : List ℕ) (utf8 : IsUtf8 bytes) (start : ℕ) (re : Expression
 
     all_held : AreAllSlots (chars bytes) built.tree of_built.0 all
     all_held = all_told (chars bytes) built.tree (search_start bytes start) of_built.0
-        (compiled.pattern.flags, _, built.given) of_built.1 slots all span filled enough of_built.2.slots
-        (same_pair of_built.2.start of_built.2.end)
+        (compiled.pattern.flags, _, built.given) of_built.1 slots all span filled enough
+        of_built.2.slots (same_pair of_built.2.start of_built.2.end)
 
     -- all slots hold groups, which are what is returned
     pub groups_told : AreGroups (groups_of bytes all shared)

@@ -3,7 +3,8 @@ ghost use Rattle.std.specs.Prelude.{◌≡◌, ℕ, [], None, IfOk, IfErr, IfSom
 ghost use Rattle.regex_lite_syntax.specs.Errors.{out_of_memory};
 ghost use Rattle.regex_lite.specs.RegexList.{OfTrees};
 ghost use Rattle.regex_lite.specs.RegexListSearches.{AreOfPattern, TellsGroupsOfList};
-ghost use Rattle.regex_lite.specs.Scanning.{AreSlotsForAllGroups, TellsOutcomeOfList, most_captures};
+ghost use Rattle.regex_lite.specs.Scanning.{AreSlotsForAllGroups, TellsOutcomeOfList};
+ghost use Rattle.regex_lite.specs.Scanning.{most_captures};
 ghost use Rattle.regex_lite.specs.Searches.{CanStartAt};
 
 use crate::string::captures::Captures;
@@ -70,7 +71,7 @@ impl RegexList {
     }
 
     /// The groups of the match that a search of this haystack has found, with the number of its
-    /// pattern. If the search kept no slots, the second slots are room for those of the whole match.
+    /// pattern. If the search kept no slots, `whole` is room for those of the whole match.
     ///
     /// # Errors
     ///

@@ -1,5 +1,6 @@
 use Rattle.regex_lite_meta.proofs.Common.{◌^◌, ◌<◌, length, sym, refl, subst, arith}
-use Rattle.regex_lite_meta.proofs.Common.{rules, places_of, table_of, best_of, best_told, position_at}
+use Rattle.regex_lite_meta.proofs.Common.{rules, places_of, table_of, best_of, best_told}
+use Rattle.regex_lite_meta.proofs.Common.{position_at}
 use Rattle.regex_lite_engine.specs.Graph.Renumbered.{IsGraphOf}
 use Rattle.regex_lite_engine.specs.Search.Outcomes.{IsEndOutcome}
 use Rattle.regex_lite_meta.specs.Searching.{Searching}

@@ -112,8 +112,8 @@ returns-then-spot-haystack-clause-none g c = λ earliest _.
 
 pub returns-clause-none : goal.returns-clause-none
 returns-clause-none g c = λ earliest _.
-    ap (λ (s : Standing). s.best) c.settle-2.ensures.same ∙ ap (λ (s : Standing). s.best) (stays g c)
-    ∙ c.turns.invariant.none earliest
+    ap (λ (s : Standing). s.best) c.settle-2.ensures.same
+    ∙ ap (λ (s : Standing). s.best) (stays g c) ∙ c.turns.invariant.none earliest
 
 pub is_last-requires-clause-to : goal.is_last-requires-clause-to
 is_last-requires-clause-to g c = turn_within c.in-Some.ensures.turn

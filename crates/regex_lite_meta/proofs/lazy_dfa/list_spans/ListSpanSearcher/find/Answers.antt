@@ -1,5 +1,5 @@
-use Rattle.regex_lite_meta.proofs.Common.{◌^◌, ◌<◌, ◌==◌, not, length, chars, refl, ap, subst, arith}
-use Rattle.regex_lite_meta.proofs.Common.{rules, position_at, table_of_list, nil_from_length}
+use Rattle.regex_lite_meta.proofs.Common.{◌^◌, ◌<◌, ◌==◌, not, length, chars, refl, ap, subst}
+use Rattle.regex_lite_meta.proofs.Common.{arith, rules, position_at, table_of_list, nil_from_length}
 use Rattle.regex_lite_meta.proofs.Common.{IsFoundOf}
 use Rattle.regex_lite_engine.proofs.pikevm.PassLemmas.{begun}
 use Rattle.regex_lite_engine.proofs.pikevm.StopLemmas.{over_found}
