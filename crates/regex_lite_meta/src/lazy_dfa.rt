@@ -2,6 +2,7 @@
 //! by a look-up.
 pub(crate) mod automaton;
 pub(crate) mod boundaries;
+pub(crate) mod builder;
 pub(crate) mod classes;
 pub(crate) mod find;
 pub(crate) mod idle;

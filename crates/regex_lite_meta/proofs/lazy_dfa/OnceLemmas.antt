@@ -57,6 +57,7 @@ module _ (table : List (Place ℕ)) (h : Text) (entries : List ℕ) (s : ℕ) wh
     tries = on.tries;
     entries = on.entries_left;
     rounds = on.rounds;
+    own = on.spent;
   }
 
   pub on_its_way : {S : Type 0} {p : ℕ} {cache : Cache S} → IsUnderWay table h entries s p cache
@@ -70,6 +71,7 @@ module _ (table : List (Place ℕ)) (h : Text) (entries : List ℕ) (s : ℕ) wh
     entries_left = on.entries;
     rounds = on.rounds;
     width = width;
+    spent = on.own;
   }
 
 -- where a search stands that did not begin anew

@@ -1,5 +1,6 @@
 //! Whether a searcher remembers its turns.
 ghost use Rattle.std.specs.Prelude.{ℕ, List, IfSome};
+ghost use Rattle.regex_lite_meta.specs.LazyDfa.Intervals.{AreIntervalsFor};
 ghost use Rattle.regex_lite_meta.specs.LazyDfa.Remembering.{RemembersFor, RemembersAll};
 ghost use Rattle.regex_lite_engine.specs.Graph.Stored.{places_of};
 ghost use Rattle.regex_lite_engine.specs.Graph.StoredList.{table_of_list};
@@ -13,6 +14,9 @@ use regex_lite_engine::Graph;
 use regex_lite_engine::backtrack::MOST_PAIRS;
 use regex_lite_engine::nfa::list::GraphList;
 use regex_lite_engine::nfa::table::Table;
+use regex_lite_engine::search::one_pattern::OnePattern;
+use regex_lite_engine::search::own_filter::OwnFilter;
+use regex_lite_engine::search::patterns::Patterns;
 use regex_lite_syntax::prefilter::Prefilter;
 use std::alloc::Global;
 
@@ -102,6 +106,13 @@ pub(crate) fn pays_to_find_first(list: &GraphList, bytes: usize) -> bool {
         && (pays_for_list_with_slots(list, bytes) || !has_looks(list.table()))
 }
 
+/// Whether it pays to remember the turns of one search for this pattern of a list that goes over
+/// this many bytes. Where a prefilter finds the starts it doesn't: the automaton has the classes of
+/// all patterns, and 12 filters took 1.17 times as many instructions with it.
+pub(crate) fn pays_for_pattern(pattern: &OnePattern<'_, OwnFilter>, bytes: usize) -> bool {
+    bytes >= LONG && !pattern.has_prefilter()
+}
+
 /// Whether one of a few bytes begins each match.
 fn begins_rarely(graph: &Graph) -> bool {
     match graph.filter().prefilter() {
@@ -120,6 +131,19 @@ impl LazyDfa {
         ensures { (entries : List ℕ) → IfSome result (RemembersFor (places_of table.now) entries) }
     {
         let classes = Classes::of(table.all())?;
+        LazyDfa::with_classes(alloc, classes, table, patterns)
+    }
+
+    /// The same with these classes: the table distinguishes no two characters of one of them.
+    pub(crate) fn with_classes(
+        alloc: Global,
+        classes: Classes,
+        table: &Table,
+        patterns: usize,
+    ) -> Option<LazyDfa>
+        requires { AreIntervalsFor (places_of table.now) classes }
+        ensures { (entries : List ℕ) → IfSome result (RemembersFor (places_of table.now) entries) }
+    {
         let spare = if patterns == 1 { usize::MAX } else { SPARE };
         let reach = reach_for(table, patterns);
         let room = Room::of(table.reading(), patterns, &classes);

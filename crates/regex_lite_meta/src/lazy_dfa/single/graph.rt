@@ -8,6 +8,7 @@ ghost use Rattle.regex_lite_engine.specs.Graph.Renumbered.{IsGraphOf};
 ghost use Rattle.regex_lite_engine.specs.Search.Outcomes.{HasCost, IsEndOutcome, IsOutcome};
 ghost use Rattle.regex_lite_engine.specs.Search.NumberedOutcomes.{best_at, match_told, span_of};
 
+use crate::lazy_dfa::builder::Builder;
 use crate::lazy_dfa::single::find_once;
 use regex_lite_engine::pikevm::beginning::Origin;
 use regex_lite_engine::pikevm::cache::{Cache, cache_for};
@@ -35,7 +36,8 @@ pub(crate) fn search_remembering(
     let mut all = graph.pattern();
     all.may_start = true;
     let mut cache = cache_for::<Origin>(alloc, pattern.table, 0)?;
-    let found = find_once::<_, _, false>(&mut pattern, &all, alloc, &mut cache, haystack, start);
+    let builder = Builder::new(alloc);
+    let found = find_once::<_, _, false>(&mut pattern, &all, &builder, &mut cache, haystack, start);
     let Cache { walk, .. } = cache;
     Ok((without_slots(alloc, found), walk.steps))
 }
@@ -58,7 +60,8 @@ pub(crate) fn search_shortest_remembering(
     let mut all = graph.pattern();
     all.may_start = true;
     let mut cache = cache_for::<Origin>(alloc, pattern.table, 0)?;
-    let found = find_once::<_, _, true>(&mut pattern, &all, alloc, &mut cache, haystack, start);
+    let builder = Builder::new(alloc);
+    let found = find_once::<_, _, true>(&mut pattern, &all, &builder, &mut cache, haystack, start);
     let Cache { walk, .. } = cache;
     Ok((end_of(found), walk.steps))
 }

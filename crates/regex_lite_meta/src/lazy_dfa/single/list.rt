@@ -11,6 +11,7 @@ ghost use Rattle.regex_lite_engine.specs.Search.NumberedOutcomes.{with_origin_ke
 ghost use Rattle.regex_lite_engine.specs.Search.Offsets.{search_start};
 ghost use Rattle.regex_lite_engine.specs.Search.Outcomes.{HasCostOfList, IsOutcomeOfList};
 
+use crate::lazy_dfa::builder::Builder;
 use crate::lazy_dfa::single::find_once;
 use regex_lite_engine::Steps;
 use regex_lite_engine::nfa::list::GraphList;
@@ -43,7 +44,15 @@ pub(crate) fn search_list_remembering(
     // Each place is one of the graph.
     let _entries = list.entries();
     let all = AllOfList { list };
-    let found = find_once::<_, _, false>(&mut patterns, &all, alloc, &mut cache, haystack, start);
+    let builder = Builder::new(alloc);
+    let found = find_once::<_, _, false>(
+        &mut patterns,
+        &all,
+        &builder,
+        &mut cache,
+        haystack,
+        start,
+    );
     let Cache { walk, .. } = cache;
     Ok((without_slots(alloc, found), walk.steps))
 }
@@ -69,7 +78,8 @@ pub(crate) fn search_any_remembering(
     // Each place is one of the graph.
     let _entries = list.entries();
     let all = AllOfList { list };
-    let found = find_once::<_, _, true>(&mut patterns, &all, alloc, &mut cache, haystack, start);
+    let builder = Builder::new(alloc);
+    let found = find_once::<_, _, true>(&mut patterns, &all, &builder, &mut cache, haystack, start);
     let Cache { walk, .. } = cache;
     Ok((found.is_some(), walk.steps))
 }
