@@ -16,7 +16,7 @@ use regex_lite_engine::nfa::list::GraphList;
 use regex_lite_engine::nfa::table::Table;
 use regex_lite_engine::search::one_pattern::OnePattern;
 use regex_lite_engine::search::own_filter::OwnFilter;
-use regex_lite_engine::search::patterns::Patterns;
+use regex_lite_engine::search::pattern_filter::PatternFilter;
 use regex_lite_syntax::prefilter::Prefilter;
 use std::alloc::Global;
 
@@ -106,11 +106,16 @@ pub(crate) fn pays_to_find_first(list: &GraphList, bytes: usize) -> bool {
         && (pays_for_list_with_slots(list, bytes) || !has_looks(list.table()))
 }
 
-/// Whether it pays to remember the turns of one search for this pattern of a list that goes over
-/// this many bytes. Where a prefilter finds the starts it doesn't: the automaton has the classes of
-/// all patterns, and 12 filters took 1.17 times as many instructions with it.
+/// Whether it may pay to remember the turns of one search for this pattern of a list that goes over
+/// this many bytes. Few turns are taken for one that begins with two characters that are known. For
+/// the others the first turns tell.
 pub(crate) fn pays_for_pattern(pattern: &OnePattern<'_, OwnFilter>, bytes: usize) -> bool {
-    bytes >= LONG && !pattern.has_prefilter()
+    match pattern.filter {
+        OwnFilter::Literal(_) => false,
+        OwnFilter::Whole(filter) => {
+            bytes >= LONG_BETWEEN_MATCHES || (bytes >= LONG && !filter.has_prefilter())
+        }
+    }
 }
 
 /// Whether one of a few bytes begins each match.

@@ -74,7 +74,8 @@ pub(crate) fn find_once<P: Patterns, A: Patterns, const EARLIEST: bool>(
     let Some(here) = soon else {
         return cache.best.found();
     };
-    match find_learning::<_, EARLIEST>(all, builder, cache, haystack, here) {
+    let went = here.at.saturating_sub(start);
+    match find_learning::<_, EARLIEST>(all, builder, cache, haystack, here, went) {
         Ok(found) => found,
         Err(here) => {
             advance::<_, _, EARLIEST>(cache, patterns, haystack, here, None);
@@ -83,14 +84,15 @@ pub(crate) fn find_once<P: Patterns, A: Patterns, const EARLIEST: bool>(
     }
 }
 
-/// Goes on with a new automaton. Returns where the search stands if there is no memory for one, or
-/// if it is given up.
+/// Goes on with a new automaton, after turns that went over this many bytes. Returns where the
+/// search stands if there is none, or if it is given up.
 fn find_learning<A: Patterns, const EARLIEST: bool>(
     all: &A,
     builder: &Builder,
     cache: &mut Cache<Origin>,
     haystack: &str,
     from: Here,
+    went: usize,
 ) -> Result<Option<(Origin, usize)>, Here>
     requires all { AreAllStarts (A.table all.now) (A.entries all.now) (A.starts all.now) }
     requires alphabet { IsAlphabetOf (A.table all.now) builder.now.alphabet }
@@ -126,7 +128,7 @@ fn find_learning<A: Patterns, const EARLIEST: bool>(
     ensures between { IsBetween (A.table all.now) cache.new }
     ensures width { length cache.new.walk.memory.row ≡ 0 }
 {
-    let Some(mut dfa) = builder.build(all.table(), all.len()) else {
+    let Some(mut dfa) = builder.build(all.table(), all.len(), went) else {
         return Err(from);
     };
     let Some(at) = Progress::on_the_way(cache, from) else {

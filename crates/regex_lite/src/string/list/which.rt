@@ -14,8 +14,8 @@ impl RegexList {
     /// Which of the patterns match somewhere in the haystack.
     ///
     /// Each pattern is searched for by itself, up to the first match that the search comes to. The
-    /// memory of one search is kept for the next. In a long haystack a pattern of which a match may
-    /// begin almost anywhere is searched for as a [`Regex`](crate::Regex) by itself is, by turns
+    /// memory of one search is kept for the next. In a long haystack a pattern for which most
+    /// characters take a turn is searched for as a [`Regex`](crate::Regex) by itself is, by turns
     /// that are remembered.
     ///
     /// ```
