@@ -6,7 +6,6 @@ pub mod best;
 pub mod cache;
 pub(crate) mod cell;
 mod enter;
-mod list_matches;
 mod list_search;
 pub mod memory;
 mod pass;

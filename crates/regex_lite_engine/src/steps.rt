@@ -31,7 +31,7 @@ impl Model for Steps {
 
 impl Steps {
     /// What two searches did together. A sum that is too large to be stored saturates.
-    pub(crate) fn plus(&self, other: &Steps) -> Steps
+    pub fn plus(&self, other: &Steps) -> Steps
         ensures tried { result.tried ≡ min (self.now.tried + other.now.tried) (2 ^ 128 - 1) }
         ensures entered { result.entered
             ≡ min (self.now.entered + other.now.entered) (2 ^ 128 - 1) }

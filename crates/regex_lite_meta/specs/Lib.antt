@@ -5,3 +5,5 @@ pub mod Searching
 pub mod Slots
 -- What the functions of the lazy automaton promise one another. No public contract rests on it.
 pub mod LazyDfa
+-- What searches for single patterns of a list promise one another. No public contract rests on it.
+pub mod ListMatches

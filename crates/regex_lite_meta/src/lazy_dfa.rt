@@ -3,6 +3,7 @@
 pub(crate) mod automaton;
 pub(crate) mod boundaries;
 mod build;
+pub(crate) mod builder;
 pub(crate) mod classes;
 pub(crate) mod find;
 pub(crate) mod idle;

@@ -3,12 +3,14 @@
 //! [`search`] and [`search_shortest`] search a graph once, and [`search_list`],
 //! [`search_list_uncounted`] and [`search_list_any`] that of several patterns. A [`Searcher`]
 //! searches one graph again and again in the same memory, and a [`ListSearcher`] that of several
-//! patterns. Each goes by a lazy automaton (`lazy_dfa`) where that pays, and otherwise by one of
-//! the two searches of `regex_lite_engine`. All of them return the same. A
-//! [`SlotSearcher`] finds the slots of matches that another search has found.
+//! patterns. [`search_each`] says which of several patterns match. Each goes by a lazy automaton
+//! (`lazy_dfa`) where that pays, and otherwise by one of the two searches of `regex_lite_engine`.
+//! All of them return the same. A [`SlotSearcher`] finds the slots of matches that another search
+//! has found.
 #![tactic(auto)]
 
 mod lazy_dfa;
+mod list_matches;
 mod list_searcher;
 mod once;
 mod searcher;
@@ -16,6 +18,7 @@ mod slot_searcher;
 mod slots;
 mod strategy;
 
+pub use list_matches::search_each;
 pub use list_searcher::ListSearcher;
 pub use once::{search, search_list, search_list_any, search_list_uncounted, search_shortest};
 pub use searcher::Searcher;

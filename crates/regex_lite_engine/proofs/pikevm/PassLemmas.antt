@@ -1,12 +1,12 @@
 -- What holds of a search between two positions, from its start to its end.
 use Rattle.regex_lite_engine.proofs.Common.{◌≡◌, ℕ, ◌+◌, ◌-◌, ◌*◌, ◌≤◌, List, length, sym, ap}
 use Rattle.regex_lite_engine.proofs.Common.{subst, inl, inr, arith, mul-le-mul_left, Text, row_of}
-use Rattle.regex_lite_engine.proofs.Common.{arrows_of, Thread, IsComing, IsBoundedBy}
+use Rattle.regex_lite_engine.proofs.Common.{IsOwnPart, arrows_of, Thread, IsComing, IsBoundedBy}
 use Rattle.regex_lite_engine.proofs.Common.{Best, IsHere, Here}
 use Rattle.regex_lite_engine.specs.declared.pikevm.cache.Cache.{Cache}
 use Rattle.regex_lite_engine.specs.Graph.Places.{Place}
 use Rattle.regex_lite_engine.specs.Pikevm.Searching.{IsFresh}
-use Rattle.regex_lite_engine.specs.Pikevm.Passing.{GoesOnAt, HasSpentWithin, IsUnderWay}
+use Rattle.regex_lite_engine.specs.Pikevm.Passing.{GoesOnAt, IsUnderWay}
 use Rattle.regex_lite_engine.specs.Pikevm.Passing.{Passes}
 use Rattle.regex_lite_engine.proofs.pikevm.EndLemmas.{bound_more}
 use Rattle.regex_lite_engine.proofs.search.SkipLemmas.{bound_later}
@@ -28,14 +28,12 @@ module _ (table : List (Place ℕ)) (haystack : Text) (entries : List ℕ) (s : 
             (none_coming table haystack entries s (length haystack) cache.walk.memory.threads none);
         tries = omega (arith, fresh.no_tries, ap length none);
         entries = omega (arith, fresh.no_entries);
+        own = λ low len part. record {
+          tries = omega (arith, fresh.no_tries, ap length none);
+          entries = omega (arith, fresh.no_entries);
+          few = omega (arith, ap length none);
+        };
       }
-
-  pub begun_within : {S : Type 0} (cache : Cache S) → IsFresh table cache → (low len : ℕ)
-      → HasSpentWithin table haystack entries s low len s cache
-  begun_within cache fresh low len = record {
-    tries = omega (arith, fresh.no_tries, ap length fresh.no_threads);
-    entries = omega (arith, fresh.no_entries);
-  }
 
   -- a bound up to a position, and what one more position costs
   pub bound_on : (a b p q m : ℕ) → s ≤ p → p ≤ q → a ≤ m * (p - s) → b ≤ a + m
@@ -69,11 +67,11 @@ module _ {S : Type 0} {table : List (Place ℕ)} {haystack : Text} {entries : Li
   bounded = bounded_by (length table) (arrows_of table + length entries) on.tries on.entries
 
   -- nor more than is allowed in the part of the table that is its own
-  pub bounded_within : (begin len : ℕ)
-      → HasSpentWithin table haystack entries s begin len (q + 1) cache
+  pub bounded_within : (begin len : ℕ) → IsOwnPart table entries begin len
       → IsBoundedBy len (arrows_of (row_of table begin len) + length entries) haystack s
       cache.walk.steps.tried cache.walk.steps.entered cache.walk.steps.looked
-  bounded_within begin len own =
+  bounded_within begin len part =
+      let own = on.own begin len part in
       bounded_by len (arrows_of (row_of table begin len) + length entries) own.tries own.entries
 
 -- what it did is said of the same patterns

@@ -5,7 +5,7 @@ use Rattle.regex_lite_engine.proofs.Common.{IsOwnPart, arrows_of, IsComing}
 use Rattle.regex_lite_engine.proofs.Common.{IsBoundedBy, best_of, Best, Thread, IsHere, Here}
 use Rattle.regex_lite_engine.specs.declared.pikevm.cache.Cache.{Cache}
 use Rattle.regex_lite_engine.specs.Graph.Places.{Place}
-use Rattle.regex_lite_engine.specs.Pikevm.Passing.{HasSpentWithin, IsUnderWay, Passes}
+use Rattle.regex_lite_engine.specs.Pikevm.Passing.{IsUnderWay, Passes}
 use Rattle.regex_lite_engine.specs.Pikevm.Stopping.{IsDone, Stops, StopsBefore}
 use Rattle.regex_lite_engine.specs.Pikevm.Turns.{EndsAt}
 use Rattle.regex_lite_engine.specs.Search.NumberedOutcomes.{IsFoundOf}
@@ -92,13 +92,9 @@ module _ {S : Type 0} {table : List (Place ℕ)} {haystack : Text} {entries : Li
   over_bounded = bounded done.low done.inside on
 
   pub over_within : (low len : ℕ) → IsOwnPart table entries low len
-      → HasSpentWithin table haystack entries s low len p cache
       → IsBoundedBy len (arrows_of (row_of table low len) + length entries) haystack s
       now.walk.steps.tried now.walk.steps.entered now.walk.steps.looked
-  over_within low len part spent =
-      bounded_within done.low done.inside on low len
-      (subst (λ z. HasSpentWithin table haystack entries s low len z now) stops.why.1
-      (stops.own low len part spent))
+  over_within = bounded_within done.low done.inside on
 
   pub over_found : IsFoundOf earliest table haystack entries s (best_of now.best)
   over_found = done_found earliest now.walk.memory.threads (best_of now.best) done on.coming

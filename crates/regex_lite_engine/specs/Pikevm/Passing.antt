@@ -4,7 +4,7 @@ use Rattle.regex_lite_syntax.specs.Text.{Text}
 use Rattle.regex_lite_engine.specs.declared.search.here.Here.{Here}
 use Rattle.regex_lite_engine.specs.declared.pikevm.cache.Cache.{Cache}
 use Rattle.regex_lite_engine.specs.Graph.Parts.{IsOwnPart, row_of}
-use Rattle.regex_lite_engine.specs.Graph.Places.{Place}
+use Rattle.regex_lite_engine.specs.Graph.Places.{Place, reading_of}
 use Rattle.regex_lite_engine.specs.Graph.Renumbered.{arrows_of}
 use Rattle.regex_lite_engine.specs.Pikevm.Searching.{IsBetween}
 use Rattle.regex_lite_engine.specs.Search.Standing.{IsHere}
@@ -23,12 +23,14 @@ GoesOnAt table haystack entries threads best p here =
     × PassesTo (AreDeadAt table haystack entries) haystack p here)
 
 module _ (table : List (Place ℕ)) (haystack : Text) (starts : List ℕ) (first : ℕ) where
-  -- a search up to position p has cost no more than what is in this part of the table
+  -- a search up to position p has cost no more than what is in this part of the table, and goes on
+  -- from no more places than read a character there
   pub record HasSpentWithin {S : Type 0} (low len p : ℕ) (cache : Cache S) : Type 0 where
     pub tries :
         cache.walk.steps.tried + length cache.walk.memory.threads
         ≤ (arrows_of (row_of table low len) + length starts) * (p - first)
     pub entries : cache.walk.steps.entered ≤ len * (p - first)
+    pub few : length cache.walk.memory.threads ≤ reading_of (row_of table low len)
 
   -- a search from position `first` on has come to position p
   pub record IsUnderWay {S : Type 0} (p : ℕ) (cache : Cache S) : Type 0 where
@@ -40,6 +42,8 @@ module _ (table : List (Place ℕ)) (haystack : Text) (starts : List ℕ) (first
         cache.walk.steps.tried + length cache.walk.memory.threads
         ≤ (arrows_of table + length starts) * (p - first)
     pub entries : cache.walk.steps.entered ≤ length table * (p - first)
+    -- it stays in any part of its own
+    pub own : (low len : ℕ) → IsOwnPart table starts low len → HasSpentWithin low len p cache
 
   -- it has gone over a position that is not before p
   pub record Passes {S : Type 0} (p : ℕ) (cache cache' : Cache S) (here : Here) : Type 0 where
@@ -50,5 +54,3 @@ module _ (table : List (Place ℕ)) (haystack : Text) (starts : List ℕ) (first
         (best_of cache.best)
     pub ends : EndsAt here.at (best_of cache.best) (best_of cache'.best)
     pub after : IsUnderWay (q + 1) cache'
-    pub own : (low len : ℕ) → IsOwnPart table starts low len → HasSpentWithin low len p cache
-        → HasSpentWithin low len (q + 1) cache'

@@ -5,7 +5,7 @@ use Rattle.regex_lite_engine.specs.declared.search.here.Here.{Here}
 use Rattle.regex_lite_engine.specs.declared.search.patterns.Start.{Start}
 use Rattle.regex_lite_engine.specs.declared.pikevm.cache.Cache.{Cache}
 use Rattle.regex_lite_engine.specs.Graph.Parts.{row_of}
-use Rattle.regex_lite_engine.specs.Graph.Places.{Place, kept_back_of}
+use Rattle.regex_lite_engine.specs.Graph.Places.{Place, kept_back_of, reading_of}
 use Rattle.regex_lite_engine.specs.Graph.Renumbered.{arrows_of}
 use Rattle.regex_lite_engine.specs.Graph.StoredList.{StoredList, table_of_list}
 use Rattle.regex_lite_engine.specs.Pikevm.Again.{AreAlike, all_retold, state_retold, best_again}
@@ -86,6 +86,7 @@ module _ (table : List (Place ℕ)) where
         ≤ cache.walk.steps.tried + length cache.walk.memory.threads
         + (arrows_of (row_of table low len) + starts)
     pub entries : cache'.walk.steps.entered ≤ cache.walk.steps.entered + len
+    pub few : length cache'.walk.memory.threads ≤ reading_of (row_of table low len)
 
 -- a search from position s on has not begun. There may have been others
 pub record IsFresh {S : Type 0} (table : List (Place ℕ)) (cache : Cache S) : Type 0 where

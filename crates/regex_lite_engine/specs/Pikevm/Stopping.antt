@@ -5,10 +5,9 @@ use Rattle.regex_lite_syntax.specs.Text.{Text}
 use Rattle.regex_lite_syntax.specs.Tree.Matches.{IsPosition}
 use Rattle.regex_lite_engine.specs.declared.search.here.Here.{Here}
 use Rattle.regex_lite_engine.specs.declared.pikevm.cache.Cache.{Cache}
-use Rattle.regex_lite_engine.specs.Graph.Parts.{IsOwnPart}
 use Rattle.regex_lite_engine.specs.Graph.Places.{Place}
 use Rattle.regex_lite_engine.specs.Pikevm.Machine.{Thread}
-use Rattle.regex_lite_engine.specs.Pikevm.Passing.{HasSpentWithin, IsUnderWay}
+use Rattle.regex_lite_engine.specs.Pikevm.Passing.{IsUnderWay}
 use Rattle.regex_lite_engine.specs.Pikevm.Turns.{best_of, IsComing, EndsAt}
 use Rattle.regex_lite_engine.specs.Search.NumberedOutcomes.{Best}
 use Rattle.regex_lite_engine.specs.Search.Offsets.{offset}
@@ -43,7 +42,4 @@ module _ (table : List (Place ℕ)) (haystack : Text) (entries : List ℕ) (firs
       (stands : Option Here) : Type 0 where
     pub q : ℕ
     pub on : IsUnderWay table haystack entries first q cache'
-    pub own : (low len : ℕ) → IsOwnPart table entries low len
-        → HasSpentWithin table haystack entries first low len p cache
-        → HasSpentWithin table haystack entries first low len q cache'
     pub why : StopsBefore earliest q cache'.walk.memory.threads (best_of cache'.best) stands

@@ -53,6 +53,7 @@ impl PatternFilter for OwnFilter {
         }
     }
 
+    #[inline(always)]
     fn pass_over(&self, haystack: &str, here: Here) -> Here {
         match self {
             OwnFilter::Literal(prefix) => prefix.pass_over(haystack, here),

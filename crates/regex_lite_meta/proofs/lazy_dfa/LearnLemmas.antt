@@ -6,7 +6,8 @@ use Rattle.regex_lite_meta.proofs.Common.{length-map, AreAlike, Thread, best_of,
 use Rattle.regex_lite_meta.proofs.Common.{Way, Automaton, ways_of, searching_after, Suits, LeadsOn}
 use Rattle.regex_lite_meta.proofs.Common.{FitsTable, Remembers, Extends, class_of, side_of, IsIn}
 use Rattle.regex_lite_engine.specs.Graph.Places.{Place, reading_of}
-use Rattle.regex_lite_meta.specs.LazyDfa.Automaton.{KeptOrigin, State, Sees, hit_of, way_of}
+use Rattle.regex_lite_meta.specs.LazyDfa.Automaton.{FitsOwnParts, KeptOrigin, State, Sees}
+use Rattle.regex_lite_meta.specs.LazyDfa.Automaton.{hit_of, way_of}
 use Rattle.std.proofs.lemmas.Bool.{cases_eq}
 use Rattle.regex_lite_engine.specs.Pikevm.Machine.{thread_at}
 use Rattle.regex_lite_engine.specs.Pikevm.Room.{ThreadsBelow}
@@ -31,12 +32,14 @@ remembers_pending table entries automaton pending remembers =
     }
 
 -- the ways of threads fit where the threads do
-pub ways_fit : (table : List (Place ℕ)) (first : ℕ) (threads : List Thread)
+pub ways_fit : (table : List (Place ℕ)) (entries : List ℕ) (first : ℕ) (threads : List Thread)
     → ThreadsBelow (length table) threads → length threads ≤ reading_of table
-    → FitsTable table (ways_of first threads)
-ways_fit table first threads below few = record {
+    → FitsOwnParts table entries (length threads)
+    → FitsTable table entries (ways_of first threads)
+ways_fit table entries first threads below few own = record {
   below = each threads below;
   few = let n = length-map threads (way_of first) in omega (arith, n, few);
+  own = subst (FitsOwnParts table entries) (sym (length-map threads (way_of first))) own;
 }
   where
     each : (ts : List Thread) → ((k : ℕ) → k < length ts → (thread_at ts k).0 < length table)
@@ -52,10 +55,11 @@ pub remembers_settled : (table : List (Place ℕ)) (entries : List ℕ)
     (old gathered settled : Automaton) (first : ℕ) (threads : List Thread)
     → gathered ≡ record old { pending = old.pending ++ ways_of first threads } → old.pending ≡ []
     → Remembers table entries old → ThreadsBelow (length table) threads
-    → length threads ≤ reading_of table → Extends gathered settled
+    → length threads ≤ reading_of table → FitsOwnParts table entries (length threads)
+    → Extends gathered settled
     → (gathered.pending ≡ ways_of first threads) × Remembers table entries settled
 remembers_settled table entries old gathered settled first threads all none remembers below few
-    extends =
+    own extends =
     let ways = ways_of first threads in
     let pending : gathered.pending ≡ ways =
     ap (λ (z : Automaton). z.pending) all ∙ ap (λ own. own ++ ways) none in (
@@ -63,8 +67,8 @@ remembers_settled table entries old gathered settled first threads all none reme
       still_remembers table entries gathered settled
           (subst (Remembers table entries) (sym all)
           (remembers_pending table entries old (old.pending ++ ways) remembers)) extends
-          (subst (FitsTable table) (sym pending)
-          (ways_fit table first threads below few)),
+          (subst (FitsTable table entries) (sym pending)
+          (ways_fit table entries first threads below few own)),
     )
 
 -- there is a match afterwards where none is searched for

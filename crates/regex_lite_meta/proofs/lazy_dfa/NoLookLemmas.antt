@@ -64,13 +64,13 @@ intervals_for places intervals are = record {
 
 -- an automaton without states remembers no turn that another search would not take
 pub remembers_none : (places : List code.Place) (automaton : Automaton)
-    → AreIntervalsOf places automaton.intervals
+    → AreIntervalsFor (map place_of places) automaton.intervals
     → IfSome automaton.reach (ReadsAtMost (map place_of places)) → automaton.states ≡ []
     → automaton.pending ≡ [] → (entries : List ℕ) → RemembersFor (map place_of places) entries
     automaton
 remembers_none places automaton are reach empty none entries = record {
   remembers = record {
-    intervals = intervals_for places automaton.intervals are;
+    intervals = are;
     reach = reach;
     leads = λ x from class at. absurd (nothing x from at);
     fit = λ x state at. absurd (nothing x state at);

@@ -56,6 +56,7 @@ module _ (table : List (Place ℕ)) (h : Text) (entries : List ℕ) (s : ℕ) wh
     coming = on.coming;
     tries = on.tries;
     entries = on.entries_left;
+    own = on.spent;
   }
 
   pub on_its_way : {S : Type 0} {p : ℕ} {cache : Cache S} → IsUnderWay table h entries s p cache
@@ -68,6 +69,7 @@ module _ (table : List (Place ℕ)) (h : Text) (entries : List ℕ) (s : ℕ) wh
     tries = on.tries;
     entries_left = on.entries;
     width = width;
+    spent = on.own;
   }
 
 -- where a search stands that did not begin anew

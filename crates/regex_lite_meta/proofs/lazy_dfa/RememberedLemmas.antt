@@ -172,7 +172,7 @@ led_to table entries intervals x y class next leads =
 module _ (table : List (Place ℕ)) (entries : List ℕ) where
   -- with more states
   pub still_remembers : (old new : Automaton) → Remembers table entries old → Extends old new
-      → FitsTable table old.pending → Remembers table entries new
+      → FitsTable table entries old.pending → Remembers table entries new
   still_remembers old new remembers extends fits = record {
     intervals = subst (λ z. AreIntervalsFor table z) (sym extends.intervals) remembers.intervals;
     reach = subst (λ z. IfSome z (ReadsAtMost table)) (sym extends.reach) remembers.reach;
@@ -206,12 +206,12 @@ module _ (table : List (Place ℕ)) (entries : List ℕ) where
 
       fit_by_age : (x : ℕ) (state : State) → slice_get new.states x ≡ Some state
           → (o : Option State) → slice_get old.states x ≡ o
-          → FitsTable table state.ways
+          → FitsTable table entries state.ways
       fit_by_age x state at (Some was) old_at =
           let same : was ≡ state = same_some (sym (extends.kept x was old_at) ∙ at) in
           remembers.fit x state (old_at ∙ ap Some same)
       fit_by_age x state at None old_at =
-          subst (FitsTable table)
+          subst (FitsTable table entries)
           (sym (extends.fresh x state at (λ e. not_there (sym old_at ∙ e))).0) fits
 
   -- with one turn more
@@ -239,9 +239,9 @@ module _ (table : List (Place ℕ)) (entries : List ℕ) where
 
       fitting : (k : ℕ) (state : State)
           → ((k ≡ x) × (state ≡ now)) ⊎ (slice_get old.states k ≡ Some state)
-          → FitsTable table state.ways
+          → FitsTable table entries state.ways
       fitting k state (inl (e, f)) =
-          subst (λ (s : State). FitsTable table s.ways) (sym f)
+          subst (λ (s : State). FitsTable table entries s.ways) (sym f)
           (remembers.fit x from from_at)
       fitting k state (inr at) = remembers.fit k state at
 

@@ -168,7 +168,7 @@ module _ (table : List (Place ℕ)) (h : Text) (entries : List ℕ) (s from p : 
   -- it goes on with the ways of the state, and with the match that was found
   module _ (q : ℕ) (stuck : Standing) (scanning : IsScanning table entries h from q automaton stuck)
       (later : p < q) (ws : List StoredWay) (ways : map way_in ws ≡ scanning.state.ways)
-      (all : All (λ way. way.is_first ≡ true) ws) (fits : FitsTable table scanning.state.ways)
+      (all : All (λ way. way.is_first ≡ true) ws) (fits : FitsTable table entries scanning.state.ways)
       (best : best_of new.best ≡ best_told stuck.best)
       (entered : (stuck.best ≡ None) ⊎ (0 < old.walk.steps.entered))
       (threads : new.walk.memory.threads ≡ map (thread_from stuck.first) ws) where
@@ -177,12 +177,14 @@ module _ (table : List (Place ℕ)) (h : Text) (entries : List ℕ) (s from p : 
         ⊎_elim (λ none. absurd (some (best ∙ ap best_told none)))
         (λ more. subst (λ (counts : StepCounts). 0 < counts.entered) (sym kept.steps) more) entered
 
-    few_threads : length new.walk.memory.threads ≤ reading_of table
-    few_threads =
+    each_way : length new.walk.memory.threads ≡ length scanning.state.ways
+    each_way =
         let same = ap (λ (ts : List Thread). length ts) threads in
         let n = length-map ws (thread_from stuck.first) in let m = length-map ws way_in in
-        let w = ap (λ (xs : List Way). length xs) ways in let few = fits.few in
-        omega (arith, same, n, m, w, few)
+        let w = ap (λ (xs : List Way). length xs) ways in omega (arith, same, n, m, w)
+
+    few_threads : length new.walk.memory.threads ≤ reading_of table
+    few_threads = let few = fits.few in let same = each_way in omega (arith, same, few)
 
     taken_up : IsOnItsWay table h entries s from q new
     taken_up =
@@ -191,7 +193,9 @@ module _ (table : List (Place ℕ)) (h : Text) (entries : List ℕ) (s from p : 
         (below_at (length table) stuck.first ws scanning.state.ways ways fits.below)))
         kept.steps later scanning.later (let few = few_threads in let more = reads_within
         table in
-        omega (arith, few, more)) kept.row
+        omega (arith, few, more)) (λ low len part. (let fit = fits.own low len part in
+        let same = each_way in
+        omega (arith, fit, same))) kept.row
         (subst (λ ts. IsComing table h entries from (length h) q ts (best_of new.best)) (sym
         threads)
         (subst (λ b. IsComing table h entries from (length h) q (map (thread_from stuck.first) ws)
@@ -260,7 +264,9 @@ module _ (table : List (Place ℕ)) (h : Text) (entries : List ℕ) (s from p : 
       (let n = ap (λ (ts : List Thread). length ts) threads in omega (arith, n))
       (subst (ThreadsBelow (length table)) (sym threads) (λ k lt. absurd (omega (arith, lt)))))
       kept.steps later (let after = on.after in omega (arith, after, later))
-      (let n = ap (λ (ts : List Thread). length ts) threads in omega (arith, n)) kept.row
+      (let n = ap (λ (ts : List Thread). length ts) threads in omega (arith, n))
+      (λ low len part. (let n = ap (λ (ts : List Thread). length ts) threads in
+      omega (arith, n))) kept.row
       (subst (λ ts. IsComing table h entries from (length h) idle.r ts (best_of new.best))
       (sym threads)
       (subst (λ b. IsComing table h entries from (length h) idle.r [] b) (sym none) idle.coming))
@@ -310,7 +316,9 @@ module _ (table : List (Place ℕ)) (h : Text) (entries : List ℕ) (s from p : 
         (let n = ap (λ (ts : List Thread). length ts) threads in omega (arith, n))
         (subst (ThreadsBelow (length table)) (sym threads) (λ k lt. absurd (omega (arith, lt)))))
         kept.steps later (omega arith)
-        (let n = ap (λ (ts : List Thread). length ts) threads in omega (arith, n)) kept.row
+        (let n = ap (λ (ts : List Thread). length ts) threads in omega (arith, n))
+        (λ low len part. (let n = ap (λ (ts : List Thread). length ts) threads in
+        omega (arith, n))) kept.row
         (subst (λ b. IsComing table h entries r (length h) r new.walk.memory.threads b) (sym none)
         (none_coming table h entries r (length h) new.walk.memory.threads threads));
     first = omega arith;

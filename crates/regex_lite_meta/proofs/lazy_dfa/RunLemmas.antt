@@ -7,8 +7,9 @@ use Rattle.regex_lite_meta.proofs.Common.{Thread, best_of, IsComing, Best}
 use Rattle.regex_lite_meta.proofs.Common.{best_kept, offset, Row, IsHere, AreDeadAt, PassesTo}
 use Rattle.regex_lite_meta.proofs.Common.{Origin, Cache, Here, Automaton, ways_of, Suits, side_of}
 use Rattle.regex_lite_meta.proofs.Common.{IsFirstStart, IsIn, IsOnItsWay}
+use Rattle.regex_lite_engine.specs.Graph.Parts.{IsOwnPart, row_of}
 use Rattle.regex_lite_engine.specs.Graph.Places.{Place}
-use Rattle.regex_lite_meta.specs.LazyDfa.Automaton.{IsEmptyState}
+use Rattle.regex_lite_meta.specs.LazyDfa.Automaton.{FitsOwnParts, IsEmptyState}
 use Rattle.regex_lite_engine.specs.Search.Bounds.{IsBoundedBy, StepCounts}
 use Rattle.std.proofs.Math.Nat.{mul-le-mul_left, mul-suc}
 use Rattle.regex_lite_engine.specs.Pikevm.Searching.{IsBetween, IsFresh}
@@ -16,6 +17,7 @@ use Rattle.regex_lite_engine.specs.Search.NumberedList.{IsEntry}
 use Rattle.regex_lite_engine.specs.Search.Starts.{IsAmong, AreStartsAt, AreAllStarts}
 use Rattle.regex_lite_engine.proofs.OffsetLemmas.{offset_grows, offset_less}
 use Rattle.regex_lite_syntax.proofs.OptionLemmas.{not_there, same_some}
+use Rattle.regex_lite_engine.proofs.ReadingCountLemmas.{reads_within}
 use Rattle.regex_lite_engine.proofs.search.OneStartLemmas.{one_inside}
 use Rattle.regex_lite_engine.proofs.pikevm.PassLemmas.{begun}
 use Rattle.regex_lite_engine.proofs.pikevm.ComingLemmas.{jumped}
@@ -80,18 +82,33 @@ module _ (table : List (Place ℕ)) (h : Text) (entries : List ℕ) (s from : �
         tries = omega (arith, tries, most);
         entries_left = omega (arith, entered, most_entered);
         width = on.width;
+        spent = λ begin len part. (
+            let own = on.spent begin len part in
+            let own_tries = own.tries in let own_entered = own.entries in
+            let ways = arrows_of (row_of table begin len) + length entries in
+            let most : ways * (p - s) ≤ ways * (passes.q - s) =
+            mul-le-mul_left ways (omega (arith, low, later)) in
+            let most_entered : len * (p - s) ≤ len * (passes.q - s) =
+            mul-le-mul_left len (omega (arith, low, later)) in
+            record {
+              tries = omega (arith, own_tries, most);
+              entries = omega (arith, own_entered, most_entered);
+              few = own.few;
+            });
       }
 
-  -- the search is taken up at a later position, with no more threads than arrows
+  -- the search is taken up at a later position, with no more threads than arrows, and than places
+  -- that read in any part of its own
   pub moved_on : {before : ℕ} (p r : ℕ) (cache now : Cache S)
       → IsOnItsWay table h entries s before p cache
       → IsBetween table now → now.walk.steps ≡ cache.walk.steps
       → p < r → from ≤ r →
       length now.walk.memory.threads ≤ arrows_of table
+      → FitsOwnParts table entries (length now.walk.memory.threads)
       → length now.walk.memory.row ≡ length cache.walk.memory.row →
       IsComing table h entries from (length h) r now.walk.memory.threads (best_of now.best)
       → IsOnItsWay table h entries s from r now
-  moved_on p r cache now on ready steps later after few width coming =
+  moved_on p r cache now on ready steps later after few fits width coming =
       let low = on.low in let tries = on.tries in let entered = on.entries_left in
       let same_tried : now.walk.steps.tried ≡ cache.walk.steps.tried =
       ap (λ (c : StepCounts). c.tried) steps in
@@ -107,29 +124,56 @@ module _ (table : List (Place ℕ)) (h : Text) (entries : List ℕ) (s from : �
         tries = omega (arith, tries, same_tried, few, most);
         entries_left = omega (arith, entered, same_entered, most_entered);
         width = width ∙ on.width;
+        spent = λ begin len part. (
+            let own = on.spent begin len part in
+            let own_tries = own.tries in let own_entered = own.entries in
+            let row = row_of table begin len in
+            let ways = arrows_of row + length entries in
+            let reads = fits begin len part in
+            let more = reads_within row in
+            let most = more_bound ways p r s low later in
+            let most_entered = more_bound len p r s low later in
+            record {
+              tries = omega (arith, own_tries, same_tried, reads, more, most);
+              entries = omega (arith, own_entered, same_entered, most_entered);
+              few = reads;
+            });
       }
 
--- a search on its way in the haystack did no more than is allowed
-pub bounded_on : (table : List (Place ℕ)) (h : Text) (entries : List ℕ) (s from p : ℕ)
-    {S : Type 0} (cache : Cache S)
-    → s ≤ length h → p ≤ length h + 1 → IsOnItsWay table h entries s from p cache →
-    IsBoundedBy (length table) (arrows_of table + length entries) h s cache.walk.steps.tried
-    cache.walk.steps.entered cache.walk.steps.looked
-bounded_on table h entries s from p cache inside most on =
-    let low = on.low in let tries = on.tries in let all_entered = on.entries_left in
-    let entered = on.ready.entered_tried in let looked = on.ready.looked_entered in
-    let all_tries = mul-le-mul_left (arrows_of table + length entries) (within low) in
-    let all_entries = mul-le-mul_left (length table) (within low) in
-    record {
-      few_tried = omega (arith, tries, all_tries);
-      entered_tried = entered;
-      few_entered = omega (arith, all_entered, all_entries);
-      few_looked = omega (arith, looked);
-      none_beyond = λ lt. absurd (omega (arith, lt, inside));
-    }
-  where
-    within : s ≤ p → p - s ≤ length h - s + 1
-    within low = omega (arith, low, inside, most)
+-- a search on its way in the haystack
+module _ (table : List (Place ℕ)) (h : Text) (entries : List ℕ) (s from p : ℕ) {S : Type 0}
+    (cache : Cache S) (inside : s ≤ length h) (high : p ≤ length h + 1)
+    (on : IsOnItsWay table h entries s from p cache) where
+  bounded_by : (size ways : ℕ)
+      → cache.walk.steps.tried + length cache.walk.memory.threads ≤ ways * (p - s)
+      → cache.walk.steps.entered ≤ size * (p - s) → IsBoundedBy size ways h s
+      cache.walk.steps.tried cache.walk.steps.entered cache.walk.steps.looked
+  bounded_by size ways tries all_entered =
+      let low = on.low in
+      let entered = on.ready.entered_tried in let looked = on.ready.looked_entered in
+      let within : p - s ≤ length h - s + 1 = omega (arith, low, inside, high) in
+      let all_tries = mul-le-mul_left ways within in
+      let all_entries = mul-le-mul_left size within in
+      record {
+        few_tried = omega (arith, tries, all_tries);
+        entered_tried = entered;
+        few_entered = omega (arith, all_entered, all_entries);
+        few_looked = omega (arith, looked);
+        none_beyond = λ lt. absurd (omega (arith, lt, inside));
+      }
+
+  -- it did no more than is allowed
+  pub bounded_on : IsBoundedBy (length table) (arrows_of table + length entries) h s
+      cache.walk.steps.tried cache.walk.steps.entered cache.walk.steps.looked
+  bounded_on = bounded_by (length table) (arrows_of table + length entries) on.tries on.entries_left
+
+  -- nor more than is allowed in any part of its own
+  pub bounded_own : (low len : ℕ) → IsOwnPart table entries low len
+      → IsBoundedBy len (arrows_of (row_of table low len) + length entries) h s
+      cache.walk.steps.tried cache.walk.steps.entered cache.walk.steps.looked
+  bounded_own low len part =
+      let own = on.spent low len part in
+      bounded_by len (arrows_of (row_of table low len) + length entries) own.tries own.entries
 
 -- another start than this offset is the first where there are threads
 pub other_first : (first at : ℕ) (threads : List Thread) → (length threads ≡ 0 → ⊥)
@@ -224,6 +268,7 @@ begun_on table h entries s cache fresh width =
       tries = u.tries;
       entries_left = u.entries;
       width = width;
+      spent = u.own;
     }
 
 -- a match was not complete before a place was entered

@@ -7,6 +7,7 @@ use Rattle.regex_lite_meta.proofs.Common.{IsComing, best_kept}
 use Rattle.regex_lite_meta.proofs.Common.{AreDeadAt, PassesTo, Origin, Cache, Here, Automaton}
 use Rattle.regex_lite_meta.proofs.Common.{threads_of, ways_of, Suits, IsFirstStart, IsIn}
 use Rattle.regex_lite_meta.proofs.Common.{IsOnItsWay, Stands, best_told, IsScanning}
+use Rattle.regex_lite_engine.specs.Graph.Parts.{IsOwnPart, row_of}
 use Rattle.regex_lite_engine.specs.Graph.Places.{Place}
 use Rattle.regex_lite_meta.specs.LazyDfa.Automaton.{IsEmptyState}
 use Rattle.regex_lite_engine.specs.Search.Bounds.{IsBoundedBy}
@@ -19,8 +20,8 @@ use Rattle.regex_lite_engine.specs.Pikevm.Turns.{EndsAt}
 use Rattle.regex_lite_engine.specs.Search.Starts.{AreAllStarts}
 use Rattle.regex_lite_meta.proofs.lazy_dfa.AnewLemmas.{found_from}
 use Rattle.regex_lite_meta.proofs.lazy_dfa.ResumeLemmas.{coming_less}
-use Rattle.regex_lite_meta.proofs.lazy_dfa.RunLemmas.{at_later, bounded_on, maybe_in_empty}
-use Rattle.regex_lite_meta.proofs.lazy_dfa.RunLemmas.{own_first, passed_over}
+use Rattle.regex_lite_meta.proofs.lazy_dfa.RunLemmas.{at_later, bounded_on, bounded_own}
+use Rattle.regex_lite_meta.proofs.lazy_dfa.RunLemmas.{maybe_in_empty, own_first, passed_over}
 use Rattle.regex_lite_engine.proofs.pikevm.StopLemmas.{done_after, done_found}
 
 module _ {table : List (Place ℕ)} {h : Text} {entries : List ℕ} {s : ℕ} {automaton : Automaton}
@@ -80,6 +81,17 @@ module _ {table : List (Place ℕ)} {h : Text} {entries : List ℕ} {s : ℕ} {a
       (arith, inside))
       (subst (IsOnItsWay table h entries s stands.from stands.p) (sym same) stands.on)
 
+  pub within_there : (now : Cache S) → now ≡ cache → (low len : ℕ)
+      → IsOwnPart table entries low len
+      → IsBoundedBy len (arrows_of (row_of table low len) + length entries) h s
+      now.walk.steps.tried now.walk.steps.entered now.walk.steps.looked
+  within_there now same =
+      let low = stands.on.low in
+      let inside = stands.is.inside in
+      bounded_own table h entries s stands.from stands.p now (omega (arith, low, inside)) (omega
+      (arith, inside))
+      (subst (IsOnItsWay table h entries s stands.from stands.p) (sym same) stands.on)
+
   -- positions are passed over at which no match can begin
   module _ {here : Here} (passes : PassesTo (AreDeadAt table h entries) h stands.p here) where
     pub later_there : at.here.at ≤ here.at
@@ -118,6 +130,15 @@ module _ {table : List (Place ℕ)} {h : Text} {entries : List ℕ} {s : ℕ} {a
         let low = stands.on.low in
         let inside = stands.is.inside in
         bounded_on table h entries s stands.from (stands.p + 1) new (omega (arith, low, inside))
+        (omega (arith, inside)) on
+
+    pub within_after : (low len : ℕ) → IsOwnPart table entries low len
+        → IsBoundedBy len (arrows_of (row_of table low len) + length entries) h s
+        new.walk.steps.tried new.walk.steps.entered new.walk.steps.looked
+    within_after =
+        let low = stands.on.low in
+        let inside = stands.is.inside in
+        bounded_own table h entries s stands.from (stands.p + 1) new (omega (arith, low, inside))
         (omega (arith, inside)) on
 
     -- what is asked for is known

@@ -4,6 +4,7 @@ use Rattle.std.specs.Prelude.{map, length, slice_get, slice_index, IfSome, Optio
 use Rattle.regex_lite_syntax.specs.Text.{Text}
 use Rattle.regex_lite_meta.specs.declared.lazy_dfa.side.Side.{Side}
 use Rattle.regex_lite_engine.specs.declared.search.here.Here.{Here}
+use Rattle.regex_lite_engine.specs.Graph.Parts.{IsOwnPart, row_of}
 use Rattle.regex_lite_engine.specs.Graph.Places.{Place, reading_of}
 use Rattle.regex_lite_engine.specs.Graph.Ways.{Leads}
 use Rattle.regex_lite_meta.specs.LazyDfa.Intervals.{AreIntervalsFor, Intervals, class_of}
@@ -127,10 +128,16 @@ pub record IsEmptyState (automaton : Automaton) (x : ℕ) (last : Option ℕ) : 
   pub searching : state.searching ≡ true
   pub sees : automaton.intervals.looks ≡ true → state.before ≡ side_of last
 
+-- this many are no more than the places that read a character in any part of the patterns' own
+abbrev pub FitsOwnParts : List (Place ℕ) → (entries : List ℕ) → (count : ℕ) → Type 0
+FitsOwnParts table entries count =
+    (low len : ℕ) → IsOwnPart table entries low len → count ≤ reading_of (row_of table low len)
+
 -- the ways lead to places of the table, and are no more than those that read a character
-pub record FitsTable (table : List (Place ℕ)) (ways : List Way) : Type 0 where
+pub record FitsTable (table : List (Place ℕ)) (entries : List ℕ) (ways : List Way) : Type 0 where
   pub below : (k : ℕ) (way : Way) → slice_get ways k ≡ Some way → way.place < length table
   pub few : length ways ≤ reading_of table
+  pub own : FitsOwnParts table entries (length ways)
 
 -- no way from any place reads more characters than these, whatever the haystack
 abbrev pub ReadsAtMost : (table : List (Place ℕ)) → (most : ℕ) → Type 0
@@ -148,4 +155,4 @@ pub record Remembers (table : List (Place ℕ)) (entries : List ℕ) (automaton 
       → (to : State) × (slice_get automaton.states (slice_index from.next class) ≡ Some to)
       × LeadsOn table entries automaton.intervals from class to
   pub fit : (x : ℕ) (state : State) → slice_get automaton.states x ≡ Some state
-      → FitsTable table state.ways
+      → FitsTable table entries state.ways

@@ -5,6 +5,7 @@ use Rattle.regex_lite_syntax.specs.Text.{Text}
 use Rattle.regex_lite_meta.specs.declared.lazy_dfa.run.Progress.{Progress}
 use Rattle.regex_lite_meta.specs.declared.lazy_dfa.state.StoredWay.{StoredWay}
 use Rattle.regex_lite_engine.specs.declared.pikevm.cache.Cache.{Cache}
+use Rattle.regex_lite_engine.specs.Graph.Parts.{IsOwnPart}
 use Rattle.regex_lite_engine.specs.Graph.Places.{Place}
 use Rattle.regex_lite_engine.specs.Graph.Renumbered.{arrows_of}
 use Rattle.regex_lite_meta.specs.LazyDfa.Automaton.{Automaton, IsEmptyState}
@@ -12,6 +13,7 @@ use Rattle.regex_lite_meta.specs.LazyDfa.Learning.{IsFirstStart, IsIn}
 use Rattle.regex_lite_engine.specs.Search.Beginnings.{Told}
 use Rattle.regex_lite_engine.specs.Search.NumberedList.{IsMatchOfAny}
 use Rattle.regex_lite_engine.specs.Pikevm.Machine.{Thread}
+use Rattle.regex_lite_engine.specs.Pikevm.Passing.{HasSpentWithin}
 use Rattle.regex_lite_engine.specs.Pikevm.Searching.{IsBetween}
 use Rattle.regex_lite_engine.specs.Search.Standing.{IsHere}
 use Rattle.regex_lite_engine.specs.Pikevm.Turns.{best_of, IsComing}
@@ -35,6 +37,9 @@ module _ (table : List (Place ℕ)) (haystack : Text) (entries : List ℕ) (s : 
         ≤ (arrows_of table + length entries) * (p - s)
     pub entries_left : cache.walk.steps.entered ≤ length table * (p - s)
     pub width : length cache.walk.memory.row ≡ 0
+    -- it stays in any part of the patterns' own
+    pub spent : (low len : ℕ) → IsOwnPart table entries low len
+        → HasSpentWithin table haystack entries s low len p cache
 
   -- that is where it stands, and its state, if that is known
   pub record Stands {S : Type 0} (automaton : Automaton) (at : Progress) (cache : Cache S)

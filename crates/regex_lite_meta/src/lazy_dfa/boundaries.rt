@@ -24,6 +24,8 @@ pub(crate) struct Boundaries {
     /// In the order in which they were added, each once. Those before `len` are used.
     cells: [u32; 125],
     len: usize,
+    /// For each ASCII character the cell of its boundary, if it has one.
+    ascii: [u8; 128],
     /// Whether some place looks at its neighbours.
     looks: bool,
 }
@@ -51,12 +53,25 @@ impl Boundaries {
         let mut bounds = Boundaries {
             cells: [0; MOST],
             len: 0,
+            ascii: [0; 128],
             looks: false,
         };
         'bounds: for k in 0..CHARACTER_BOUNDS.len() {
             bounds.push(CHARACTER_BOUNDS[k]);
         }
         bounds
+    }
+
+    /// The same.
+    pub(crate) fn copy(&self) -> Boundaries
+        ensures { result ≡ self.now }
+    {
+        Boundaries {
+            cells: self.cells,
+            len: self.len,
+            ascii: self.ascii,
+            looks: self.looks,
+        }
     }
 
     /// All of them.
@@ -131,12 +146,13 @@ impl Boundaries {
         ensures grows { Grows self.old self.new }
         ensures looks { self.new.looks ≡ self.old.looks }
     {
-        if is_among(self.all(), bound) {
+        if self.has(bound) {
             return true;
         }
         if self.len >= MOST {
             return false;
         }
+        self.note(bound);
         self.push(bound);
         true
     }
@@ -151,6 +167,35 @@ impl Boundaries {
     {
         self.cells[self.len] = bound;
         self.len += 1;
+    }
+
+    /// Keeps in mind that the boundary at this number comes next.
+    fn note(&mut self, bound: u32)
+        requires { length self.old.boundaries < 125 }
+        ensures { self.new ≡ self.old }
+    {
+        if bound < 128 {
+            self.ascii[bound as usize] = self.len as u8;
+        }
+    }
+
+    /// Whether an interval begins at this number. Most boundaries are at ASCII characters.
+    fn has(&self, bound: u32) -> bool
+        ensures { result ≡ true → IsBoundary self.now.boundaries bound }
+    {
+        if bound < 128 {
+            return self.has_at(self.ascii[bound as usize] as usize, bound);
+        }
+        is_among(self.all(), bound)
+    }
+
+    /// Whether this cell has the boundary at this number.
+    #[tactic(auto, using(crate::proofs::lazy_dfa::BoundaryLemmas::boundary_at))]
+    fn has_at(&self, cell: usize, bound: u32) -> bool
+        ensures { result ≡ true → IsBoundary self.now.boundaries bound }
+    {
+        let boundaries = self.all();
+        cell < boundaries.len() && boundaries[cell] == bound
     }
 }
 

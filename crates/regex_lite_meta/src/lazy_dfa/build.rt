@@ -1,5 +1,6 @@
 //! Automata that remember nothing yet.
 ghost use Rattle.std.specs.Prelude.{ℕ, List, IfSome};
+ghost use Rattle.regex_lite_meta.specs.LazyDfa.Intervals.{AreIntervalsFor};
 ghost use Rattle.regex_lite_meta.specs.LazyDfa.Remembering.{RemembersFor, RemembersAll};
 ghost use Rattle.regex_lite_engine.specs.Graph.Stored.{places_of};
 ghost use Rattle.regex_lite_engine.specs.Graph.StoredList.{table_of_list};
@@ -21,6 +22,19 @@ impl LazyDfa {
         ensures { (entries : List ℕ) → IfSome result (RemembersFor (places_of table.now) entries) }
     {
         let classes = Classes::of(table.all())?;
+        LazyDfa::with_classes(alloc, classes, table, patterns)
+    }
+
+    /// The same with these classes: the table distinguishes no two characters of one of them.
+    pub(crate) fn with_classes(
+        alloc: Global,
+        classes: Classes,
+        table: &Table,
+        patterns: usize,
+    ) -> Option<LazyDfa>
+        requires { AreIntervalsFor (places_of table.now) classes }
+        ensures { (entries : List ℕ) → IfSome result (RemembersFor (places_of table.now) entries) }
+    {
         let reach = reach_for(table, patterns);
         let room = Room::of(table.reading(), patterns, &classes);
         match LazyDfa::new(alloc, classes, room, spare_for(patterns), reach) {

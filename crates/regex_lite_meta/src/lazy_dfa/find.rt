@@ -1,10 +1,11 @@
 //! A whole search that remembers its turns, and goes by those that it remembers.
 ghost use Rattle.std.specs.Prelude.{◌≡◌, ◌+◌, ◌≤◌, [], ℕ, IfErr, IfOk, IfSome};
 ghost use Rattle.std.specs.Prelude.{MatchOption, None, chars, false, length, true};
-ghost use Rattle.regex_lite_meta.specs.LazyDfa.Automaton.{Remembers};
+ghost use Rattle.regex_lite_meta.specs.LazyDfa.Automaton.{FitsOwnParts, Remembers};
 ghost use Rattle.regex_lite_meta.specs.LazyDfa.Learning.{HasTurned, IsIn};
 ghost use Rattle.regex_lite_meta.specs.LazyDfa.Running.{Stands};
 ghost use Rattle.regex_lite_meta.specs.LazyDfa.Scanning.{best_told};
+ghost use Rattle.regex_lite_engine.specs.Graph.Parts.{IsOwnPart, row_of};
 ghost use Rattle.regex_lite_engine.specs.Graph.Renumbered.{arrows_of};
 ghost use Rattle.regex_lite_engine.specs.Search.Starts.{AreAllStarts};
 ghost use Rattle.regex_lite_engine.specs.Search.Bounds.{IsBoundedBy, characters_left};
@@ -97,6 +98,14 @@ impl LazyDfa {
             (arrows_of (P.table patterns.now) + length (P.entries patterns.now))
             (chars haystack.now) s cache.new.walk.steps.tried cache.new.walk.steps.entered
             cache.new.walk.steps.looked) }
+        ensures own { (s : ℕ) → Stands (P.table patterns.now) (chars haystack.now)
+            (P.entries patterns.now) s self.old from cache.old
+            → IfOk result (λ _. (low len : ℕ)
+            → IsOwnPart (P.table patterns.now) (P.entries patterns.now) low len
+            → IsBoundedBy len (arrows_of (row_of (P.table patterns.now) low len)
+            + length (P.entries patterns.now)) (chars haystack.now) s
+            cache.new.walk.steps.tried cache.new.walk.steps.entered
+            cache.new.walk.steps.looked) }
         ensures entered { IfOk result (λ found. IfSome found
             (λ _. least ≤ cache.new.walk.steps.entered)) }
         ensures stands { (s : ℕ) → Stands (P.table patterns.now) (chars haystack.now)
@@ -104,7 +113,7 @@ impl LazyDfa {
             → IfErr result (λ at. Stands (P.table patterns.now) (chars haystack.now)
             (P.entries patterns.now) s self.new at cache.new) }
         ensures none { IfErr result (λ _. EARLIEST ≡ true → best_of cache.new.best ≡ None) }
-        ensures own { IfErr result (λ at. at.anew ≡ false) }
+        ensures not_anew { IfErr result (λ at. at.anew ≡ false) }
         ensures remembers { Remembers (P.table patterns.now) (P.entries patterns.now) self.new }
         ensures none_pending { self.new.pending ≡ [] }
         ensures between { IsBetween (P.table patterns.now) cache.new }
@@ -144,6 +153,8 @@ impl LazyDfa {
         requires turned { MatchOption at.state (Unit {0}) (λ x. HasTurned (P.table patterns.now)
             (P.entries patterns.now) self.old x at.first at.here hit cache.now) }
         requires between { IsBetween (P.table patterns.now) cache.now }
+        requires own { FitsOwnParts (P.table patterns.now) (P.entries patterns.now)
+            (length cache.now.walk.memory.threads) }
         ensures remembers { Remembers (P.table patterns.now) (P.entries patterns.now) self.new }
         ensures none_pending { self.new.pending ≡ [] }
         ensures state { MatchOption result (Unit {0})

@@ -1,7 +1,7 @@
 //! Turns of a search, remembered.
 ghost use Rattle.std.specs.Prelude.{◌≡◌, [], ◌<◌, ◌++◌, ℕ, IfSome};
 ghost use Rattle.std.specs.Prelude.{MatchOption, Some, length, slice_get, true};
-ghost use Rattle.regex_lite_meta.specs.LazyDfa.Automaton.{Remembers, State};
+ghost use Rattle.regex_lite_meta.specs.LazyDfa.Automaton.{FitsOwnParts, Remembers, State};
 ghost use Rattle.regex_lite_meta.specs.LazyDfa.Automaton.{hit_of, searching_after, ways_of};
 ghost use Rattle.regex_lite_meta.specs.LazyDfa.Intervals.{side_of};
 ghost use Rattle.regex_lite_meta.specs.LazyDfa.Learning.{HasTurned, IsIn};
@@ -44,6 +44,8 @@ impl LazyDfa {
         requires turned { HasTurned (P.table patterns.now) (P.entries patterns.now) self.old
             taken.state taken.first taken.here taken.hit cache.now }
         requires between { IsBetween (P.table patterns.now) cache.now }
+        requires own { FitsOwnParts (P.table patterns.now) (P.entries patterns.now)
+            (length cache.now.walk.memory.threads) }
         requires none_pending { self.old.pending ≡ [] }
         ensures remembers { Remembers (P.table patterns.now) (P.entries patterns.now) self.new }
         ensures state { IfSome result (λ y.
@@ -72,6 +74,8 @@ impl LazyDfa {
     ) -> Option<u16>
         requires remembers { Remembers (P.table patterns.now) (P.entries patterns.now) self.old }
         requires between { IsBetween (P.table patterns.now) cache.now }
+        requires own { FitsOwnParts (P.table patterns.now) (P.entries patterns.now)
+            (length cache.now.walk.memory.threads) }
         requires none_pending { self.old.pending ≡ [] }
         ensures remembers { Remembers (P.table patterns.now) (P.entries patterns.now) self.new }
         ensures state { MatchOption result (Unit {0})
@@ -98,6 +102,8 @@ impl LazyDfa {
         requires remembers { Remembers (P.table patterns.now) (P.entries patterns.now) self.old }
         requires none_pending { self.old.pending ≡ [] }
         requires between { IsBetween (P.table patterns.now) cache.now }
+        requires own { FitsOwnParts (P.table patterns.now) (P.entries patterns.now)
+            (length cache.now.walk.memory.threads) }
         ensures remembers { Remembers (P.table patterns.now) (P.entries patterns.now) self.new }
         ensures none_pending { self.new.pending ≡ [] }
         ensures stands { (haystack : Text) (s : ℕ) → Stands (P.table patterns.now) haystack

@@ -1,7 +1,9 @@
 //! Searches by themselves that remember their turns, for one pattern or for several.
 ghost use Rattle.std.specs.Prelude.{◌≡◌, ◌<◌, ◌+◌, ℕ, IfErr, IfOk, IfSome};
 ghost use Rattle.std.specs.Prelude.{IsCharBoundary, None, chars, length, true};
+ghost use Rattle.regex_lite_meta.specs.LazyDfa.Remembering.{IsAlphabetOf};
 ghost use Rattle.regex_lite_meta.specs.LazyDfa.Scanning.{best_told};
+ghost use Rattle.regex_lite_engine.specs.Graph.Parts.{IsOwnPart, row_of};
 ghost use Rattle.regex_lite_engine.specs.Graph.Renumbered.{arrows_of};
 ghost use Rattle.regex_lite_engine.specs.Search.Bounds.{IsBoundedBy, characters_left};
 ghost use Rattle.regex_lite_engine.specs.Search.Offsets.{position_at};
@@ -10,10 +12,10 @@ ghost use Rattle.regex_lite_engine.specs.Search.Starts.{AreAllStarts};
 ghost use Rattle.regex_lite_engine.specs.Search.Counting.{CanCount};
 ghost use Rattle.regex_lite_engine.specs.Search.NumberedOutcomes.{IsFoundOf};
 ghost use Rattle.regex_lite_engine.specs.Pikevm.Passing.{IsUnderWay};
-ghost use Rattle.regex_lite_engine.specs.Pikevm.Searching.{IsFresh};
+ghost use Rattle.regex_lite_engine.specs.Pikevm.Searching.{IsBetween, IsFresh};
 ghost use Rattle.regex_lite_engine.specs.Pikevm.Turns.{best_of};
 
-use crate::lazy_dfa::automaton::LazyDfa;
+use crate::lazy_dfa::builder::Builder;
 use crate::lazy_dfa::run::Progress;
 use crate::strategy::TURNS_WITHOUT;
 use regex_lite_engine::pikevm::beginning::Origin;
@@ -21,7 +23,6 @@ use regex_lite_engine::pikevm::cache::Cache;
 use regex_lite_engine::pikevm::run::advance;
 use regex_lite_engine::search::here::Here;
 use regex_lite_engine::search::patterns::Patterns;
-use std::alloc::Global;
 
 pub(crate) mod graph;
 pub(crate) mod list;
@@ -30,15 +31,16 @@ pub(crate) mod list;
 /// pattern. With EARLIEST it is one with the least end, and its start and number say nothing.
 /// The search goes on with an automaton if it isn't over soon. `patterns` are those that may start
 /// at a position, and `all` start everywhere.
-pub(super) fn find_once<P: Patterns, A: Patterns, const EARLIEST: bool>(
+pub(crate) fn find_once<P: Patterns, A: Patterns, const EARLIEST: bool>(
     patterns: &mut P,
     all: &A,
-    alloc: Global,
+    builder: &Builder,
     cache: &mut Cache<Origin>,
     haystack: &str,
     start: usize,
 ) -> Option<(Origin, usize)>
     requires all { AreAllStarts (A.table all.now) (A.entries all.now) (A.starts all.now) }
+    requires alphabet { IsAlphabetOf (A.table all.now) builder.now.alphabet }
     requires table { A.table all.now ≡ P.table patterns.old }
     requires entries { A.entries all.now ≡ P.entries patterns.old }
     requires boundary { IsCharBoundary haystack.now start }
@@ -52,14 +54,22 @@ pub(super) fn find_once<P: Patterns, A: Patterns, const EARLIEST: bool>(
         (arrows_of (P.table patterns.old) + length (P.entries patterns.old)) (chars haystack.now)
         (position_at haystack.now start) cache.new.walk.steps.tried
         cache.new.walk.steps.entered cache.new.walk.steps.looked }
+    ensures own { (low len : ℕ) → IsOwnPart (P.table patterns.old) (P.entries patterns.old) low len
+        → IsBoundedBy len
+        (arrows_of (row_of (P.table patterns.old) low len) + length (P.entries patterns.old))
+        (chars haystack.now) (position_at haystack.now start) cache.new.walk.steps.tried
+        cache.new.walk.steps.entered cache.new.walk.steps.looked }
     ensures entered { IfSome result (λ _. 0 < cache.new.walk.steps.entered) }
+    ensures between { IsBetween (P.table patterns.old) cache.new }
+    ensures width { length cache.new.walk.memory.row ≡ 0 }
 {
     let here = Here::at(haystack, start);
     let soon = advance::<_, _, EARLIEST>(cache, patterns, haystack, here, Some(TURNS_WITHOUT));
     let Some(here) = soon else {
         return cache.best.found();
     };
-    match find_learning::<_, EARLIEST>(all, alloc, cache, haystack, here) {
+    let went = here.at.saturating_sub(start);
+    match find_learning::<_, EARLIEST>(all, builder, cache, haystack, here, went) {
         Ok(found) => found,
         Err(here) => {
             advance::<_, _, EARLIEST>(cache, patterns, haystack, here, None);
@@ -68,16 +78,18 @@ pub(super) fn find_once<P: Patterns, A: Patterns, const EARLIEST: bool>(
     }
 }
 
-/// Goes on with a new automaton. Returns where the search stands if there is no memory for one, or
-/// if it is given up.
+/// Goes on with a new automaton, after turns that went over this many bytes. Returns where the
+/// search stands if there is none, or if it is given up.
 fn find_learning<A: Patterns, const EARLIEST: bool>(
     all: &A,
-    alloc: Global,
+    builder: &Builder,
     cache: &mut Cache<Origin>,
     haystack: &str,
     from: Here,
+    went: usize,
 ) -> Result<Option<(Origin, usize)>, Here>
     requires all { AreAllStarts (A.table all.now) (A.entries all.now) (A.starts all.now) }
+    requires alphabet { IsAlphabetOf (A.table all.now) builder.now.alphabet }
     requires on { (s p : ℕ) × IsHere (chars haystack.now) p from
         × CanCount (A.table all.now) (length (A.entries all.now))
         (characters_left (chars haystack.now) s)
@@ -93,6 +105,13 @@ fn find_learning<A: Patterns, const EARLIEST: bool>(
         → IfOk result (λ _. IsBoundedBy (length (A.table all.now))
         (arrows_of (A.table all.now) + length (A.entries all.now)) (chars haystack.now) s
         cache.new.walk.steps.tried cache.new.walk.steps.entered cache.new.walk.steps.looked) }
+    ensures own { (s p : ℕ) → IsHere (chars haystack.now) p from
+        → IsUnderWay (A.table all.now) (chars haystack.now) (A.entries all.now) s p cache.old
+        → IfOk result (λ _. (low len : ℕ)
+        → IsOwnPart (A.table all.now) (A.entries all.now) low len → IsBoundedBy len
+        (arrows_of (row_of (A.table all.now) low len) + length (A.entries all.now))
+        (chars haystack.now) s cache.new.walk.steps.tried cache.new.walk.steps.entered
+        cache.new.walk.steps.looked) }
     ensures entered { IfOk result (λ found. IfSome found
         (λ _. 0 < cache.new.walk.steps.entered)) }
     ensures stands { (s p : ℕ) → IsHere (chars haystack.now) p from
@@ -100,9 +119,10 @@ fn find_learning<A: Patterns, const EARLIEST: bool>(
         → IfErr result (λ here. (q : ℕ) × IsHere (chars haystack.now) q here
         × IsUnderWay (A.table all.now) (chars haystack.now) (A.entries all.now) s q cache.new) }
     ensures none { IfErr result (λ _. EARLIEST ≡ true → best_of cache.new.best ≡ None) }
-    ensures width { IfErr result (λ _. length cache.new.walk.memory.row ≡ 0) }
+    ensures between { IsBetween (A.table all.now) cache.new }
+    ensures width { length cache.new.walk.memory.row ≡ 0 }
 {
-    let Some(mut dfa) = LazyDfa::for_table(alloc, all.table(), all.len()) else {
+    let Some(mut dfa) = builder.build(all.table(), all.len(), went) else {
         return Err(from);
     };
     let Some(at) = Progress::on_the_way(cache, from) else {

@@ -4,6 +4,8 @@ ghost use Rattle.std.specs.Prelude.{◌≡◌};
 use regex_lite_engine::Graph;
 use regex_lite_engine::nfa::list::GraphList;
 use regex_lite_engine::nfa::table::Table;
+use regex_lite_engine::search::one_pattern::OnePattern;
+use regex_lite_engine::search::own_filter::OwnFilter;
 use regex_lite_syntax::prefilter::{Filter, ListHeads, Prefilter};
 
 /// The graph of one pattern or of several, and where their matches can begin. What it takes time to
@@ -18,6 +20,7 @@ pub(crate) struct Searched<'g> {
 #[derive(Clone, Copy)]
 enum HeadsOf<'g> {
     One(&'g Filter),
+    OneOfList(&'g OwnFilter),
     Several(&'g ListHeads),
 }
 
@@ -32,7 +35,7 @@ pub(super) enum Beginning {
     Rarely,
     /// With any character, since the pattern reads none.
     Unread,
-    /// At few positions, which an index of several patterns finds.
+    /// At few positions, which an index of several patterns or two known characters find.
     Indexed,
 }
 
@@ -45,6 +48,17 @@ impl<'g> Searched<'g> {
         Searched {
             table: graph.table(),
             heads: HeadsOf::One(graph.filter()),
+        }
+    }
+
+    /// One pattern of a list, by itself.
+    #[inline(always)]
+    pub(crate) fn one_of_list(pattern: &OnePattern<'g, OwnFilter>) -> Searched<'g>
+        ensures { result.table.now ≡ pattern.now.table.now }
+    {
+        Searched {
+            table: pattern.table,
+            heads: HeadsOf::OneOfList(pattern.filter),
         }
     }
 
@@ -63,12 +77,10 @@ impl<'g> Searched<'g> {
     #[inline(always)]
     pub(super) fn beginning(&self) -> Beginning {
         match self.heads {
-            HeadsOf::One(filter) => match filter.prefilter() {
-                None if self.table.reading() == 0 => Beginning::Unread,
-                None => Beginning::Often,
-                Some(Prefilter::Range(_, _)) => Beginning::InRange,
-                Some(_) => Beginning::Rarely,
-            },
+            HeadsOf::One(filter) => self.beginning_by(filter),
+            // One that begins with two characters that are known is mostly passed over.
+            HeadsOf::OneOfList(OwnFilter::Literal(_)) => Beginning::Indexed,
+            HeadsOf::OneOfList(OwnFilter::Whole(filter)) => self.beginning_by(filter),
             HeadsOf::Several(heads) => {
                 if heads.begin_often() {
                     Beginning::Often
@@ -76,6 +88,17 @@ impl<'g> Searched<'g> {
                     Beginning::Indexed
                 }
             }
+        }
+    }
+
+    /// How a match of one pattern begins.
+    #[inline(always)]
+    fn beginning_by(&self, filter: &Filter) -> Beginning {
+        match filter.prefilter() {
+            None if self.table.reading() == 0 => Beginning::Unread,
+            None => Beginning::Often,
+            Some(Prefilter::Range(_, _)) => Beginning::InRange,
+            Some(_) => Beginning::Rarely,
         }
     }
 
@@ -88,7 +111,7 @@ impl<'g> Searched<'g> {
     #[inline(always)]
     pub(super) fn are_several(&self) -> bool {
         match self.heads {
-            HeadsOf::One(_) => false,
+            HeadsOf::One(_) | HeadsOf::OneOfList(_) => false,
             HeadsOf::Several(_) => true,
         }
     }

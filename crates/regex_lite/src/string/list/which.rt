@@ -7,13 +7,16 @@ ghost use Rattle.regex_lite.specs.Searches.{CanStartAt};
 use crate::string::list::RegexList;
 use crate::string::list::set_matches::SetMatches;
 use regex_lite_engine::Steps;
+use regex_lite_meta::search_each;
 use regex_lite_syntax::Error;
 
 impl RegexList {
     /// Which of the patterns match somewhere in the haystack.
     ///
-    /// Each pattern is searched for by itself, up to the first match that the search comes to, all
-    /// in the same memory.
+    /// Each pattern is searched for by itself, up to the first match that the search comes to. The
+    /// memory of one search is kept for the next. In a long haystack a pattern for which most
+    /// characters take a turn is searched for as a [`Regex`](crate::Regex) by itself is, by turns
+    /// that are remembered.
     ///
     /// ```
     /// let list = RegexList::new(alloc, &["[0-9]+", "[a-z]+", "sam"])?;
@@ -76,7 +79,7 @@ impl RegexList {
         ensures refused { IfErr result (λ error. error ≡ out_of_memory) }
     {
         let graph = &self.compiled.graph;
-        let (matched, steps) = graph.search_each(self.alloc, haystack, start)?;
+        let (matched, steps) = search_each(graph, self.alloc, haystack, start)?;
         Ok((SetMatches { matched }, steps))
     }
 }

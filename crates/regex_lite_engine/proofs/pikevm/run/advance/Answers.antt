@@ -9,7 +9,7 @@ use Rattle.regex_lite_engine.proofs.pikevm.run.advance.Goals as goal
 
 pub positions-init : goal.positions-init
 positions-init g c = record {
-  under_way = λ s p is on. (p, is, on, λ low len part spent. spent);
+  under_way = λ s p is on. (p, is, on);
   none = c.requires.none;
   table = refl;
   entries = refl;
@@ -54,7 +54,6 @@ positions-preserved g c =
             w.q + 1,
             c.next-here.ensures w.q w.is,
             w.after,
-            λ low len part spent. w.own low len part (at.3 low len part spent),
           );
       none = λ earliest.
           c.is_done.ensures.none_yet earliest (not_true c.is_done.result c.if-is_done.false);
@@ -81,7 +80,7 @@ returns-then-is_spent g c =
     record {
       stops = λ s p is on.
           let at = v.under_way s p is on in
-          record { q = at.0; on = at.2; own = at.3; why = (at.1, v.none) };
+          record { q = at.0; on = at.2; why = (at.1, v.none) };
       all = λ none. absurd ((c.is_spent.ensures.all (v.all none)).1 (search rules));
       counts = v.counts;
       width = v.width;
@@ -104,7 +103,6 @@ returns-then-is_done g c =
           record {
             q = w.q + 1;
             on = w.after;
-            own = λ low len part spent. w.own low len part (at.3 low len part spent);
             why = over_after at.2.low v.none (c.is_done.ensures.done (search rules)) w;
           };
       all = λ none. refl;

@@ -1,7 +1,7 @@
 use Rattle.regex_lite_engine.proofs.Common.{◌≡◌, ℕ, ◌-◌, true, length, chars, None, StaysCounted}
-use Rattle.regex_lite_engine.proofs.Common.{◌==◌, IsHere, IsOwnPart, best_of}
+use Rattle.regex_lite_engine.proofs.Common.{◌==◌, IsHere, best_of}
 use Rattle.std.specs.Prelude.{not}
-use Rattle.regex_lite_engine.specs.Pikevm.Passing.{HasSpentWithin, IsUnderWay}
+use Rattle.regex_lite_engine.specs.Pikevm.Passing.{IsUnderWay}
 use Rattle.regex_lite_engine.proofs.pikevm.run.advance.Given as goal
 
 abbrev pub invariant-positions : goal.invariant-positions
@@ -11,13 +11,7 @@ invariant-positions g l = record {
       (g.P.Patterns.entries l.fn.patterns) s p l.initial.cache
       → (q : ℕ) × IsHere (chars l.haystack) q l.here
       × IsUnderWay (g.P.Patterns.table l.fn.patterns) (chars l.haystack)
-      (g.P.Patterns.entries l.fn.patterns) s q l.cache
-      × ((low len : ℕ) → IsOwnPart (g.P.Patterns.table l.fn.patterns)
-      (g.P.Patterns.entries l.fn.patterns) low len
-      → HasSpentWithin (g.P.Patterns.table l.fn.patterns) (chars l.haystack)
-      (g.P.Patterns.entries l.fn.patterns) s low len p l.initial.cache
-      → HasSpentWithin (g.P.Patterns.table l.fn.patterns) (chars l.haystack)
-      (g.P.Patterns.entries l.fn.patterns) s low len q l.cache);
+      (g.P.Patterns.entries l.fn.patterns) s q l.cache;
   none : not (g.row.EARLIEST == 0) ≡ true → best_of l.cache.best ≡ None;
   table : g.P.Patterns.table l.patterns ≡ g.P.Patterns.table l.fn.patterns;
   entries : g.P.Patterns.entries l.patterns ≡ g.P.Patterns.entries l.fn.patterns;

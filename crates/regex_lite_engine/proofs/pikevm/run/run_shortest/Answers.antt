@@ -1,5 +1,5 @@
 use Rattle.regex_lite_engine.proofs.Common.{refl, position_at}
-use Rattle.regex_lite_engine.proofs.pikevm.PassLemmas.{begun, begun_within}
+use Rattle.regex_lite_engine.proofs.pikevm.PassLemmas.{begun}
 use Rattle.regex_lite_engine.proofs.pikevm.StopLemmas.{over_found, over_bounded, over_within}
 use Rattle.regex_lite_engine.proofs.pikevm.run.run_shortest.Goals as goal
 
@@ -34,4 +34,3 @@ returns-clause-own g c = λ low len part.
     let s = position_at c.args.haystack.now c.args.start in
     over_within (rw (c.advance.ensures.all refl) at c.advance.ensures.stops s s c.at.ensures.here
     (begun _ _ _ s c.args.cache.now c.requires.fresh)) low len part
-    (begun_within _ _ _ s c.args.cache.now c.requires.fresh low len)

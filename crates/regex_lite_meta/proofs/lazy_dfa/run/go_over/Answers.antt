@@ -46,6 +46,22 @@ returns-clause-on g c = λ s from p is on.
       width =
           sym c.turn.ensures.ready.best_width ∙ c.turn.ensures.width ∙ on.ready.best_width
           ∙ on.width;
+      spent = λ begin len part. (
+          let own = on.spent begin len part in
+          let spends = c.turn.ensures.own h entries p from (length h) begin len is after is.inside
+          (all.at_each h p) on.coming part in
+          record {
+            tries =
+                bound_on table h entries s
+                (old.walk.steps.tried + length old.walk.memory.threads)
+                (new.walk.steps.tried + length new.walk.memory.threads) p p
+                _ low (omega arith) own.tries
+                (omega (arith, spends.tries, few));
+            entries =
+                bound_on table h entries s old.walk.steps.entered new.walk.steps.entered p p len
+                low (omega arith) own.entries spends.entries;
+            few = spends.few;
+          });
     }
 
 pub turn-requires-clause-ready : goal.turn-requires-clause-ready

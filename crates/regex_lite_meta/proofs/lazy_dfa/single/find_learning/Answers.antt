@@ -13,6 +13,13 @@ state_at-state-requires-clause-none_pending g c =
 pub state_at-state-requires-clause-between : goal.state_at-state-requires-clause-between
 state_at-state-requires-clause-between g c = c.requires.on.4.ready
 
+pub build-requires : goal.build-requires
+build-requires g c = rw c.table.ensures c.requires.alphabet
+
+pub state_at-state-requires-clause-own : goal.state_at-state-requires-clause-own
+state_at-state-requires-clause-own g c =
+    let on = c.requires.on.4 in λ low len part. (on.own low len part).few
+
 pub search_while_it_pays-requires-clause-stands : goal.search_while_it_pays-requires-clause-stands
 search_while_it_pays-requires-clause-stands g c =
     let from = c.requires.on in
@@ -38,10 +45,17 @@ returns-in-Ok-clause-bounded g c = λ s p is on.
     c.in-Ok.ensures.bounded s
     (known_stands _ _ _ _ _ _ _ _ _ _ stands c.with_state-at.ensures c.state_at-state.ensures.state)
 
+pub returns-in-Ok-clause-own : goal.returns-in-Ok-clause-own
+returns-in-Ok-clause-own g c = λ s p is on.
+    let stands = c.in-Some-on_the_way.ensures _ _ _ s p empty is
+    (on_its_way _ _ _ s on c.requires.width) in
+    c.in-Ok.ensures.own s
+    (known_stands _ _ _ _ _ _ _ _ _ _ stands c.with_state-at.ensures c.state_at-state.ensures.state)
+
 pub returns-clause-stands : goal.returns-clause-stands
 returns-clause-stands g c = λ s p is on.
     let stands = c.in-Some-on_the_way.ensures _ _ _ s p empty is
     (on_its_way _ _ _ s on c.requires.width) in
     let there = c.in-Err.ensures.stands s
     (known_stands _ _ _ _ _ _ _ _ _ _ stands c.with_state-at.ensures c.state_at-state.ensures.state)
-    in (there.p, there.is, stands_under_way there c.in-Err.ensures.own)
+    in (there.p, there.is, stands_under_way there c.in-Err.ensures.not_anew)

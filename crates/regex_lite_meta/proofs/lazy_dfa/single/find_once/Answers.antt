@@ -1,6 +1,6 @@
 use Rattle.regex_lite_meta.proofs.Common.{◌==◌, refl, sym, ◌∙◌, arith, best_of, position_at, not}
 use Rattle.regex_lite_engine.proofs.pikevm.PassLemmas.{begun}
-use Rattle.regex_lite_engine.proofs.pikevm.StopLemmas.{over_bounded, over_found}
+use Rattle.regex_lite_engine.proofs.pikevm.StopLemmas.{over_bounded, over_found, over_within}
 use Rattle.regex_lite_meta.proofs.lazy_dfa.OnceLemmas.{found_kept, under_as}
 use Rattle.regex_lite_meta.proofs.lazy_dfa.RunLemmas.{match_counted}
 use Rattle.regex_lite_meta.proofs.lazy_dfa.single.find_once.Goals as goal
@@ -31,9 +31,12 @@ returns-in_default g c =
       found = found_kept _ _ _ s (not (g.row.EARLIEST == 0)) now c.found.result width
           c.found.ensures (over_found stops);
       bounded = over_bounded stops;
+      own = over_within stops;
       entered =
           match_counted (best_of now.best) c.found.result now.best.row now.walk.steps.entered 1
           c.found.ensures c.advance-soon.ensures.between.match_entered (omega arith);
+      between = c.advance-soon.ensures.between;
+      width = sym c.advance-soon.ensures.between.best_width ∙ width;
     }
 
 pub find_learning-requires : goal.find_learning-requires
@@ -43,6 +46,7 @@ find_learning-requires g c =
     let stops = c.in-Some.ensures.stops s s c.at-here.ensures.here begun in
     record {
       all = c.requires.all;
+      alphabet = c.requires.alphabet;
       on = (
         s,
         stops.q,
@@ -73,6 +77,15 @@ returns-in-Ok-clause-bounded g c =
     let stops = c.in-Some.ensures.stops s s c.at-here.ensures.here begun in
     rw (c.requires.table, c.requires.entries)
     at (c.in-Ok.ensures.bounded s stops.q stops.why.0
+    (rw (c.requires.table, c.requires.entries) stops.on))
+
+pub returns-in-Ok-clause-own : goal.returns-in-Ok-clause-own
+returns-in-Ok-clause-own g c =
+    let s = position_at c.args.haystack.now c.args.start in
+    let begun = begun _ _ _ s c.args.cache.now c.requires.fresh in
+    let stops = c.in-Some.ensures.stops s s c.at-here.ensures.here begun in
+    rw (c.requires.table, c.requires.entries)
+    at (c.in-Ok.ensures.own s stops.q stops.why.0
     (rw (c.requires.table, c.requires.entries) stops.on))
 
 pub advance-requires : goal.advance-requires
@@ -120,6 +133,19 @@ returns-in-Err-clause-bounded g c =
     (rw (c.requires.table, c.requires.entries) stops.on) in
     rw (c.advance-soon.ensures.table, c.advance-soon.ensures.entries)
     at (over_bounded (rw (c.advance.ensures.all refl)
+    at (c.advance.ensures.stops s on.0 on.1
+    (under_as (sym c.advance-soon.ensures.table) (sym c.advance-soon.ensures.entries)
+    (under_as c.requires.table c.requires.entries on.2)))))
+
+pub returns-in-Err-clause-own : goal.returns-in-Err-clause-own
+returns-in-Err-clause-own g c =
+    let s = position_at c.args.haystack.now c.args.start in
+    let begun = begun _ _ _ s c.args.cache.now c.requires.fresh in
+    let stops = c.in-Some.ensures.stops s s c.at-here.ensures.here begun in
+    let on = c.in-Err.ensures.stands s stops.q stops.why.0
+    (rw (c.requires.table, c.requires.entries) stops.on) in
+    rw (c.advance-soon.ensures.table, c.advance-soon.ensures.entries)
+    at (over_within (rw (c.advance.ensures.all refl)
     at (c.advance.ensures.stops s on.0 on.1
     (under_as (sym c.advance-soon.ensures.table) (sym c.advance-soon.ensures.entries)
     (under_as c.requires.table c.requires.entries on.2)))))

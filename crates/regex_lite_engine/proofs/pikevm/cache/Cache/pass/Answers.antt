@@ -57,19 +57,21 @@ returns-clause-passes g c s p is before =
         entries = bound_on table haystack entries s old.walk.steps.entered
             new.walk.steps.entered p w.q (length table) low later on.entries
             c.turn.ensures.entries;
+        own = λ begin len part. (
+            let spent = on.own begin len part in
+            let spends = c.turn.ensures.own haystack entries w.q s (length haystack) begin len w.is
+            first w.is.inside (c.come_to.ensures.starts w.q w.is) w.coming part in
+            record {
+              tries = bound_on table haystack entries s
+                  (old.walk.steps.tried + length old.walk.memory.threads)
+                  (new.walk.steps.tried + length new.walk.memory.threads) p w.q
+                  (arrows_of (row_of table begin len) + length entries) low later spent.tries
+                  (omega (arith, spends.tries, few));
+              entries = bound_on table haystack entries s old.walk.steps.entered
+                  new.walk.steps.entered p w.q len low later spent.entries spends.entries;
+              few = spends.few;
+            });
       };
-      own = λ begin len part spent. (
-          let spends = c.turn.ensures.own haystack entries w.q s (length haystack) begin len w.is
-          first w.is.inside (c.come_to.ensures.starts w.q w.is) w.coming part in
-          record {
-            tries = bound_on table haystack entries s
-                (old.walk.steps.tried + length old.walk.memory.threads)
-                (new.walk.steps.tried + length new.walk.memory.threads) p w.q
-                (arrows_of (row_of table begin len) + length entries) low later spent.tries
-                (omega (arith, spends.tries, few));
-            entries = bound_on table haystack entries s old.walk.steps.entered
-                new.walk.steps.entered p w.q len low later spent.entries spends.entries;
-          });
     }
 
 pub turn-requires-clause-few_ways : goal.turn-requires-clause-few_ways

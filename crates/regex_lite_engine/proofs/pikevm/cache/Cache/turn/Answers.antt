@@ -1,5 +1,6 @@
 use Rattle.regex_lite_engine.proofs.Common.{◌≡◌, ℕ, ◌+◌, List, length, sym, ap, ◌∙◌, subst, arith}
 use Rattle.regex_lite_engine.proofs.Common.{Text, row_of, arrow_count, all_retold, state_retold}
+use Rattle.regex_lite_engine.proofs.Common.{reading_count}
 use Rattle.regex_lite_engine.proofs.Common.{best_again, ThreadsBelow, best_of, IsComing}
 use Rattle.regex_lite_engine.proofs.Common.{with_starts, SearchAt, Told, lone}
 use Rattle.regex_lite_engine.specs.Pikevm.Room.{explores}
@@ -136,6 +137,8 @@ returns-clause-own g c = λ haystack entries p first last begin len is low high 
     left_outside arrow_count left.entered table begin len followed.room.all_seen only in
     let others =
     left_outside lone left.entered table begin len followed.room.all_seen only in
+    let readers =
+    left_outside reading_count left.entered table begin len followed.room.all_seen only in
     let none : length n.next ≡ 0 = ap length round.next ∙ ap length r.ready.none_next in
     let idle : explores n.frames ≡ 0 =
     ap (λ fs. explores fs) (round.frames ∙ r.ready.stack_empty) in
@@ -153,6 +156,7 @@ returns-clause-own g c = λ haystack entries p first last begin len is low high 
         sum_lone (row_of table begin len),
         length_row table begin len,
       );
+      few = omega (arith, followed.room.next_room, readers, over);
     }
 
 pub returns-clause-again : goal.returns-clause-again

@@ -9,6 +9,10 @@ returns-clause-remembers g c =
     c.idle_state-state.ensures.remembers (g.P.Patterns.table c.args.patterns.now)
     (g.P.Patterns.entries c.args.patterns.now) c.requires.remembers
 
+pub find_state_again-requires-clause-own : goal.find_state_again-requires-clause-own
+find_state_again-requires-clause-own g c =
+    let on = c.requires.stands.1.on in λ low len part. (on.spent low len part).few
+
 pub returns-in-Some-clause-stands : goal.returns-in-Some-clause-stands
 returns-in-Some-clause-stands g c = λ s stands.
     let a = c.args in

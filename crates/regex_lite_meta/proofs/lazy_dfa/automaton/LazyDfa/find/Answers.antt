@@ -21,7 +21,7 @@ advance-requires-clause-on g c =
       stands.p,
       stands.is,
       c.requires.on.2,
-      stands_under_way stands c.in-Err.ensures.own,
+      stands_under_way stands c.in-Err.ensures.not_anew,
     )
 
 pub returns-in-Err : goal.returns-in-Err
@@ -38,7 +38,7 @@ returns-in-Err g c =
           found_kept _ _ _ s (not (g.row.EARLIEST == 0)) c.advance.new.cache c.found.result width
           c.found.ensures
           (over_found (rw (c.advance.ensures.all refl) at c.advance.ensures.stops s stands.p
-          stands.is (stands_under_way stands c.in-Err.ensures.own)));
+          stands.is (stands_under_way stands c.in-Err.ensures.not_anew)));
       remembers = c.search_while_it_pays.ensures.remembers;
       none_pending = c.search_while_it_pays.ensures.none_pending;
       between = c.advance.ensures.between;

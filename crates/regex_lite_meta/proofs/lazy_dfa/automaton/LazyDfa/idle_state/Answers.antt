@@ -7,7 +7,8 @@ pub returns-clause-remembers : goal.returns-clause-remembers
 returns-clause-remembers c = λ table entries remembers.
     let old = c.args.self.now in
     still_remembers table entries old c.settle.new.self remembers c.settle.ensures.extends
-    (subst (FitsTable table) (sym c.requires.none_pending) (record {
+    (subst (FitsTable table entries) (sym c.requires.none_pending) (record {
       below = λ k way there. absurd (not_there there);
       few = omega arith;
+      own = λ low len part. omega arith;
     }))

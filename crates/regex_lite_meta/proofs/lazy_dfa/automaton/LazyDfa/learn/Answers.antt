@@ -31,7 +31,7 @@ settled g c =
     c.gather.new.self
     c.settle.new.self a.taken.first a.cache.now.walk.memory.threads
     (c.if-not-gather.ensures.gathered refl) c.requires.none_pending c.requires.remembers
-    between.below between.few c.settle.ensures.extends
+    between.below between.few c.requires.own c.settle.ensures.extends
 
 pub searching_after-searching-requires : goal.searching_after-searching-requires
 searching_after-searching-requires g c =

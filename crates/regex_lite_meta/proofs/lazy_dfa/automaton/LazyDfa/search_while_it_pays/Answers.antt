@@ -3,7 +3,7 @@ use Rattle.regex_lite_meta.proofs.Common.{◌==◌, ◌∙◌, arith, rules, bes
 use Rattle.regex_lite_meta.proofs.lazy_dfa.OnceLemmas.{found_kept}
 use Rattle.regex_lite_meta.proofs.lazy_dfa.RunLemmas.{match_counted}
 use Rattle.regex_lite_meta.proofs.lazy_dfa.StandsLemmas.{bounded_after, bounded_there, found_there}
-use Rattle.regex_lite_meta.proofs.lazy_dfa.StandsLemmas.{turned_there}
+use Rattle.regex_lite_meta.proofs.lazy_dfa.StandsLemmas.{turned_there, within_after, within_there}
 use Rattle.regex_lite_engine.proofs.search.here.HereLemmas.{at_most}
 use Rattle.regex_lite_meta.proofs.lazy_dfa.automaton.LazyDfa.search_while_it_pays.Goals as goal
 
@@ -131,6 +131,24 @@ pub returns-in-Some-clause-bounded : goal.returns-in-Some-clause-bounded
 returns-in-Some-clause-bounded g c = λ s begun.
     bounded_there (c.at_idle-at.ensures.stands s (c.positions.invariant.stands s begun))
     c.look_ahead-ahead.new.cache c.in-Some.ensures.same
+
+pub returns-in-Some-clause-own : goal.returns-in-Some-clause-own
+returns-in-Some-clause-own g c = λ s begun.
+    within_there (c.at_idle-at.ensures.stands s (c.positions.invariant.stands s begun))
+    c.look_ahead-ahead.new.cache c.in-Some.ensures.same
+
+pub returns-then-is_done-clause-own : goal.returns-then-is_done-clause-own
+returns-then-is_done-clause-own g c = λ s begun.
+    let idle = c.at_idle-at.ensures.stands s (c.positions.invariant.stands s begun) in
+    let stands = c.in_default.ensures.stands s idle in
+    within_after stands (c.go_over-hit.ensures.on _ _ _ stands.is stands.on)
+
+pub learn_at-at-requires-clause-own : goal.learn_at-at-requires-clause-own
+learn_at-at-requires-clause-own g c =
+    let at = c.positions.invariant.stands _ c.requires.stands.2 in
+    let stands = c.in_default.ensures.stands _ (c.at_idle-at.ensures.stands _ at) in
+    let on = c.go_over-hit.ensures.on _ _ _ stands.is stands.on in
+    λ low len part. (on.spent low len part).few
 
 pub returns-then-is_done-clause-entered : goal.returns-then-is_done-clause-entered
 returns-then-is_done-clause-entered g c =

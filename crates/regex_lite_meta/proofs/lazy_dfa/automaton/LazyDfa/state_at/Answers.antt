@@ -11,7 +11,7 @@ returns-clause-remembers g c =
     c.gather.new.self
     c.settle.new.self a.at.first a.cache.now.walk.memory.threads
     (c.if-not-gather.ensures.gathered refl) c.requires.none_pending c.requires.remembers
-    between.below between.few c.settle.ensures.extends).1
+    between.below between.few c.requires.own c.settle.ensures.extends).1
 
 pub returns-then-not-gather-clause-remembers : goal.returns-then-not-gather-clause-remembers
 returns-then-not-gather-clause-remembers g c =

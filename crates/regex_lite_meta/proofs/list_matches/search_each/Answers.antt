@@ -6,7 +6,7 @@ use Rattle.regex_lite_engine.specs.Search.AnswerOfList.{TellsWhich}
 use Rattle.regex_lite_engine.proofs.search.ListOutcomeLemmas.{at_position}
 use Rattle.std.proofs.lemmas.Grind.{common_steps}
 use Rattle.regex_lite_engine.proofs.nfa.BoundaryLemmas.{on_boundary}
-use Rattle.regex_lite_engine.proofs.nfa.list.GraphList.search_each.Goals as goal
+use Rattle.regex_lite_meta.proofs.list_matches.search_each.Goals as goal
 
 pub returns : goal.returns
 returns c = record {
@@ -30,7 +30,7 @@ returns c = record {
       ∙ take-append_seam told (drop (length told) c.in_ok-matched.matched.items) in
       subst (λ list. TellsWhich trees (chars haystack) (search_start haystack c.args.start) list)
       (sym same)
-      (at_position trees c.args.self.now is haystack c.args.start
+      (at_position trees c.args.list.now is haystack c.args.start
       (omega (arith, c.if-start-haystack.false))
       (λ s. TellsWhich trees (chars haystack) s told) found);
   entered = λ k told.
@@ -44,7 +44,7 @@ returns c = record {
   cost = λ trees is.
       let haystack = c.args.haystack.now in
       let steps = c.in_ok-steps.steps in
-      at_position trees c.args.self.now is haystack c.args.start
+      at_position trees c.args.list.now is haystack c.args.start
       (omega (arith, c.if-start-haystack.false))
       (λ s. IsBoundedBy (places_of_all trees) (tries_of_all trees) (chars haystack) s
       steps.tried steps.entered steps.looked)

@@ -12,14 +12,14 @@ use Rattle.std.proofs.Math.Seq.{take-length}
 use Rattle.std.proofs.lemmas.List.{length-set}
 use Rattle.std.proofs.lemmas.List.Sums.{sum_by_more}
 use Rattle.regex_lite_engine.proofs.pikevm.BoundLemmas.{bounded_both}
-use Rattle.regex_lite_engine.proofs.nfa.list.GraphList.search_all.Goals as goal
+use Rattle.regex_lite_meta.proofs.list_matches.search_all.Goals as goal
 
 pub loop-number-preserved : goal.loop-number-preserved
 loop-number-preserved c =
     let v = c.loop-number.invariant in
     let number = c.loop-number.number in
     let matched = c.loop-number.matched in
-    let list = c.args.self.now in
+    let list = c.args.list.now in
     let h = chars c.args.haystack.now in
     let s = position_at c.args.haystack.now c.args.start in
     let before = c.loop-number.steps in
@@ -29,7 +29,7 @@ loop-number-preserved c =
     = omega (arith, c.loop-number-test.true, c.len-number-end.ensures.same) in
     let room : number < length matched = omega (arith, known, all, c.requires.all) in
     record {
-      ready = c.in_ok-found.ensures.ready;
+      kept = c.in_ok-found.ensures.kept;
       within = omega (arith, known);
       all = length-set matched number c.in_ok-found.found ∙ v.all;
       found = λ trees regular is k tree less there. elim (cases_lt k number) [

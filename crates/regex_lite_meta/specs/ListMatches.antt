@@ -1,0 +1,38 @@
+-- Which of several patterns match, each of which is searched for by itself.
+use Rattle.std.specs.Prelude.{◌≡◌, ◌+◌, ◌<◌, ◌∷◌, [], ℕ, Bool, List, IfSome, IsTrue, is_some, length}
+use Rattle.regex_lite_syntax.specs.Text.{Text}
+use Rattle.regex_lite_engine.specs.Graph.Parts.{IsOwnPart, row_of}
+use Rattle.regex_lite_engine.specs.Graph.Places.{Place}
+use Rattle.regex_lite_engine.specs.Graph.Renumbered.{arrows_of}
+use Rattle.regex_lite_engine.specs.Graph.StoredList.{StoredList, table_of_list}
+use Rattle.regex_lite_engine.specs.Pikevm.Searching.{GoesOnIn, IsBetween}
+use Rattle.regex_lite_engine.specs.Search.Bounds.{IsBoundedBy, StepCounts}
+use Rattle.regex_lite_engine.specs.Search.Counting.{IsCountable}
+use Rattle.regex_lite_engine.specs.Search.NumberedOutcomes.{Best, IsNumberedEndOf}
+use Rattle.regex_lite_meta.specs.LazyDfa.Remembering.{IsAlphabetOf}
+use Rattle.regex_lite_meta.specs.declared.list_matches.Kept.{Kept}
+use Rattle.regex_lite_meta.specs.declared.list_matches.Learning.{Learning}
+
+-- it is told whether the pattern that is entered there matches from position m on, and what the
+-- search for it did: no more than is allowed in any part of its own
+pub record IsToldOf (table : List (Place ℕ)) (haystack : Text) (entry m : ℕ)
+    (told : Bool × StepCounts) : Type 0 where
+  pub best : Best
+  pub is : told.0 ≡ is_some best
+  pub end : IsNumberedEndOf table haystack (entry ∷ []) m best
+  pub own : (low len : ℕ) → IsOwnPart table (entry ∷ []) low len
+      → IsBoundedBy len (arrows_of (row_of table low len) + 1) haystack m told.1.tried
+      told.1.entered told.1.looked
+  pub entered : IsTrue told.0 → 0 < told.1.entered
+
+-- searches for single patterns of the list go on in its memory, and make automata for its table
+pub record LearnsFor (list : StoredList) (learning : Learning) : Type 0 where
+  pub between : IsBetween (table_of_list list) learning.cache
+  pub countable : IsCountable (table_of_list list)
+  pub width : length learning.cache.walk.memory.row ≡ 0
+  pub alphabet : IsAlphabetOf (table_of_list list) learning.builder.alphabet
+
+-- what is kept is for searches of this list
+pub record AreKeptFor (list : StoredList) (kept : Kept) : Type 0 where
+  pub sets : IfSome kept.sets (GoesOnIn list)
+  pub learning : IfSome kept.learning (λ learning. LearnsFor list learning.value)
