@@ -1,5 +1,6 @@
 //! Automata that remember nothing yet.
 ghost use Rattle.std.specs.Prelude.{ℕ, List, IfSome};
+ghost use Rattle.regex_lite_meta.specs.LazyDfa.Automaton.{ReadsAtMost};
 ghost use Rattle.regex_lite_meta.specs.LazyDfa.Intervals.{AreIntervalsFor};
 ghost use Rattle.regex_lite_meta.specs.LazyDfa.Remembering.{RemembersFor, RemembersAll};
 ghost use Rattle.regex_lite_engine.specs.Graph.Stored.{places_of};
@@ -22,20 +23,23 @@ impl LazyDfa {
         ensures { (entries : List ℕ) → IfSome result (RemembersFor (places_of table.now) entries) }
     {
         let classes = Classes::of(table.all())?;
-        LazyDfa::with_classes(alloc, classes, table, patterns)
+        let reach = reach_for(table, patterns);
+        LazyDfa::with_classes(alloc, classes, table, patterns, reach)
     }
 
-    /// The same with these classes: the table distinguishes no two characters of one of them.
+    /// The same with these classes: the table distinguishes no two characters of one of them. A way
+    /// reads at most so many characters, if that is known.
     pub(crate) fn with_classes(
         alloc: Global,
         classes: Classes,
         table: &Table,
         patterns: usize,
+        reach: Option<usize>,
     ) -> Option<LazyDfa>
-        requires { AreIntervalsFor (places_of table.now) classes }
+        requires classes { AreIntervalsFor (places_of table.now) classes }
+        requires reach { IfSome reach (ReadsAtMost (places_of table.now)) }
         ensures { (entries : List ℕ) → IfSome result (RemembersFor (places_of table.now) entries) }
     {
-        let reach = reach_for(table, patterns);
         let room = Room::of(table.reading(), patterns, &classes);
         match LazyDfa::new(alloc, classes, room, spare_for(patterns), reach) {
             Ok(made) => Some(made),

@@ -67,7 +67,8 @@ impl Builder {
                 if went > DENSE {
                     return None;
                 }
-                LazyDfa::with_classes(self.alloc, classes.copy(), table, patterns)
+                // How many characters all patterns of a table read says little of one of them.
+                LazyDfa::with_classes(self.alloc, classes.copy(), table, patterns, None)
             }
             Alphabet::TooLarge => None,
         }

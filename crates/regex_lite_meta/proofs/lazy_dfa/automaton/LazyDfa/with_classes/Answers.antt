@@ -8,7 +8,7 @@ pub returns-in-Ok : goal.returns-in-Ok
 returns-in-Ok c =
     let table = places_of c.args.table.now in
     remembers_none c.args.table.now.places c.in-Ok.made
-    (subst (AreIntervalsFor table) (sym c.in-Ok.ensures.intervals) c.requires)
+    (subst (AreIntervalsFor table) (sym c.in-Ok.ensures.intervals) c.requires.classes)
     (subst (λ reach. IfSome reach (ReadsAtMost table))
-    (sym c.in-Ok.ensures.reach) c.reach_for-reach.ensures)
+    (sym c.in-Ok.ensures.reach) c.requires.reach)
     c.in-Ok.ensures.states c.in-Ok.ensures.pending
