@@ -1,13 +1,12 @@
 -- Bits in words of 64.
 use Rattle.regex_lite_engine.proofs.Common.{◌≡◌, ℕ, ◌-◌, ◌*◌, ◌^◌, ◌<◌, Bool, true, false, ◌↔◌}
-use Rattle.regex_lite_engine.proofs.Common.{List, [], ◌∷◌, ◌++◌, length, set, replicate, IsTrue, ◌==◌}
-use Rattle.regex_lite_engine.proofs.Common.{slice_index, slice_index_or, slice_set, sym, refl, ap}
-use Rattle.regex_lite_engine.proofs.Common.{◌∙◌, subst, inl, inr, arith, length-set, cases_eq}
+use Rattle.regex_lite_engine.proofs.Common.{List, [], ◌∷◌, ◌++◌, length, set, replicate, IsTrue}
+use Rattle.regex_lite_engine.proofs.Common.{◌==◌, slice_index, slice_index_or, slice_set, sym, refl}
+use Rattle.regex_lite_engine.proofs.Common.{ap, ◌∙◌, subst, inl, inr, arith, length-set, cases_eq}
 use Rattle.regex_lite_engine.proofs.Common.{cases_lt, nat_tests, get_or-replicate, get_or-set_other}
 use Rattle.regex_lite_engine.proofs.Common.{get_or-set_same, get_or_past, length-replicate}
-use Rattle.regex_lite_engine.proofs.Common.{get_or-map-range_with_len}
 use Rattle.regex_lite_engine.proofs.Common.{length-map-range_with_len, bits_of, Pairs, pair_number}
-use Rattle.regex_lite_engine.proofs.Common.{was_entered}
+use Rattle.regex_lite_engine.proofs.Common.{was_entered, get_or-map-range_with_len}
 use Rattle.std.proofs.Common.{◌/◌, ◌%◌, bit_and, bit_or}
 use Rattle.std.proofs.lemmas.Nat.Bits.{bit_at-lt, shr_and_one}
 use Rattle.std.specs.Int.{bit_at}

@@ -1,9 +1,10 @@
 -- A search stays in the part of the table in which its patterns are entered, and pays for no other.
 use Rattle.regex_lite_engine.proofs.Common.{◌≡◌, ℕ, zero, suc, ◌+◌, ◌<◌, ◌≤◌, List, [], ◌∷◌, length}
-use Rattle.regex_lite_engine.proofs.Common.{take, drop, if◌then◌else◌, Bool, true, false, slice_index_or, refl, Some}
-use Rattle.regex_lite_engine.proofs.Common.{sum_by, Option, sym, subst, arith, length-take}
-use Rattle.regex_lite_engine.proofs.Common.{sum_by-cons, IsWithin, row_of, IsOwnPart, InStep}
-use Rattle.regex_lite_engine.proofs.Common.{SearchAt, numbered_step, is_end, StartsOf, Node, Offer}
+use Rattle.regex_lite_engine.proofs.Common.{take, drop, if◌then◌else◌, Bool, true, false}
+use Rattle.regex_lite_engine.proofs.Common.{slice_index_or, refl, Some, sum_by, Option, sym, subst}
+use Rattle.regex_lite_engine.proofs.Common.{arith, length-take, sum_by-cons, IsWithin, row_of}
+use Rattle.regex_lite_engine.proofs.Common.{IsOwnPart, InStep, SearchAt, numbered_step, is_end}
+use Rattle.regex_lite_engine.proofs.Common.{StartsOf, Node, Offer}
 use Rattle.regex_lite_engine.specs.Graph.Places.{Place}
 use Rattle.regex_lite_engine.specs.Pikevm.Room.{left_of}
 use Rattle.regex_lite_engine.proofs.laws.search.NumberedWayLemmas.{leads_within}

@@ -4,7 +4,8 @@ use Rattle.regex_lite_engine.proofs.Common.{length, set, replicate, slice_index,
 use Rattle.regex_lite_engine.proofs.Common.{sym, ap, ◌∙◌, inl, inr, arith, cases_eq, length-set}
 use Rattle.regex_lite_engine.proofs.Common.{get_or-replicate, get_or-set_other, get_or-set_same}
 use Rattle.regex_lite_engine.proofs.Common.{get_or-map-range_with_len, length-map-range_with_len}
-use Rattle.regex_lite_engine.proofs.Common.{length-replicate, range_with_len, take, get_or-take, get_or_past, length-take, cases_lt}
+use Rattle.regex_lite_engine.proofs.Common.{length-replicate, range_with_len, take, get_or-take}
+use Rattle.regex_lite_engine.proofs.Common.{get_or_past, length-take, cases_lt}
 use Rattle.std.proofs.lemmas.List.FromFn.{fill_by_all}
 use Rattle.regex_lite_syntax.proofs.WordBitLemmas.{zero_at}
 use Rattle.regex_lite_engine.specs.Pikevm.PlaceSets.{is_stamped, members}

@@ -1,16 +1,13 @@
 -- What a round begins with: the room that it needs, and the threads and starts that are followed.
 use Rattle.std.proofs.lemmas.Bool.{false≢true}
-use Rattle.regex_lite_engine.proofs.Common.{true}
-use Rattle.regex_lite_engine.proofs.Common.{length-replicate}
-use Rattle.regex_lite_engine.proofs.Common.{zero, suc}
-use Rattle.regex_lite_engine.proofs.Common.{false}
 use Rattle.regex_lite_engine.proofs.Common.{◌≡◌, ℕ, ◌+◌, ◌-◌, ◌^◌, ◌<◌, ◌≤◌, ◌⊎◌, List, [], ◌∷◌}
-use Rattle.regex_lite_engine.proofs.Common.{◌++◌, length, replicate, slice_index_or}
-use Rattle.regex_lite_engine.proofs.Common.{Some, None, sum_by, sym, refl, ap, ◌∙◌, subst, inl, inr}
-use Rattle.regex_lite_engine.proofs.Common.{arith, length-append, cases_lt, sum_by-cons}
-use Rattle.regex_lite_engine.proofs.Common.{slice_get-get_or, reading_count, kept_back, arrow_count}
-use Rattle.regex_lite_engine.proofs.Common.{arrows_of, Thread, thread_at, ThreadsBelow, begun}
-use Rattle.regex_lite_engine.proofs.Common.{with_starts, Told, lone, Best, Start}
+use Rattle.regex_lite_engine.proofs.Common.{◌++◌, length, replicate, slice_index_or, Some, None}
+use Rattle.regex_lite_engine.proofs.Common.{sum_by, sym, refl, ap, ◌∙◌, subst, inl, inr, arith}
+use Rattle.regex_lite_engine.proofs.Common.{length-append, cases_lt, sum_by-cons, slice_get-get_or}
+use Rattle.regex_lite_engine.proofs.Common.{reading_count, kept_back, arrow_count, arrows_of}
+use Rattle.regex_lite_engine.proofs.Common.{Thread, thread_at, ThreadsBelow, begun, with_starts}
+use Rattle.regex_lite_engine.proofs.Common.{Told, lone, Best, Start, true, length-replicate, zero}
+use Rattle.regex_lite_engine.proofs.Common.{suc, false}
 use Rattle.regex_lite_engine.specs.Pikevm.Machine.{BestState, State}
 use Rattle.std.specs.List.{All}
 use Rattle.regex_lite_engine.specs.declared.pikevm.walk.Walk.{Walk}

@@ -1,8 +1,6 @@
 -- What a step of a search keeps of the working memory.
-use Rattle.regex_lite_engine.proofs.Common.{false}
-use Rattle.regex_lite_engine.proofs.Common.{replicate, true}
 use Rattle.regex_lite_engine.proofs.Common.{◌≡◌, ℕ, ◌+◌, ◌≤◌, [], length, slice_set, ap, ◌∙◌, arith}
-use Rattle.regex_lite_engine.proofs.Common.{length-set}
+use Rattle.regex_lite_engine.proofs.Common.{length-set, false, replicate, true}
 use Rattle.regex_lite_engine.specs.Pikevm.Machine.{State}
 use Rattle.regex_lite_engine.specs.Pikevm.Room.{KeepsPosition}
 

@@ -1,15 +1,12 @@
 -- From one position to the next: its threads are followed, and after them its starts.
-use Rattle.regex_lite_engine.proofs.Common.{true}
-use Rattle.regex_lite_engine.proofs.Common.{false}
-use Rattle.regex_lite_engine.proofs.Common.{slice_index_or}
 use Rattle.regex_lite_engine.proofs.Common.{◌≡◌, ℕ, suc, ◌+◌, ◌<◌, ◌≤◌, ◌⊎◌, List, [], ◌∷◌, ◌++◌}
-use Rattle.regex_lite_engine.proofs.Common.{Some, None, Option, sym, refl, ap}
-use Rattle.regex_lite_engine.proofs.Common.{◌∙◌, subst, inl, inr, arith, cases_lt, IsWithin}
-use Rattle.regex_lite_engine.proofs.Common.{IsOwnPart, Thread, StepsTo, IsComing, begun}
-use Rattle.regex_lite_engine.proofs.Common.{ThreadsHold, SearchAt, Told, IsDead, numbered_step}
-use Rattle.regex_lite_engine.proofs.Common.{is_end, StartsOf, Best, Node, Offer, StartsBelow}
-use Rattle.regex_lite_engine.proofs.Common.{IsPreferred, Row, IsBlank, IsHere, IsDeadAt}
-use Rattle.regex_lite_engine.proofs.Common.{AreStartsAt, Here, Start}
+use Rattle.regex_lite_engine.proofs.Common.{Some, None, Option, sym, refl, ap, ◌∙◌, subst, inl, inr}
+use Rattle.regex_lite_engine.proofs.Common.{arith, cases_lt, IsWithin, IsOwnPart, Thread, StepsTo}
+use Rattle.regex_lite_engine.proofs.Common.{IsComing, begun, ThreadsHold, SearchAt, Told, IsDead}
+use Rattle.regex_lite_engine.proofs.Common.{numbered_step, is_end, StartsOf, Best, Node, Offer}
+use Rattle.regex_lite_engine.proofs.Common.{StartsBelow, IsPreferred, Row, IsBlank, IsHere}
+use Rattle.regex_lite_engine.proofs.Common.{IsDeadAt, AreStartsAt, Here, Start, true, false}
+use Rattle.regex_lite_engine.proofs.Common.{slice_index_or}
 use Rattle.regex_lite_engine.specs.Pikevm.Turns.{Between, FromIs}
 use Rattle.regex_lite_engine.specs.Search.Starts.{IsAmong, AreFrom}
 use Rattle.regex_lite_engine.specs.Graph.Places.{Place}
@@ -216,7 +213,8 @@ module _ (table : List (Place ℕ)) (at : SearchAt) (here : Here) (cur : List Th
         from,
         from_kept best best' from (subst (FromIs (p + 1) from) (sym e) from_is) turn.kept,
         turn.steps (record at { from = from }) turn.is
-            (subst (Between table (record at { from = from }) turn.first_state turn.ways) (sym e) w),
+            (subst (Between table (record at { from = from }) turn.first_state turn.ways) (sym e)
+            w),
       )
 
       go : (b : Best) → Begun turn.starts turn.told b cur turn.ways → best ≡ b → Coming b → Turned

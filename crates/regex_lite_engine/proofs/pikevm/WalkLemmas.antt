@@ -1,14 +1,12 @@
 -- The steps of a walk over one position of a haystack.
-use Rattle.regex_lite_engine.proofs.Common.{false}
-use Rattle.regex_lite_engine.proofs.Common.{slice_index_or, true}
 use Rattle.regex_lite_engine.proofs.Common.{◌≡◌, ℕ, suc, ◌<◌, ◌⊎◌, List, [], ◌∷◌, ◌++◌, length}
-use Rattle.regex_lite_engine.proofs.Common.{IsTrue, slice_set, Some, None, Option, sym}
-use Rattle.regex_lite_engine.proofs.Common.{refl, ap, ◌∙◌, subst, inl, inr, append_assoc}
-use Rattle.regex_lite_engine.proofs.Common.{cases_eq, get_or-set_other, get_or-set_same}
-use Rattle.regex_lite_engine.proofs.Common.{Text, Thread, WayTold, ThreadsHold, InStep, SearchAt}
-use Rattle.regex_lite_engine.proofs.Common.{Told, Marks, marked, over, mark_of, marks_along}
-use Rattle.regex_lite_engine.proofs.Common.{place_with, numbered_step, is_end, StartsOf, Best, Node}
-use Rattle.regex_lite_engine.proofs.Common.{Offer, offset, HasSlots, Row}
+use Rattle.regex_lite_engine.proofs.Common.{IsTrue, slice_set, Some, None, Option, sym, refl, ap}
+use Rattle.regex_lite_engine.proofs.Common.{◌∙◌, subst, inl, inr, append_assoc, cases_eq}
+use Rattle.regex_lite_engine.proofs.Common.{get_or-set_other, get_or-set_same, Text, Thread}
+use Rattle.regex_lite_engine.proofs.Common.{WayTold, ThreadsHold, InStep, SearchAt, Told, Marks}
+use Rattle.regex_lite_engine.proofs.Common.{marked, over, mark_of, marks_along, place_with}
+use Rattle.regex_lite_engine.proofs.Common.{numbered_step, is_end, StartsOf, Best, Node, Offer}
+use Rattle.regex_lite_engine.proofs.Common.{offset, HasSlots, Row, false, slice_index_or, true}
 use Rattle.regex_lite_engine.specs.Graph.Places.{Place}
 use Rattle.regex_lite_engine.specs.Pikevm.Machine.{Frame, explore, State}
 use Rattle.regex_lite_engine.specs.Pikevm.Walking.{FramesHold, IsWalking}

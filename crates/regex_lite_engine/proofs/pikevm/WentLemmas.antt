@@ -1,14 +1,12 @@
 -- A frame was taken off: the memory still suffices, and the counts stay within what is left.
 use Rattle.std.proofs.lemmas.Bool.{false≢true}
-use Rattle.regex_lite_engine.proofs.Common.{slice_index_or}
-use Rattle.regex_lite_engine.proofs.Common.{◌≡◌, ℕ, ◌+◌, ◌<◌, ◌≤◌, Bool, true, false, List, []}
-use Rattle.regex_lite_engine.proofs.Common.{◌∷◌, length, set, if◌then◌else◌, slice_get}
-use Rattle.regex_lite_engine.proofs.Common.{slice_set, Some, Option, unwrap_or, sym, refl, ap, ◌∙◌}
-use Rattle.regex_lite_engine.proofs.Common.{subst, arith, length-set}
+use Rattle.regex_lite_engine.proofs.Common.{◌≡◌, ℕ, ◌+◌, ◌<◌, ◌≤◌, Bool, true, false, List, [], ◌∷◌}
+use Rattle.regex_lite_engine.proofs.Common.{length, set, if◌then◌else◌, slice_get, slice_set, Some}
+use Rattle.regex_lite_engine.proofs.Common.{Option, unwrap_or, sym, refl, ap, ◌∙◌, with_arrows}
+use Rattle.regex_lite_engine.proofs.Common.{reading_count, kept_back, arrow_count, place_of}
+use Rattle.regex_lite_engine.proofs.Common.{LeadsBelow, state_retold, Told, StepCounts, lone, Row}
+use Rattle.regex_lite_engine.proofs.Common.{Here, slice_index_or, subst, arith, length-set}
 use Rattle.regex_lite_engine.proofs.Common.{set-get_or}
-use Rattle.regex_lite_engine.proofs.Common.{with_arrows, reading_count, kept_back, arrow_count}
-use Rattle.regex_lite_engine.proofs.Common.{place_of, LeadsBelow, state_retold, Told, StepCounts}
-use Rattle.regex_lite_engine.proofs.Common.{lone, Row, Here}
 use Rattle.regex_lite_engine.specs.declared.nfa.place.Place as code
 use Rattle.regex_lite_engine.specs.declared.pikevm.enter.Onward.{Onward}
 use Rattle.regex_lite_engine.specs.declared.pikevm.enter.Onward.TheVariants as onward

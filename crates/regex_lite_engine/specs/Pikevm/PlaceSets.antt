@@ -6,7 +6,8 @@ use Rattle.regex_lite_engine.specs.Backtrack.Bits.{bits_of}
 use Rattle.regex_lite_engine.specs.declared.pikevm.place_set.Marks.{Marks}
 use Rattle.regex_lite_engine.specs.declared.pikevm.place_set.Marks.TheVariants as marks
 
--- the stamp of the place from which on there are so many, itself among them, is that of the round
+-- the stamp of a place is that of the round, where `left` is the number of places from it to the
+-- last one, itself included
 abbrev pub is_stamped : (stamps : List ℕ) → (round left : ℕ) → Bool
 is_stamped stamps round left = slice_index stamps (left - 1) == round
 

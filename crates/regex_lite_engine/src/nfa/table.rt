@@ -61,6 +61,7 @@ impl Table {
     }
 
     /// What stands at a place, for a search: each call is counted.
+    // Inlined, since each place that is tried passes here.
     #[inline(always)]
     pub(crate) fn look(&self, place: u32, steps: &mut Steps) -> &Place
         requires inside { place < length self.now.places }

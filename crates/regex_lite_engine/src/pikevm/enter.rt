@@ -30,6 +30,8 @@ pub enum Onward {
 
 /// Returns the first place that this one offers at this position. The others are pushed onto the
 /// stack, and what it offers at the next position is added to the threads there.
+// Inlined, as the functions of `Walk` are, which try each place: as calls they cost `is_match` by
+// line up to 1.09 times as much.
 #[inline(always)]
 pub fn enter<S: Beginning>(place: &Place, here: Here, start: S, memory: &mut Memory<S>) -> Onward
     requires room { length memory.old.frames + (kept_back (place_of place.now) + 1)

@@ -9,10 +9,11 @@ use crate::bits::set_bit;
 use std::alloc::{AllocError, Global};
 use std::marker::Model;
 
-/// So many places have their bits in the value itself, which takes no request for memory.
+/// A set of at most this many places is kept in the value itself, which takes no request for
+/// memory.
 const FEW: usize = 64;
 
-/// How many stamps are added when a search comes to a place that has none.
+/// How many stamps are added at a time, where a search comes to a place that has none.
 const BLOCK: usize = 64;
 
 /// A set of places that is emptied in one step.
@@ -55,6 +56,7 @@ impl Model for PlaceSet {
 
 impl PlaceSet {
     /// The empty set, for this number of places.
+    // Inlined, as all that a search does at each place is: a call costs as much as what it does.
     #[inline(always)]
     pub fn empty(alloc: Global, places: usize) -> Result<PlaceSet, AllocError>
         ensures { IfOk result (λ set. set ≡ replicate places false) }
@@ -114,7 +116,8 @@ impl Stamps {
         self.round += 1;
     }
 
-    /// Adds the place from which on there are so many, and returns whether it is new.
+    /// Adds a place, which is given by the number of places from it to the last one, itself
+    /// included. Returns whether it is new.
     #[inline(always)]
     fn insert(&mut self, left: usize) -> bool
         requires some { 0 < left }
@@ -139,7 +142,7 @@ impl Stamps {
     }
 }
 
-/// Adds stamps of places that were never in the set, so that there are at least so many. There is
+/// Adds stamps of places that were never in the set, until there are at least this many. There is
 /// room for them.
 // Not inlined, so that the loop of a search has only the test.
 #[inline(never)]

@@ -41,6 +41,8 @@ impl<'g, F: PatternFilter> Patterns for OnePattern<'g, F> {
         self.table
     }
 
+    // Inlined, and so are the next ones, since each position passes here: as calls they cost
+    // `is_match` by line up to 1.09 times as much.
     #[inline(always)]
     fn pass_over(&self, haystack: &str, here: Here) -> Here {
         self.filter.pass_over(haystack, here)

@@ -41,6 +41,8 @@ pub trait PatternFilter {
 impl PatternFilter for Filter {
     ghost heads = { λ filter. filter };
 
+    // Inlined, and so are the next ones, since each position passes here: as calls they cost `find`
+    // by line up to 1.57 times as much.
     #[inline(always)]
     fn may_begin(&self, here: Here) -> bool {
         self.heads().first.may_begin(here.before, here.after)

@@ -1,10 +1,9 @@
 -- A search that gets an automaton on its way.
-use Rattle.regex_lite_meta.proofs.Common.{◌≡◌, ℕ, Bool, false, List, [], length, Some, None}
-use Rattle.regex_lite_meta.proofs.Common.{Option, MatchOption, IsFoundOf}
-use Rattle.regex_lite_meta.proofs.Common.{sym, ap, ◌∙◌, subst, nil_from_length, Text, best_of}
-use Rattle.regex_lite_meta.proofs.Common.{best_at, with_start_kept, best_kept, span_of}
-use Rattle.regex_lite_meta.proofs.Common.{IsBestOutcomeOf, Row, Origin, Cache, Automaton, IsIn}
-use Rattle.regex_lite_meta.proofs.Common.{IsOnItsWay, Stands, best_told}
+use Rattle.regex_lite_meta.proofs.Common.{◌≡◌, ℕ, Bool, false, List, [], length, Some, None, sym}
+use Rattle.regex_lite_meta.proofs.Common.{ap, ◌∙◌, subst, nil_from_length, Text, best_of, best_at}
+use Rattle.regex_lite_meta.proofs.Common.{with_start_kept, best_kept, span_of, IsBestOutcomeOf, Row}
+use Rattle.regex_lite_meta.proofs.Common.{Origin, Cache, Automaton, IsIn, IsOnItsWay, Stands}
+use Rattle.regex_lite_meta.proofs.Common.{best_told, Option, MatchOption, IsFoundOf}
 use Rattle.regex_lite_engine.specs.Graph.Places.{Place}
 use Rattle.regex_lite_engine.specs.Pikevm.Passing.{IsUnderWay}
 use Rattle.regex_lite_meta.specs.declared.lazy_dfa.run.Progress.{Progress}

@@ -168,7 +168,8 @@ module _ (table : List (Place ℕ)) (h : Text) (entries : List ℕ) (s from p : 
   -- it goes on with the ways of the state, and with the match that was found
   module _ (q : ℕ) (stuck : Standing) (scanning : IsScanning table entries h from q automaton stuck)
       (later : p < q) (ws : List StoredWay) (ways : map way_in ws ≡ scanning.state.ways)
-      (all : All (λ way. way.is_first ≡ true) ws) (fits : FitsTable table entries scanning.state.ways)
+      (all : All (λ way. way.is_first ≡ true) ws)
+      (fits : FitsTable table entries scanning.state.ways)
       (best : best_of new.best ≡ best_told stuck.best)
       (entered : (stuck.best ≡ None) ⊎ (0 < old.walk.steps.entered))
       (threads : new.walk.memory.threads ≡ map (thread_from stuck.first) ws) where

@@ -1,12 +1,11 @@
 -- A search that goes on at the same position or at a later one.
 use Rattle.regex_lite_meta.proofs.Common.{◌≡◌, ℕ, zero, suc, ◌+◌, ◌-◌, ◌*◌, ◌^◌, ◌<◌, ◌≤◌, true}
 use Rattle.regex_lite_meta.proofs.Common.{◌⊎◌, List, [], ◌∷◌, length, IfSome, Some, None, Option}
-use Rattle.regex_lite_meta.proofs.Common.{MatchOption, sym, refl, ap, ◌∙◌, subst, inl}
-use Rattle.regex_lite_meta.proofs.Common.{inr, arith, cases_lt, Text, arrows_of}
+use Rattle.regex_lite_meta.proofs.Common.{MatchOption, sym, refl, ap, ◌∙◌, subst, inl, inr, arith}
+use Rattle.regex_lite_meta.proofs.Common.{cases_lt, Text, arrows_of, best_kept, offset, Row, IsHere}
+use Rattle.regex_lite_meta.proofs.Common.{AreDeadAt, PassesTo, Origin, Cache, Here, Automaton}
+use Rattle.regex_lite_meta.proofs.Common.{ways_of, Suits, side_of, IsFirstStart, IsIn, IsOnItsWay}
 use Rattle.regex_lite_meta.proofs.Common.{Thread, best_of, IsComing, Best}
-use Rattle.regex_lite_meta.proofs.Common.{best_kept, offset, Row, IsHere, AreDeadAt, PassesTo}
-use Rattle.regex_lite_meta.proofs.Common.{Origin, Cache, Here, Automaton, ways_of, Suits, side_of}
-use Rattle.regex_lite_meta.proofs.Common.{IsFirstStart, IsIn, IsOnItsWay}
 use Rattle.regex_lite_engine.specs.Graph.Parts.{IsOwnPart, row_of}
 use Rattle.regex_lite_engine.specs.Graph.Places.{Place}
 use Rattle.regex_lite_meta.specs.LazyDfa.Automaton.{FitsOwnParts, IsEmptyState}

@@ -1,12 +1,11 @@
 -- A search that stands at a position, and takes a turn from there.
-use Rattle.regex_lite_meta.proofs.Common.{◌≡◌, ℕ, ◌+◌, ◌≤◌, Bool, true, false, ◌⊎◌, List, []}
-use Rattle.regex_lite_meta.proofs.Common.{◌∷◌, length, Some, IsFoundOf}
-use Rattle.regex_lite_meta.proofs.Common.{None, Option, MatchOption, sym, refl, ap, ◌∙◌, subst}
-use Rattle.regex_lite_meta.proofs.Common.{arith, nil_from_length, Text, arrows_of, Thread, best_of}
-use Rattle.regex_lite_meta.proofs.Common.{IsComing, best_kept}
+use Rattle.regex_lite_meta.proofs.Common.{◌≡◌, ℕ, ◌+◌, ◌≤◌, Bool, true, false, ◌⊎◌, List, [], None}
+use Rattle.regex_lite_meta.proofs.Common.{Option, MatchOption, sym, refl, ap, ◌∙◌, subst, arith}
+use Rattle.regex_lite_meta.proofs.Common.{nil_from_length, Text, arrows_of, Thread, best_of}
 use Rattle.regex_lite_meta.proofs.Common.{AreDeadAt, PassesTo, Origin, Cache, Here, Automaton}
 use Rattle.regex_lite_meta.proofs.Common.{threads_of, ways_of, Suits, IsFirstStart, IsIn}
-use Rattle.regex_lite_meta.proofs.Common.{IsOnItsWay, Stands, best_told, IsScanning}
+use Rattle.regex_lite_meta.proofs.Common.{IsOnItsWay, Stands, best_told, IsScanning, ◌∷◌, length}
+use Rattle.regex_lite_meta.proofs.Common.{Some, IsFoundOf, IsComing, best_kept}
 use Rattle.regex_lite_engine.specs.Graph.Parts.{IsOwnPart, row_of}
 use Rattle.regex_lite_engine.specs.Graph.Places.{Place}
 use Rattle.regex_lite_meta.specs.LazyDfa.Automaton.{IsEmptyState}

@@ -1,10 +1,8 @@
 -- What a memory stands for, where its parts are written or it gets more cells.
-use Rattle.regex_lite_engine.proofs.Common.{◌≡◌, ℕ, ◌+◌, ◌<◌, List, []}
-use Rattle.regex_lite_engine.proofs.Common.{◌∷◌, ◌++◌, reverse, length, take, set}
-use Rattle.regex_lite_engine.proofs.Common.{slice_index_or, sym, refl, ap, ◌∙◌}
-use Rattle.regex_lite_engine.proofs.Common.{nth_row, other, place_on, start_on}
-use Rattle.regex_lite_engine.proofs.Common.{row_on, threads_on, Thread}
-use Rattle.regex_lite_engine.proofs.Common.{Told, vec_capacity, Row, Cell}
+use Rattle.regex_lite_engine.proofs.Common.{◌∷◌, ◌++◌, reverse, length, take, set, slice_index_or}
+use Rattle.regex_lite_engine.proofs.Common.{sym, refl, ap, ◌∙◌, nth_row, other, place_on, start_on}
+use Rattle.regex_lite_engine.proofs.Common.{Told, vec_capacity, Row, Cell, ◌≡◌, ℕ, ◌+◌, ◌<◌, List}
+use Rattle.regex_lite_engine.proofs.Common.{[], row_on, threads_on, Thread}
 use Rattle.regex_lite_engine.specs.declared.pikevm.cell.Side.{Side}
 use Rattle.regex_lite_engine.specs.declared.pikevm.memory.Memory.TheInside.{Inside}
 use Rattle.regex_lite_engine.specs.Pikevm.Cells.{frames_in, with_thread, Continues, HoldTogether}

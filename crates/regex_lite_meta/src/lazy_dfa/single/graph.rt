@@ -79,7 +79,14 @@ fn find_match<const EARLIEST: bool>(
     all.may_start = true;
     let mut cache = cache_for::<Origin>(alloc, pattern.table, 0)?;
     let builder = Builder::new(alloc);
-    let found = find_once::<_, _, EARLIEST>(&mut pattern, &all, &builder, &mut cache, haystack, start);
+    let found = find_once::<_, _, EARLIEST>(
+        &mut pattern,
+        &all,
+        &builder,
+        &mut cache,
+        haystack,
+        start,
+    );
     let Cache { walk, .. } = cache;
     Ok((found, walk.steps))
 }

@@ -1,6 +1,6 @@
-use Rattle.regex_lite_engine.proofs.Common.{◌≡◌, ◌-◌, ◌<◌, ◌≤◌, ◌↔◌, ℕ, [], ◌∷◌, ap, ◌∙◌, sym, subst}
-use Rattle.regex_lite_engine.proofs.Common.{arith, length, slice_index_or, slice_set, false, true}
-use Rattle.regex_lite_engine.proofs.Common.{IsTrue, bits_of}
+use Rattle.regex_lite_engine.proofs.Common.{◌≡◌, ◌-◌, ◌<◌, ◌≤◌, ◌↔◌, ℕ, [], ◌∷◌, ap, ◌∙◌, sym}
+use Rattle.regex_lite_engine.proofs.Common.{subst, arith, length, slice_index_or, slice_set, false}
+use Rattle.regex_lite_engine.proofs.Common.{true, IsTrue, bits_of}
 use Rattle.regex_lite_engine.proofs.backtrack.BitLemmas.{new_in_word, set_in_word}
 use Rattle.regex_lite_engine.proofs.pikevm.PlaceSetLemmas.{members_long, listed_at, one_listed}
 use Rattle.regex_lite_engine.specs.Pikevm.PlaceSets.{is_stamped, members, FitPlaces}
