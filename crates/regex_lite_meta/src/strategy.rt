@@ -116,8 +116,7 @@ pub(crate) enum SpanSearch {
     LazyDfa,
 }
 
-/// The way of a search that keeps this number of slots and goes over this number of bytes, or about
-/// so many.
+/// The way of a search that keeps this number of slots and goes over about this number of bytes.
 #[inline(always)]
 pub(crate) fn choose(
     searched: &Searched<'_>,
