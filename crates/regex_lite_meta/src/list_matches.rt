@@ -245,7 +245,7 @@ impl Learning {
     {
         let _patterns = list.len();
         let cache = cache_for::<Origin>(alloc, list.table(), 0)?;
-        let builder = Builder::sharing(alloc, list.table());
+        let builder = Builder::sharing(alloc);
         Ok(Box::new(alloc, Learning { builder, cache })?)
     }
 

@@ -21,6 +21,7 @@ pub record RemembersFor (table : List (Place ℕ)) (entries : List ℕ) (automat
 -- no place of the table distinguishes characters of these classes, if they are known
 abbrev pub IsAlphabetOf : List (Place ℕ) → code.Alphabet → Type 0
 IsAlphabetOf table stored.Own = Unit {0}
+IsAlphabetOf table stored.Unfound = Unit {0}
 IsAlphabetOf table (stored.Shared classes) = AreIntervalsFor table classes
 IsAlphabetOf table stored.TooLarge = Unit {0}
 

@@ -15,7 +15,9 @@ use std::alloc::Global;
 pub(crate) enum Alphabet {
     /// Those of its table, found anew for each.
     Own,
-    /// Those of its table, found once for all.
+    /// Those of the table of all, which are found for the first.
+    Unfound,
+    /// Those of the table of all.
     Shared(Classes),
     /// There are too many for an automaton.
     TooLarge,
@@ -39,38 +41,50 @@ impl Builder {
         }
     }
 
-    /// For several automata of this table.
-    pub(crate) fn sharing(alloc: Global, table: &Table) -> Builder
-        ensures { IsAlphabetOf (places_of table.now) result.alphabet }
+    /// For several automata of one table. Their classes are found once, for the first of them.
+    pub(crate) fn sharing(alloc: Global) -> Builder
+        ensures { (places : List (Place ℕ)) → IsAlphabetOf places result.alphabet }
     {
-        let Some(classes) = Classes::of(table.all()) else {
-            return Builder {
-                alloc,
-                alphabet: Alphabet::TooLarge,
-            };
-        };
         Builder {
             alloc,
-            alphabet: Alphabet::Shared(classes),
+            alphabet: Alphabet::Unfound,
         }
     }
 
     /// An automaton for the table of this number of patterns, as [`LazyDfa::for_table`] makes one,
     /// for a search whose first turns went over this many bytes.
-    pub(crate) fn build(&self, table: &Table, patterns: usize, went: usize) -> Option<LazyDfa>
-        requires { IsAlphabetOf (places_of table.now) self.now.alphabet }
-        ensures { (entries : List ℕ) → IfSome result (RemembersFor (places_of table.now) entries) }
+    pub(crate) fn build(&mut self, table: &Table, patterns: usize, went: usize) -> Option<LazyDfa>
+        requires { IsAlphabetOf (places_of table.now) self.old.alphabet }
+        ensures built { (entries : List ℕ)
+            → IfSome result (RemembersFor (places_of table.now) entries) }
+        ensures alphabet { IsAlphabetOf (places_of table.now) self.new.alphabet }
     {
+        if let Alphabet::Own = self.alphabet {
+            return LazyDfa::for_table(self.alloc, table, patterns);
+        }
+        if went > DENSE {
+            return None;
+        }
+        self.find_classes(table);
         match &self.alphabet {
-            Alphabet::Own => LazyDfa::for_table(self.alloc, table, patterns),
             Alphabet::Shared(classes) => {
-                if went > DENSE {
-                    return None;
-                }
                 // How many characters all patterns of a table read says little of one of them.
                 LazyDfa::with_classes(self.alloc, classes.copy(), table, patterns, None)
             }
-            Alphabet::TooLarge => None,
+            _ => None,
+        }
+    }
+
+    /// Finds the classes of this table, unless they were found before.
+    fn find_classes(&mut self, table: &Table)
+        requires { IsAlphabetOf (places_of table.now) self.old.alphabet }
+        ensures { IsAlphabetOf (places_of table.now) self.new.alphabet }
+    {
+        if let Alphabet::Unfound = self.alphabet {
+            self.alphabet = match Classes::of(table.all()) {
+                Some(classes) => Alphabet::Shared(classes),
+                None => Alphabet::TooLarge,
+            };
         }
     }
 }

@@ -34,13 +34,13 @@ pub(crate) mod list;
 pub(crate) fn find_once<P: Patterns, A: Patterns, const EARLIEST: bool>(
     patterns: &mut P,
     all: &A,
-    builder: &Builder,
+    builder: &mut Builder,
     cache: &mut Cache<Origin>,
     haystack: &str,
     start: usize,
 ) -> Option<(Origin, usize)>
     requires all { AreAllStarts (A.table all.now) (A.entries all.now) (A.starts all.now) }
-    requires alphabet { IsAlphabetOf (A.table all.now) builder.now.alphabet }
+    requires alphabet { IsAlphabetOf (A.table all.now) builder.old.alphabet }
     requires table { A.table all.now ≡ P.table patterns.old }
     requires entries { A.entries all.now ≡ P.entries patterns.old }
     requires boundary { IsCharBoundary haystack.now start }
@@ -62,6 +62,7 @@ pub(crate) fn find_once<P: Patterns, A: Patterns, const EARLIEST: bool>(
     ensures entered { IfSome result (λ _. 0 < cache.new.walk.steps.entered) }
     ensures between { IsBetween (P.table patterns.old) cache.new }
     ensures width { length cache.new.walk.memory.row ≡ 0 }
+    ensures alphabet { IsAlphabetOf (A.table all.now) builder.new.alphabet }
 {
     let here = Here::at(haystack, start);
     let soon = advance::<_, _, EARLIEST>(cache, patterns, haystack, here, Some(TURNS_WITHOUT));
@@ -82,14 +83,14 @@ pub(crate) fn find_once<P: Patterns, A: Patterns, const EARLIEST: bool>(
 /// search stands if there is none, or if it is given up.
 fn find_learning<A: Patterns, const EARLIEST: bool>(
     all: &A,
-    builder: &Builder,
+    builder: &mut Builder,
     cache: &mut Cache<Origin>,
     haystack: &str,
     from: Here,
     went: usize,
 ) -> Result<Option<(Origin, usize)>, Here>
     requires all { AreAllStarts (A.table all.now) (A.entries all.now) (A.starts all.now) }
-    requires alphabet { IsAlphabetOf (A.table all.now) builder.now.alphabet }
+    requires alphabet { IsAlphabetOf (A.table all.now) builder.old.alphabet }
     requires on { (s p : ℕ) × IsHere (chars haystack.now) p from
         × CanCount (A.table all.now) (length (A.entries all.now))
         (characters_left (chars haystack.now) s)
@@ -121,6 +122,7 @@ fn find_learning<A: Patterns, const EARLIEST: bool>(
     ensures none { IfErr result (λ _. EARLIEST ≡ true → best_of cache.new.best ≡ None) }
     ensures between { IsBetween (A.table all.now) cache.new }
     ensures width { length cache.new.walk.memory.row ≡ 0 }
+    ensures alphabet { IsAlphabetOf (A.table all.now) builder.new.alphabet }
 {
     let Some(mut dfa) = builder.build(all.table(), all.len(), went) else {
         return Err(from);

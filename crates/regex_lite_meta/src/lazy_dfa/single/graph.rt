@@ -78,11 +78,11 @@ fn find_match<const EARLIEST: bool>(
     let mut all = graph.pattern();
     all.may_start = true;
     let mut cache = cache_for::<Origin>(alloc, pattern.table, 0)?;
-    let builder = Builder::new(alloc);
+    let mut builder = Builder::new(alloc);
     let found = find_once::<_, _, EARLIEST>(
         &mut pattern,
         &all,
-        &builder,
+        &mut builder,
         &mut cache,
         haystack,
         start,

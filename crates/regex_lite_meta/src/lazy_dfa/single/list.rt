@@ -86,11 +86,11 @@ fn find_match<const EARLIEST: bool>(
     // Each place is one of the graph.
     let _entries = list.entries();
     let all = AllOfList { list };
-    let builder = Builder::new(alloc);
+    let mut builder = Builder::new(alloc);
     let found = find_once::<_, _, EARLIEST>(
         &mut patterns,
         &all,
-        &builder,
+        &mut builder,
         &mut cache,
         haystack,
         start,

@@ -37,6 +37,7 @@ returns-in_default g c =
           c.found.ensures c.advance-soon.ensures.between.match_entered (omega arith);
       between = c.advance-soon.ensures.between;
       width = sym c.advance-soon.ensures.between.best_width ∙ width;
+      alphabet = c.requires.alphabet;
     }
 
 pub find_learning-requires : goal.find_learning-requires

@@ -1,0 +1,13 @@
+use Rattle.regex_lite_meta.proofs.Common.{ap, sym, ◌∙◌, subst, places_of, table_of_list}
+use Rattle.regex_lite_meta.specs.ListMatches.{LearnsFor}
+use Rattle.regex_lite_meta.proofs.list_matches.Learning.new.Goals as goal
+
+pub returns : goal.returns
+returns c =
+    let fresh = rw (ap places_of c.table.ensures.same) at c.in_ok-cache.ensures.fresh in
+    subst (LearnsFor c.args.list.now) (sym c.in_ok-new.ensures.ok) (record {
+      between = fresh.between;
+      countable = rw (ap places_of c.table.ensures.same) at c.in_ok-cache.ensures.countable;
+      width = sym fresh.between.best_width ∙ c.in_ok-cache.ensures.width;
+      alphabet = c.sharing-builder.ensures (table_of_list c.args.list.now);
+    })
