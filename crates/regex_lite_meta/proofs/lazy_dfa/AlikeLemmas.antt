@@ -6,7 +6,7 @@ use Rattle.regex_lite_meta.proofs.Common.{Intervals, interval_of, class_of, IsBo
 use Rattle.regex_lite_meta.proofs.Common.{IsBoundedPlace, character_bounds, look_bounds}
 use Rattle.regex_lite_meta.proofs.Common.{AreIntervalsOf, side_of}
 use Rattle.regex_lite_engine.specs.Graph.Places.{Place, go}
-use Rattle.regex_lite_meta.specs.declared.lazy_dfa.side.Side.{Side}
+use Rattle.regex_lite_meta.specs.declared.lazy_dfa.state.Side.{Side}
 use Rattle.std.proofs.Common.{◌&&◌, ◌||◌}
 use Rattle.regex_lite_syntax.specs.Ranges.{in_ranges}
 use Rattle.regex_lite_syntax.specs.Sets.{Set, just}

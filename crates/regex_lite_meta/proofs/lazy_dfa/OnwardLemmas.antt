@@ -11,7 +11,7 @@ use Rattle.regex_lite_meta.specs.LazyDfa.Automaton.{KeptOrigin, State}
 use Rattle.regex_lite_meta.specs.LazyDfa.Scanning.{GoesOn, LedTo}
 use Rattle.regex_lite_meta.specs.LazyDfa.Stored.{known_hit}
 use Rattle.regex_lite_meta.specs.declared.lazy_dfa.spot.Spot.{Spot}
-use Rattle.regex_lite_meta.specs.declared.lazy_dfa.spot.Turn.{Turn}
+use Rattle.regex_lite_meta.specs.declared.lazy_dfa.state.Target.{Target}
 use Rattle.regex_lite_meta.specs.LazyDfa.Spots.{EndsScan, IsTaken, IsTurn}
 use Rattle.regex_lite_engine.proofs.OffsetLemmas.{boundary_at}
 use Rattle.regex_lite_syntax.proofs.OptionLemmas.{same_some}
@@ -45,16 +45,6 @@ module _ {table : List (Place ℕ)} {entries : List ℕ} {h : Text} {automaton :
         r.2,
         since_on table entries h low p v.0 a.first b.first c.first le v.3 r.3,
       )
-
-  -- positions are passed over, and then where there was nothing to go on from is known
-  pub then_skipped : {a b c : Standing} → GoesOn table entries h automaton a b
-      → ((low p : ℕ) → IsScanning table entries h low p automaton b
-      → (q : ℕ) × (p ≤ q) × IsScanning table entries h low q automaton c)
-      → ((low p : ℕ) → IsScanning table entries h low p automaton b
-      → IsSince table entries h low p b.first c.first) → GoesOn table entries h automaton a c
-  then_skipped there on first =
-      then_on there
-      (λ low p scanning. let r = on low p scanning in (r.0, r.1, r.2, first low p scanning))
 
   -- the turn from there is taken
   pub then_turned : {a b next : Standing} {to : ℕ} {best : Option (Origin × ℕ)}
@@ -107,58 +97,19 @@ module _ {table : List (Place ℕ)} {entries : List ℕ} {h : Text} {automaton :
 
 -- the state to which a turn leads
 module _ {table : List (Place ℕ)} {entries : List ℕ} {automaton : Automaton} {bs : List ℕ}
-    {at x : ℕ} {turn : Turn} (leads : IsTurn table entries automaton bs at x turn) where
-  pub turn_within : turn.to < length automaton.states
-  turn_within = slice_get_within automaton.states turn.to leads.to leads.is_to
+    {at x end : ℕ} {target : Target} (leads : IsTurn table entries automaton bs at x target end)
+  where
+    pub turn_within : target.state < length automaton.states
+    turn_within = slice_get_within automaton.states target.state leads.to leads.is_to
 
-  pub turn_effect : (hit : Option KeptOrigin) → known_hit turn.effect ≡ Some hit → (state : State)
-      → slice_get automaton.states turn.to ≡ Some state → (state.ways ≡ [] → ⊥) × (state.hit ≡ hit)
-  turn_effect hit told state is =
-      subst (λ (s : State). (s.ways ≡ [] → ⊥) × (s.hit ≡ hit)) (same_some (sym leads.is_to ∙ is))
-      (leads.effect hit told)
+    pub turn_effect : (hit : Option KeptOrigin) → known_hit target.effect ≡ Some hit → (state : State)
+        → slice_get automaton.states target.state ≡ Some state → (state.ways ≡ [] → ⊥) × (state.hit ≡ hit)
+    turn_effect hit told state is =
+        subst (λ (s : State). (s.ways ≡ [] → ⊥) × (s.hit ≡ hit)) (same_some (sym leads.is_to ∙ is))
+        (leads.effect hit told)
 
 module _ {table : List (Place ℕ)} {entries : List ℕ} {automaton : Automaton} (bs : List ℕ)
     (u : IsUtf8 bs) (fits : length bs + 1 < 2 ^ 64) where
-  module _ {from at : Standing} (there : GoesOn table entries (chars bs) automaton from at) where
-    -- where there was nothing to go on from is an offset of a character
-    pub idle_edge : (low p : ℕ) × IsScanning table entries (chars bs) low p automaton from
-        → (at.first ≡ from.first) ⊎ IsCharBoundary bs at.first
-    idle_edge (low, p, scanning) = of_since (there low p scanning).3
-      where
-        of_since : IsSince table entries (chars bs) low p from.first at.first
-            → (at.first ≡ from.first) ⊎ IsCharBoundary bs at.first
-        of_since (inl e) = inl e
-        of_since (inr (here, same, idle)) =
-            let is = idle.is in
-            inr (boundary_at bs idle.r at.first u (is.inside, sym same ∙ is.bytes))
-
-    -- it goes on by turns, from there or from where there was nothing to go on from
-    pub stuck_there : (idle : Option Here) → IfSome idle (λ here. here.at ≡ at.first)
-        → IfSome idle (IsHere (chars bs) (position_at bs at.first))
-        → IfSome idle (λ _. at.first ≡ from.first → ⊥) → (low p : ℕ)
-        → IsScanning table entries (chars bs) low p automaton from →
-        ((q : ℕ) × (p ≤ q) × IsScanning table entries (chars bs) low q automaton at)
-        × IfSome idle (IsIdleAt table entries (chars bs) low p)
-    stuck_there idle same is other low p scanning =
-        let r = there low p scanning in ((r.0, r.1, r.2), of_since r.3 idle same is other)
-      where
-        of_since : IsSince table entries (chars bs) low p from.first at.first
-            → (idle : Option Here) → IfSome idle (λ here. here.at ≡ at.first)
-            → IfSome idle (IsHere (chars bs) (position_at bs at.first))
-            → IfSome idle (λ _. at.first ≡ from.first → ⊥)
-            → IfSome idle (IsIdleAt table entries (chars bs) low p)
-        of_since since None same is other = tt
-        of_since (inl e) (Some x) same is other = absurd (other e)
-        of_since (inr (here, same', idle)) (Some x) same is other =
-            let own = idle.is in
-            record {
-              r = idle.r;
-              later = idle.later;
-              is = subst (λ z. IsHere (chars bs) z x)
-                  (position_of bs u idle.r at.first (own.inside, sym same' ∙ own.bytes)) is;
-              coming = idle.coming;
-            }
-
   module _ {from : Standing} {spot : Spot} {told : Standing}
       (there : GoesToSpot table entries (chars bs) automaton from spot told) where
     pub spot_boundary : (low p : ℕ) × IsScanning table entries (chars bs) low p automaton from
@@ -180,19 +131,21 @@ module _ {table : List (Place ℕ)} {entries : List ℕ} {automaton : Automaton}
           (sym (ap (λ (s : Standing). s.first) e)) v.3,
     )
 
-    module _ {turn : Turn} (leads : IsTurn table entries automaton bs spot.at spot.state turn) where
-      pub next_spot : (on : Spot) (after : Standing) → IsTaken spot turn leads.to told after on
+    module _ {target : Target} {end : ℕ}
+        (leads : IsTurn table entries automaton bs spot.at spot.state target end) where
+      pub next_spot : (on : Spot) (after : Standing)
+          → IsTaken spot.at target.state end leads.to told after on
           → GoesToSpot table entries (chars bs) automaton from on after
       next_spot on after taken low p scanning =
           let v = there low p scanning in
           let le = v.1 in (
             v.0 + 1,
             omega (arith, le),
-            spot_on table entries bs u fits low v.0 automaton spot told v.2 turn leads after on
-                taken,
+            spot_on table entries bs u fits low v.0 automaton spot told v.2 target end leads
+                after on taken,
             since_on table entries (chars bs) low p v.0 from.first told.first after.first le v.3
-                (spot_since table entries bs u fits low v.0 automaton spot told v.2 turn leads
-                after on taken),
+                (spot_since table entries bs u fits low v.0 automaton spot told v.2 target end
+                leads after on taken),
           )
 
       -- the turn completes a match where the least end is asked for
@@ -204,13 +157,14 @@ module _ {table : List (Place ℕ)} {entries : List ℕ} {automaton : Automaton}
       completes_there {earliest} is none some origin after same low p scanning =
           let v = there low p scanning in
           rw (is, same)
-          (spot_completed table entries bs u fits low v.0 automaton spot told v.2 turn leads none
-          some origin)
+          (spot_completed table entries bs u fits low v.0 automaton spot told v.2 target end leads
+          none some origin)
 
       -- the turn leads from a match to nothing
-      pub ends_there : (after : Standing) → EndsScan spot leads.to told after → (low p : ℕ)
+      pub ends_there : (after : Standing) → EndsScan spot.at leads.to told after → (low p : ℕ)
           → IsScanning table entries (chars bs) low p automaton from →
           IsBestOutcomeOf table (chars bs) entries low (best_told after.best)
       ends_there after over low p scanning =
           let v = there low p scanning in
-          spot_over table entries bs u fits low v.0 automaton spot told v.2 turn leads after over
+          spot_over table entries bs u fits low v.0 automaton spot told v.2 target end leads
+          after over

@@ -18,6 +18,9 @@ use Rattle.regex_lite_engine.specs.Pikevm.Walking.{WayTold, ThreadsHold}
 use Rattle.regex_lite_engine.specs.Search.Beginnings.{Told, IsTold}
 use Rattle.regex_lite_engine.specs.Search.Bounds.{StepCounts}
 use Rattle.regex_lite_engine.specs.Search.Offers.{Node, Offer}
+use Rattle.regex_lite_meta.proofs.Common.{IsCharBoundary, IsOffset, IsSince, IsUtf8, chars, position_at}
+use Rattle.regex_lite_engine.proofs.OffsetLemmas.{boundary_at}
+use Rattle.regex_lite_engine.proofs.PositionLemmas.{position_of}
 use Rattle.regex_lite_meta.proofs.lazy_dfa.RunLemmas.{maybe_in_empty, moved_on, own_first}
 use Rattle.regex_lite_syntax.proofs.OptionLemmas.{not_there}
 use Rattle.regex_lite_engine.proofs.ReadingCountLemmas.{reads_within}
@@ -139,6 +142,33 @@ below_at n first ws ways e below =
     from_stored (w ∷ ws) below zero lt = below 0 (way_in w) refl
     from_stored (w ∷ ws) below (suc k) lt =
         from_stored ws (λ j way at. below (suc j) way at) k (omega (arith, lt))
+
+-- another first start is a position at which there was nothing to go on from
+module _ {table : List (Place ℕ)} {entries : List ℕ} (bs : List ℕ) (u : IsUtf8 bs)
+    {low p before first : ℕ} (since : IsSince table entries (chars bs) low p before first)
+    (other : first ≡ before → ⊥) where
+  there_idle : (here : Here) × (here.at ≡ first) × IsIdleAt table entries (chars bs) low p here
+  there_idle = by_first since
+    where
+      by_first : IsSince table entries (chars bs) low p before first →
+          (here : Here) × (here.at ≡ first) × IsIdleAt table entries (chars bs) low p here
+      by_first (inl e) = absurd (other e)
+      by_first (inr idle) = idle
+
+  is_offset : IsOffset (chars bs) there_idle.2.r first
+  is_offset = let is = there_idle.2.is in (is.inside, sym there_idle.1 ∙ is.bytes)
+
+  pub idle_edge : IsCharBoundary bs first
+  idle_edge = boundary_at bs there_idle.2.r first u is_offset
+
+  pub idle_at : (here : Here) → IsHere (chars bs) (position_at bs first) here
+      → IsIdleAt table entries (chars bs) low p here
+  idle_at here is = let own = there_idle.2 in record {
+    r = own.r;
+    later = own.later;
+    is = subst (λ z. IsHere (chars bs) z here) (position_of bs u own.r first is_offset) is;
+    coming = own.coming;
+  }
 
 module _ (table : List (Place ℕ)) (h : Text) (entries : List ℕ) (s from p : ℕ)
     (automaton : Automaton)

@@ -11,7 +11,7 @@ use Rattle.regex_lite_engine.specs.Graph.Places.{Place}
 use Rattle.regex_lite_meta.specs.LazyDfa.Automaton.{KeptOrigin, State}
 use Rattle.regex_lite_meta.specs.LazyDfa.Scanning.{LedTo}
 use Rattle.regex_lite_meta.specs.declared.lazy_dfa.spot.Spot.{Spot}
-use Rattle.regex_lite_meta.specs.declared.lazy_dfa.spot.Turn.{Turn}
+use Rattle.regex_lite_meta.specs.declared.lazy_dfa.state.Target.{Target}
 use Rattle.regex_lite_meta.specs.LazyDfa.Spots.{EndsScan, IsTaken, IsTurn}
 use Rattle.regex_lite_engine.proofs.PositionLemmas.{position_of, after_at}
 use Rattle.regex_lite_meta.proofs.lazy_dfa.ScanLemmas.{IsFirstAfter, TurnsTo, completed, led_step}
@@ -101,7 +101,8 @@ module _ (table : List (Place ℕ)) (entries : List ℕ) (bs : List ℕ) (u : Is
           coming = own.coming;
         }
 
-    module _ (turn : Turn) (leads : IsTurn table entries automaton bs spot.at spot.state turn) where
+    module _ (target : Target) (end : ℕ)
+        (leads : IsTurn table entries automaton bs spot.at spot.state target end) where
       abbrev next_character : ℕ
       next_character = leads.ahead.character
 
@@ -113,17 +114,17 @@ module _ (table : List (Place ℕ)) (entries : List ℕ) (bs : List ℕ) (u : Is
           is.scanning.is.ahead ∙ sym (after_at bs p spot.at u own_offset) ∙ leads.ahead.begins
 
       -- the turn ends inside the haystack
-      end_inside : turn.end ≤ length bs
+      end_inside : end ≤ length bs
       end_inside =
           let edge = boundary_at bs (suc p) (is.here.at + len_utf8 next_character) u
           (moved bs p next_character is.here is.scanning.is after_is) in
           subst (λ z. z ≤ length bs)
           (ap (λ z. z + len_utf8 next_character) is.at ∙ sym leads.ahead.ends) edge.0
 
-      turns : TurnsTo table entries automaton spot.state is.here.after turn.to leads.to.hit
+      turns : TurnsTo table entries automaton spot.state is.here.after target.state leads.to.hit
       turns = record {
         class = leads.class;
-        is_class = ap (class_of automaton.intervals.boundaries) after_is ∙ leads.ahead.class;
+        is_class = ap (class_of automaton.intervals.boundaries) after_is ∙ leads.ahead.is_class;
         from = leads.from;
         is_from = leads.is_from;
         to = leads.to;
@@ -134,14 +135,14 @@ module _ (table : List (Place ℕ)) (entries : List ℕ) (bs : List ℕ) (u : Is
 
       led_with : (best : Option (Origin × ℕ))
           → best_told best ≡ best_left leads.to.hit told.first spot.at (best_told told.best) →
-          LedTo table entries (chars bs) low p automaton from turn.to best
+          LedTo table entries (chars bs) low p automaton from target.state best
       led_with best left =
           led_step table entries (chars bs) low p automaton from is.scanning turns best
           (left ∙ ap (λ z. best_left leads.to.hit told.first z (best_told told.best)) (sym is.at))
 
       module _ (after : Standing) (on : Spot)
-          (taken : IsTaken spot turn leads.to told after on) where
-        led : LedTo table entries (chars bs) low p automaton from turn.to after.best
+          (taken : IsTaken spot.at target.state end leads.to told after on) where
+        led : LedTo table entries (chars bs) low p automaton from target.state after.best
         led = led_with after.best taken.best
 
         abbrev next : Here
@@ -149,13 +150,13 @@ module _ (table : List (Place ℕ)) (entries : List ℕ) (bs : List ℕ) (u : Is
           before = Some next_character;
           after = slice_get (chars (drop on.at bs)) 0;
           at = on.at;
-          small = let at = taken.at in let inside = end_inside in omega (arith, at, inside, fits);
+          small = let at = taken.ends in let inside = end_inside in omega (arith, at, inside, fits);
         }
 
         next_is : IsHere (chars bs) (p + 1) next
         next_is =
             here_next bs p next_character is.here next u after_is refl
-            (taken.at ∙ leads.ahead.ends ∙ ap (λ z. z + len_utf8 next_character) (sym is.at))
+            (taken.ends ∙ leads.ahead.ends ∙ ap (λ z. z + len_utf8 next_character) (sym is.at))
             refl is.scanning.is
 
         same : leads.to ≡ led.state
@@ -189,13 +190,13 @@ module _ (table : List (Place ℕ)) (entries : List ℕ) (bs : List ℕ) (u : Is
               (λ z. IsScanning table entries (chars bs) low (p + 1) automaton
               (record { here = next; state = z; first = after.first; best = after.best }))
               (sym taken.is_to)
-              (scanned_on table entries (chars bs) low p automaton from is.scanning turn.to
-              after.best led next after.first next_is first_is);
+              (scanned_on table entries (chars bs) low p automaton from is.scanning
+              target.state after.best led next after.first next_is first_is);
         }
 
         pub spot_since : IsSince table entries (chars bs) low p told.first after.first
         spot_since =
-            since_led table entries (chars bs) low p automaton from turn.to after.best led next
+            since_led table entries (chars bs) low p automaton from target.state after.best led next
             after.first next_is free first_is
 
       -- the turn completes a match where the least end is asked for
@@ -214,11 +215,12 @@ module _ (table : List (Place ℕ)) (entries : List ℕ) (bs : List ℕ) (u : Is
               origin same (λ _. none) (λ other. absurd (true≢false other))
 
       -- the turn leads from a match to nothing
-      pub spot_over : (after : Standing) → EndsScan spot leads.to told after
+      pub spot_over : (after : Standing) → EndsScan spot.at leads.to told after
           → IsBestOutcomeOf table (chars bs) entries low (best_told after.best)
       spot_over after over =
           let led = led_with after.best over.best in
-          scan_over table entries (chars bs) low p automaton from is.scanning turn.to after.best led
+          scan_over table entries (chars bs) low p automaton from is.scanning target.state
+          after.best led
           (inr (
             over.some,
             ap (λ (s : State). s.ways)

@@ -27,7 +27,7 @@ module _ {table : List (Place ℕ)} {h : Text} {entries : List ℕ} {s : ℕ} {a
     {at : Progress} {S : Type 0} {cache : Cache S}
     (stands : Stands table h entries s automaton at cache) where
   -- where its state is known, it may go by remembered turns
-  pub scanning_there : {x : ℕ} → at.state ≡ Some x → (best : Option (Origin × ℕ))
+  scanning_there : {x : ℕ} → at.state ≡ Some x → (best : Option (Origin × ℕ))
       → best_of cache.best ≡ best_told best → IsScanning table entries h stands.from stands.p
       automaton
       (record { here = at.here; state = x; first = at.first; best = best })
@@ -63,12 +63,18 @@ module _ {table : List (Place ℕ)} {h : Text} {entries : List ℕ} {s : ℕ} {a
       first_of (t ∷ ts) own none = absurd cc
 
   -- no slots are kept
-  pub told_there : (best : Option (Origin × ℕ))
+  told_there : (best : Option (Origin × ℕ))
       → best_of cache.best ≡ best_kept best cache.best.row → best_of cache.best ≡ best_told best
   told_there best same =
       same
       ∙ ap (best_kept best)
       (nil_from_length cache.best.row (stands.on.ready.best_width ∙ stands.on.width))
+
+  pub scans_there : {x : ℕ} → at.state ≡ Some x → (best : Option (Origin × ℕ))
+      → best_of cache.best ≡ best_kept best cache.best.row → IsScanning table entries h stands.from
+      stands.p automaton
+      (record { here = at.here; state = x; first = at.first; best = best })
+  scans_there known best same = scanning_there known best (told_there best same)
 
   pub bounded_there : (now : Cache S) → now ≡ cache →
       IsBoundedBy (length table) (arrows_of table + length entries) h s now.walk.steps.tried

@@ -8,7 +8,7 @@ use Rattle.regex_lite_meta.proofs.Common.{way_in, state_in, StoredState, StoredW
 use Rattle.regex_lite_meta.specs.LazyDfa.Stored.{Agrees, LieWithin, known_hit, states_in, AllAgree}
 use Rattle.regex_lite_meta.specs.LazyDfa.Stored.{HasWays}
 use Rattle.std.proofs.Math.Seq.{drop-length, take-length, take-set-lt}
-use Rattle.regex_lite_meta.specs.declared.lazy_dfa.side.Side.{Side}
+use Rattle.regex_lite_meta.specs.declared.lazy_dfa.state.Side.{Side}
 use Rattle.regex_lite_meta.specs.LazyDfa.Automaton.{KeptOrigin, State}
 use Rattle.std.proofs.Common.{replicate, length-drop}
 use Rattle.std.proofs.lemmas.List.{length-replicate, take-append-le, drop-append-le}

@@ -1,6 +1,6 @@
 -- How the lazy automaton gets more states.
 use Rattle.std.specs.Prelude.{◌≡◌, ◌<◌, ℕ, Bool, List, Option, Some, slice_get, slice_index}
-use Rattle.regex_lite_meta.specs.declared.lazy_dfa.side.Side.{Side}
+use Rattle.regex_lite_meta.specs.declared.lazy_dfa.state.Side.{Side}
 use Rattle.regex_lite_meta.specs.LazyDfa.Automaton.{Automaton, KeptOrigin, State}
 use Rattle.regex_lite_meta.specs.LazyDfa.Automaton.{Way, unknown}
 use Rattle.regex_lite_meta.specs.LazyDfa.Intervals.{classes_in}

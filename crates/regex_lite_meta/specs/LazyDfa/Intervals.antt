@@ -6,9 +6,8 @@ use Rattle.std.specs.Char.{len_utf8}
 use Rattle.regex_lite_syntax.specs.declared.class.ClassRange.{ClassRange}
 use Rattle.regex_lite_syntax.specs.Text.{the}
 use Rattle.regex_lite_syntax.specs.Tree.Looks.{is, is_word}
-use Rattle.regex_lite_meta.specs.declared.lazy_dfa.classes.Ahead.{Ahead}
-use Rattle.regex_lite_meta.specs.declared.lazy_dfa.interval.Interval.{Interval}
-use Rattle.regex_lite_meta.specs.declared.lazy_dfa.side.Side.{Side}
+use Rattle.regex_lite_meta.specs.declared.lazy_dfa.classes.Interval.{Interval}
+use Rattle.regex_lite_meta.specs.declared.lazy_dfa.state.Side.{Side}
 use Rattle.regex_lite_engine.specs.declared.nfa.place.Place as code
 use Rattle.regex_lite_engine.specs.declared.nfa.place.Place.TheVariants as stored
 use Rattle.regex_lite_engine.specs.declared.search.here.Here.{Here}
@@ -46,12 +45,12 @@ pub record IsInterval (boundaries : List ℕ) (interval : Interval) : Type 0 whe
   pub few : interval.class ≤ length boundaries
 
 -- a character of this class begins at the offset, and ends there
-pub record IsAhead (boundaries bytes : List ℕ) (at : ℕ) (ahead : Ahead) : Type 0 where
+pub record IsAhead (boundaries bytes : List ℕ) (at class end : ℕ) : Type 0 where
   pub inside : at < length bytes
   pub character : ℕ
   pub begins : slice_get (chars (drop at bytes)) 0 ≡ Some character
-  pub ends : ahead.end ≡ at + len_utf8 character
-  pub class : interval_of boundaries character ≡ ahead.class
+  pub ends : end ≡ at + len_utf8 character
+  pub is_class : interval_of boundaries character ≡ class
 
 abbrev pub IsBoundary : List ℕ → ℕ → Type 0
 IsBoundary [] b = ⊥

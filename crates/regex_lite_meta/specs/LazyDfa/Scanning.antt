@@ -1,9 +1,7 @@
 -- A search that goes by remembered turns.
 use Rattle.std.specs.Prelude.{◌≡◌, ◌+◌, ◌≤◌, ◌⊎◌, ℕ, Bool, true, false, List, []}
-use Rattle.std.specs.Prelude.{length, slice_get, IfSome, Option, None, Some}
+use Rattle.std.specs.Prelude.{length, slice_get, Option, None, Some}
 use Rattle.regex_lite_syntax.specs.Text.{Text}
-use Rattle.regex_lite_meta.specs.declared.lazy_dfa.scan.Scanned as code
-use Rattle.regex_lite_meta.specs.declared.lazy_dfa.scan.Scanned.TheVariants as stored
 use Rattle.regex_lite_meta.specs.declared.lazy_dfa.scan.Standing.{Standing}
 use Rattle.regex_lite_engine.specs.declared.pikevm.beginning.Origin.{Origin}
 use Rattle.regex_lite_engine.specs.declared.search.here.Here.{Here}
@@ -70,23 +68,16 @@ module _ (table : List (Place ℕ)) (entries : List ℕ) (haystack : Text) (low 
     EndsOrLeads true at to (Some best) =
         IsNumberedEndOf table haystack entries low (best_told (Some best))
 
-  -- it goes no further than to a position at or after p
-  abbrev pub IsStuckAt : (p : ℕ) → Automaton → (at : Standing) → (idle : Option Here) → Type 0
-  IsStuckAt p automaton at idle =
-      ((q : ℕ) × (p ≤ q) × IsScanning q automaton at) × IfSome idle (IsIdleAt p)
-
-  -- it ends with the answer, or goes no further
-  abbrev pub ScansTo : (earliest : Bool) → (p : ℕ) → Automaton → code.Scanned → Type 0
-  ScansTo earliest p automaton (stored.Found best) =
-      IsFoundOf earliest table haystack entries low (best_told best)
-  ScansTo earliest p automaton (stored.Stuck at idle) = IsStuckAt p automaton at idle
+  -- from position p and this first start it comes to stand there, at that position or a later one
+  abbrev pub ComesTo : (p first : ℕ) → Automaton → (at : Standing) → Type 0
+  ComesTo p first automaton at =
+      (q : ℕ) × (p ≤ q) × IsScanning q automaton at × IsSince p first at.first
 
 -- a search goes on from one place to another, at the same position or a later one
 abbrev pub GoesOn : List (Place ℕ) → List ℕ → Text → Automaton → (from at : Standing) → Type 0
 GoesOn table entries haystack automaton from at = (low p : ℕ)
     → IsScanning table entries haystack low p automaton from
-    → (q : ℕ) × (p ≤ q) × IsScanning table entries haystack low q automaton at
-    × IsSince table entries haystack low p from.first at.first
+    → ComesTo table entries haystack low p from.first automaton at
 
 -- a search that goes on from there is over, and this is its match or, where the least end is asked
 -- for, one that ends there

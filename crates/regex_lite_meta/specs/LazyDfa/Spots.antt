@@ -2,9 +2,7 @@
 use Rattle.std.specs.Prelude.{◌≡◌, ◌⊎◌, ℕ, List, [], Option, None, Some, slice_get}
 use Rattle.regex_lite_meta.specs.declared.lazy_dfa.scan.Standing.{Standing}
 use Rattle.regex_lite_meta.specs.declared.lazy_dfa.spot.Spot.{Spot}
-use Rattle.regex_lite_meta.specs.declared.lazy_dfa.spot.Step.{Step}
-use Rattle.regex_lite_meta.specs.declared.lazy_dfa.spot.Step.TheVariants.{On, Over, Stuck}
-use Rattle.regex_lite_meta.specs.declared.lazy_dfa.spot.Turn.{Turn}
+use Rattle.regex_lite_meta.specs.declared.lazy_dfa.state.Target.{Target}
 use Rattle.regex_lite_engine.specs.Graph.Places.{Place}
 use Rattle.regex_lite_meta.specs.LazyDfa.Automaton.{Automaton, KeptOrigin, LeadsOn, State}
 use Rattle.regex_lite_meta.specs.LazyDfa.Automaton.{best_left}
@@ -13,49 +11,48 @@ use Rattle.regex_lite_meta.specs.LazyDfa.Scanning.{best_told}
 use Rattle.regex_lite_meta.specs.LazyDfa.Stored.{known_hit}
 
 -- wherever a search in state x sees a character of the class of the one at this offset, its turn
--- leads to that state, and here to that offset
+-- leads to the target's state, and here to the end of that character
 pub record IsTurn (table : List (Place ℕ)) (entries : List ℕ) (automaton : Automaton)
-    (bytes : List ℕ) (at x : ℕ) (turn : Turn) : Type 0 where
+    (bytes : List ℕ) (at x : ℕ) (target : Target) (end : ℕ) : Type 0 where
   pub class : ℕ
-  pub ahead : IsAhead automaton.intervals.boundaries bytes at
-      (record { class = class; end = turn.end })
+  pub ahead : IsAhead automaton.intervals.boundaries bytes at class end
   pub from : State
   pub is_from : slice_get automaton.states x ≡ Some from
   pub to : State
-  pub is_to : slice_get automaton.states turn.to ≡ Some to
+  pub is_to : slice_get automaton.states target.state ≡ Some to
   pub leads : LeadsOn table entries automaton.intervals from class to
   -- where the effect is known, the state has ways, and what is complete in it is known
-  pub effect : (hit : Option KeptOrigin) → known_hit turn.effect ≡ Some hit
+  pub effect : (hit : Option KeptOrigin) → known_hit target.effect ≡ Some hit
       → (to.ways ≡ [] → ⊥) × (to.hit ≡ hit)
 
--- after the turn to this state the search stands there, and has something to do
-pub record IsTaken (spot : Spot) (turn : Turn) (state : State) (before after : Standing)
-    (on : Spot) : Type 0 where
-  pub at : on.at ≡ turn.end
-  pub is_to : on.state ≡ turn.to
-  pub best : best_told after.best
-      ≡ best_left state.hit before.first spot.at (best_told before.best)
+-- after the turn at this offset to that state the search stands at its end, and has something to do
+pub record IsTaken (at x end : ℕ) (state : State) (before after : Standing) (on : Spot)
+    : Type 0 where
+  pub ends : on.at ≡ end
+  pub is_to : on.state ≡ x
+  pub best : best_told after.best ≡ best_left state.hit before.first at (best_told before.best)
   pub first : ((state.ways ≡ []) × (after.first ≡ on.at) × (after.best ≡ None))
       ⊎ ((state.ways ≡ [] → ⊥) × (after.first ≡ before.first))
 
 -- after the turn to this state nothing leads on, and the last match is the answer
-pub record EndsScan (spot : Spot) (state : State) (before after : Standing) : Type 0 where
+pub record EndsScan (at : ℕ) (state : State) (before after : Standing) : Type 0 where
   pub none : state.ways ≡ []
-  pub best : best_told after.best
-      ≡ best_left state.hit before.first spot.at (best_told before.best)
+  pub best : best_told after.best ≡ best_left state.hit before.first at (best_told before.best)
   pub some : best_told after.best ≡ None → ⊥
   pub same : after ≡ record before { best = after.best }
 
--- what comes of the turn to this state
-abbrev pub Takes : Spot → Turn → State → (before after : Standing) → Step → Type 0
-Takes spot turn state before after (On on) = IsTaken spot turn state before after on
-Takes spot turn state before after Over = EndsScan spot state before after
-Takes spot turn state before after Stuck = after ≡ before
+-- what comes of the turn at this offset to that state, if it is taken
+abbrev pub Takes : (at x end : ℕ) → State → (before after : Standing) → Option (Option Spot)
+    → Type 0
+Takes at x end state before after (Some (Some on)) = IsTaken at x end state before after on
+Takes at x end state before after (Some None) = EndsScan at state before after
+Takes at x end state before after None = after ≡ before
 
--- what comes of a turn after which there is nothing to go on from
-abbrev pub TakesToNothing : Turn → (before after : Standing) → Step → Type 0
-TakesToNothing turn before after (On on) =
-    (on.at ≡ turn.end) × (on.state ≡ turn.to) × (before.best ≡ None)
-    × (after ≡ record before { first = turn.end })
-TakesToNothing turn before after Over = (after ≡ before) × (before.best ≡ None → ⊥)
-TakesToNothing turn before after Stuck = (after ≡ before) × (before.best ≡ None)
+-- what comes of a turn after which there is nothing to go on from there
+abbrev pub TakesToNothing : (there : Spot) → (before after : Standing) → Option (Option Spot)
+    → Type 0
+TakesToNothing there before after (Some (Some on)) =
+    (on.at ≡ there.at) × (on.state ≡ there.state) × (before.best ≡ None)
+    × (after ≡ record before { first = there.at })
+TakesToNothing there before after (Some None) = (after ≡ before) × (before.best ≡ None → ⊥)
+TakesToNothing there before after None = (after ≡ before) × (before.best ≡ None)

@@ -1,22 +1,13 @@
 //! Classes of characters that no place of a graph distinguishes.
-ghost use Rattle.std.specs.Prelude.{◌≡◌, ◌+◌, ◌≤◌, ◌<◌, ℕ, IfSome};
-ghost use Rattle.std.specs.Prelude.{IsCharBoundary, length, nat_le, slice_index};
+ghost use Rattle.std.specs.Prelude.{◌≡◌, ◌+◌, ◌≤◌, ◌<◌, ℕ, IfSome, IsCharBoundary, length, nat_le};
+ghost use Rattle.std.specs.Prelude.{slice_index, List, true};
 ghost use Rattle.regex_lite_meta.specs.LazyDfa.Intervals.{AreIntervalsOf, IsAhead, IsInterval};
-ghost use Rattle.regex_lite_meta.specs.LazyDfa.Intervals.{class_of, classes_in};
-ghost use Rattle.regex_lite_meta.specs.LazyDfa.Intervals.{interval_of, tick};
+ghost use Rattle.regex_lite_meta.specs.LazyDfa.Intervals.{class_of, classes_in, interval_of, tick};
 
 use crate::lazy_dfa::boundaries::Boundaries;
-use crate::lazy_dfa::interval::Interval;
 use regex_lite_engine::nfa::place::Place;
 use regex_lite_engine::search::here::first_char;
 use std::marker::Model;
-
-/// The class of a character, and the offset at which the character ends.
-#[derive(Clone, Copy)]
-pub(crate) struct Ahead {
-    pub class: usize,
-    pub end: usize,
-}
 
 /// The intervals between the boundaries of all that a graph reads. The end of a haystack is in a
 /// class of its own.
@@ -110,11 +101,17 @@ impl Classes {
     /// the haystack. The interval of one that isn't ASCII is remembered as `near`.
     #[inline(always)]
     #[tactic(auto, using(crate::proofs::lazy_dfa::IntervalLemmas::interval_within))]
-    pub(super) fn ahead(&self, haystack: &str, at: usize, near: &mut Interval) -> Option<Ahead>
+    pub(super) fn ahead(
+        &self,
+        haystack: &str,
+        at: usize,
+        near: &mut Interval,
+    ) -> Option<(usize, usize)>
         requires boundary { IsCharBoundary haystack.now at }
         requires near { IsInterval self.now.boundaries near.old }
-        ensures ahead { IfSome result (IsAhead self.now.boundaries haystack.now at) }
-        ensures few { IfSome result (λ ahead. ahead.class < classes_in self.now) }
+        ensures ahead { IfSome result
+            (λ ahead. IsAhead self.now.boundaries haystack.now at ahead.0 ahead.1) }
+        ensures few { IfSome result (λ ahead. ahead.0 < classes_in self.now) }
         ensures near { IsInterval self.now.boundaries near.new }
     {
         let bytes = haystack.as_bytes();
@@ -125,29 +122,24 @@ impl Classes {
         if byte >= 128 {
             return self.wide_ahead(haystack, at, near);
         }
-        Some(Ahead {
-            class: self.ascii[byte as usize] as usize,
-            end: at + 1,
-        })
+        Some((self.ascii[byte as usize] as usize, at + 1))
     }
 
     /// Like `ahead`, for a character that may not be ASCII.
     #[inline(always)]
-    fn wide_ahead(&self, haystack: &str, at: usize, near: &mut Interval) -> Option<Ahead>
+    fn wide_ahead(&self, haystack: &str, at: usize, near: &mut Interval) -> Option<(usize, usize)>
         requires inside { at < length haystack.now }
         requires boundary { IsCharBoundary haystack.now at }
         requires near { IsInterval self.now.boundaries near.old }
-        ensures ahead { IfSome result (IsAhead self.now.boundaries haystack.now at) }
-        ensures few { IfSome result (λ ahead. ahead.class < classes_in self.now) }
+        ensures ahead { IfSome result
+            (λ ahead. IsAhead self.now.boundaries haystack.now at ahead.0 ahead.1) }
+        ensures few { IfSome result (λ ahead. ahead.0 < classes_in self.now) }
         ensures near { IsInterval self.now.boundaries near.new }
     {
         let Some(c) = first_char(haystack, at) else {
             return None;
         };
-        Some(Ahead {
-            class: self.class_near(c as u32, near),
-            end: at + c.len_utf8(),
-        })
+        Some((self.class_near(c as u32, near), at + c.len_utf8()))
     }
 
     /// The class of the character, which is likely to be in this interval. If it isn't, the
@@ -190,5 +182,80 @@ fn count_from(ascii: &mut [u8; 128], from: usize)
 {
     'characters: for c in from..128 {
         ascii[c] += 1;
+    }
+}
+
+/// The characters from `start` on and below `end`, which are all of one class.
+#[derive(Clone, Copy)]
+pub(super) struct Interval {
+    start: u32,
+    end: u32,
+    pub class: usize,
+}
+
+impl Interval {
+    /// An empty interval.
+    #[inline(always)]
+    pub(super) fn none() -> Interval
+        ensures { (boundaries : List ℕ) → IsInterval boundaries result }
+    {
+        Interval {
+            start: 0,
+            end: 0,
+            class: 0,
+        }
+    }
+
+    /// The interval between these boundaries that contains this number.
+    #[tactic(auto, using(crate::proofs::lazy_dfa::IntervalLemmas::interval_cons))]
+    pub(super) fn around(boundaries: &[u32], c: u32) -> Interval
+        requires { length boundaries.now ≤ 125 }
+        ensures same { result.class ≡ interval_of boundaries.now c }
+        ensures is { IsInterval boundaries.now result }
+    {
+        let mut around = Interval {
+            start: 0,
+            end: u32::MAX,
+            class: 0,
+        };
+        'bounds: for k in (0..boundaries.len()).rev() {
+            around.cut(boundaries[k], c);
+        }
+        around
+    }
+
+    /// Sets it to the interval between these boundaries that contains this number.
+    // Not inlined, so that a character of the same interval takes few steps.
+    #[inline(never)]
+    pub(super) fn come_to(&mut self, boundaries: &[u32], c: u32)
+        requires { length boundaries.now ≤ 125 }
+        ensures same { self.new.class ≡ interval_of boundaries.now c }
+        ensures is { IsInterval boundaries.now self.new }
+    {
+        *self = Interval::around(boundaries, c);
+    }
+
+    /// Cuts off what this boundary separates from the number.
+    fn cut(&mut self, bound: u32, c: u32)
+        requires { self.old.class < 125 }
+        ensures class { self.new.class ≡ tick (nat_le bound c) + self.old.class }
+        ensures within { (self.old.start ≤ self.new.start) × (self.new.end ≤ self.old.end) }
+        ensures same { (d : ℕ) → self.new.start ≤ d → d < self.new.end
+            → nat_le bound d ≡ nat_le bound c }
+    {
+        if bound <= c {
+            self.class += 1;
+            self.start = self.start.max(bound);
+        } else {
+            self.end = self.end.min(bound);
+        }
+    }
+
+    /// Whether the number is in it.
+    #[inline(always)]
+    pub(super) fn has(&self, c: u32) -> bool
+        ensures { result ≡ true → (self.now.start ≤ c) × (c < self.now.end) }
+    {
+        self.start <= c && c < self.end
     }
 }

@@ -1,10 +1,9 @@
 //! A whole search that remembers its turns, and goes by those that it remembers.
-ghost use Rattle.std.specs.Prelude.{◌≡◌, ◌+◌, ◌≤◌, [], ℕ, IfErr, IfOk, IfSome};
-ghost use Rattle.std.specs.Prelude.{MatchOption, None, chars, false, length, true};
-ghost use Rattle.regex_lite_meta.specs.LazyDfa.Automaton.{FitsOwnParts, Remembers};
-ghost use Rattle.regex_lite_meta.specs.LazyDfa.Learning.{HasTurned, IsIn};
-ghost use Rattle.regex_lite_meta.specs.LazyDfa.Running.{Stands};
-ghost use Rattle.regex_lite_meta.specs.LazyDfa.Scanning.{best_told};
+ghost use Rattle.std.specs.Prelude.{◌≡◌, ◌+◌, ◌≤◌, [], ℕ, IfErr, IfOk, IfSome, MatchOption, None};
+ghost use Rattle.std.specs.Prelude.{chars, false, length, true, ◌<◌, ◌⊎◌, All};
+ghost use Rattle.regex_lite_meta.specs.LazyDfa.Automaton.{Remembers};
+ghost use Rattle.regex_lite_meta.specs.LazyDfa.Running.{Stands, NoneStartsBeforeOf};
+ghost use Rattle.regex_lite_meta.specs.LazyDfa.Scanning.{best_told, ComesTo, IsScanning};
 ghost use Rattle.regex_lite_engine.specs.Graph.Parts.{IsOwnPart, row_of};
 ghost use Rattle.regex_lite_engine.specs.Graph.Renumbered.{arrows_of};
 ghost use Rattle.regex_lite_engine.specs.Search.Starts.{AreAllStarts};
@@ -16,9 +15,10 @@ ghost use Rattle.regex_lite_engine.specs.Pikevm.Searching.{IsFresh, IsBetween};
 ghost use Rattle.regex_lite_engine.specs.Pikevm.Turns.{best_of};
 
 use crate::lazy_dfa::automaton::LazyDfa;
-use crate::lazy_dfa::learn::Taken;
-use crate::lazy_dfa::run::{Progress, go_over, next_position};
-use crate::lazy_dfa::scan::{Scanned, Standing};
+use crate::lazy_dfa::reach::back;
+use crate::lazy_dfa::run::{Progress, go_over, let_go, may_have, next_position, take_up_ways};
+use crate::lazy_dfa::scan::Standing;
+use crate::lazy_dfa::state::StoredWay;
 use regex_lite_engine::pikevm::beginning::Origin;
 use regex_lite_engine::pikevm::cache::Cache;
 use regex_lite_engine::pikevm::run::{advance, is_done};
@@ -130,46 +130,12 @@ impl LazyDfa {
                 return Err(at);
             }
             let hit = go_over(cache, patterns, haystack, at.here);
-            at.state = self.learn_at(patterns, cache, at, hit);
+            at.state = self.learn(patterns, cache, at, hit);
             if is_done::<_, EARLIEST>(at.here, cache) {
                 return Ok(cache.best.found());
             }
             at = next_position(cache, haystack, at);
         }
-    }
-
-    /// Remembers the turn, if the state from which it was taken is known, unless the last scan went
-    /// on by it. Returns the state that the search is in.
-    #[inline(always)]
-    fn learn_at<P: Patterns>(
-        &mut self,
-        patterns: &P,
-        cache: &Cache<Origin>,
-        at: Progress,
-        hit: bool,
-    ) -> Option<u16>
-        requires remembers { Remembers (P.table patterns.now) (P.entries patterns.now) self.old }
-        requires none_pending { self.old.pending ≡ [] }
-        requires turned { MatchOption at.state (Unit {0}) (λ x. HasTurned (P.table patterns.now)
-            (P.entries patterns.now) self.old x at.first at.here hit cache.now) }
-        requires between { IsBetween (P.table patterns.now) cache.now }
-        requires own { FitsOwnParts (P.table patterns.now) (P.entries patterns.now)
-            (length cache.now.walk.memory.threads) }
-        ensures remembers { Remembers (P.table patterns.now) (P.entries patterns.now) self.new }
-        ensures none_pending { self.new.pending ≡ [] }
-        ensures state { MatchOption result (Unit {0})
-            (λ y. IsIn self.new y at.first at.here.after cache.now) }
-    {
-        if at.was_scanned() {
-            return None;
-        }
-        let taken = Taken {
-            state: at.state?,
-            first: at.first,
-            here: at.here,
-            hit,
-        };
-        self.learn(patterns, taken, cache)
     }
 
     /// Goes by turns that are remembered, if the search has entered this many places. Returns the
@@ -207,19 +173,125 @@ impl LazyDfa {
         if at.here.at < at.until || cache.walk.steps.entered() < least {
             return None;
         }
-        let from = Standing {
+        let mut to = Standing {
             here: at.here,
             state,
             first: at.first,
             best: cache.best.found(),
         };
-        match self.scan::<P, EARLIEST>(patterns, haystack, from) {
-            Scanned::Found(best) => Some(best),
-            Scanned::Stuck { at: stuck, idle } => {
-                self.resume(patterns, cache, at, stuck, idle);
-                self.begin_anew(patterns, cache, haystack, at, stuck);
-                None
-            }
+        if self.scan::<P, EARLIEST>(patterns, haystack, &mut to) {
+            return Some(to.best);
+        }
+        self.resume(patterns, cache, haystack, at, to);
+        self.begin_anew(patterns, cache, haystack, at, to);
+        None
+    }
+
+    /// Goes on where remembered turns end, if all ways there began at the first start, and no match
+    /// was found or a place was entered before; otherwise after the last position at which there
+    /// was nothing to go on from, or where the search was.
+    #[inline(always)]
+    pub(super) fn resume<P: Patterns>(
+        &self,
+        patterns: &P,
+        cache: &mut Cache<Origin>,
+        haystack: &str,
+        at: &mut Progress,
+        stuck: Standing,
+    )
+        requires remembers { Remembers (P.table patterns.now) (P.entries patterns.now) self.now }
+        requires state { stuck.state < length self.now.states }
+        requires stands { (s : ℕ) × (stands : Stands (P.table patterns.now) (chars haystack.now)
+            (P.entries patterns.now) s self.now at.old cache.old)
+            × ComesTo (P.table patterns.now) (P.entries patterns.now) (chars haystack.now)
+            stands.from stands.p at.old.first self.now stuck }
+        ensures stands { (s : ℕ) → (stands : Stands (P.table patterns.now) (chars haystack.now)
+            (P.entries patterns.now) s self.now at.old cache.old)
+            → ComesTo (P.table patterns.now) (P.entries patterns.now) (chars haystack.now)
+            stands.from stands.p at.old.first self.now stuck
+            → Stands (P.table patterns.now) (chars haystack.now) (P.entries patterns.now) s self.now
+            at.new cache.new }
+        ensures none { stuck.best ≡ None → best_of cache.old.best ≡ None
+            → best_of cache.new.best ≡ None }
+        ensures later { at.old.here.at ≤ at.new.here.at }
+    {
+        if stuck.here.at == at.here.at {
+            return;
+        }
+        let ways = self.ways(stuck.state as usize);
+        if may_take_up(ways, stuck) && may_have(cache, stuck.best) {
+            take_up_ways(cache, ways, stuck.first, stuck.best);
+            at.state = Some(stuck.state);
+            at.first = stuck.first;
+            at.here = stuck.here;
+            return;
+        }
+        // The offset fits: no haystack has as many bytes.
+        at.until = stuck.here.at + 1;
+        if stuck.first > at.here.at {
+            let here = Here::at(haystack, stuck.first);
+            let_go(cache);
+            at.state = self.empty_state(here.before);
+            at.first = here.at;
+            at.here = here;
         }
     }
+
+    /// Begins anew as many characters before the end of remembered turns as a way reads at most, if
+    /// that is known and after where the search is: no match starts before that isn't complete
+    /// where they end, and none is.
+    pub(super) fn begin_anew<P: Patterns>(
+        &self,
+        patterns: &P,
+        cache: &mut Cache<Origin>,
+        haystack: &str,
+        at: &mut Progress,
+        stuck: Standing,
+    )
+        requires remembers { Remembers (P.table patterns.now) (P.entries patterns.now) self.now }
+        requires stands { (s low q : ℕ) × Stands (P.table patterns.now) (chars haystack.now)
+            (P.entries patterns.now) s self.now at.old cache.old
+            × NoneStartsBeforeOf (P.table patterns.now) (chars haystack.now)
+            (P.entries patterns.now) s low
+            × IsScanning (P.table patterns.now) (P.entries patterns.now) (chars haystack.now) low q
+            self.now stuck }
+        ensures stands { (s low q : ℕ) → Stands (P.table patterns.now) (chars haystack.now)
+            (P.entries patterns.now) s self.now at.old cache.old
+            → NoneStartsBeforeOf (P.table patterns.now) (chars haystack.now)
+            (P.entries patterns.now) s low
+            → IsScanning (P.table patterns.now) (P.entries patterns.now) (chars haystack.now) low q
+            self.now stuck
+            → Stands (P.table patterns.now) (chars haystack.now) (P.entries patterns.now) s self.now
+            at.new cache.new }
+        ensures none { best_of cache.old.best ≡ None → best_of cache.new.best ≡ None }
+        ensures later { at.old.here.at ≤ at.new.here.at }
+    {
+        let Some(reach) = self.reach() else {
+            return;
+        };
+        if stuck.best.is_some() {
+            return;
+        }
+        let Some(here) = back(haystack, stuck.here, reach, at.here.at) else {
+            return;
+        };
+        let_go(cache);
+        at.state = None;
+        at.first = here.at;
+        at.here = here;
+        at.anew = true;
+    }
+}
+
+/// Whether all ways began at the first start, which is before this position if there are any.
+fn may_take_up(ways: &[StoredWay], stuck: Standing) -> bool
+    ensures all { result ≡ true → All (λ way. way.is_first ≡ true) ways.now }
+    ensures before { result ≡ true → (ways.now ≡ []) ⊎ (stuck.first < stuck.here.at) }
+{
+    'ways: for k in 0..ways.len() {
+        if !ways[k].is_first {
+            return false;
+        }
+    }
+    ways.is_empty() || stuck.first < stuck.here.at
 }

@@ -108,35 +108,11 @@ impl LazyDfa {
         next
     }
 
-    /// Goes on by remembered turns, and over positions at which no match can begin. Returns whether
-    /// the last match is the answer: nothing leads on from it or, with EARLIEST, it is the first
-    /// that a turn completes, of which only the end is known.
-    pub(super) fn run_on<P: Patterns, const EARLIEST: bool>(
-        &self,
-        patterns: &P,
-        haystack: &str,
-        at: &mut Standing,
-    ) -> bool
-        requires remembers { Remembers (P.table patterns.now) (P.entries patterns.now) self.now }
-        requires none { EARLIEST ≡ true → at.old.best ≡ None }
-        requires scanning { (low p : ℕ) × IsScanning (P.table patterns.now) (P.entries patterns.now)
-            (chars haystack.now) low p self.now at.old }
-        ensures over { result ≡ true → EndsWith (P.table patterns.now) (P.entries patterns.now)
-            (chars haystack.now) self.now EARLIEST at.old at.new.best }
-        ensures on { result ≡ false → GoesOn (P.table patterns.now) (P.entries patterns.now)
-            (chars haystack.now) self.now at.old at.new }
-        ensures none { EARLIEST ≡ true → result ≡ false → at.new.best ≡ None }
-    {
-        if self.run::<P, EARLIEST>(patterns, haystack, at) {
-            return true;
-        }
-        self.leap_on::<P, EARLIEST>(patterns, haystack, at)
-    }
-
-    /// Like `run_on`, but passes over positions first.
+    /// Like `run`, but passes over positions first, at which no match can begin, and does so again
+    /// where it is stuck.
     // Not inlined, so that a search without a prefilter costs no more than the call.
     #[inline(never)]
-    fn leap_on<P: Patterns, const EARLIEST: bool>(
+    pub(super) fn leap_on<P: Patterns, const EARLIEST: bool>(
         &self,
         patterns: &P,
         haystack: &str,

@@ -1,8 +1,8 @@
 //! Turns of a search, remembered.
-ghost use Rattle.std.specs.Prelude.{◌≡◌, [], ◌<◌, ◌++◌, ℕ, IfSome};
-ghost use Rattle.std.specs.Prelude.{MatchOption, Some, length, slice_get, true};
-ghost use Rattle.regex_lite_meta.specs.LazyDfa.Automaton.{FitsOwnParts, Remembers, State};
-ghost use Rattle.regex_lite_meta.specs.LazyDfa.Automaton.{hit_of, searching_after, ways_of};
+ghost use Rattle.std.specs.Prelude.{◌≡◌, [], ◌<◌, ◌++◌, ℕ, MatchOption, Some, length, slice_get};
+ghost use Rattle.std.specs.Prelude.{true, IfOk, IfSome};
+ghost use Rattle.regex_lite_meta.specs.LazyDfa.Automaton.{FitsOwnParts, Remembers, State, hit_of};
+ghost use Rattle.regex_lite_meta.specs.LazyDfa.Automaton.{searching_after, ways_of};
 ghost use Rattle.regex_lite_meta.specs.LazyDfa.Intervals.{side_of};
 ghost use Rattle.regex_lite_meta.specs.LazyDfa.Learning.{HasTurned, IsIn};
 ghost use Rattle.regex_lite_meta.specs.LazyDfa.Running.{Stands};
@@ -10,58 +10,57 @@ ghost use Rattle.regex_lite_meta.specs.LazyDfa.Stored.{hit_in};
 ghost use Rattle.regex_lite_syntax.specs.Text.{Text};
 ghost use Rattle.regex_lite_engine.specs.Pikevm.Searching.{IsBetween};
 ghost use Rattle.regex_lite_engine.specs.Pikevm.Turns.{best_of};
+ghost use Rattle.regex_lite_meta.specs.LazyDfa.Extending.{Extends, IsState};
 
 use crate::lazy_dfa::automaton::LazyDfa;
+use crate::lazy_dfa::lookup::{CELLS_FOR_ONE, hash_of};
 use crate::lazy_dfa::run::Progress;
-use crate::lazy_dfa::side::Side;
-use crate::lazy_dfa::state::{Hit, StoredWay};
+use crate::lazy_dfa::state::{Hit, Side, StoredWay, are_same};
 use regex_lite_engine::pikevm::beginning::Origin;
 use regex_lite_engine::pikevm::cache::Cache;
 use regex_lite_engine::pikevm::memory::Memory;
-use regex_lite_engine::search::here::{Here, byte_len};
+use regex_lite_engine::search::here::byte_len;
 use regex_lite_engine::search::patterns::Patterns;
 
-/// A turn that a search has taken: from which state, with which first start, and where. A match
-/// was complete there, or not.
-#[derive(Clone, Copy)]
-pub(crate) struct Taken {
-    pub state: u16,
-    pub first: usize,
-    pub here: Here,
-    pub hit: bool,
-}
-
 impl LazyDfa {
-    /// Remembers the turn by which the search came to what the cache holds now. Returns the state
-    /// that the search is in, if there is room for it.
-    pub(crate) fn learn<P: Patterns>(
+    /// Remembers the turn by which the search came from there to what the cache holds now, if the
+    /// state that it stood in is known, unless the last scan went on by it. A match was complete
+    /// there, or not. Returns the state that the search is in, if there is room for it.
+    pub(super) fn learn<P: Patterns>(
         &mut self,
         patterns: &P,
-        taken: Taken,
         cache: &Cache<Origin>,
+        at: Progress,
+        hit: bool,
     ) -> Option<u16>
         requires remembers { Remembers (P.table patterns.now) (P.entries patterns.now) self.old }
-        requires turned { HasTurned (P.table patterns.now) (P.entries patterns.now) self.old
-            taken.state taken.first taken.here taken.hit cache.now }
+        requires none_pending { self.old.pending ≡ [] }
+        requires turned { MatchOption at.state (Unit {0}) (λ x. HasTurned (P.table patterns.now)
+            (P.entries patterns.now) self.old x at.first at.here hit cache.now) }
         requires between { IsBetween (P.table patterns.now) cache.now }
         requires own { FitsOwnParts (P.table patterns.now) (P.entries patterns.now)
             (length cache.now.walk.memory.threads) }
-        requires none_pending { self.old.pending ≡ [] }
         ensures remembers { Remembers (P.table patterns.now) (P.entries patterns.now) self.new }
-        ensures state { IfSome result (λ y.
-            IsIn self.new y taken.first taken.here.after cache.now) }
         ensures none_pending { self.new.pending ≡ [] }
+        ensures state { MatchOption result (Unit {0})
+            (λ y. IsIn self.new y at.first at.here.after cache.now) }
     {
-        if !self.gather(&cache.walk.memory, taken.first) {
+        if at.was_scanned() {
+            return None;
+        }
+        let Some(x) = at.state else {
+            return None;
+        };
+        if !self.gather(&cache.walk.memory, at.first) {
             self.drop_pending();
             return None;
         }
-        let hit = hit_told(taken.first, taken.hit, cache);
-        let searching = self.searching_after(taken.state, hit);
-        let before = self.side(taken.here.after);
+        let hit = hit_told(at.first, hit, cache);
+        let searching = self.searching_after(x, hit);
+        let before = self.side(at.here.after);
         let y = self.settle(searching, before, hit)?;
-        let class = self.classes.class(taken.here.after);
-        self.remember(taken.state, class, y);
+        let class = self.classes.class(at.here.after);
+        self.remember(x, class, y);
         Some(y)
     }
 
@@ -162,6 +161,70 @@ impl LazyDfa {
         } else {
             Side::none()
         }
+    }
+
+    /// The state that has the pending ways and these properties, if it is there or there is room
+    /// for it.
+    #[tactic(auto, using(crate::proofs::lazy_dfa::StoredStateLemmas::length_states))]
+    pub(crate) fn settle(&mut self, searching: bool, before: Side, hit: Hit) -> Option<u16>
+        ensures state { IfSome result (λ y.
+            IsState self.new y self.old.pending searching before (hit_in hit)) }
+        ensures extends { Extends self.old self.new }
+        ensures none_pending { self.new.pending ≡ [] }
+    {
+        let cell = match self.find_state(searching, before, hit) {
+            Ok(y) => {
+                self.drop_pending();
+                return Some(y);
+            }
+            Err(cell) => cell,
+        };
+        let y = self.states.len();
+        if !self.has_room() || !self.add(searching, before, hit) {
+            self.drop_pending();
+            self.not_kept = self.not_kept.saturating_add(1);
+            return None;
+        }
+        self.put_number(cell, y as u16);
+        Some(y as u16)
+    }
+
+    /// The state that has the pending ways and these properties, if its number is looked up. Else
+    /// the cell for the number of such a state.
+    fn find_state(&self, searching: bool, before: Side, hit: Hit) -> Result<u16, usize>
+        ensures { IfOk result (λ y.
+            IsState self.now y self.now.pending searching before (hit_in hit)) }
+    {
+        let first = self.lookup.cell(hash_of(self.pending(), hit));
+        'cells: for k in 0..CELLS_FOR_ONE {
+            let Some(y) = self.lookup.number(first ^ k) else {
+                return Err(first ^ k);
+            };
+            if self.is_state(y, searching, before, hit) {
+                return Ok(y);
+            }
+        }
+        Err(first)
+    }
+
+    /// Whether the state with this number has the pending ways and these properties.
+    #[tactic(auto, using(crate::proofs::lazy_dfa::StoredStateLemmas::length_states))]
+    fn is_state(&self, y: u16, searching: bool, before: Side, hit: Hit) -> bool
+        ensures { result ≡ true
+            → IsState self.now y self.now.pending searching before (hit_in hit) }
+    {
+        if y as usize >= self.states.len() {
+            return false;
+        }
+        self.states[y as usize].is_like(searching, before, hit)
+            && are_same(self.ways(y as usize), self.pending())
+    }
+
+    /// Has the number of a state looked up in this cell.
+    fn put_number(&mut self, cell: usize, y: u16)
+        ensures { self.new ≡ self.old }
+    {
+        self.lookup.put(cell, y);
     }
 }
 

@@ -1,20 +1,14 @@
 //! Searches that go on by remembered turns, without a try.
-ghost use Rattle.std.specs.Prelude.{◌≡◌, ◌↔◌, ◌+◌, ◌<◌, ◌≤◌, ◌⊎◌, [], ℕ, IfSome, IsSome};
-ghost use Rattle.std.specs.Prelude.{IsCharBoundary, IsTrue, None, Some, chars, length, slice_get};
-ghost use Rattle.std.specs.Prelude.{Option, false, true};
-ghost use Rattle.regex_lite_meta.specs.declared.lazy_dfa.scan.Scanned.TheVariants.{Stuck};
-ghost use Rattle.regex_lite_meta.specs.declared.lazy_dfa.scan.Standing.{Standing};
+ghost use Rattle.std.specs.Prelude.{◌≡◌, ◌↔◌, ◌+◌, ◌<◌, ◌⊎◌, [], ℕ, IfSome, IsSome, IsTrue, None};
+ghost use Rattle.std.specs.Prelude.{Some, chars, false, length, slice_get, true};
 ghost use Rattle.regex_lite_meta.specs.LazyDfa.Automaton.{IsEmptyState, Remembers, State};
-ghost use Rattle.regex_lite_meta.specs.LazyDfa.Scanning.{best_told, EndsOrLeads, IsScanning};
-ghost use Rattle.regex_lite_meta.specs.LazyDfa.Scanning.{IsSince, ScansTo};
+ghost use Rattle.regex_lite_meta.specs.LazyDfa.Scanning.{EndsOrLeads, EndsWith, GoesOn};
+ghost use Rattle.regex_lite_meta.specs.LazyDfa.Scanning.{IsScanning, best_told};
 ghost use Rattle.regex_lite_syntax.specs.Text.{Text};
-ghost use Rattle.regex_lite_engine.specs.declared.search.here.Here.{Here};
-ghost use Rattle.regex_lite_engine.specs.Search.Offsets.{position_at};
 ghost use Rattle.regex_lite_engine.specs.Search.Standing.{IsHere};
 
 use crate::lazy_dfa::automaton::LazyDfa;
-use crate::lazy_dfa::side::Side;
-use crate::lazy_dfa::state::Hit;
+use crate::lazy_dfa::state::{Hit, Side};
 use regex_lite_engine::pikevm::beginning::Origin;
 use regex_lite_engine::search::here::Here;
 use regex_lite_engine::search::patterns::Patterns;
@@ -58,117 +52,92 @@ impl Standing {
     }
 }
 
-/// How far remembered turns lead.
-#[derive(Clone, Copy)]
-pub(crate) enum Scanned {
-    /// To the answer.
-    Found(Option<(Origin, usize)>),
-    /// To a turn that isn't known, or that completes a match of which the start isn't known; and
-    /// to the last position before it at which there was nothing to go on from.
-    Stuck { at: Standing, idle: Option<Here> },
-}
-
 impl LazyDfa {
-    /// Goes on while turns are remembered. The answer is the most preferred match or, with
-    /// EARLIEST, one with the least end: then its start says nothing, and there is none before.
-    pub(crate) fn scan<P: Patterns, const EARLIEST: bool>(
+    /// Goes on by remembered turns, and over positions at which no match can begin, up to a turn
+    /// that isn't known, or that completes a match of which the start isn't known. Returns whether
+    /// the last match is the answer: the most preferred one or, with EARLIEST, one with the least
+    /// end, whose start says nothing. None may be the answer too.
+    pub(super) fn scan<P: Patterns, const EARLIEST: bool>(
         &self,
         patterns: &P,
         haystack: &str,
-        from: Standing,
-    ) -> Scanned
+        at: &mut Standing,
+    ) -> bool
         requires remembers { Remembers (P.table patterns.now) (P.entries patterns.now) self.now }
-        requires none { EARLIEST ≡ true → from.best ≡ None }
+        requires none { EARLIEST ≡ true → at.old.best ≡ None }
         requires scanning { (low p : ℕ) × IsScanning (P.table patterns.now) (P.entries patterns.now)
-            (chars haystack.now) low p self.now from }
-        ensures to { (low p : ℕ) → IsScanning (P.table patterns.now) (P.entries patterns.now)
-            (chars haystack.now) low p self.now from
-            → ScansTo (P.table patterns.now) (P.entries patterns.now) (chars haystack.now) low
-            EARLIEST p self.now result }
-        ensures none { (at : Standing) (idle : Option Here) → EARLIEST ≡ true
-            → result ≡ Stuck at idle → at.best ≡ None }
+            (chars haystack.now) low p self.now at.old }
+        ensures over { result ≡ true → EndsWith (P.table patterns.now) (P.entries patterns.now)
+            (chars haystack.now) self.now EARLIEST at.old at.new.best }
+        ensures on { result ≡ false → GoesOn (P.table patterns.now) (P.entries patterns.now)
+            (chars haystack.now) self.now at.old at.new }
+        ensures none { EARLIEST ≡ true → result ≡ false → at.new.best ≡ None }
     {
-        let mut at = from;
         'positions: loop {
-            if self.run_on::<P, EARLIEST>(patterns, haystack, &mut at) {
-                return Scanned::Found(at.best);
+            if self.run::<P, EARLIEST>(patterns, haystack, at) {
+                return true;
             }
-            let Some(on) = self.skip(patterns, haystack, at) else {
-                return Scanned::Stuck {
-                    at,
-                    idle: idle_since(haystack, from.first, at.first),
-                };
-            };
-            let Some((to, best)) = self.step::<P, EARLIEST>(patterns, on) else {
-                return Scanned::Stuck {
-                    at: on,
-                    idle: idle_since(haystack, from.first, on.first),
-                };
-            };
-            if self.is_over::<EARLIEST>(on.here, to, best) {
-                return Scanned::Found(best);
+            if self.leap_on::<P, EARLIEST>(patterns, haystack, at) {
+                return true;
             }
-            at = self.go_on(haystack, on, to, best);
+            if !self.skip(patterns, haystack, at) {
+                return false;
+            }
+            let Some((to, best)) = self.step::<P, EARLIEST>(patterns, at) else {
+                return false;
+            };
+            if self.is_over::<EARLIEST>(at.here, to, best) {
+                at.best = best;
+                return true;
+            }
+            self.go_on(haystack, at, to, best);
         }
     }
 
     /// Where there is nothing to go on from and no match, goes on to the next position at which one
-    /// can begin. None where no state is known for that, or where turns would be faster.
+    /// can begin. Returns whether it could, or needn't: not where no state is known for that, or
+    /// where turns would be faster.
     // Inlined, so that other positions cost no more than the test.
     #[inline(always)]
-    pub(super) fn skip<P: Patterns>(
-        &self,
-        patterns: &P,
-        haystack: &str,
-        at: Standing,
-    ) -> Option<Standing>
+    pub(super) fn skip<P: Patterns>(&self, patterns: &P, haystack: &str, at: &mut Standing) -> bool
         requires scanning { (low p : ℕ) × IsScanning (P.table patterns.now) (P.entries patterns.now)
-            (chars haystack.now) low p self.now at }
-        ensures on { (low p : ℕ) → IsScanning (P.table patterns.now) (P.entries patterns.now)
-            (chars haystack.now) low p self.now at
-            → IfSome result (λ on. (q : ℕ) × (p ≤ q) × IsScanning (P.table patterns.now)
-            (P.entries patterns.now) (chars haystack.now) low q self.now on) }
-        ensures first { (low p : ℕ) → IsScanning (P.table patterns.now) (P.entries patterns.now)
-            (chars haystack.now) low p self.now at
-            → IfSome result (λ on. IsSince (P.table patterns.now) (P.entries patterns.now)
-            (chars haystack.now) low p at.first on.first) }
-        ensures none { at.best ≡ None → IfSome result (λ on. on.best ≡ None) }
+            (chars haystack.now) low p self.now at.old }
+        ensures on { GoesOn (P.table patterns.now) (P.entries patterns.now)
+            (chars haystack.now) self.now at.old at.new }
+        ensures none { at.old.best ≡ None → at.new.best ≡ None }
     {
         if at.best.is_some() || !self.is_empty(at.state) {
-            return Some(at);
+            return true;
         }
         self.skip_idle(patterns, haystack, at)
     }
 
     /// The same where there is nothing to go on from and no match.
     #[inline(never)]
-    fn skip_idle<P: Patterns>(&self, patterns: &P, haystack: &str, at: Standing) -> Option<Standing>
+    fn skip_idle<P: Patterns>(&self, patterns: &P, haystack: &str, at: &mut Standing) -> bool
         requires scanning { (low p : ℕ) × IsScanning (P.table patterns.now) (P.entries patterns.now)
-            (chars haystack.now) low p self.now at }
-        requires none { best_told at.best ≡ None }
-        requires empty { (state : State) → slice_get self.now.states at.state ≡ Some state
+            (chars haystack.now) low p self.now at.old }
+        requires none { best_told at.old.best ≡ None }
+        requires empty { (state : State) → slice_get self.now.states at.old.state ≡ Some state
             → state.ways ≡ [] }
-        ensures on { (low p : ℕ) → IsScanning (P.table patterns.now) (P.entries patterns.now)
-            (chars haystack.now) low p self.now at
-            → IfSome result (λ on. (q : ℕ) × (p ≤ q) × IsScanning (P.table patterns.now)
-            (P.entries patterns.now) (chars haystack.now) low q self.now on) }
-        ensures first { (low p : ℕ) → IsScanning (P.table patterns.now) (P.entries patterns.now)
-            (chars haystack.now) low p self.now at
-            → IfSome result (λ on. IsSince (P.table patterns.now) (P.entries patterns.now)
-            (chars haystack.now) low p at.first on.first) }
-        ensures none { IfSome result (λ on. on.best ≡ None) }
+        ensures on { GoesOn (P.table patterns.now) (P.entries patterns.now)
+            (chars haystack.now) self.now at.old at.new }
+        ensures none { at.new.best ≡ None }
     {
         let here = patterns.pass_over(haystack, at.here);
         if self.is_worth_a_turn(patterns, at.here, here) && !self.knows(at.state, at.here.after) {
-            return None;
+            return false;
         }
-        let state = self.empty_state(here.before)?;
-        Some(Standing {
+        let Some(state) = self.empty_state(here.before) else {
+            return false;
+        };
+        *at = Standing {
             here,
             state,
             first: here.at,
             best: None,
-        })
+        };
+        true
     }
 
     /// The state without ways in which a match is searched for after this character.
@@ -207,15 +176,15 @@ impl LazyDfa {
     fn step<P: Patterns, const EARLIEST: bool>(
         &self,
         patterns: &P,
-        at: Standing,
+        at: &Standing,
     ) -> Option<(u16, Option<(Origin, usize)>)>
         requires remembers { Remembers (P.table patterns.now) (P.entries patterns.now) self.now }
-        requires state { at.state < length self.now.states }
-        requires none { EARLIEST ≡ true → at.best ≡ None }
+        requires state { at.now.state < length self.now.states }
+        requires none { EARLIEST ≡ true → at.now.best ≡ None }
         ensures led { (haystack : Text) (low p : ℕ) → IsScanning (P.table patterns.now)
-            (P.entries patterns.now) haystack low p self.now at
+            (P.entries patterns.now) haystack low p self.now at.now
             → IfSome result (λ told. EndsOrLeads (P.table patterns.now) (P.entries patterns.now)
-            haystack low p self.now EARLIEST at told.0 told.1) }
+            haystack low p self.now EARLIEST at.now told.0 told.1) }
         ensures state { IfSome result (λ told. told.0 < length self.now.states) }
     {
         let class = self.classes.class(at.here.after);
@@ -255,43 +224,23 @@ impl LazyDfa {
         best.is_some() && (EARLIEST || self.is_empty(to))
     }
 
-    /// Goes on to the next position.
-    pub(super) fn go_on(
-        &self,
-        haystack: &str,
-        at: Standing,
-        to: u16,
-        best: Option<(Origin, usize)>,
-    ) -> Standing
-        requires here { (p : ℕ) × IsHere (chars haystack.now) p at.here × IsSome at.here.after }
+    /// Goes on to the next position, in this state and with this match.
+    fn go_on(&self, haystack: &str, at: &mut Standing, to: u16, best: Option<(Origin, usize)>)
+        requires here { (p : ℕ) × IsHere (chars haystack.now) p at.old.here
+            × IsSome at.old.here.after }
         requires state { to < length self.now.states }
-        ensures here { (p : ℕ) → IsHere (chars haystack.now) p at.here
-            → IsHere (chars haystack.now) (p + 1) result.here }
-        ensures same { result ≡ record result { state = to; best = best } }
+        ensures here { (p : ℕ) → IsHere (chars haystack.now) p at.old.here
+            → IsHere (chars haystack.now) (p + 1) at.new.here }
+        ensures same { at.new ≡ record at.new { state = to; best = best } }
         ensures first { (state : State) → slice_get self.now.states to ≡ Some state
-            → ((state.ways ≡ []) × (result.first ≡ result.here.at))
-            ⊎ (¬ (state.ways ≡ []) × (result.first ≡ at.first)) }
+            → ((state.ways ≡ []) × (at.new.first ≡ at.new.here.at))
+            ⊎ (¬ (state.ways ≡ []) × (at.new.first ≡ at.old.first)) }
     {
-        let here = at.here.next(haystack);
-        let first = if self.is_empty(to) { here.at } else { at.first };
-        Standing {
-            here,
-            state: to,
-            first,
-            best,
+        at.here = at.here.next(haystack);
+        at.state = to;
+        at.best = best;
+        if self.is_empty(to) {
+            at.first = at.here.at;
         }
     }
-}
-
-/// The position of this first start, if another one was the first before.
-pub(super) fn idle_since(haystack: &str, before: usize, first: usize) -> Option<Here>
-    requires { (first ≡ before) ⊎ IsCharBoundary haystack.now first }
-    ensures at { IfSome result (λ here. here.at ≡ first) }
-    ensures here { IfSome result (IsHere (chars haystack.now) (position_at haystack.now first)) }
-    ensures other { IfSome result (λ _. ¬ (first ≡ before)) }
-{
-    if first == before {
-        return None;
-    }
-    Some(Here::at(haystack, first))
 }

@@ -10,10 +10,9 @@ ghost use Rattle.regex_lite_engine.specs.Search.Offsets.{position_at};
 ghost use Rattle.regex_lite_engine.specs.Search.Standing.{IsHere};
 
 use crate::lazy_dfa::automaton::LazyDfa;
-use crate::lazy_dfa::classes::Ahead;
-use crate::lazy_dfa::interval::Interval;
+use crate::lazy_dfa::classes::Interval;
 use crate::lazy_dfa::scan::Standing;
-use crate::lazy_dfa::state::{Effect, Hit};
+use crate::lazy_dfa::state::{Hit, Target};
 use crate::strategy::MOST_IDLE;
 use regex_lite_engine::search::here::Here;
 use regex_lite_engine::search::patterns::Patterns;
@@ -26,25 +25,6 @@ pub(super) struct Spot {
     state: u16,
     /// How many turns in a row led from nothing to go on from to nothing.
     idle: u32,
-}
-
-/// Where a turn leads: to this state, and to this offset.
-#[derive(Clone, Copy)]
-pub(super) struct Turn {
-    to: u16,
-    effect: Effect,
-    end: usize,
-}
-
-/// What comes of a turn.
-#[derive(Clone, Copy)]
-enum Step {
-    /// The scan stands there then.
-    On(Spot),
-    /// The search is over: nothing leads on from its match.
-    Over,
-    /// The turn isn't taken.
-    Stuck,
 }
 
 impl LazyDfa {
@@ -77,24 +57,25 @@ impl LazyDfa {
                 at.settle(haystack, spot);
                 return false;
             }
-            let Some(turn) = self.turn(patterns, haystack, spot, &mut near) else {
+            let Some((target, end)) = self.turn(patterns, haystack, spot, &mut near) else {
                 break;
             };
-            if self.is_last::<EARLIEST>(turn) {
+            if self.is_last::<EARLIEST>(target) {
                 at.complete(0, spot.at);
                 return true;
             }
-            match self.take(spot, turn, at) {
-                Step::On(on) => spot = on,
-                Step::Over => return true,
-                Step::Stuck => break,
+            match self.take(spot, target, end, at) {
+                Some(Some(on)) => spot = on,
+                Some(None) => return true,
+                None => break,
             }
         }
         at.settle(haystack, spot);
         false
     }
 
-    /// The turn from there, if it is remembered. None at the end of the haystack.
+    /// Where the turn from there leads, if it is remembered: the target, and the offset. None at
+    /// the end of the haystack.
     #[inline(always)]
     fn turn<P: Patterns>(
         &self,
@@ -102,104 +83,102 @@ impl LazyDfa {
         haystack: &str,
         spot: Spot,
         near: &mut Interval,
-    ) -> Option<Turn>
+    ) -> Option<(Target, usize)>
         requires remembers { Remembers (P.table patterns.now) (P.entries patterns.now) self.now }
         requires boundary { IsCharBoundary haystack.now spot.at }
         requires state { spot.state < length self.now.states }
         requires near { IsInterval self.now.intervals.boundaries near.old }
-        ensures turn { IfSome result (IsTurn (P.table patterns.now) (P.entries patterns.now)
-            self.now haystack.now spot.at spot.state) }
+        ensures turn { IfSome result (λ turn. IsTurn (P.table patterns.now)
+            (P.entries patterns.now) self.now haystack.now spot.at spot.state turn.0 turn.1) }
         ensures near { IsInterval self.now.intervals.boundaries near.new }
     {
-        let Some(Ahead { class, end }) = self.classes.ahead(haystack, spot.at, near) else {
+        let Some((class, end)) = self.classes.ahead(haystack, spot.at, near) else {
             return None;
         };
         let target = self.known_target(spot.state, class)?;
-        Some(Turn {
-            to: target.state,
-            effect: target.effect,
-            end,
-        })
+        Some((target, end))
     }
 
-    /// Takes the turn, unless it completes a match of which the start isn't known, or leads from
-    /// nothing to go on from to nothing too often in a row.
+    /// Takes the turn to this target and offset. Returns where the scan stands then, or nothing if
+    /// the search is over: nothing leads on from its match. None if the turn isn't taken: it
+    /// completes a match of which the start isn't known, or leads from nothing to go on from to
+    /// nothing too often in a row.
     #[inline(always)]
-    fn take(&self, spot: Spot, turn: Turn, at: &mut Standing) -> Step
+    fn take(
+        &self,
+        spot: Spot,
+        target: Target,
+        end: usize,
+        at: &mut Standing,
+    ) -> Option<Option<Spot>>
         requires from { spot.state < length self.now.states }
-        requires to { turn.to < length self.now.states }
-        requires effect { (hit : Option KeptOrigin) → known_hit turn.effect ≡ Some hit
-            → (state : State) → slice_get self.now.states turn.to ≡ Some state
+        requires to { target.state < length self.now.states }
+        requires effect { (hit : Option KeptOrigin) → known_hit target.effect ≡ Some hit
+            → (state : State) → slice_get self.now.states target.state ≡ Some state
             → ¬ (state.ways ≡ []) × (state.hit ≡ hit) }
-        ensures taken { (state : State) → slice_get self.now.states turn.to ≡ Some state
-            → Takes spot turn state at.old at.new result }
-        ensures same { (state : State) → slice_get self.now.states turn.to ≡ Some state
+        ensures taken { (state : State) → slice_get self.now.states target.state ≡ Some state
+            → Takes spot.at target.state end state at.old at.new result }
+        ensures same { (state : State) → slice_get self.now.states target.state ≡ Some state
             → state.hit ≡ None → at.new.best ≡ at.old.best }
     {
         let on = Spot {
-            at: turn.end,
-            state: turn.to,
+            at: end,
+            state: target.state,
             idle: spot.idle,
         };
         // Most turns: the rest needs no test.
-        if turn.effect.is_plain {
-            return Step::On(on);
+        if target.effect.is_plain {
+            return Some(Some(on));
         }
-        if turn.effect.completes {
+        if target.effect.completes {
             at.complete(0, spot.at);
-            return Step::On(on);
+            return Some(Some(on));
         }
-        self.take_by_state(spot, turn, at)
+        self.take_by_state(spot, on, at)
     }
 
-    /// The same, by what the state says.
+    /// The same, by what the state says, after which the scan would stand there.
     #[inline(always)]
-    fn take_by_state(&self, spot: Spot, turn: Turn, at: &mut Standing) -> Step
+    fn take_by_state(&self, spot: Spot, on: Spot, at: &mut Standing) -> Option<Option<Spot>>
         requires from { spot.state < length self.now.states }
-        requires to { turn.to < length self.now.states }
-        ensures taken { (state : State) → slice_get self.now.states turn.to ≡ Some state
-            → Takes spot turn state at.old at.new result }
-        ensures same { (state : State) → slice_get self.now.states turn.to ≡ Some state
+        requires to { on.state < length self.now.states }
+        ensures taken { (state : State) → slice_get self.now.states on.state ≡ Some state
+            → Takes spot.at on.state on.at state at.old at.new result }
+        ensures same { (state : State) → slice_get self.now.states on.state ≡ Some state
             → state.hit ≡ None → at.new.best ≡ at.old.best }
     {
-        let Turn { to, end, .. } = turn;
-        let hit = self.hit(to);
+        let hit = self.hit(on.state);
         if let Hit::AtLater(_) = hit {
-            return Step::Stuck;
+            return None;
         }
         if let Hit::AtFirst(number) = hit {
             at.complete(number, spot.at);
         }
-        if self.is_empty(to) {
-            return self.take_to_nothing(spot, turn, at);
+        if self.is_empty(on.state) {
+            return self.take_to_nothing(spot, on, at);
         }
-        Step::On(Spot {
-            at: end,
-            state: to,
-            idle: spot.idle,
-        })
+        Some(Some(on))
     }
 
     /// The same where there is nothing to go on from after the turn, and the match that the turn
     /// completes is known.
     #[inline(always)]
-    fn take_to_nothing(&self, spot: Spot, turn: Turn, at: &mut Standing) -> Step
+    fn take_to_nothing(&self, spot: Spot, on: Spot, at: &mut Standing) -> Option<Option<Spot>>
         requires from { spot.state < length self.now.states }
-        ensures { TakesToNothing turn at.old at.new result }
+        ensures { TakesToNothing on at.old at.new result }
     {
-        let Turn { to, end, .. } = turn;
         if at.best.is_some() {
-            return Step::Over;
+            return Some(None);
         }
         let Some(idle) = self.idle_after(spot) else {
-            return Step::Stuck;
+            return None;
         };
-        at.first = end;
-        Step::On(Spot {
-            at: end,
-            state: to,
+        at.first = on.at;
+        Some(Some(Spot {
+            at: on.at,
+            state: on.state,
             idle,
-        })
+        }))
     }
 
     /// How many turns in a row then led from nothing to go on from to nothing, unless that is too
@@ -230,23 +209,23 @@ impl LazyDfa {
 
     /// Whether the turn completes a match, if the least end is asked for.
     #[inline(always)]
-    fn is_last<const EARLIEST: bool>(&self, turn: Turn) -> bool
-        requires to { turn.to < length self.now.states }
-        requires effect { (hit : Option KeptOrigin) → known_hit turn.effect ≡ Some hit
-            → (state : State) → slice_get self.now.states turn.to ≡ Some state
+    fn is_last<const EARLIEST: bool>(&self, target: Target) -> bool
+        requires to { target.state < length self.now.states }
+        requires effect { (hit : Option KeptOrigin) → known_hit target.effect ≡ Some hit
+            → (state : State) → slice_get self.now.states target.state ≡ Some state
             → ¬ (state.ways ≡ []) × (state.hit ≡ hit) }
-        ensures none { (state : State) → slice_get self.now.states turn.to ≡ Some state
+        ensures none { (state : State) → slice_get self.now.states target.state ≡ Some state
             → EARLIEST ≡ true → result ≡ false → state.hit ≡ None }
-        ensures hit { (state : State) → slice_get self.now.states turn.to ≡ Some state
+        ensures hit { (state : State) → slice_get self.now.states target.state ≡ Some state
             → result ≡ true → (EARLIEST ≡ true) × ¬ (state.hit ≡ None) }
     {
         if !EARLIEST {
             return false;
         }
-        if turn.effect.is_plain {
+        if target.effect.is_plain {
             return false;
         }
-        match self.hit(turn.to) {
+        match self.hit(target.state) {
             Hit::Nowhere => false,
             Hit::AtFirst(_) | Hit::AtLater(_) => true,
         }

@@ -1,9 +1,10 @@
 //! The states of a lazy automaton.
-ghost use Rattle.std.specs.Prelude.{◌≡◌, ◌<◌, Option, Some, true};
+ghost use Rattle.std.specs.Prelude.{◌≡◌, ◌<◌, Option, Some, true, ◌↔◌, IsTrue, None};
 ghost use Rattle.regex_lite_meta.specs.LazyDfa.Automaton.{KeptOrigin};
 ghost use Rattle.regex_lite_meta.specs.LazyDfa.Stored.{hit_in, known_hit};
+ghost use Rattle.regex_lite_meta.specs.LazyDfa.Intervals.{side_of};
 
-use crate::lazy_dfa::side::Side;
+use regex_lite_syntax::Look;
 use std::mem::size_of;
 
 /// A place to go on from, whether the way to it began at the first start, and the number of its
@@ -133,5 +134,54 @@ impl Hit {
                 _ => false,
             },
         }
+    }
+}
+
+/// What looks see of the character before or after a position.
+#[derive(Clone, Copy)]
+pub(crate) struct Side {
+    /// Whether there is none.
+    is_none: bool,
+    is_line_feed: bool,
+    is_carriage_return: bool,
+    is_word: bool,
+}
+
+impl Side {
+    /// What they see of this one.
+    pub(crate) fn of(c: Option<char>) -> Side
+        ensures { result ≡ side_of c }
+    {
+        let Some(c) = c else {
+            return Side::none();
+        };
+        Side {
+            is_none: false,
+            is_line_feed: c == '\n',
+            is_carriage_return: c == '\r',
+            is_word: !Look::WordEndHalf.holds(None, Some(c)),
+        }
+    }
+
+    /// What they see where there is no character.
+    pub(crate) fn none() -> Side
+        ensures { result ≡ side_of None }
+    {
+        Side {
+            is_none: true,
+            is_line_feed: false,
+            is_carriage_return: false,
+            is_word: false,
+        }
+    }
+
+    /// Whether they see the same of both.
+    pub(crate) fn is(self, other: Side) -> bool
+        ensures { IsTrue result ↔ (self ≡ other) }
+    {
+        self.is_none == other.is_none
+            && self.is_line_feed == other.is_line_feed
+            && self.is_carriage_return == other.is_carriage_return
+            && self.is_word == other.is_word
     }
 }

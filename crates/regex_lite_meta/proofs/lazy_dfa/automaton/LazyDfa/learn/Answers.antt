@@ -1,7 +1,8 @@
 use Rattle.regex_lite_meta.proofs.Common.{◌≡◌, true, [], slice_get, Some, sym, refl, ap, ◌∙◌, subst}
 use Rattle.regex_lite_meta.proofs.Common.{slice_get_within, best_of, ◌<◌, Automaton, ways_of, Suits}
 use Rattle.regex_lite_meta.proofs.Common.{searching_after, Remembers, class_of, side_of, IsIn}
-use Rattle.regex_lite_meta.proofs.Common.{classes_in}
+use Rattle.regex_lite_meta.proofs.Common.{classes_in, MatchOption}
+use Rattle.regex_lite_meta.specs.LazyDfa.Learning.{HasTurned}
 use Rattle.regex_lite_meta.proofs.lazy_dfa.LearnLemmas.{learned, remembers_settled, still_in}
 use Rattle.regex_lite_meta.proofs.lazy_dfa.LearnLemmas.{suits_after}
 use Rattle.regex_lite_meta.proofs.lazy_dfa.RememberedLemmas.{remembers_more}
@@ -10,17 +11,28 @@ use Rattle.regex_lite_meta.proofs.lazy_dfa.automaton.LazyDfa.learn.Goals as goal
 use Rattle.regex_lite_meta.proofs.lazy_dfa.automaton.LazyDfa.learn.Goals.{After-settle}
 use Rattle.regex_lite_meta.proofs.lazy_dfa.automaton.LazyDfa.learn.Goals.{Else-not-gather}
 
+-- the turn was taken from the state that is known
+turned_there : (g : given.Over) (c : Else-not-gather g) →
+    HasTurned (g.P.Patterns.table c.args.patterns.now) (g.P.Patterns.entries c.args.patterns.now)
+    c.args.self.now c.in-Some.x c.args.at.first c.args.at.here c.args.hit c.args.cache.now
+turned_there g c =
+    let a = c.args in
+    let patterns = a.patterns.now in
+    subst (λ o. MatchOption o (Unit {0}) (λ x. HasTurned (g.P.Patterns.table patterns)
+    (g.P.Patterns.entries patterns) a.self.now x a.at.first a.at.here a.hit a.cache.now))
+    c.in-Some.is c.requires.turned
+
 -- the state that the turn was taken from is there once the ways are gathered
 own_state : (g : given.Over) (c : Else-not-gather g) →
-    slice_get c.gather.new.self.states c.args.taken.state ≡ Some c.requires.turned.is_in.state
+    slice_get c.gather.new.self.states c.in-Some.x ≡ Some (turned_there g c).is_in.state
 own_state g c =
-    ap (λ (z : Automaton). slice_get z.states c.args.taken.state)
+    ap (λ (z : Automaton). slice_get z.states c.in-Some.x)
     (c.if-not-gather.ensures.gathered refl)
-    ∙ c.requires.turned.is_in.is_state
+    ∙ (turned_there g c).is_in.is_state
 
 -- what is remembered once the state that is come to has its place
 settled : (g : given.Over) (c : After-settle g) →
-    (c.gather.new.self.pending ≡ ways_of c.args.taken.first c.args.cache.now.walk.memory.threads)
+    (c.gather.new.self.pending ≡ ways_of c.args.at.first c.args.cache.now.walk.memory.threads)
     × Remembers (g.P.Patterns.table c.args.patterns.now) (g.P.Patterns.entries c.args.patterns.now)
     c.settle.new.self
 settled g c =
@@ -29,14 +41,15 @@ settled g c =
     let between = c.requires.between in
     remembers_settled (g.P.Patterns.table patterns) (g.P.Patterns.entries patterns) a.self.now
     c.gather.new.self
-    c.settle.new.self a.taken.first a.cache.now.walk.memory.threads
+    c.settle.new.self a.at.first a.cache.now.walk.memory.threads
     (c.if-not-gather.ensures.gathered refl) c.requires.none_pending c.requires.remembers
     between.below between.few c.requires.own c.settle.ensures.extends
 
 pub searching_after-searching-requires : goal.searching_after-searching-requires
 searching_after-searching-requires g c =
-    let own = own_state g (goal.at.searching_after-searching-requires g c).Else-not-gather in
-    slice_get_within c.gather.new.self.states c.args.taken.state c.requires.turned.is_in.state own
+    let there = (goal.at.searching_after-searching-requires g c).Else-not-gather in
+    slice_get_within c.gather.new.self.states c.in-Some.x (turned_there g there).is_in.state
+    (own_state g there)
 
 pub returns-in_err-y-clause-remembers : goal.returns-in_err-y-clause-remembers
 returns-in_err-y-clause-remembers g c =
@@ -44,10 +57,11 @@ returns-in_err-y-clause-remembers g c =
 
 pub remember-requires-clause-state : goal.remember-requires-clause-state
 remember-requires-clause-state g c =
-    let from = c.requires.turned.is_in.state in
-    let own = own_state g (goal.at.remember-requires-clause-state g c).Else-not-gather in
-    slice_get_within c.settle.new.self.states c.args.taken.state from
-    (c.settle.ensures.extends.kept c.args.taken.state from own)
+    let there = (goal.at.remember-requires-clause-state g c).Else-not-gather in
+    let from = (turned_there g there).is_in.state in
+    let own = own_state g there in
+    slice_get_within c.settle.new.self.states c.in-Some.x from
+    (c.settle.ensures.extends.kept c.in-Some.x from own)
 
 pub remember-requires-clause-class : goal.remember-requires-clause-class
 remember-requires-clause-class g c =
@@ -62,13 +76,14 @@ remember-requires-clause-target g c =
 pub returns : goal.returns
 returns g c =
     let a = c.args in
-    let x = a.taken.state in
+    let x = c.in-Some.x in
     let entries = g.P.Patterns.entries a.patterns.now in
     let now = c.settle.new.self in
     let extends = c.settle.ensures.extends in
     let whole = settled g (goal.at.returns g c).After-settle in
-    let own = own_state g (goal.at.returns g c).Else-not-gather in
-    let turned = c.requires.turned in
+    let there = (goal.at.returns g c).Else-not-gather in
+    let own = own_state g there in
+    let turned = turned_there g there in
     let from = turned.is_in.state in
     let at : slice_get now.states x ≡ Some from = extends.kept x from own in
     let same : now.intervals ≡ a.self.now.intervals =
@@ -76,14 +91,14 @@ returns g c =
     ∙ ap (λ (z : Automaton). z.intervals) (c.if-not-gather.ensures.gathered refl) in
     let to = c.in_ok-y.ensures.state in
     let class = c.class-class.result in
-    let is_class : class_of now.intervals.boundaries a.taken.here.after ≡ class =
-    sym (ap (λ (z : Automaton). class_of z.intervals.boundaries a.taken.here.after) c.self.view_is)
+    let is_class : class_of now.intervals.boundaries a.at.here.after ≡ class =
+    sym (ap (λ (z : Automaton). class_of z.intervals.boundaries a.at.here.after) c.self.view_is)
     ∙ sym c.class-class.ensures.same in
     let kept = c.remember.ensures from at in
     let is_hit = to.hit ∙ c.hit_told-hit.ensures in
     let searching = to.searching ∙ c.searching_after-searching.ensures from own
     ∙ ap (λ last. searching_after last from.searching) (sym to.hit) in
-    let before : now.intervals.looks ≡ true → to.state.before ≡ side_of a.taken.here.after =
+    let before : now.intervals.looks ≡ true → to.state.before ≡ side_of a.at.here.after =
     λ looks.
     to.before ∙ c.side-before.ensures (sym (ap (λ z. z.looks) extends.intervals) ∙ looks) in
     record {
@@ -93,18 +108,18 @@ returns g c =
           c.in_ok-y.y to.state
           at to.is
           (learned (g.P.Patterns.table a.patterns.now) entries a.self.now now same whole.1 x
-          a.taken.first
-          a.taken.here a.taken.hit a.cache.now turned class is_class to.state
+          a.at.first
+          a.at.here a.hit a.cache.now turned class is_class to.state
           (to.ways ∙ whole.0) is_hit searching before));
       state =
-          subst (λ z. IsIn z c.in_ok-y.y a.taken.first a.taken.here.after a.cache.now) (sym kept)
-          (still_in now x class c.in_ok-y.y from at c.in_ok-y.y a.taken.first a.taken.here.after
+          subst (λ z. IsIn z c.in_ok-y.y a.at.first a.at.here.after a.cache.now) (sym kept)
+          (still_in now x class c.in_ok-y.y from at c.in_ok-y.y a.at.first a.at.here.after
           a.cache.now (record {
             state = to.state;
             is_state = to.is;
             ways = sym (to.ways ∙ whole.0);
             suits = subst (λ b. Suits b (best_of a.cache.now.best)) (sym searching)
-                (suits_after a.taken.first a.taken.hit (best_of turned.before.best)
+                (suits_after a.at.first a.hit (best_of turned.before.best)
                 (best_of a.cache.now.best) to.state.hit from.searching turned.is_hit is_hit
                 turned.is_in.suits);
             sees = λ looks. sym (before looks);

@@ -1,13 +1,13 @@
-use Rattle.regex_lite_meta.proofs.Common.{length, IfSome, refl, ap, subst, arith, length-map}
-use Rattle.regex_lite_meta.proofs.Common.{IsIdleAt, way_in}
+use Rattle.regex_lite_meta.proofs.Common.{chars, length, refl, ap, arith, length-map, way_in}
 use Rattle.regex_lite_meta.proofs.lazy_dfa.RunLemmas.{at_later, other_at}
-use Rattle.regex_lite_meta.proofs.lazy_dfa.ResumeLemmas.{stands_gone, stands_stuck}
+use Rattle.regex_lite_meta.proofs.lazy_dfa.ResumeLemmas.{idle_at, idle_edge, stands_gone}
+use Rattle.regex_lite_meta.proofs.lazy_dfa.ResumeLemmas.{stands_stuck}
 use Rattle.regex_lite_meta.proofs.lazy_dfa.automaton.LazyDfa.resume.Goals as goal
 
 pub take_up_ways-requires-clause-few : goal.take_up_ways-requires-clause-few
 take_up_ways-requires-clause-few g c =
-    let stands = c.requires.stands.2 in
-    let scanning = c.requires.stands.3.0.2 in
+    let stands = c.requires.stands.1 in
+    let scanning = c.requires.stands.2.2 in
     let fits = c.requires.remembers.fit c.args.stuck.state scanning.state scanning.is_state in
     let few = fits.few in
     let cap = stands.on.ready.cap in
@@ -15,12 +15,13 @@ take_up_ways-requires-clause-few g c =
     omega (arith, few, cap, same, length-map c.ways-ways.result.now way_in)
 
 pub returns-then-may_have-clause-stands : goal.returns-then-may_have-clause-stands
-returns-then-may_have-clause-stands g c = λ haystack s stands scanned.
-    let q = scanned.0.0 in
-    let scanning = scanned.0.2 in
+returns-then-may_have-clause-stands g c = λ s stands comes.
+    let haystack = chars c.args.haystack.now in
+    let q = comes.0 in
+    let scanning = comes.2 in
     let stuck = c.args.stuck in
     let later = other_at haystack stands.p q c.args.at.now.here stuck.here stands.is scanning.is
-    scanned.0.1 c.if-stuck-at.false in
+    comes.1 c.if-stuck-at.false in
     let ways = c.ways-ways.ensures scanning.state scanning.is_state in
     let fits = c.requires.remembers.fit stuck.state scanning.state scanning.is_state in
     stands_stuck (g.P.Patterns.table c.args.patterns.now) haystack
@@ -33,23 +34,31 @@ returns-then-may_have-clause-stands g c = λ haystack s stands scanned.
 
 pub returns-then-may_have-clause-later : goal.returns-then-may_have-clause-later
 returns-then-may_have-clause-later g c =
-    let haystack = c.requires.stands.0 in
-    let stands = c.requires.stands.2 in
-    let scanned = c.requires.stands.3 in
-    at_later haystack stands.p scanned.0.0 c.args.at.now.here c.args.stuck.here stands.is
-    scanned.0.2.is scanned.0.1
+    let stands = c.requires.stands.1 in
+    let comes = c.requires.stands.2 in
+    at_later (chars c.args.haystack.now) stands.p comes.0 c.args.at.now.here c.args.stuck.here
+    stands.is comes.2.is comes.1
 
-pub returns-then-here-at-clause-stands : goal.returns-then-here-at-clause-stands
-returns-then-here-at-clause-stands g c = λ haystack s stands scanned.
-    let here = c.in-Some.here in
-    let idle = subst (λ o. IfSome o
-    (IsIdleAt (g.P.Patterns.table c.args.patterns.now) (g.P.Patterns.entries c.args.patterns.now)
-    haystack stands.from stands.p))
-    c.in-Some.is scanned.1 in
-    let more = c.if-here-at.true in
+pub at-here-requires : goal.at-here-requires
+at-here-requires g c =
+    let stands = c.requires.stands.1 in
+    let first = stands.first in
+    let more = c.if-stuck-at-2.true in
+    idle_edge c.args.haystack.now c.utf8.haystack c.requires.stands.2.3
+    (λ e. omega (arith, e, first, more))
+
+pub returns-then-stuck-at-2-clause-stands : goal.returns-then-stuck-at-2-clause-stands
+returns-then-stuck-at-2-clause-stands g c = λ s stands comes.
+    let haystack = chars c.args.haystack.now in
+    let here = c.at-here.result in
+    let first = stands.first in
+    let more = c.if-stuck-at-2.true in
+    let at = c.at-here.ensures.at in
+    let idle = idle_at c.args.haystack.now c.utf8.haystack comes.3
+    (λ e. omega (arith, e, first, more)) here c.at-here.ensures.here in
     let later =
     other_at haystack stands.p idle.r c.args.at.now.here here stands.is idle.is idle.later
-    (λ e. omega (arith, e, more)) in
+    (λ e. omega (arith, e, at, more)) in
     stands_gone (g.P.Patterns.table c.args.patterns.now) haystack
     (g.P.Patterns.entries c.args.patterns.now) s stands.from stands.p c.args.self.now
     c.args.cache.now c.let_go.new.cache stands.on stands.begun c.args.at.now.anew

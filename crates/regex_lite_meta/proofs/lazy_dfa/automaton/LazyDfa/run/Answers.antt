@@ -1,15 +1,16 @@
-use Rattle.regex_lite_meta.proofs.Common.{◌≡◌, ◌==◌, not, chars, ap, ◌∙◌, arith}
+use Rattle.regex_lite_meta.proofs.Common.{◌≡◌, ◌==◌, not, chars, ap, ◌∙◌, arith, Some, subst, sym}
 use Rattle.regex_lite_meta.proofs.Common.{best_told, Standing}
 use Rattle.regex_lite_meta.proofs.lazy_dfa.ScanLemmas.{preferred}
+use Rattle.regex_lite_meta.specs.LazyDfa.Spots.{Takes}
 use Rattle.regex_lite_meta.proofs.lazy_dfa.OnwardLemmas.{completes_there, ends_there, from_spot}
-use Rattle.regex_lite_meta.proofs.lazy_dfa.OnwardLemmas.{next_spot}
+use Rattle.regex_lite_meta.proofs.lazy_dfa.OnwardLemmas.{GoesToSpot, next_spot}
 use Rattle.regex_lite_meta.proofs.lazy_dfa.OnwardLemmas.{spot_boundary, state_at_spot, to_spot}
 use Rattle.regex_lite_meta.proofs.lazy_dfa.OnwardLemmas.{turn_effect, turn_within}
 use Rattle.regex_lite_meta.proofs.lazy_dfa.automaton.LazyDfa.run.Given as given
 use Rattle.regex_lite_meta.proofs.lazy_dfa.automaton.LazyDfa.run.Goals as goal
 use Rattle.regex_lite_meta.proofs.lazy_dfa.automaton.LazyDfa.run.Goals.{
   in_default,
-  in-Some+else-is_last+in-Stuck,
+  in-Some+else-is_last+in-None,
 }
 
 pub turns-init : goal.turns-init
@@ -46,14 +47,22 @@ turns-preserved g c =
           (c.is_last.ensures.none turn.to turn.is_to earliest c.if-is_last.false)
           ∙ c.turns.invariant.none earliest;
       on =
-          next_spot c.args.haystack.now c.utf8.haystack (omega arith) c.turns.invariant.on turn
-          c.in-On.on c.take.new.at (c.in-On.ensures.taken turn.to turn.is_to);
+          subst (λ on. GoesToSpot (g.P.Patterns.table c.args.patterns.now)
+          (g.P.Patterns.entries c.args.patterns.now) (chars c.args.haystack.now) c.args.self.now
+          c.args.at.now on c.take.new.at) (sym c.in-Some-Some.on-is)
+          (next_spot c.args.haystack.now c.utf8.haystack (omega arith) c.turns.invariant.on turn
+          c.in-Some-Some.on c.take.new.at
+          (subst (λ o. Takes c.turns.spot.at c.in-Some.target.state c.in-Some.end turn.to c.turns.at
+          c.take.new.at (Some o)) c.in-Some-Some.field-0-is
+          (c.in-Some-Some.ensures.taken turn.to turn.is_to)));
     }
 
-pub returns-in-Over-clause-over : goal.returns-in-Over-clause-over
-returns-in-Over-clause-over g c = λ _ low p from.
+pub returns-in-Some-None-clause-over : goal.returns-in-Some-None-clause-over
+returns-in-Some-None-clause-over g c = λ _ low p from.
     let turn = c.in-Some.ensures.turn in
-    let ends = c.in-Over.ensures.taken turn.to turn.is_to in
+    let ends = subst (λ o. Takes c.turns.spot.at c.in-Some.target.state c.in-Some.end turn.to
+    c.turns.at c.take.new.at (Some o)) c.in-Some-None.field-0-is
+    (c.in-Some-None.ensures.taken turn.to turn.is_to) in
     preferred (g.P.Patterns.table c.args.patterns.now) (chars c.args.haystack.now)
     (g.P.Patterns.entries c.args.patterns.now) low _ (not (g.row.EARLIEST == 0))
     (λ earliest. ends.some (ap best_told
@@ -89,9 +98,9 @@ returns-then-spot-haystack-clause-on g c = λ _.
 
 stays : (g : given.Over) (c : goal.After-settle-2 g) → c.match-turn.at ≡ c.turns.at
 stays g c = elim c.match-turn.branch [
-  | in-Some+else-is_last+in-Stuck w ↦
+  | in-Some+else-is_last+in-None w ↦
       let turn = w.in-Some.ensures.turn in
-      w.at-is ∙ w.in-Stuck.ensures.taken turn.to turn.is_to
+      w.at-is ∙ w.in-None.ensures.taken turn.to turn.is_to
   | in_default w ↦ w.at-is
 ]
 

@@ -6,7 +6,7 @@ abbrev pub invariant-positions : goal.invariant-positions
 invariant-positions g l = record {
   none : not (g.row.EARLIEST == 0) ≡ true → l.at.best ≡ None;
   on : GoesOn (g.P.Patterns.table l.patterns) (g.P.Patterns.entries l.patterns)
-      (chars l.haystack) l.self l.fn.from l.at;
+      (chars l.haystack) l.self l.initial.at l.at;
 }
 
 abbrev pub decreases-positions : goal.decreases-positions

@@ -73,14 +73,14 @@ returns-then-is_done-clause-width g c =
     let stands = c.in_default.ensures.stands _ (c.at_idle-at.ensures.stands _ at) in
     (c.go_over-hit.ensures.on _ _ _ stands.is stands.on).width
 
-pub learn_at-at-requires-clause-between : goal.learn_at-at-requires-clause-between
-learn_at-at-requires-clause-between g c =
+pub learn-at-requires-clause-between : goal.learn-at-requires-clause-between
+learn-at-requires-clause-between g c =
     let at = c.positions.invariant.stands _ c.requires.stands.2 in
     let stands = c.in_default.ensures.stands _ (c.at_idle-at.ensures.stands _ at) in
     (c.go_over-hit.ensures.on _ _ _ stands.is stands.on).ready
 
-pub learn_at-at-requires-clause-turned : goal.learn_at-at-requires-clause-turned
-learn_at-at-requires-clause-turned g c =
+pub learn-at-requires-clause-turned : goal.learn-at-requires-clause-turned
+learn-at-requires-clause-turned g c =
     let at = c.positions.invariant.stands _ c.requires.stands.2 in
     let stands = c.in_default.ensures.stands _ (c.at_idle-at.ensures.stands _ at) in
     turned_there stands (c.go_over-hit.ensures.on _ _ _ stands.is stands.on) c.go_over-hit.result
@@ -103,7 +103,7 @@ positions-smaller g c =
     let stands = c.in_default.ensures.stands _ (c.at_idle-at.ensures.stands _ at) in
     let on = c.go_over-hit.ensures.on _ _ _ stands.is stands.on in
     let next = c.next_position-at.ensures.stands _ _ _ _ _ _ stands.is stands.begun
-    stands.own_from on c.learn_at-at.ensures.state
+    stands.own_from on c.learn-at.ensures.state
     in
     let most = at_most c.args.haystack.now next.p c.next_position-at.result.here c.utf8.haystack
     next.is in
@@ -114,17 +114,17 @@ positions-smaller g c =
 
 pub positions-preserved : goal.positions-preserved
 positions-preserved g c = record {
-  remembers = c.learn_at-at.ensures.remembers;
-  none_pending = c.learn_at-at.ensures.none_pending;
+  remembers = c.learn-at.ensures.remembers;
+  none_pending = c.learn-at.ensures.none_pending;
   none = λ earliest.
       c.is_done.ensures.none_yet earliest (not_true c.is_done.result c.if-is_done.false);
   stands = λ s begun.
       let idle = c.at_idle-at.ensures.stands s (c.positions.invariant.stands s begun) in
       let stands = c.in_default.ensures.stands s idle in
       let on = c.go_over-hit.ensures.on _ _ _ stands.is stands.on in
-      c.next_position-at.ensures.stands _ _ c.learn_at-at.new.self _ _ _ stands.is stands.begun
+      c.next_position-at.ensures.stands _ _ c.learn-at.new.self _ _ _ stands.is stands.begun
       stands.own_from on
-      c.learn_at-at.ensures.state;
+      c.learn-at.ensures.state;
 }
 
 pub returns-in-Some-clause-bounded : goal.returns-in-Some-clause-bounded
@@ -143,8 +143,8 @@ returns-then-is_done-clause-own g c = λ s begun.
     let stands = c.in_default.ensures.stands s idle in
     within_after stands (c.go_over-hit.ensures.on _ _ _ stands.is stands.on)
 
-pub learn_at-at-requires-clause-own : goal.learn_at-at-requires-clause-own
-learn_at-at-requires-clause-own g c =
+pub learn-at-requires-clause-own : goal.learn-at-requires-clause-own
+learn-at-requires-clause-own g c =
     let at = c.positions.invariant.stands _ c.requires.stands.2 in
     let stands = c.in_default.ensures.stands _ (c.at_idle-at.ensures.stands _ at) in
     let on = c.go_over-hit.ensures.on _ _ _ stands.is stands.on in

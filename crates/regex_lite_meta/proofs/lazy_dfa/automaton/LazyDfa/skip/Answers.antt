@@ -4,7 +4,7 @@ use Rattle.regex_lite_meta.proofs.lazy_dfa.automaton.LazyDfa.skip.Goals as goal
 
 pub skip_idle-requires-clause-none : goal.skip_idle-requires-clause-none
 skip_idle-requires-clause-none g c =
-    best_none c.args.at.best c.is_some.result c.is_some.ensures c.if-is_some.false
+    best_none c.args.at.now.best c.is_some.result c.is_some.ensures c.if-is_some.false
 
 pub skip_idle-requires-clause-empty : goal.skip_idle-requires-clause-empty
 skip_idle-requires-clause-empty g c = λ state is.
@@ -13,4 +13,4 @@ skip_idle-requires-clause-empty g c = λ state is.
 pub is_empty-requires : goal.is_empty-requires
 is_empty-requires g c =
     let scanning = c.requires.scanning.2 in
-    slice_get_within c.args.self.now.states c.args.at.state scanning.state scanning.is_state
+    slice_get_within c.args.self.now.states c.args.at.now.state scanning.state scanning.is_state

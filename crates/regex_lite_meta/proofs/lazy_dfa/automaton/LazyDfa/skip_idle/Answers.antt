@@ -4,29 +4,24 @@ use Rattle.regex_lite_meta.proofs.lazy_dfa.automaton.LazyDfa.skip_idle.Goals as 
 
 pub returns-clause-on : goal.returns-clause-on
 returns-clause-on g c = λ low p scanning.
+    let table = g.P.Patterns.table c.args.patterns.now in
+    let entries = g.P.Patterns.entries c.args.patterns.now in
+    let h = chars c.args.haystack.now in
+    let at = c.args.at.now in
+    let here = c.pass_over-here.result in
     let none = c.requires.none in
     let passes = c.pass_over-here.ensures p scanning.is in
     let idle = c.requires.empty scanning.state scanning.is_state in
-    let found = c.in_ok-state.ensures in (
+    let found = c.in-Some.ensures in (
       passes.q,
       passes.later,
-      skipped (g.P.Patterns.table c.args.patterns.now) (g.P.Patterns.entries c.args.patterns.now)
-          (chars c.args.haystack.now)
-          low p c.args.self.now c.args.at scanning c.pass_over-here.result passes idle none
-          c.in_ok-state.state found.state found.is_state found.none found.searching found.sees,
-    )
-
-pub returns-clause-first : goal.returns-clause-first
-returns-clause-first g c = λ low p scanning.
-    let none = c.requires.none in
-    let passes = c.pass_over-here.ensures p scanning.is in
-    let idle = c.requires.empty scanning.state scanning.is_state in
-    inr (
-      c.pass_over-here.result,
-      refl,
-      is_idle (g.P.Patterns.table c.args.patterns.now) (g.P.Patterns.entries c.args.patterns.now)
-          (chars c.args.haystack.now) low p c.args.self.now c.args.at scanning
-          c.pass_over-here.result passes idle none,
+      skipped table entries h low p c.args.self.now at scanning here passes idle none
+          c.in-Some.state found.state found.is_state found.none found.searching found.sees,
+      inr (
+        here,
+        refl,
+        is_idle table entries h low p c.args.self.now at scanning here passes idle none,
+      ),
     )
 
 pub pass_over-here-requires : goal.pass_over-here-requires
@@ -35,4 +30,4 @@ pass_over-here-requires g c = (c.requires.scanning.1, c.requires.scanning.2.is)
 pub knows-requires : goal.knows-requires
 knows-requires g c =
     let scanning = c.requires.scanning.2 in
-    slice_get_within c.args.self.now.states c.args.at.state scanning.state scanning.is_state
+    slice_get_within c.args.self.now.states c.args.at.now.state scanning.state scanning.is_state

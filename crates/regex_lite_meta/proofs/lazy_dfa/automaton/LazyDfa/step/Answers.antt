@@ -11,7 +11,7 @@ index-requires g c =
     let i = c.self.inside in
     let inside = turn_stored i.classes i.reach i.states.items i.targets.items i.used i.ways.items
     c.args.self.now c.self.view_is (g.P.Patterns.table c.args.patterns.now)
-    (g.P.Patterns.entries c.args.patterns.now) c.requires.remembers c.args.at.state
+    (g.P.Patterns.entries c.args.patterns.now) c.requires.remembers c.args.at.now.state
     c.class-class.result c.in_ok-to.field-0.state c.requires.state c.class-class.ensures.few
     c.in_ok-to.ensures.known in
     search (inside, rules)
@@ -19,44 +19,44 @@ index-requires g c =
 -- where the turn leads, and where the way began by which a match is complete then
 led : (g : given.Over) (c : After-index g) →
     TurnsTo (g.P.Patterns.table c.args.patterns.now) (g.P.Patterns.entries c.args.patterns.now)
-    c.args.self.now c.args.at.state c.args.at.here.after c.in_ok-to.field-0.state
+    c.args.self.now c.args.at.now.state c.args.at.now.here.after c.in_ok-to.field-0.state
     (hit_in c.index.result.now.hit)
 led g c =
     let i = c.self.inside in
     turn_led i.classes i.reach i.states.items i.targets.items i.used i.ways.items c.args.self.now
     c.self.view_is (g.P.Patterns.table c.args.patterns.now)
-    (g.P.Patterns.entries c.args.patterns.now) c.requires.remembers c.args.at.state
+    (g.P.Patterns.entries c.args.patterns.now) c.requires.remembers c.args.at.now.state
     c.class-class.result c.in_ok-to.field-0.state c.requires.state c.class-class.ensures.few
-    c.in_ok-to.ensures.known c.args.at.here.after c.class-class.ensures.same c.index.result.now
+    c.in_ok-to.ensures.known c.args.at.now.here.after c.class-class.ensures.same c.index.result.now
     c.index.ensures
 
 pub returns-in-Nowhere-clause-led : goal.returns-in-Nowhere-clause-led
 returns-in-Nowhere-clause-led g c = λ haystack low p scanning.
     led_none (g.P.Patterns.table c.args.patterns.now) (g.P.Patterns.entries c.args.patterns.now)
-    haystack low p c.args.self.now c.args.at scanning (not (g.row.EARLIEST == 0)) c.requires.none
+    haystack low p c.args.self.now c.args.at.now scanning (not (g.row.EARLIEST == 0)) c.requires.none
     (led_step (g.P.Patterns.table c.args.patterns.now) (g.P.Patterns.entries c.args.patterns.now)
-    haystack low p c.args.self.now c.args.at scanning
-    (led g (goal.at.returns-in-Nowhere-clause-led g c).After-index) c.args.at.best
-    (sym (ap (λ hit. best_left (hit_in hit) c.args.at.first c.args.at.here.at
-    (best_told c.args.at.best)) c.in-Nowhere.is)))
+    haystack low p c.args.self.now c.args.at.now scanning
+    (led g (goal.at.returns-in-Nowhere-clause-led g c).After-index) c.args.at.now.best
+    (sym (ap (λ hit. best_left (hit_in hit) c.args.at.now.first c.args.at.now.here.at
+    (best_told c.args.at.now.best)) c.in-Nowhere.is)))
 
 pub returns-in-AtFirst-clause-led : goal.returns-in-AtFirst-clause-led
 returns-in-AtFirst-clause-led g c = λ haystack low p scanning.
     rw c.completed.ensures
     (completed (g.P.Patterns.table c.args.patterns.now) (g.P.Patterns.entries c.args.patterns.now)
-    haystack low p c.args.self.now c.args.at scanning
+    haystack low p c.args.self.now c.args.at.now scanning
     (led g (goal.at.returns-in-AtFirst-clause-led g c).After-index) (not (g.row.EARLIEST == 0))
-    (record { at = c.args.at.first; number = c.in-AtFirst.number }) (ap hit_in c.in-AtFirst.is)
+    (record { at = c.args.at.now.first; number = c.in-AtFirst.number }) (ap hit_in c.in-AtFirst.is)
     c.requires.none (λ _. refl))
 
 pub returns-else-not-this-clause-led : goal.returns-else-not-this-clause-led
 returns-else-not-this-clause-led g c = λ haystack low p scanning.
     rw c.completed-in-AtLater.ensures
     (completed (g.P.Patterns.table c.args.patterns.now) (g.P.Patterns.entries c.args.patterns.now)
-    haystack low p c.args.self.now c.args.at scanning
+    haystack low p c.args.self.now c.args.at.now scanning
     (led g (goal.at.returns-else-not-this-clause-led g c).After-index)
     (not (g.row.EARLIEST == 0))
-    (record { at = c.args.at.first; number = c.in-AtLater.number }) (ap hit_in c.in-AtLater.is)
+    (record { at = c.args.at.now.first; number = c.in-AtLater.number }) (ap hit_in c.in-AtLater.is)
     c.requires.none (λ other. absurd (c.if-not-this.false (search (other, rules)))))
 
 -- the state to which the turn leads is one of the automaton

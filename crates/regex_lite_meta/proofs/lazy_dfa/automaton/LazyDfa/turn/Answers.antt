@@ -8,7 +8,7 @@ use Rattle.regex_lite_meta.proofs.lazy_dfa.automaton.LazyDfa.turn.Goals as goal
 pub returns-clause-turn : goal.returns-clause-turn
 returns-clause-turn g c =
     let i = c.self.inside in
-    let class = c.in-Some.field-0.class in
+    let class = c.in-Some.class in
     let turn = known_turn i.classes i.reach i.states.items i.targets.items i.used i.ways.items
     c.args.self.now c.self.view_is (g.P.Patterns.table c.args.patterns.now)
     (g.P.Patterns.entries c.args.patterns.now) c.requires.remembers c.args.spot.state class
@@ -18,7 +18,7 @@ returns-clause-turn g c =
       class = class;
       ahead = subst
           (λ (z : Automaton). IsAhead z.intervals.boundaries c.args.haystack.now c.args.spot.at
-          c.in-Some.field-0) c.self.view_is c.in-Some.ensures.ahead;
+          class c.in-Some.end) c.self.view_is c.in-Some.ensures.ahead;
       from = turn.0;
       is_from = turn.2;
       to = turn.1;

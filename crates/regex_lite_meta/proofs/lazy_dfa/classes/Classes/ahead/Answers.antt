@@ -17,7 +17,7 @@ returns-clause-ahead c =
       character = byte;
       begins = ascii_begins bs at c.utf8.haystack c.requires.boundary (omega arith) ascii;
       ends = ap (λ z. at + z) (sym (len_utf8_ascii byte ascii));
-      class = ap (λ (z : Intervals). interval_of z.boundaries byte) (sym c.self.view_is)
+      is_class = ap (λ (z : Intervals). interval_of z.boundaries byte) (sym c.self.view_is)
           ∙ ap (interval_of c.self.inside.boundaries.boundaries) (sym same)
           ∙ sym (c.self.invariant.1 read c.if-byte-ge128.false);
     }

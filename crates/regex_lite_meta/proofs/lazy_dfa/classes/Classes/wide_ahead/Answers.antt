@@ -7,5 +7,5 @@ returns-clause-ahead c = record {
   character = c.in-Some.c;
   begins = sym c.first_char.ensures ∙ c.in-Some.is;
   ends = ap (λ z. c.args.at + z) c.len_utf8.ensures.value;
-  class = c.class_near.ensures.same;
+  is_class = c.class_near.ensures.same;
 }

@@ -1,5 +1,5 @@
 use Rattle.regex_lite_meta.proofs.Common.{◌≡◌, ℕ, ◌<◌, true, slice_index_or, StoredWay}
-use Rattle.regex_lite_meta.proofs.lazy_dfa.resume.may_take_up.Given as goal
+use Rattle.regex_lite_meta.proofs.lazy_dfa.find.may_take_up.Given as goal
 
 -- those before this one began there
 abbrev pub invariant-ways : goal.invariant-ways

@@ -1,5 +1,5 @@
 use Rattle.regex_lite_meta.proofs.Common.{◌≡◌, ℕ, ◌+◌, ◌<◌, ◌≤◌, length, drop, interval_of}
-use Rattle.regex_lite_meta.proofs.lazy_dfa.interval.Interval.around.Given as goal
+use Rattle.regex_lite_meta.proofs.lazy_dfa.classes.Interval.around.Given as goal
 
 -- those from this one on are counted, and divide no two numbers of the interval
 abbrev pub invariant-bounds : goal.invariant-bounds

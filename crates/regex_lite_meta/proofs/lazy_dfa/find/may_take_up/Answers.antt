@@ -1,6 +1,6 @@
 use Rattle.regex_lite_meta.proofs.Common.{arith}
 use Rattle.std.proofs.lemmas.Grind.{common_steps}
-use Rattle.regex_lite_meta.proofs.lazy_dfa.resume.may_take_up.Goals as goal
+use Rattle.regex_lite_meta.proofs.lazy_dfa.find.may_take_up.Goals as goal
 
 -- The goals from here on need no lemma of their own. They have answers because the prover would
 -- try other calls first, which takes long

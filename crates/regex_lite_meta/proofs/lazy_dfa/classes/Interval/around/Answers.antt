@@ -4,7 +4,7 @@ use Rattle.std.proofs.Math.Seq.{drop-length}
 use Rattle.regex_lite_meta.specs.LazyDfa.Intervals.{tick}
 use Rattle.std.specs.Prelude.{nat_le}
 use Rattle.regex_lite_meta.proofs.lazy_dfa.IntervalLemmas.{interval_cons}
-use Rattle.regex_lite_meta.proofs.lazy_dfa.interval.Interval.around.Goals as goal
+use Rattle.regex_lite_meta.proofs.lazy_dfa.classes.Interval.around.Goals as goal
 
 pub bounds-init : goal.bounds-init
 bounds-init c =

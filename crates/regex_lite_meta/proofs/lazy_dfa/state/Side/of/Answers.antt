@@ -1,10 +1,10 @@
 use Rattle.regex_lite_meta.proofs.Common.{◌≡◌, ℕ, Bool, true, false, not, ◌==◌, Some, None, sym}
 use Rattle.regex_lite_meta.proofs.Common.{refl, ap, ◌∙◌, side_of}
-use Rattle.regex_lite_meta.specs.declared.lazy_dfa.side.Side.{Side}
+use Rattle.regex_lite_meta.specs.declared.lazy_dfa.state.Side.{Side}
 use Rattle.regex_lite_syntax.specs.declared.hir.look.Look.TheVariants.{WordEndHalf}
 use Rattle.regex_lite_syntax.specs.Tree.Looks.{is_word}
 use Rattle.regex_lite_meta.proofs.lazy_dfa.AlikeLemmas.{by_sides}
-use Rattle.regex_lite_meta.proofs.lazy_dfa.side.Side.of.Goals as goal
+use Rattle.regex_lite_meta.proofs.lazy_dfa.state.Side.of.Goals as goal
 
 twice : (b : Bool) → not (not b) ≡ b
 twice true = refl
