@@ -84,7 +84,7 @@ pub use Rattle.regex_lite_engine.specs.Pikevm.Cells.{start_on, row_on, threads_o
 pub use Rattle.regex_lite_engine.specs.Pikevm.Entering.{reads, pushing, reading_on}
 pub use Rattle.regex_lite_engine.specs.Pikevm.Machine.{Thread, thread_at}
 pub use Rattle.regex_lite_engine.specs.Pikevm.Room.{ThreadsBelow, KeepsPosition}
-pub use Rattle.regex_lite_engine.specs.Pikevm.Turns.{best_of, StepsTo, IsComing, begun, with_starts}
+pub use Rattle.regex_lite_engine.specs.Pikevm.Turns.{best_of, StepsAt, IsComing, begun, with_starts}
 pub use Rattle.regex_lite_engine.specs.Pikevm.Walking.{WayTold, ThreadsHold, InStep, SearchAt}
 pub use Rattle.regex_lite_syntax.specs.Prefilter.Heads.{NeverBegins, IsPassed}
 pub use Rattle.regex_lite_syntax.specs.Prefilter.ListHeads.{may_start, is_candidate_at}

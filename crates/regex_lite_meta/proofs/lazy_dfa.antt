@@ -2,12 +2,14 @@
 pub mod AheadLemmas
 pub mod AnewLemmas
 pub mod BoundaryLemmas
+pub mod BuildLemmas
 pub mod IntervalLemmas
 pub mod KnownEndLemmas
 pub mod LeapLemmas
 pub mod LearnLemmas
 pub mod NoLookLemmas
 pub mod OnwardLemmas
+pub mod PartLemmas
 pub mod ReachLemmas
 pub mod RememberedLemmas
 pub mod ResumeLemmas

@@ -1,6 +1,7 @@
 -- What the functions of the lazy automaton promise one another.
 pub mod Boundaries
 pub mod Intervals
+pub mod Parts
 pub mod Automaton
 pub mod Stored
 pub mod Extending

@@ -9,7 +9,6 @@ use Rattle.regex_lite_engine.specs.Pikevm.Searching.{GoesOnIn, IsBetween}
 use Rattle.regex_lite_engine.specs.Search.Bounds.{IsBoundedBy, StepCounts}
 use Rattle.regex_lite_engine.specs.Search.Counting.{IsCountable}
 use Rattle.regex_lite_engine.specs.Search.NumberedOutcomes.{Best, IsNumberedEndOf}
-use Rattle.regex_lite_meta.specs.LazyDfa.Remembering.{IsAlphabetOf}
 use Rattle.regex_lite_meta.specs.declared.list_matches.Kept.{Kept}
 use Rattle.regex_lite_meta.specs.declared.list_matches.Learning.{Learning}
 
@@ -25,12 +24,11 @@ pub record IsToldOf (table : List (Place ℕ)) (haystack : Text) (entry m : ℕ)
       told.1.entered told.1.looked
   pub entered : IsTrue told.0 → 0 < told.1.entered
 
--- searches for single patterns of the list go on in its memory, and make automata for its table
+-- searches for single patterns of the list go on in its memory
 pub record LearnsFor (list : StoredList) (learning : Learning) : Type 0 where
   pub between : IsBetween (table_of_list list) learning.cache
   pub countable : IsCountable (table_of_list list)
   pub width : length learning.cache.walk.memory.row ≡ 0
-  pub alphabet : IsAlphabetOf (table_of_list list) learning.builder.alphabet
 
 -- what is kept is for searches of this list
 pub record AreKeptFor (list : StoredList) (kept : Kept) : Type 0 where

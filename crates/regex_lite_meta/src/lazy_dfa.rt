@@ -3,13 +3,13 @@
 pub(crate) mod automaton;
 pub(crate) mod boundaries;
 mod build;
-pub(crate) mod builder;
 pub(crate) mod classes;
 pub(crate) mod find;
 pub(crate) mod idle;
 pub(crate) mod learn;
 pub(crate) mod list_spans;
 pub(crate) mod lookup;
+mod part;
 pub(crate) mod reach;
 mod room;
 pub(crate) mod run;

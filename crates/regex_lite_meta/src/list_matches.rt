@@ -20,7 +20,6 @@ ghost use Rattle.regex_lite_engine.specs.Pikevm.Searching.{IsBetween, IsFresh};
 ghost use Rattle.regex_lite_engine.specs.Pikevm.Turns.{best_of};
 ghost use Rattle.regex_lite_meta.specs.ListMatches.{AreKeptFor, IsToldOf, LearnsFor};
 
-use crate::lazy_dfa::builder::Builder;
 use crate::lazy_dfa::single::find_once;
 use crate::strategy::{Searched, Strategy, Wanted, choose};
 use regex_lite_engine::Steps;
@@ -227,7 +226,7 @@ impl Kept {
 /// What searches for single patterns of a list need that remember their turns.
 #[derive(Drop)]
 struct Learning {
-    builder: Builder,
+    alloc: Global,
     cache: Cache<Origin>,
 }
 
@@ -245,8 +244,7 @@ impl Learning {
     {
         let _patterns = list.len();
         let cache = cache_for::<Origin>(alloc, list.table(), 0)?;
-        let builder = Builder::sharing(alloc);
-        Ok(Box::new(alloc, Learning { builder, cache })?)
+        Ok(Box::new(alloc, Learning { alloc, cache })?)
     }
 
     /// Whether the pattern with this number matches from this offset on, and what the search did.
@@ -267,9 +265,9 @@ impl Learning {
         let mut pattern = list.pattern(number);
         let mut all = list.pattern(number);
         all.may_start = true;
-        let Learning { builder, cache } = self;
+        let Learning { alloc, cache } = self;
         restart(cache);
-        let found = find_once::<_, _, true>(&mut pattern, &all, builder, cache, haystack, start);
+        let found = find_once::<_, _, true>(&mut pattern, &all, *alloc, cache, haystack, start);
         (found.is_some(), cache.walk.steps)
     }
 }

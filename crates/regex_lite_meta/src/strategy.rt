@@ -62,11 +62,6 @@ pub(crate) const MOST_PAIRS_OF_LINE: usize = 32_768;
 /// a search of 1,000 bytes without a match took up to half as much again as with 64.
 pub(crate) const TURNS_WITHOUT: u32 = 64;
 
-/// An automaton whose classes are shared pays only if the first turns went over no more bytes than
-/// these. Its classes tell more characters apart than its own pattern does: where few characters
-/// take a turn, 12 filters took 1.17 times as many instructions with one.
-pub(crate) const DENSE: usize = 256;
-
 /// After this number of transitions in a row from the start state to itself, an automaton passes
 /// over the positions at which no match can begin. With 1, words and their endings took 1.06 to
 /// 1.25 times as many; with 64 as many.

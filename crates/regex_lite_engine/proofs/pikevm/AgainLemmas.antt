@@ -7,15 +7,16 @@ use Rattle.regex_lite_engine.proofs.Common.{map-append, in_ranges, just, holds_b
 use Rattle.regex_lite_engine.proofs.Common.{with_arrows, place_of, all_retold, state_retold}
 use Rattle.regex_lite_engine.proofs.Common.{best_again, reads, pushing, reading_on, Thread, begun}
 use Rattle.regex_lite_engine.proofs.Common.{with_starts, SearchAt, Told, Best, Row, Here, Start}
-use Rattle.regex_lite_engine.specs.Pikevm.Again.{retold, FitsAlike}
+use Rattle.regex_lite_engine.specs.Pikevm.Again.{AreAlike, retold, FitsAlike}
 use Rattle.regex_lite_engine.specs.declared.nfa.place.Place as code
 use Rattle.regex_lite_engine.specs.declared.nfa.place.Place.TheVariants as stored
 use Rattle.regex_lite_engine.specs.Graph.Places.{Place}
 use Rattle.regex_lite_engine.specs.Pikevm.Entering.{Enters}
 use Rattle.regex_lite_engine.specs.Pikevm.Machine.{Frame, explore, restore, State}
-use Rattle.regex_lite_engine.specs.Pikevm.Room.{WalksTo}
+use Rattle.regex_lite_engine.specs.Pikevm.Room.{WalksAt}
 use Rattle.regex_lite_engine.specs.Pikevm.Walking.{IsWalking}
 use Rattle.regex_lite_engine.proofs.pikevm.EnterLemmas.{reads_none, walk_enters}
+use Rattle.regex_lite_engine.proofs.pikevm.OwnPartLemmas.{told_within}
 use Rattle.regex_lite_engine.proofs.pikevm.WalkLemmas.{marked_in, walk_framed}
 
 -- the frames are the same but for slots that hold again what they held
@@ -154,14 +155,18 @@ loose_if false frames frames' loose = loose
 pub entered_again : (table : List (Place ℕ)) (here there : Here) (i : Told) (tell : Told → Told)
     (m : State) (q : ℕ) (x : code.Place) (e : State) (done : Bool)
     → q < length m.entered → (slice_index_or m.entered q false ≡ true → ⊥)
-    → slice_get table q ≡ Some (place_of x) → FitsAlike (place_of x) here there
-    → Enters here i x (marked_in m q) e done
-    → WalksTo table there (tell i) (state_retold tell (record m { frames = explore q ∷ m.frames }))
+    → slice_get table q ≡ Some (place_of x) → Enters here i x (marked_in m q) e done
+    → (at : SearchAt) → AreAlike table at.entries here there
+    → WalksAt table at there (tell i)
+    (state_retold tell (record m { frames = explore q ∷ m.frames }))
     (state_retold tell (record e { frames = if done then [] else e.frames })) done
-entered_again table here there i tell m q x e done short new here_at alike enters =
-    λ at is ways best u.
-    let (other, again, loose) =
-    enters_again here there i tell (marked_in m q) e done x alike enters in
+entered_again table here there i tell m q x e done short new here_at enters at alike =
+    λ is ways best u.
+    let (way, rest, offered, told, more) = u.frames_hold in
+    let inside = told_within table at.haystack at.entries alike.low alike.len alike.part (tell i) []
+    (q, at.p) way told in
+    let (other, again, loose) = enters_again here there i tell (marked_in m q) e done x
+    (alike.each q (place_of x) inside here_at) enters in
     let e' = record (state_retold tell e) { frames = other } in
     loosened table at e' (tell i) (if done then [] else ways)
     (if done then Some (tell i, there.at, []) else best) (if done then [] else other)

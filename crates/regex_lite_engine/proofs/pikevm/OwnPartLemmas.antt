@@ -4,11 +4,30 @@ use Rattle.regex_lite_engine.proofs.Common.{take, drop, if◌then◌else◌, Boo
 use Rattle.regex_lite_engine.proofs.Common.{slice_index_or, refl, Some, sum_by, Option, sym, subst}
 use Rattle.regex_lite_engine.proofs.Common.{arith, length-take, sum_by-cons, IsWithin, row_of}
 use Rattle.regex_lite_engine.proofs.Common.{IsOwnPart, InStep, SearchAt, numbered_step, is_end}
-use Rattle.regex_lite_engine.proofs.Common.{StartsOf, Node, Offer}
+use Rattle.regex_lite_engine.proofs.Common.{StartsOf, Node, Offer, Text, Leads, WayTold, Row, Told}
+use Rattle.regex_lite_engine.proofs.Common.{IsEntry}
 use Rattle.regex_lite_engine.specs.Graph.Places.{Place}
 use Rattle.regex_lite_engine.specs.Pikevm.Room.{left_of}
 use Rattle.regex_lite_engine.proofs.laws.search.NumberedWayLemmas.{leads_within}
 use Rattle.regex_lite_engine.proofs.laws.search.RecordedWayLemmas.{traced}
+
+module _ (table : List (Place ℕ)) (haystack : Text) (entries : List ℕ) (low len : ℕ)
+    (part : IsOwnPart table entries low len) where
+  -- arrows lead from where a pattern is entered to places of the part
+  entered_within : (number entry i : ℕ) (arrows : List ℕ) (n : Node) → IsEntry entries number entry
+      → Leads Node (numbered_step table haystack) (entry, i) arrows n → IsWithin low len n.0
+  entered_within number entry i arrows n is along =
+      leads_within haystack table (IsWithin low len) within part.closed arrows (entry, i) n
+      (part.entered number entry is) along
+    where
+      within : (q : ℕ) → IsWithin low len q → q < length table
+      within q inside = let high = part.inside in omega (arith, high, inside.1)
+
+  -- and so does a way that is followed
+  pub told_within : (told : Told) (row : Row) (n : Node) (way : List ℕ)
+      → WayTold table haystack entries told row n way → IsWithin low len n.0
+  told_within told row n way (from, number, entry, arrows, tells, is, front, along, slots) =
+      entered_within number entry from arrows n is along
 
 -- what is recorded is a place of the part
 pub recorded_within : (table : List (Place ℕ)) (at : SearchAt) (low len : ℕ)
@@ -20,12 +39,8 @@ recorded_within table at low len part recorded now next way in_step n v known =
     let t = traced Node (numbered_step table at.haystack) (is_end table at.haystack)
     (StartsOf at.entries at.first at.last) recorded way in_step.grown n v known in
     let (i, number, entry, above, below, is_entry, front, start) = t.is_start in
-    leads_within at.haystack table (IsWithin low len) within part.closed t.arrows t.start n
-    (subst (λ (z : Node). IsWithin low len z.0) (sym start) (part.entered number entry is_entry))
-    t.along
-  where
-    within : (q : ℕ) → IsWithin low len q → q < length table
-    within q inside = let high = part.inside in omega (arith, high, inside.1)
+    entered_within table at.haystack at.entries low len part number entry i t.arrows n is_entry
+    (subst (λ z. Leads Node (numbered_step table at.haystack) z t.arrows n) start t.along)
 
 not_entered : (was : Bool) (value : ℕ) → (was ≡ true → ⊥) → (if was then 0 else value) ≡ value
 not_entered true value other = absurd (other refl)

@@ -2,16 +2,16 @@
 use Rattle.regex_lite_engine.proofs.Common.{◌≡◌, ℕ, ◌+◌, ◌^◌, ◌<◌, ◌≤◌, Bool, false, List, [], ◌∷◌}
 use Rattle.regex_lite_engine.proofs.Common.{◌++◌, length, drop, if◌then◌else◌, Some, sym, refl, ap}
 use Rattle.regex_lite_engine.proofs.Common.{◌∙◌, subst, arith, kept_back, kept_back_of, all_retold}
-use Rattle.regex_lite_engine.proofs.Common.{state_retold, KeepsPosition, Thread, StepsTo, WayTold}
+use Rattle.regex_lite_engine.proofs.Common.{state_retold, KeepsPosition, Thread, StepsAt, WayTold}
 use Rattle.regex_lite_engine.proofs.Common.{ThreadsHold, InStep, SearchAt, Told, untold, Best, Node}
 use Rattle.regex_lite_engine.proofs.Common.{Offer, Here}
 use Rattle.regex_lite_engine.specs.Pikevm.Again.{AreAlike, retold}
-use Rattle.regex_lite_engine.specs.Pikevm.Turns.{Between}
+use Rattle.regex_lite_engine.specs.Pikevm.Turns.{Between, StepsTo}
 use Rattle.regex_lite_engine.specs.declared.pikevm.walk.Walk.{Walk}
 use Rattle.regex_lite_engine.specs.Graph.Places.{Place}
 use Rattle.regex_lite_engine.specs.Pikevm.Machine.{explore, State}
 use Rattle.regex_lite_engine.specs.Pikevm.Room.{with_frames, HasRoom, Explores, IsFit, GoesOn}
-use Rattle.regex_lite_engine.specs.Pikevm.Room.{WalksTo, due_tries, due_entries, explores}
+use Rattle.regex_lite_engine.specs.Pikevm.Room.{WalksAt, due_tries, due_entries, explores}
 use Rattle.regex_lite_engine.specs.Pikevm.Walking.{IsWalking}
 use Rattle.regex_lite_engine.proofs.pikevm.RoomLemmas.{left_most}
 use Rattle.regex_lite_engine.proofs.pikevm.StateLemmas.{takes_up}
@@ -61,13 +61,13 @@ thread_taken table at m thread ways best u =
     }
 
 -- the first of the ways is followed
-pub stepped : (table : List (Place ℕ)) (here : Here) (m m' : State) (thread : Thread)
-    (ways : List Thread) (b : Best) (done : Bool)
-    → WalksTo table here thread.1 (taking_up m thread) (record m' { frames = [] }) done
-    → StepsTo table here m (thread ∷ ways) b m' (if done then [] else ways)
+pub stepped : (table : List (Place ℕ)) (at : SearchAt) (here : Here) (m m' : State)
+    (thread : Thread) (ways : List Thread) (b : Best) (done : Bool)
+    → WalksAt table at here thread.1 (taking_up m thread) (record m' { frames = [] }) done
+    → StepsAt table at here m (thread ∷ ways) b m' (if done then [] else ways)
     (if done then Some (thread.1, here.at, m'.row) else b)
-stepped table here m m' thread ways b done walks = λ at is u.
-    let over = walks at is ways b (thread_taken table at m thread ways b u) in
+stepped table at here m m' thread ways b done walks = λ is u.
+    let over = walks is ways b (thread_taken table at m thread ways b u) in
     walk_framed table at (record m' { frames = [] }) thread.1 (if done then [] else ways)
     (if done then Some (thread.1, here.at, m'.row) else b) over untold [] [] over.frames_hold
 
@@ -116,8 +116,9 @@ pub record HasFollowed {S : Type 0} (table : List (Place ℕ)) (here : Here) (wa
   pub steps :
       StepsTo table here first.memory ways best walk.memory (if done then [] else drop k ways)
       (if done then Some (start, here.at, walk.memory.row) else best)
-  pub again : (tell : Told → Told) (there : Here) (b : Best) → AreAlike table here there
-      → StepsTo table there (state_retold tell first.memory) (all_retold tell ways) b
+  pub again : (tell : Told → Told) (there : Here) (b : Best) (at : SearchAt)
+      → AreAlike table at.entries here there
+      → StepsAt table at there (state_retold tell first.memory) (all_retold tell ways) b
       (state_retold tell walk.memory) (if done then [] else all_retold tell (drop k ways))
       (if done then Some (tell start, there.at, []) else b)
   pub kept : KeepsPosition first.memory walk.memory
@@ -143,13 +144,13 @@ follows_on {table = table} {here} {ways} {best} {w = w} {x} {y} {start = start} 
     let idle : explores y.memory.frames ≡ 0 = ap (λ fs. explores fs) empty in
     record {
       steps = λ at is u.
-          stepped table here w.memory y.memory thread left best done on.walks at is
+          stepped table at here w.memory y.memory thread left best done (on.walks at) is
           (subst (λ (ts : List Thread). Between table at w.memory ts best) next (v.steps at is u));
-      again = λ tell there b alike at is u.
-          stepped table there (state_retold tell w.memory) (state_retold tell y.memory)
-          (retold tell thread) (all_retold tell left) b done (on.again tell there alike) at is
+      again = λ tell there b at alike is u.
+          stepped table at there (state_retold tell w.memory) (state_retold tell y.memory)
+          (retold tell thread) (all_retold tell left) b done (on.again tell there at alike) is
           (subst (λ (ts : List Thread). Between table at (state_retold tell w.memory)
-          (all_retold tell ts) b) next (v.again tell there b alike at is u));
+          (all_retold tell ts) b) next (v.again tell there b at alike is u));
       kept = record {
         threads = kept.threads ∙ ap (λ (m : State). m.threads) em ∙ v.kept.threads;
         room = kept.room ∙ ap (λ (m : State). m.room) em ∙ v.kept.room;

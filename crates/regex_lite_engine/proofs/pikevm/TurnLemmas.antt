@@ -1,7 +1,7 @@
 -- From one position to the next: its threads are followed, and after them its starts.
 use Rattle.regex_lite_engine.proofs.Common.{◌≡◌, ℕ, suc, ◌+◌, ◌<◌, ◌≤◌, ◌⊎◌, List, [], ◌∷◌, ◌++◌}
 use Rattle.regex_lite_engine.proofs.Common.{Some, None, Option, sym, refl, ap, ◌∙◌, subst, inl, inr}
-use Rattle.regex_lite_engine.proofs.Common.{arith, cases_lt, IsWithin, IsOwnPart, Thread, StepsTo}
+use Rattle.regex_lite_engine.proofs.Common.{arith, cases_lt, IsWithin, IsOwnPart, Thread, StepsAt}
 use Rattle.regex_lite_engine.proofs.Common.{IsComing, begun, ThreadsHold, SearchAt, Told, IsDead}
 use Rattle.regex_lite_engine.proofs.Common.{numbered_step, is_end, StartsOf, Best, Node, Offer}
 use Rattle.regex_lite_engine.proofs.Common.{StartsBelow, IsPreferred, Row, IsBlank, IsHere}
@@ -79,7 +79,8 @@ pub record IsTurn (table : List (Place ℕ)) (at : SearchAt) (here : Here) (cur 
   pub tells : (number : ℕ) → TellsStart (told number) here.at number
   pub ways : List Thread
   pub begins : Begun starts told best cur ways
-  pub steps : StepsTo table here first_state ways best after [] best'
+  pub steps : (from : ℕ)
+      → StepsAt table (record at { from = from }) here first_state ways best after [] best'
   pub kept : best' ≡ None → best ≡ None
 
 module _ (table : List (Place ℕ)) (at : SearchAt) (here : Here) (cur : List Thread) (best : Best)
@@ -212,7 +213,7 @@ module _ (table : List (Place ℕ)) (at : SearchAt) (here : Here) (cur : List Th
       on from b e from_is w = (
         from,
         from_kept best best' from (subst (FromIs (p + 1) from) (sym e) from_is) turn.kept,
-        turn.steps (record at { from = from }) turn.is
+        turn.steps from turn.is
             (subst (Between table (record at { from = from }) turn.first_state turn.ways) (sym e)
             w),
       )

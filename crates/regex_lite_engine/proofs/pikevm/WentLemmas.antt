@@ -59,7 +59,7 @@ module _ (table : List (Place ℕ)) (here : Here) (i : Told) {S : Type 0} where
         on = record {
           walks = λ at is ways best u.
               walk_seen table at m i ways best q (omega (arith, all, lt)) u was;
-          again = λ tell there alike at is ways best u.
+          again = λ tell there at alike is ways best u.
               walk_seen table at (state_retold tell m) (tell i) ways best q (omega (arith, all, lt))
               u was;
           spent = omega arith;
@@ -146,9 +146,8 @@ module _ (table : List (Place ℕ)) (here : Here) (i : Told) {S : Type 0} where
             walks = λ search is ways best u.
                 walk_enters table search m i ways best q short u new here is x e' done
                 (ap (λ o. unwrap_or o (with_arrows [])) at) enters';
-            again = λ tell there alike.
-                entered_again table here there i tell m q x e' done short new at
-                (alike q (place_of x) at) enters';
+            again = λ tell there.
+                entered_again table here there i tell m q x e' done short new at enters';
             spent = omega (arith, arrows_left, few, ends);
             spent_entries = omega (arith, lone_left);
           };
@@ -159,7 +158,7 @@ module _ (table : List (Place ℕ)) (here : Here) (i : Told) {S : Type 0} where
   pub goes_nowhere : (w : Walk S) → GoesOn table here i w w false
   goes_nowhere w = record {
     walks = λ at is ways best u. u;
-    again = λ tell there alike at is ways best u. u;
+    again = λ tell there at alike is ways best u. u;
     spent = omega arith;
     spent_entries = omega arith;
   }
@@ -172,9 +171,9 @@ module _ (table : List (Place ℕ)) (here : Here) (i : Told) {S : Type 0} where
       record {
         walks = λ at is ways best u.
             second.walks at is ways best (first.walks at is ways best u);
-        again = λ tell there alike at is ways best u.
-            second.again tell there alike at is ways best
-            (first.again tell there alike at is ways best u);
+        again = λ tell there at alike is ways best u.
+            second.again tell there at alike is ways best
+            (first.again tell there at alike is ways best u);
         spent = omega (arith, spent, more);
         spent_entries = omega (arith, entries, more_entries);
       }
@@ -213,7 +212,7 @@ module _ (table : List (Place ℕ)) (here : Here) (i : Told) {S : Type 0} where
           walks = λ at is ways best u.
               walk_framed table at (record m { frames = restore slot old ∷ fs }) i ways best u i
               (slice_set m.row slot old) fs u.frames_hold;
-          again = λ tell there alike at is ways best u.
+          again = λ tell there at alike is ways best u.
               walk_framed table at
               (state_retold tell (record m { frames = restore slot old ∷ fs })) (tell i) ways best u
               (tell i) [] fs u.frames_hold;

@@ -66,6 +66,12 @@ abbrev pub LeadsInto : (Part : ℕ → Type 0) → Place ℕ → Type 0
 LeadsInto Part complete = Unit {0}
 LeadsInto Part (with_arrows arrows) = LeadInto Part arrows
 
+-- the arrows of these places lead to one of them
+abbrev pub LeadInside : List code.Place → Type 0
+LeadInside places =
+    (q : ℕ) (place : code.Place) → slice_get places q ≡ Some place
+    → LeadsBelow (length places) (place_of place)
+
 -- what a search keeps back that enters each of these places once, without slots and with them
 pub record IsKeptBackOf (table : List (Place ℕ)) (kept : KeptBack) : Type 0 where
   pub without_slots : kept.without_slots ≡ sum_by (kept_back_with 0) table
@@ -75,8 +81,7 @@ pub record IsKeptBackOf (table : List (Place ℕ)) (kept : KeptBack) : Type 0 wh
 -- numbered. This many of the places read a character, and a search keeps back less than there are
 -- places. A table of no pattern has none
 pub record IsClosed (places : List code.Place) (arrows reading : ℕ) : Type 0 where
-  pub each_inside : (q : ℕ) (place : code.Place) → slice_get places q ≡ Some place
-      → LeadsBelow (length places) (place_of place)
+  pub each_inside : LeadInside places
   pub few_places : length places < 2 ^ 32
   pub few_arrows : arrows < 2 ^ 34
   pub few_reading : 0 < length places → reading < length places

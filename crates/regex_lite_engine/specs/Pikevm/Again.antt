@@ -4,6 +4,7 @@ use Rattle.std.specs.Prelude.{◌≡◌, ℕ, Bool, true, false, List, []}
 use Rattle.std.specs.Prelude.{◌∷◌, map, slice_get, Option, Some, None}
 use Rattle.regex_lite_syntax.specs.Tree.Looks.{holds_between}
 use Rattle.regex_lite_engine.specs.declared.search.here.Here.{Here}
+use Rattle.regex_lite_engine.specs.Graph.Parts.{IsOwnPart, IsWithin}
 use Rattle.regex_lite_engine.specs.Graph.Places.{Arrow, Condition, free, holding}
 use Rattle.regex_lite_engine.specs.Graph.Places.{reading, Place, complete, with_arrows}
 use Rattle.regex_lite_engine.specs.Search.Beginnings.{Told}
@@ -29,11 +30,13 @@ abbrev pub FitsAlike : Place ℕ → (here there : Here) → Type 0
 FitsAlike complete here there = Unit {0}
 FitsAlike (with_arrows arrows) here there = FitAlike arrows here there
 
--- no place distinguishes the two
-abbrev pub AreAlike : List (Place ℕ) → (here there : Here) → Type 0
-AreAlike table here there =
-    (number : ℕ) (place : Place ℕ) → slice_get table number ≡ Some place
-    → FitsAlike place here there
+-- no place distinguishes the two of those among which searches for these patterns stay
+pub record AreAlike (table : List (Place ℕ)) (entries : List ℕ) (here there : Here) : Type 0 where
+  pub low : ℕ
+  pub len : ℕ
+  pub part : IsOwnPart table entries low len
+  pub each : (q : ℕ) (place : Place ℕ) → IsWithin low len q → slice_get table q ≡ Some place
+      → FitsAlike place here there
 
 -- the thread, of which something else is known
 abbrev pub retold : (Told → Told) → Thread → Thread

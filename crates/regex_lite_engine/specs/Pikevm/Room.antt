@@ -74,19 +74,24 @@ module _ (table : List (Place ℕ)) where
     pub entered_tried : walk.steps.entered ≤ walk.steps.tried
     pub looked_entered : walk.steps.looked ≤ walk.steps.entered
 
-  -- from one state to a later one, in whatever haystack it stands there
-  abbrev pub WalksTo : Here → (told : Told) → (before after : State) → (done : Bool) → Type 0
-  WalksTo here told before after done =
-      (at : SearchAt) → IsHere at.haystack at.p here → (ways : List Thread) (best : Best)
+  -- a search goes from one state to a later one
+  abbrev pub WalksAt : SearchAt → Here → (told : Told) → (before after : State) → (done : Bool)
+      → Type 0
+  WalksAt at here told before after done =
+      IsHere at.haystack at.p here → (ways : List Thread) (best : Best)
       → IsWalking table at before told ways best
       → IsWalking table at after told (if done then [] else ways)
       (if done then Some (told, here.at, after.row) else best)
 
+  -- any search does, in whatever haystack it stands there
+  abbrev pub WalksTo : Here → (told : Told) → (before after : State) → (done : Bool) → Type 0
+  WalksTo here told before after done = (at : SearchAt) → WalksAt at here told before after done
+
   -- the same from wherever it looks the same, with something else kept
   abbrev pub WalksAgain : Here → (told : Told) → (before after : State) → (done : Bool) → Type 0
   WalksAgain here told before after done =
-      (tell : Told → Told) (there : Here) → AreAlike table here there
-      → WalksTo there (tell told) (state_retold tell before) (state_retold tell after) done
+      (tell : Told → Told) (there : Here) (at : SearchAt) → AreAlike table at.entries here there
+      → WalksAt at there (tell told) (state_retold tell before) (state_retold tell after) done
 
   -- a walk went on, up to a complete match where it is done
   pub record GoesOn {S : Type 0} (here : Here) (told : Told) (walk walk' : Walk S) (done : Bool)

@@ -16,7 +16,8 @@ use Rattle.regex_lite_engine.specs.Search.Counting.{IsCountable}
 use Rattle.regex_lite_engine.specs.Search.Standing.{IsHere}
 use Rattle.regex_lite_engine.specs.Pikevm.Turns.{best_of, with_starts}
 use Rattle.regex_lite_engine.specs.Search.Starts.{AreStartsAt}
-use Rattle.regex_lite_engine.specs.Pikevm.Turns.{IsComing, StepsTo, IsReady}
+use Rattle.regex_lite_engine.specs.Pikevm.Turns.{IsComing, StepsAt, StepsTo, IsReady}
+use Rattle.regex_lite_engine.specs.Pikevm.Walking.{SearchAt}
 use Rattle.regex_lite_engine.specs.Search.NumberedOutcomes.{Best}
 
 -- the ways that are followed at a position: its threads, and its own starts
@@ -58,8 +59,9 @@ module _ (table : List (Place ℕ)) where
   abbrev pub FollowsAgain : {S : Type 0} → Here → (ways : List Thread) → Cache S → Cache S
       → (hit : Bool) → Type 0
   FollowsAgain here ways cache cache' hit =
-      (tell : Told → Told) (there : Here) (best : Best) → AreAlike table here there
-      → StepsTo table there (state_retold tell cache.walk.memory) (all_retold tell ways) best
+      (tell : Told → Told) (there : Here) (best : Best) (at : SearchAt)
+      → AreAlike table at.entries here there
+      → StepsAt table at there (state_retold tell cache.walk.memory) (all_retold tell ways) best
       (state_retold tell cache'.walk.memory) []
       (best_again tell there.at hit (best_of cache'.best) best)
 
@@ -68,10 +70,11 @@ module _ (table : List (Place ℕ)) where
   abbrev pub TurnsAgain : {S : Type 0} → List Start → Here → (told : ℕ → Told) → Cache S → Cache S
       → (hit : Bool) → Type 0
   TurnsAgain starts here told cache cache' hit =
-      (tell : Told → Told) (there : Here) (best : Best) → AreAlike table here there
+      (tell : Told → Told) (there : Here) (best : Best)
       → ((number : ℕ) → TellsStart (tell (told number)) there.at number)
       → (best ≡ None → best_of cache.best ≡ None) → (best_of cache.best ≡ None → best ≡ None)
-      → (haystack : Text) (entries : List ℕ) (p first last : ℕ) → IsHere haystack p there
+      → (haystack : Text) (entries : List ℕ) (p first last : ℕ)
+      → AreAlike table entries here there → IsHere haystack p there
       → first ≤ p → p ≤ last → AreStartsAt table haystack entries p starts
       → IsComing table haystack entries first last p (all_retold tell cache.walk.memory.threads)
       best

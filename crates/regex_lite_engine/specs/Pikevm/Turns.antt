@@ -36,12 +36,17 @@ module _ (table : List (Place ℕ)) where
   Between at state ways best =
       IsWalking table at (record state { row = []; frames = [] }) untold ways best
 
-  -- some of the ways are followed
+  -- a search follows some of the ways
+  abbrev pub StepsAt : SearchAt → Here → (before : State) → (ways : List Thread) → Best
+      → (after : State) → (left : List Thread) → Best → Type 0
+  StepsAt at here before ways best after left best' =
+      IsHere at.haystack at.p here → Between at before ways best → Between at after left best'
+
+  -- any search does
   abbrev pub StepsTo : Here → (before : State) → (ways : List Thread) → Best → (after : State)
       → (left : List Thread) → Best → Type 0
   StepsTo here before ways best after left best' =
-      (at : SearchAt) → IsHere at.haystack at.p here → Between at before ways best
-      → Between at after left best'
+      (at : SearchAt) → StepsAt at here before ways best after left best'
 
   -- all below position p is done; what is offered at p are the threads, without its own start
   pub record IsComing (haystack : Text) (entries : List ℕ) (first last p : ℕ)

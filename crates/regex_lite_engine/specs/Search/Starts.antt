@@ -50,10 +50,11 @@ pub record AreStartsAt (table : List (Place ℕ)) (haystack : Text) (entries : L
   pub each : (number entry : ℕ) → IsEntry entries number entry
       → IsAmong number entry starts ⊎ IsDeadAt table haystack entry p
 
--- wherever a match starts, it does by one of these
+-- each pattern is one of these, in order
 pub record AreAllStarts (table : List (Place ℕ)) (entries : List ℕ) (starts : List Start) : Type 0
   where
-    pub at_each : (haystack : Text) (p : ℕ) → AreStartsAt table haystack entries p starts
+    pub in_order : AreFrom entries 0 starts
+    pub each : (number entry : ℕ) → IsEntry entries number entry → IsAmong number entry starts
     pub inside : All (λ start. start.place < length table) starts
     pub few : length starts ≤ length entries
     pub countable : length starts < 2 ^ 32

@@ -3,7 +3,8 @@ ghost use Rattle.std.specs.Prelude.{◌≡◌, ◌+◌, ◌^◌, ◌<◌, length
 ghost use Rattle.std.specs.Prelude.{slice_get, sum_by, Some};
 ghost use Rattle.regex_lite_engine.specs.Graph.Places.{kept_back_of, kept_back_with, reading_of};
 ghost use Rattle.regex_lite_engine.specs.Graph.Renumbered.{arrows_of};
-ghost use Rattle.regex_lite_engine.specs.Graph.Stored.{IsClosed, LeadsBelow, place_of, places_of};
+ghost use Rattle.regex_lite_engine.specs.Graph.Stored.{IsClosed, LeadInside, LeadsBelow};
+ghost use Rattle.regex_lite_engine.specs.Graph.Stored.{place_of, places_of};
 
 use crate::nfa::kept_back::KeptBack;
 use crate::nfa::place::Place;
@@ -76,7 +77,8 @@ impl Table {
 
     /// All places, for what is found out before a search begins: no such reading is counted.
     pub fn all(&self) -> &[Place]
-        ensures { result.now ≡ self.now.places }
+        ensures same { result.now ≡ self.now.places }
+        ensures inside { LeadInside result.now }
     {
         &self.places
     }

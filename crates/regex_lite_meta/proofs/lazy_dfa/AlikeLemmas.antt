@@ -1,10 +1,10 @@
 -- Positions that no place of a graph distinguishes.
-use Rattle.regex_lite_meta.proofs.Common.{◌≡◌, ℕ, zero, suc, Bool, true, false, not, List, [], ◌∷◌}
+use Rattle.regex_lite_meta.proofs.Common.{◌≡◌, ℕ, Bool, true, false, not, List, [], ◌∷◌}
 use Rattle.regex_lite_meta.proofs.Common.{map, ◌==◌, slice_get, Some, None, All, Option, sym, refl}
 use Rattle.regex_lite_meta.proofs.Common.{ap, ◌∙◌, subst, arith, place_of, AreAlike, Here}
 use Rattle.regex_lite_meta.proofs.Common.{Intervals, interval_of, class_of, IsBoundary}
 use Rattle.regex_lite_meta.proofs.Common.{IsBoundedPlace, character_bounds, look_bounds}
-use Rattle.regex_lite_meta.proofs.Common.{AreIntervalsOf, side_of}
+use Rattle.regex_lite_meta.proofs.Common.{AreIntervalsOf, side_of, take, drop, ◌-◌}
 use Rattle.regex_lite_engine.specs.Graph.Places.{Place, go}
 use Rattle.regex_lite_meta.specs.declared.lazy_dfa.state.Side.{Side}
 use Rattle.std.proofs.Common.{◌&&◌, ◌||◌}
@@ -25,7 +25,9 @@ use Rattle.regex_lite_meta.specs.LazyDfa.Intervals.{LooksAlike}
 use Rattle.regex_lite_engine.specs.Pikevm.Again.{FitAlike, FitsAlike}
 use Rattle.regex_lite_meta.proofs.lazy_dfa.IntervalLemmas.{interval_within, same_between, same_char}
 use Rattle.regex_lite_meta.proofs.lazy_dfa.IntervalLemmas.{same_set}
-use Rattle.regex_lite_syntax.proofs.OptionLemmas.{not_there, same_some}
+use Rattle.regex_lite_meta.proofs.lazy_dfa.PartLemmas.{in_row, stored_at}
+use Rattle.regex_lite_meta.specs.LazyDfa.Parts.{IsPartOf}
+use Rattle.regex_lite_meta.specs.declared.lazy_dfa.part.Part.{Part}
 
 -- the look, by what it sees of both neighbours
 abbrev holds_by : Look → Side → Side → Bool
@@ -138,17 +140,23 @@ module _ (intervals : Intervals) (here there : Here) (alike : LooksAlike interva
   fits (stored.Branches entries) b = go_alike entries.items
   fits stored.Match b = tt
 
-  all_alike : (places : List code.Place)
-      → ((q : ℕ) (x : code.Place) → slice_get places q ≡ Some x → IsBoundedPlace intervals x)
-      → AreAlike (map place_of places) here there
-  all_alike [] each q place e = absurd (not_there e)
-  all_alike (x ∷ xs) each zero place e =
-      subst (λ (z : Place ℕ). FitsAlike z here there) (same_some e) (fits x (each zero x refl))
-  all_alike (x ∷ xs) each (suc q) place e = all_alike xs (λ r y at. each (suc r) y at) q place e
-
--- no place distinguishes positions that look alike
-pub alike_at : (places : List code.Place) (intervals : Intervals) → AreIntervalsOf places intervals
-    → (here there : Here) → LooksAlike intervals here there
-    → AreAlike (map place_of places) here there
-alike_at places intervals are here there looks =
-    all_alike intervals here there looks are.characters are.sides places are.each
+-- places in a row don't distinguish positions that look alike
+pub alike_at : (places : List code.Place) (entries : List ℕ) (part : Part)
+    → IsPartOf (map place_of places) entries part → (row : List code.Place)
+    → row ≡ take (part.end - part.low) (drop part.low places) → (intervals : Intervals)
+    → AreIntervalsOf row intervals → (here there : Here) → LooksAlike intervals here there
+    → AreAlike (map place_of places) entries here there
+alike_at places entries part is row cut intervals are here there looks = record {
+  low = part.low;
+  len = part.end - part.low;
+  part = is.own;
+  each = λ q place within at.
+      let (own, stored, same) = stored_at places q place at in
+      subst (λ (z : Place ℕ). FitsAlike z here there) same
+      (fits intervals here there looks are.characters are.sides own
+      (are.each (q - part.low) own
+      (ap (λ z. slice_get z (q - part.low)) cut
+      ∙ in_row places part.low (part.end - part.low) (q - part.low) q
+      (let above = within.0 in omega (arith, above))
+      (let above = within.0 in let below = within.1 in omega (arith, above, below)) ∙ stored)));
+}

@@ -100,7 +100,8 @@ module _ (table : List (Place ℕ)) (h : Text) (entries : List ℕ) where
 
     -- a search that stands at a position without a match has none that started as many characters
     -- before as a way reads at most, or earlier
-    pub anew : (most q n : ℕ) (threads : List Thread) → ReadsAtMost table most
+    pub anew : (most q n : ℕ) (threads : List Thread)
+        → ReadsAtMost table entries most
         → IsComing table h entries m (length h) q threads None → n + most ≤ q → s ≤ n
         → NoneStartsBeforeOf table h entries s n
     anew most q n threads reads coming far later =
@@ -115,5 +116,5 @@ module _ (table : List (Place ℕ)) (h : Text) (entries : List ℕ) where
         by_start i k way r j is (inl less) =
             let ends = ends_later table h entries m q threads coming i k way r j
             (later_match i k way r j is) in
-            let few = reads h is.entry i way r j is.is_match.leads.is_way.0 in
+            let few = reads h k is.entry i way r j is.is_entry is.is_match.leads.is_way.0 in
             absurd (omega (arith, ends, few, less, far))

@@ -128,7 +128,7 @@ module _ (table : List (Place ℕ)) (entries : List ℕ) {S : Type 0} (old new :
     (searching : to.searching ≡ searching_after to.hit turned.is_in.state.searching)
     (before : new.intervals.looks ≡ true → to.before ≡ side_of here.after) where
   alike : (there : Here) → Sees new.intervals turned.is_in.state.before class there
-      → AreAlike table here there
+      → AreAlike table entries here there
   alike there sees = remembers.intervals.alike here there (record {
     ahead = is_class ∙ sym sees.ahead;
     behind = λ looks.

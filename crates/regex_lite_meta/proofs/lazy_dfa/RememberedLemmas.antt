@@ -66,7 +66,8 @@ module _ (table : List (Place ℕ)) (entries : List ℕ) (intervals : Intervals)
     (told : ℕ → Told)
     (x : State) (class : ℕ) (y : State)
     (again : TurnsAgain table starts here told cache cache' hit)
-    (alike : (there : Here) → Sees intervals x.before class there → AreAlike table here there)
+    (alike : (there : Here) → Sees intervals x.before class there
+    → AreAlike table entries here there)
     (suffice : (there : Here) → Sees intervals x.before class there → (h : Text) (p : ℕ)
     → IsHere h p there → AreStartsAt table h entries p starts)
     (tells : (number : ℕ) → TellsStart (told number) here.at number)
@@ -91,10 +92,10 @@ module _ (table : List (Place ℕ)) (entries : List ℕ) (intervals : Intervals)
       (subst (λ z. IsComing table h entries low high (p + 1) z
       (best_again (tell first i) there.at hit (best_of cache'.best) best))
       (told_anew first i cache'.walk.memory.threads)
-      (again (tell first i) there best (alike there sees) (λ number. own_told first i here.at
+      (again (tell first i) there best (λ number. own_told first i here.at
       there.at cache.walk.memory.threads (told number) number is_first own (tells number))
       (same_found x.searching suits suits') (same_found x.searching suits' suits) h entries p low
-      high is from to (suffice there sees h p is)
+      high (alike there sees) is from to (suffice there sees h p is)
       (subst (λ z. IsComing table h entries low high p z best)
       (sym (told_anew first i cache.walk.memory.threads)) coming)))
 
@@ -174,8 +175,8 @@ module _ (table : List (Place ℕ)) (entries : List ℕ) where
   pub still_remembers : (old new : Automaton) → Remembers table entries old → Extends old new
       → FitsTable table entries old.pending → Remembers table entries new
   still_remembers old new remembers extends fits = record {
-    intervals = subst (λ z. AreIntervalsFor table z) (sym extends.intervals) remembers.intervals;
-    reach = subst (λ z. IfSome z (ReadsAtMost table)) (sym extends.reach) remembers.reach;
+    intervals = subst (λ z. AreIntervalsFor table entries z) (sym extends.intervals) remembers.intervals;
+    reach = subst (λ z. IfSome z (ReadsAtMost table entries)) (sym extends.reach) remembers.reach;
     leads = λ x from class at inside known.
         by_age x from class at inside known (slice_get old.states x) refl;
     fit = λ x state at. fit_by_age x state at (slice_get old.states x) refl;

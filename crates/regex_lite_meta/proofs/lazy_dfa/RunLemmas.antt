@@ -1,5 +1,5 @@
 -- A search that goes on at the same position or at a later one.
-use Rattle.regex_lite_meta.proofs.Common.{◌≡◌, ℕ, zero, suc, ◌+◌, ◌-◌, ◌*◌, ◌^◌, ◌<◌, ◌≤◌, true}
+use Rattle.regex_lite_meta.proofs.Common.{◌≡◌, ℕ, zero, suc, ◌+◌, ◌-◌, ◌*◌, ◌<◌, ◌≤◌, true}
 use Rattle.regex_lite_meta.proofs.Common.{◌⊎◌, List, [], ◌∷◌, length, IfSome, Some, None, Option}
 use Rattle.regex_lite_meta.proofs.Common.{MatchOption, sym, refl, ap, ◌∙◌, subst, inl, inr, arith}
 use Rattle.regex_lite_meta.proofs.Common.{cases_lt, Text, arrows_of, best_kept, offset, Row, IsHere}
@@ -13,7 +13,7 @@ use Rattle.regex_lite_engine.specs.Search.Bounds.{IsBoundedBy, StepCounts}
 use Rattle.std.proofs.Math.Nat.{mul-le-mul_left, mul-suc}
 use Rattle.regex_lite_engine.specs.Pikevm.Searching.{IsBetween, IsFresh}
 use Rattle.regex_lite_engine.specs.Search.NumberedList.{IsEntry}
-use Rattle.regex_lite_engine.specs.Search.Starts.{IsAmong, AreStartsAt, AreAllStarts}
+use Rattle.regex_lite_engine.specs.Search.Starts.{IsAmong, AreAllStarts}
 use Rattle.regex_lite_engine.proofs.OffsetLemmas.{offset_grows, offset_less}
 use Rattle.regex_lite_syntax.proofs.OptionLemmas.{not_there, same_some}
 use Rattle.regex_lite_engine.proofs.ReadingCountLemmas.{reads_within}
@@ -22,27 +22,21 @@ use Rattle.regex_lite_engine.proofs.pikevm.PassLemmas.{begun}
 use Rattle.regex_lite_engine.proofs.pikevm.ComingLemmas.{jumped}
 
 -- the only pattern may always start
-pub one_start : (table : List (Place ℕ)) (h : Text) (s p : ℕ)
-    → AreStartsAt table h (s ∷ []) p (record { number = 0; place = s } ∷ [])
-one_start table h s p = record {
-  in_order = (omega arith, refl, tt);
-  each = λ number entry is. inl (among number entry is);
-}
-  where
-    among : (number entry : ℕ) → IsEntry (s ∷ []) number entry
-        → IsAmong number entry (record { number = 0; place = s } ∷ [])
-    among zero entry is = inl (refl, sym (same_some is))
-    among (suc n) entry is = absurd (not_there is)
-
 -- the pattern of a graph by itself may start anywhere
 pub all_of_one : (table : List (Place ℕ)) (entry : ℕ) → entry < length table
     → AreAllStarts table (entry ∷ []) (record { number = 0; place = entry } ∷ [])
 all_of_one table entry inside = record {
-  at_each = λ h p. one_start table h entry p;
+  in_order = (omega arith, refl, tt);
+  each = among;
   inside = one_inside (length table) (record { number = 0; place = entry }) true inside;
   few = omega arith;
   countable = omega arith;
 }
+  where
+    among : (number s : ℕ) → IsEntry (entry ∷ []) number s
+        → IsAmong number s (record { number = 0; place = entry } ∷ [])
+    among zero s is = inl (refl, sym (same_some is))
+    among (suc n) s is = absurd (not_there is)
 
 more_bound : (m p r s : ℕ) → s ≤ p → p < r → m * (p - s) + m ≤ m * (r - s)
 more_bound m p r s low later =

@@ -22,6 +22,7 @@ use Rattle.regex_lite_meta.proofs.lazy_dfa.ResumeLemmas.{coming_less}
 use Rattle.regex_lite_meta.proofs.lazy_dfa.RunLemmas.{at_later, bounded_on, bounded_own}
 use Rattle.regex_lite_meta.proofs.lazy_dfa.RunLemmas.{maybe_in_empty, own_first, passed_over}
 use Rattle.regex_lite_engine.proofs.pikevm.StopLemmas.{done_after, done_found}
+use Rattle.regex_lite_engine.proofs.search.list_patterns.ListStartLemmas.{starts_at}
 
 module _ {table : List (Place ℕ)} {h : Text} {entries : List ℕ} {s : ℕ} {automaton : Automaton}
     {at : Progress} {S : Type 0} {cache : Cache S}
@@ -180,5 +181,5 @@ module _ {table : List (Place ℕ)} {h : Text} {entries : List ℕ} {s : ℕ} {a
           is_hit = is_hit;
           tells = λ number. record { start_told = refl; number_told = refl };
           is_first = stands.own;
-          suffice = λ h p there is. all.at_each h p;
+          suffice = λ h p there is. starts_at all h p;
         }

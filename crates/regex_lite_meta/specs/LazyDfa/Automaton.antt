@@ -11,6 +11,7 @@ use Rattle.regex_lite_meta.specs.LazyDfa.Intervals.{AreIntervalsFor, Intervals, 
 use Rattle.regex_lite_meta.specs.LazyDfa.Intervals.{classes_in, side_of}
 use Rattle.regex_lite_engine.specs.Search.Beginnings.{Told}
 use Rattle.regex_lite_engine.specs.Search.NumberedAnswer.{numbered_step}
+use Rattle.regex_lite_engine.specs.Search.NumberedList.{IsEntry}
 use Rattle.regex_lite_engine.specs.Pikevm.Machine.{Thread}
 use Rattle.regex_lite_engine.specs.Search.Standing.{IsHere}
 use Rattle.regex_lite_engine.specs.Pikevm.Turns.{IsComing}
@@ -139,17 +140,18 @@ pub record FitsTable (table : List (Place ℕ)) (entries : List ℕ) (ways : Lis
   pub few : length ways ≤ reading_of table
   pub own : FitsOwnParts table entries (length ways)
 
--- no way from any place reads more characters than these, whatever the haystack
-abbrev pub ReadsAtMost : (table : List (Place ℕ)) → (most : ℕ) → Type 0
-ReadsAtMost table most =
-    (haystack : Text) (q i : ℕ) (way : List ℕ) (r j : ℕ)
-    → Leads (ℕ × ℕ) (numbered_step table haystack) (q, i) way (r, j) → j ≤ i + most
+-- no way from where a pattern is entered reads more characters than these, whatever the haystack
+abbrev pub ReadsAtMost : (table : List (Place ℕ)) → (entries : List ℕ) → (most : ℕ) → Type 0
+ReadsAtMost table entries most =
+    (haystack : Text) (number entry i : ℕ) (way : List ℕ) (r j : ℕ)
+    → IsEntry entries number entry
+    → Leads (ℕ × ℕ) (numbered_step table haystack) (entry, i) way (r, j) → j ≤ i + most
 
 -- all turns that are remembered are those of searches in this table
 pub record Remembers (table : List (Place ℕ)) (entries : List ℕ) (automaton : Automaton)
     : Type 0 where
-  pub intervals : AreIntervalsFor table automaton.intervals
-  pub reach : IfSome automaton.reach (ReadsAtMost table)
+  pub intervals : AreIntervalsFor table entries automaton.intervals
+  pub reach : IfSome automaton.reach (ReadsAtMost table entries)
   pub leads : (x : ℕ) (from : State) (class : ℕ) → slice_get automaton.states x ≡ Some from
       → class < classes_in automaton.intervals → (slice_index from.next class ≡ unknown → ⊥)
       → (to : State) × (slice_get automaton.states (slice_index from.next class) ≡ Some to)

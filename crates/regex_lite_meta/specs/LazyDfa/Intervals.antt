@@ -11,7 +11,6 @@ use Rattle.regex_lite_meta.specs.declared.lazy_dfa.state.Side.{Side}
 use Rattle.regex_lite_engine.specs.declared.nfa.place.Place as code
 use Rattle.regex_lite_engine.specs.declared.nfa.place.Place.TheVariants as stored
 use Rattle.regex_lite_engine.specs.declared.search.here.Here.{Here}
-use Rattle.regex_lite_engine.specs.Graph.NoLooks.{HasNoLooks}
 use Rattle.regex_lite_engine.specs.Graph.Places.{Place}
 use Rattle.regex_lite_engine.specs.Pikevm.Again.{AreAlike}
 
@@ -106,9 +105,9 @@ pub record LooksAlike (intervals : Intervals) (here there : Here) : Type 0 where
   pub ahead : class_of intervals.boundaries here.after ≡ class_of intervals.boundaries there.after
   pub behind : intervals.looks ≡ true → side_of here.before ≡ side_of there.before
 
--- the table doesn't distinguish characters between the same boundaries, and it has no looks unless
--- that is known
-pub record AreIntervalsFor (table : List (Place ℕ)) (intervals : Intervals) : Type 0 where
-  pub alike : (here there : Here) → LooksAlike intervals here there → AreAlike table here there
+-- searches for these patterns don't distinguish characters between the same boundaries
+pub record AreIntervalsFor (table : List (Place ℕ)) (entries : List ℕ) (intervals : Intervals)
+    : Type 0 where
+  pub alike : (here there : Here) → LooksAlike intervals here there
+      → AreAlike table entries here there
   pub sides : intervals.looks ≡ true → All (IsBoundary intervals.boundaries) look_bounds
-  pub no_looks : intervals.looks ≡ false → HasNoLooks table

@@ -1,14 +1,11 @@
 -- What a searcher remembers, and what it passes over.
 use Rattle.std.specs.Prelude.{◌≡◌, ℕ, List, [], ◌∷◌, Option, IfSome, length, option_map}
-use Rattle.regex_lite_meta.specs.declared.lazy_dfa.builder.Alphabet as code
-use Rattle.regex_lite_meta.specs.declared.lazy_dfa.builder.Alphabet.TheVariants as stored
 use Rattle.regex_lite_meta.specs.declared.lazy_dfa.list_spans.ListSpanSearcher.{ListSpanSearcher}
 use Rattle.regex_lite_meta.specs.declared.lazy_dfa.spans.SpanSearcher.{SpanSearcher}
 use Rattle.regex_lite_engine.specs.Graph.Places.{Place}
 use Rattle.regex_lite_engine.specs.Graph.Stored.{StoredGraph, table_of}
 use Rattle.regex_lite_engine.specs.Graph.StoredList.{StoredList, table_of_list}
 use Rattle.regex_lite_meta.specs.LazyDfa.Automaton.{Automaton, Remembers}
-use Rattle.regex_lite_meta.specs.LazyDfa.Intervals.{AreIntervalsFor}
 use Rattle.regex_lite_engine.specs.Search.Counting.{IsCountable}
 use Rattle.regex_lite_engine.specs.Pikevm.Searching.{GoesOnIn, IsBetween}
 
@@ -17,13 +14,6 @@ pub record RemembersFor (table : List (Place ℕ)) (entries : List ℕ) (automat
     : Type 0 where
   pub remembers : Remembers table entries automaton
   pub none_pending : automaton.pending ≡ []
-
--- no place of the table distinguishes characters of these classes, if they are known
-abbrev pub IsAlphabetOf : List (Place ℕ) → code.Alphabet → Type 0
-IsAlphabetOf table stored.Own = Unit {0}
-IsAlphabetOf table stored.Unfound = Unit {0}
-IsAlphabetOf table (stored.Shared classes) = AreIntervalsFor table classes
-IsAlphabetOf table stored.TooLarge = Unit {0}
 
 -- all turns are those of searches in this graph
 abbrev pub RemembersAll : StoredGraph → Automaton → Type 0

@@ -62,18 +62,6 @@ impl Boundaries {
         bounds
     }
 
-    /// The same.
-    pub(crate) fn copy(&self) -> Boundaries
-        ensures { result ≡ self.now }
-    {
-        Boundaries {
-            cells: self.cells,
-            len: self.len,
-            ascii: self.ascii,
-            looks: self.looks,
-        }
-    }
-
     /// All of them.
     pub(crate) fn all(&self) -> &[u32]
         ensures same { result.now ≡ self.now.boundaries }

@@ -47,16 +47,6 @@ impl Classes {
         Some(Classes { boundaries, ascii })
     }
 
-    /// The same.
-    pub(super) fn copy(&self) -> Classes
-        ensures { result ≡ self.now }
-    {
-        Classes {
-            boundaries: self.boundaries.copy(),
-            ascii: self.ascii,
-        }
-    }
-
     /// Whether some place looks at its neighbours.
     pub(crate) fn looks(&self) -> bool
         ensures { result ≡ self.now.looks }

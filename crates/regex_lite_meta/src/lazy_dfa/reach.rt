@@ -1,35 +1,73 @@
 //! How many characters a way reads at most: where no place is entered twice, a search that is stuck
 //! goes back by no more than these.
-ghost use Rattle.std.specs.Prelude.{◌≡◌, ◌+◌, ◌<◌, ℕ, All, IfSome, chars, true};
+ghost use Rattle.std.specs.Prelude.{◌≡◌, ◌+◌, ◌-◌, ◌≤◌, ◌<◌, ℕ, List, All, IfSome, true, false};
+ghost use Rattle.std.specs.Prelude.{Some, chars, length, map, slice_get};
 ghost use Rattle.regex_lite_meta.specs.LazyDfa.Automaton.{ReadsAtMost};
-ghost use Rattle.regex_lite_engine.specs.Graph.Stored.{LeadsBelow, place_of, places_of};
+ghost use Rattle.regex_lite_meta.specs.LazyDfa.Parts.{IsInPart, IsPartOf};
+ghost use Rattle.regex_lite_engine.specs.declared.nfa.place.Place as code;
+ghost use Rattle.regex_lite_engine.specs.Graph.Parts.{row_of};
+ghost use Rattle.regex_lite_engine.specs.Graph.Places.{reading_count, reading_of};
+ghost use Rattle.regex_lite_engine.specs.Graph.Stored.{LeadsBelow, place_of};
 ghost use Rattle.regex_lite_engine.specs.Search.Standing.{IsHere};
 
+use crate::lazy_dfa::part::Part;
 use regex_lite_engine::nfa::place::Place;
-use regex_lite_engine::nfa::table::Table;
 use regex_lite_engine::search::here::{Here, byte_len};
 
-/// How many characters a way through the table of this number of patterns reads at most, if a
-/// search may go back by no more. The automaton of several patterns may be given up, which that of
-/// a search that began anew is not.
-pub(super) fn reach_for(table: &Table, patterns: usize) -> Option<usize>
-    ensures { IfSome result (ReadsAtMost (places_of table.now)) }
+/// How many of these places read a character, or more: a class may be empty.
+pub(super) fn reading_in(places: &[Place]) -> usize
+    ensures { reading_of (map place_of places.now) ≤ result }
 {
-    if patterns == 1 { reach_of(table) } else { None }
-}
-
-/// How many characters a way through the table reads at most: one at each place that reads, if all
-/// arrows lead to lower numbers, as they do without loops. None if some arrow doesn't.
-fn reach_of(table: &Table) -> Option<usize>
-    ensures { IfSome result (ReadsAtMost (places_of table.now)) }
-{
-    let places = table.all();
-    'numbers: for q in 0..places.len() {
-        if !leads_below(&places[q], q) {
-            return None;
+    let mut reading = 0;
+    'places: for q in 0..places.len() {
+        if reads(&places[q]) {
+            reading += 1;
         }
     }
-    Some(table.reading())
+    reading
+}
+
+/// Whether the place reads a character.
+fn reads(place: &Place) -> bool
+    ensures { result ≡ false → reading_count (place_of place.now) ≡ 0 }
+{
+    matches!(place, Place::Char { .. } | Place::Class { .. })
+}
+
+/// How many characters a way of this number of patterns reads at most, whose part of these places
+/// has `reading` that read one, if a search may go back by no more. The automaton of several
+/// patterns may be given up, which that of a search that began anew is not.
+pub(super) fn reach_for(
+    patterns: usize,
+    places: &[Place],
+    part: Part,
+    reading: usize,
+) -> Option<usize>
+    requires inside { part.end ≤ length places.now }
+    requires reading { reading_of (row_of (map place_of places.now) part.low (part.end - part.low))
+        ≤ reading }
+    ensures { (entries : List ℕ) → IsPartOf (map place_of places.now) entries part
+        → IfSome result (ReadsAtMost (map place_of places.now) entries) }
+{
+    if patterns == 1 && lead_down(places, part) {
+        Some(reading)
+    } else {
+        None
+    }
+}
+
+/// Whether all arrows of the part's places lead to lower numbers, as they do without loops.
+fn lead_down(places: &[Place], part: Part) -> bool
+    requires inside { part.end ≤ length places.now }
+    ensures { result ≡ true → (q : ℕ) (place : code.Place) → IsInPart part q
+        → slice_get places.now q ≡ Some place → LeadsBelow q (place_of place) }
+{
+    'numbers: for q in part.low..part.end {
+        if !leads_below(&places[q], q) {
+            return false;
+        }
+    }
+    true
 }
 
 /// Whether all arrows of the place lead to numbers below this one.

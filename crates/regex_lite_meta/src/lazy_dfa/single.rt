@@ -1,7 +1,6 @@
 //! Searches by themselves that remember their turns, for one pattern or for several.
 ghost use Rattle.std.specs.Prelude.{◌≡◌, ◌<◌, ◌+◌, ℕ, IfErr, IfOk, IfSome};
 ghost use Rattle.std.specs.Prelude.{IsCharBoundary, None, chars, length, true};
-ghost use Rattle.regex_lite_meta.specs.LazyDfa.Remembering.{IsAlphabetOf};
 ghost use Rattle.regex_lite_meta.specs.LazyDfa.Scanning.{best_told};
 ghost use Rattle.regex_lite_engine.specs.Graph.Parts.{IsOwnPart, row_of};
 ghost use Rattle.regex_lite_engine.specs.Graph.Renumbered.{arrows_of};
@@ -15,7 +14,7 @@ ghost use Rattle.regex_lite_engine.specs.Pikevm.Passing.{IsUnderWay};
 ghost use Rattle.regex_lite_engine.specs.Pikevm.Searching.{IsBetween, IsFresh};
 ghost use Rattle.regex_lite_engine.specs.Pikevm.Turns.{best_of};
 
-use crate::lazy_dfa::builder::Builder;
+use crate::lazy_dfa::automaton::LazyDfa;
 use crate::lazy_dfa::run::Progress;
 use crate::strategy::TURNS_WITHOUT;
 use regex_lite_engine::pikevm::beginning::Origin;
@@ -23,6 +22,7 @@ use regex_lite_engine::pikevm::cache::Cache;
 use regex_lite_engine::pikevm::run::advance;
 use regex_lite_engine::search::here::Here;
 use regex_lite_engine::search::patterns::Patterns;
+use std::alloc::Global;
 
 pub(crate) mod graph;
 pub(crate) mod list;
@@ -34,13 +34,12 @@ pub(crate) mod list;
 pub(crate) fn find_once<P: Patterns, A: Patterns, const EARLIEST: bool>(
     patterns: &mut P,
     all: &A,
-    builder: &mut Builder,
+    alloc: Global,
     cache: &mut Cache<Origin>,
     haystack: &str,
     start: usize,
 ) -> Option<(Origin, usize)>
     requires all { AreAllStarts (A.table all.now) (A.entries all.now) (A.starts all.now) }
-    requires alphabet { IsAlphabetOf (A.table all.now) builder.old.alphabet }
     requires table { A.table all.now ≡ P.table patterns.old }
     requires entries { A.entries all.now ≡ P.entries patterns.old }
     requires boundary { IsCharBoundary haystack.now start }
@@ -62,15 +61,13 @@ pub(crate) fn find_once<P: Patterns, A: Patterns, const EARLIEST: bool>(
     ensures entered { IfSome result (λ _. 0 < cache.new.walk.steps.entered) }
     ensures between { IsBetween (P.table patterns.old) cache.new }
     ensures width { length cache.new.walk.memory.row ≡ 0 }
-    ensures alphabet { IsAlphabetOf (A.table all.now) builder.new.alphabet }
 {
     let here = Here::at(haystack, start);
     let soon = advance::<_, _, EARLIEST>(cache, patterns, haystack, here, Some(TURNS_WITHOUT));
     let Some(here) = soon else {
         return cache.best.found();
     };
-    let went = here.at.saturating_sub(start);
-    match find_learning::<_, EARLIEST>(all, builder, cache, haystack, here, went) {
+    match find_learning::<_, EARLIEST>(all, alloc, cache, haystack, here) {
         Ok(found) => found,
         Err(here) => {
             advance::<_, _, EARLIEST>(cache, patterns, haystack, here, None);
@@ -79,18 +76,16 @@ pub(crate) fn find_once<P: Patterns, A: Patterns, const EARLIEST: bool>(
     }
 }
 
-/// Goes on with a new automaton, after turns that went over this many bytes. Returns where the
-/// search stands if there is none, or if it is given up.
+/// Goes on with a new automaton. Returns where the search stands if there is none, or if it is
+/// given up.
 fn find_learning<A: Patterns, const EARLIEST: bool>(
     all: &A,
-    builder: &mut Builder,
+    alloc: Global,
     cache: &mut Cache<Origin>,
     haystack: &str,
     from: Here,
-    went: usize,
 ) -> Result<Option<(Origin, usize)>, Here>
     requires all { AreAllStarts (A.table all.now) (A.entries all.now) (A.starts all.now) }
-    requires alphabet { IsAlphabetOf (A.table all.now) builder.old.alphabet }
     requires on { (s p : ℕ) × IsHere (chars haystack.now) p from
         × CanCount (A.table all.now) (length (A.entries all.now))
         (characters_left (chars haystack.now) s)
@@ -122,9 +117,8 @@ fn find_learning<A: Patterns, const EARLIEST: bool>(
     ensures none { IfErr result (λ _. EARLIEST ≡ true → best_of cache.new.best ≡ None) }
     ensures between { IsBetween (A.table all.now) cache.new }
     ensures width { length cache.new.walk.memory.row ≡ 0 }
-    ensures alphabet { IsAlphabetOf (A.table all.now) builder.new.alphabet }
 {
-    let Some(mut dfa) = builder.build(all.table(), all.len(), went) else {
+    let Some(mut dfa) = LazyDfa::for_patterns(alloc, all) else {
         return Err(from);
     };
     let Some(at) = Progress::on_the_way(cache, from) else {

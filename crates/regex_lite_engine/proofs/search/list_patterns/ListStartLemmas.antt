@@ -146,21 +146,27 @@ pub all_inside : (n : ℕ) → All (λ number. number < n) (range_with_len 0 n)
 all_inside n = subst (All (λ number. number < n)) (filter_all (range_with_len 0 n))
     (all_below (λ _. true) 0 n n (omega arith))
 
+-- wherever a match starts, it does by one of all starts
+pub starts_at : {table : List (Place ℕ)} {entries : List ℕ} {starts : List Start}
+    → AreAllStarts table entries starts → (haystack : Text) (p : ℕ)
+    → AreStartsAt table haystack entries p starts
+starts_at all haystack p =
+    record { in_order = all.in_order; each = λ number entry is. inl (all.each number entry is) }
+
 -- all patterns may start anywhere
 all_start : (table : List (Place ℕ)) (entries : List ℕ)
     → All (λ entry. entry < length table) entries → length entries < 2 ^ 32
     → AreAllStarts table entries
     (map (start_numbered entries) (range_with_len 0 (length entries)))
 all_start table entries inside few = record {
-  at_each = λ haystack p.
-      subst (λ z. AreStartsAt table haystack entries p (map (start_numbered entries) z)) same
-      (record {
-        in_order = in_order entries (λ _. true) 0 n (omega arith);
-        each = λ number entry is.
-            let within = slice_get_within entries number entry is in
-            inl (among entries (λ _. true) 0 n number entry (omega arith) (omega (arith, within))
-            refl (get_or_from_slice_get entries number entry 0 is));
-      });
+  in_order =
+      subst (λ z. AreFrom entries 0 (map (start_numbered entries) z)) same
+      (in_order entries (λ _. true) 0 n (omega arith));
+  each = λ number entry is.
+      let within = slice_get_within entries number entry is in
+      subst (λ z. IsAmong number entry (map (start_numbered entries) z)) same
+      (among entries (λ _. true) 0 n number entry (omega arith) (omega (arith, within)) refl
+      (get_or_from_slice_get entries number entry 0 is));
   inside = places_inside entries numbers (length table) inside
       (subst (All (λ number. number < n)) same (all_below (λ _. true) 0 n n (omega arith)));
   few = omega (arith, all);

@@ -15,7 +15,7 @@ returns-in-Look c =
     let read : slice_get places i ≡ Some place
     = slice_get_read places (length places) i place refl c.loop-place-test.true c.place-item.is in
     let same : map place_of places ≡ places_of c.args.table.now
-    = ap (map place_of) c.all-places.ensures in (
+    = ap (map place_of) c.all-places.ensures.same in (
       λ e. cc,
       λ none.
           absurd (subst RequiresNoLook (ap place_of c.in-Look.is)
@@ -43,7 +43,7 @@ pub returns : goal.returns
 returns c =
     let places = c.all-places.result.now in
     let same : map place_of places ≡ places_of c.args.table.now
-    = ap (map place_of) c.all-places.ensures in (
+    = ap (map place_of) c.all-places.ensures.same in (
       λ e.
           subst HasNoLooks same
           (each_no_look places (λ q place at.

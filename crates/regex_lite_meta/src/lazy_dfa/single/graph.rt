@@ -11,7 +11,6 @@ ghost use Rattle.regex_lite_engine.specs.Search.Outcomes.{HasCost, IsEndOutcome,
 ghost use Rattle.regex_lite_engine.specs.Search.NumberedOutcomes.{IsFoundOf, best_at, match_told};
 ghost use Rattle.regex_lite_engine.specs.Search.NumberedOutcomes.{span_of};
 
-use crate::lazy_dfa::builder::Builder;
 use crate::lazy_dfa::single::find_once;
 use regex_lite_engine::pikevm::beginning::Origin;
 use regex_lite_engine::pikevm::cache::{Cache, cache_for};
@@ -78,15 +77,7 @@ fn find_match<const EARLIEST: bool>(
     let mut all = graph.pattern();
     all.may_start = true;
     let mut cache = cache_for::<Origin>(alloc, pattern.table, 0)?;
-    let mut builder = Builder::new(alloc);
-    let found = find_once::<_, _, EARLIEST>(
-        &mut pattern,
-        &all,
-        &mut builder,
-        &mut cache,
-        haystack,
-        start,
-    );
+    let found = find_once::<_, _, EARLIEST>(&mut pattern, &all, alloc, &mut cache, haystack, start);
     let Cache { walk, .. } = cache;
     Ok((found, walk.steps))
 }

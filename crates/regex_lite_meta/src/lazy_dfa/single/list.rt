@@ -11,7 +11,6 @@ ghost use Rattle.regex_lite_engine.specs.Search.NumberedOutcomes.{with_origin_ke
 ghost use Rattle.regex_lite_engine.specs.Search.Offsets.{position_at, search_start};
 ghost use Rattle.regex_lite_engine.specs.Search.Outcomes.{HasCostOfList, IsOutcomeOfList};
 
-use crate::lazy_dfa::builder::Builder;
 use crate::lazy_dfa::single::find_once;
 use regex_lite_engine::Steps;
 use regex_lite_engine::nfa::list::GraphList;
@@ -86,11 +85,10 @@ fn find_match<const EARLIEST: bool>(
     // Each place is one of the graph.
     let _entries = list.entries();
     let all = AllOfList { list };
-    let mut builder = Builder::new(alloc);
     let found = find_once::<_, _, EARLIEST>(
         &mut patterns,
         &all,
-        &mut builder,
+        alloc,
         &mut cache,
         haystack,
         start,

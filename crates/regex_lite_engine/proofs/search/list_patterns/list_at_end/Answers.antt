@@ -7,7 +7,7 @@ use Rattle.std.proofs.lemmas.List.FromFn.{length-range_with_len}
 use Rattle.regex_lite_syntax.proofs.LookupLemmas.{there_is}
 use Rattle.regex_lite_syntax.proofs.OptionLemmas.{not_there}
 use Rattle.regex_lite_engine.proofs.search.list_patterns.ListStartLemmas.{all_inside}
-use Rattle.regex_lite_engine.proofs.search.list_patterns.ListStartLemmas.{all_of_entries}
+use Rattle.regex_lite_engine.proofs.search.list_patterns.ListStartLemmas.{all_of_entries, starts_at}
 use Rattle.regex_lite_engine.proofs.search.list_patterns.list_at_end.Goals as goal
 
 -- after the last character there is the end
@@ -58,7 +58,7 @@ returns-clause-starts c haystack p is =
     let all = all_of_entries list c.entries-entries.result.now told.same told.inside told.few in
     let listed = c.list_all.ensures.listed ∙ ap (range_with_len 0) c.heads.ensures.count in
     subst (λ numbers. AreStartsAt (table_of_list list) haystack list.entries p
-    (map (start_numbered list.entries) numbers)) (sym listed) (all.at_each haystack p)
+    (map (start_numbered list.entries) numbers)) (sym listed) (starts_at all haystack p)
 
 pub returns-clause-inside : goal.returns-clause-inside
 returns-clause-inside c =

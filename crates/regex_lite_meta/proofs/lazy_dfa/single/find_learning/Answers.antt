@@ -4,17 +4,14 @@ use Rattle.regex_lite_meta.proofs.lazy_dfa.single.find_learning.Goals as goal
 
 pub state_at-state-requires-clause-remembers : goal.state_at-state-requires-clause-remembers
 state_at-state-requires-clause-remembers g c =
-    (rw c.table.ensures at (c.in-Some.ensures.built (g.A.Patterns.entries c.args.all.now))).remembers
+    c.in-Some.ensures.remembers
 
 pub state_at-state-requires-clause-none_pending : goal.state_at-state-requires-clause-none_pending
 state_at-state-requires-clause-none_pending g c =
-    (c.in-Some.ensures.built (g.A.Patterns.entries c.args.all.now)).none_pending
+    c.in-Some.ensures.none_pending
 
 pub state_at-state-requires-clause-between : goal.state_at-state-requires-clause-between
 state_at-state-requires-clause-between g c = c.requires.on.4.ready
-
-pub build-requires : goal.build-requires
-build-requires g c = rw c.table.ensures c.requires.alphabet
 
 pub state_at-state-requires-clause-own : goal.state_at-state-requires-clause-own
 state_at-state-requires-clause-own g c =

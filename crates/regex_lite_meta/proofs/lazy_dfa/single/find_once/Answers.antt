@@ -37,7 +37,6 @@ returns-in_default g c =
           c.found.ensures c.advance-soon.ensures.between.match_entered (omega arith);
       between = c.advance-soon.ensures.between;
       width = sym c.advance-soon.ensures.between.best_width ∙ width;
-      alphabet = c.requires.alphabet;
     }
 
 pub find_learning-requires : goal.find_learning-requires
@@ -47,7 +46,6 @@ find_learning-requires g c =
     let stops = c.in-Some.ensures.stops s s c.at-here.ensures.here begun in
     record {
       all = c.requires.all;
-      alphabet = c.requires.alphabet;
       on = (
         s,
         stops.q,

@@ -1,4 +1,4 @@
-use Rattle.regex_lite_meta.proofs.Common.{ap, sym, ◌∙◌, subst, places_of, table_of_list}
+use Rattle.regex_lite_meta.proofs.Common.{ap, sym, ◌∙◌, subst, places_of}
 use Rattle.regex_lite_meta.specs.ListMatches.{LearnsFor}
 use Rattle.regex_lite_meta.proofs.list_matches.Learning.new.Goals as goal
 
@@ -9,5 +9,4 @@ returns c =
       between = fresh.between;
       countable = rw (ap places_of c.table.ensures.same) at c.in_ok-cache.ensures.countable;
       width = sym fresh.between.best_width ∙ c.in_ok-cache.ensures.width;
-      alphabet = c.sharing-builder.ensures (table_of_list c.args.list.now);
     })

@@ -1,13 +1,14 @@
 use Rattle.regex_lite_engine.proofs.Common.{◌≡◌, ℕ, suc, ◌+◌, ◌<◌, ◌≤◌, true, List, [], ◌∷◌, ◌++◌}
 use Rattle.regex_lite_engine.proofs.Common.{length, drop, replicate, Some, None, sym, refl, ap, ◌∙◌}
 use Rattle.regex_lite_engine.proofs.Common.{subst, arith, drop-cons, state_retold, best_again}
-use Rattle.regex_lite_engine.proofs.Common.{Thread, thread_at, KeepsPosition, best_of, StepsTo}
+use Rattle.regex_lite_engine.proofs.Common.{Thread, thread_at, KeepsPosition, best_of, StepsAt}
 use Rattle.regex_lite_engine.proofs.Common.{begun, with_starts, Told, untold, StaysCounted, Best}
 use Rattle.regex_lite_engine.proofs.Common.{Row, Start, all_retold, inl, inr}
 use Rattle.regex_lite_engine.specs.Pikevm.Machine.{BestState, State}
 use Rattle.std.proofs.Math.ListN.{drop_of_length-le}
 use Rattle.regex_lite_engine.specs.Pikevm.Room.{explores}
 use Rattle.regex_lite_engine.specs.Pikevm.Searching.{ways_at}
+use Rattle.regex_lite_engine.specs.Pikevm.Turns.{StepsTo}
 use Rattle.regex_lite_engine.proofs.search.CountLemmas.{counted_at_first, still_counted}
 use Rattle.regex_lite_engine.proofs.pikevm.StateLemmas.{takes_up}
 use Rattle.regex_lite_engine.proofs.pikevm.StepLemmas.{follows_on, room_pushed, HasFollowed}
@@ -84,7 +85,7 @@ ways-init g c = record {
   room = c.requires.room;
   followed = record {
     steps = λ at is u. u;
-    again = λ tell there b alike at is u. u;
+    again = λ tell there b at alike is u. u;
     kept = record { threads = refl; room = refl; row = refl };
     spent = omega arith;
     spent_entries = omega arith;
@@ -172,7 +173,7 @@ returns-then-explore-clause-followed g c =
     }
 
 pub returns-then-explore-clause-again : goal.returns-then-explore-clause-again
-returns-then-explore-clause-again g c = λ tell there b alike.
+returns-then-explore-clause-again g c = λ tell there b at alike.
     let a = c.args in let y = c.explore.new.self in
     let told = g.S.Beginning.told_of a.here.at in
     let ws = ways_at (g.P.Patterns.starts a.patterns.now) told a.self.now in
@@ -180,9 +181,9 @@ returns-then-explore-clause-again g c = λ tell there b alike.
     c.if-explore.true in
     let found = has_row (best_of c.set.new.self) (g.S.Beginning.told c.take_up-place.result.1)
     a.here.at c.row.result.now y.memory.row c.set.ensures.found c.row.ensures in
-    subst (λ z. StepsTo (g.P.Patterns.table a.patterns.now) there
+    subst (λ z. StepsAt (g.P.Patterns.table a.patterns.now) at there
     (state_retold tell a.self.now.walk.memory) (all_retold tell ws) b (state_retold tell y.memory)
-    [] (best_again tell there.at true z b)) (sym found) (w.again tell there b alike)
+    [] (best_again tell there.at true z b)) (sym found) (w.again tell there b at alike)
 
 pub returns-clause-followed : goal.returns-clause-followed
 returns-clause-followed g c =
@@ -208,15 +209,15 @@ returns-clause-followed g c =
     }
 
 pub returns-clause-again : goal.returns-clause-again
-returns-clause-again g c = λ tell there b alike.
+returns-clause-again g c = λ tell there b at alike.
     let a = c.args in let i = a.self.now.walk.memory in
     let told = g.S.Beginning.told_of a.here.at in
     let ws = ways_at (g.P.Patterns.starts a.patterns.now) told a.self.now in
     let e = c.ways-k-end.ensures told in
-    subst (λ (ts : List Thread). StepsTo (g.P.Patterns.table a.patterns.now) there
+    subst (λ (ts : List Thread). StepsAt (g.P.Patterns.table a.patterns.now) at there
     (state_retold tell i) (all_retold tell ws) b (state_retold tell c.ways.self.walk.memory)
     (all_retold tell ts) b) (drop_of_length-le ws (omega (arith, c.ways-test.false, e)))
-    (c.ways.invariant.followed.again tell there b alike)
+    (c.ways.invariant.followed.again tell there b at alike)
 
 pub returns-then-explore-clause-hit : goal.returns-then-explore-clause-hit
 returns-then-explore-clause-hit g c = λ none.

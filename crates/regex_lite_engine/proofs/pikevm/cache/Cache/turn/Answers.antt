@@ -101,7 +101,9 @@ returns-clause-comes g c = λ haystack entries p first last is low high are comi
       tells = g.met.S.Beginning.tells a.here.at;
       ways = with_starts starts told best (length n.row) n.threads;
       begins = begins_with m n starts told best round;
-      steps = c.follow-hit.ensures.followed.steps;
+      steps = λ from.
+          c.follow-hit.ensures.followed.steps
+          (record (search_at haystack entries first last p) { from = from });
       kept = c.follow-hit.ensures.kept;
     }) coming)
 
@@ -130,7 +132,9 @@ returns-clause-own g c = λ haystack entries p first last begin len is low high 
       tells = g.met.S.Beginning.tells a.here.at;
       ways = ways;
       begins = begins;
-      steps = followed.followed.steps;
+      steps = λ from.
+          followed.followed.steps
+          (record (search_at haystack entries first last p) { from = from });
       kept = followed.kept;
     }) coming begin len part in
     let outside =
@@ -161,7 +165,7 @@ returns-clause-own g c = λ haystack entries p first last begin len is low high 
 
 pub returns-clause-again : goal.returns-clause-again
 returns-clause-again g c =
-    λ tell there best alike tells to back haystack entries p first last is low high are coming.
+    λ tell there best tells to back haystack entries p first last alike is low high are coming.
     let a = c.args in let m = a.self.now.walk.memory in let r = c.requires in
     let n = c.begin_position.new.self in let round = begins_position m n c.begin_position.ensures in
     let table = g.P.Patterns.table a.patterns.now in
@@ -191,6 +195,8 @@ returns-clause-again g c =
       ways = all_retold tell ws;
       begins =
           subst (Begun starts retells best ts) (sym same) (start_begun starts retells 0 best ts);
-      steps = c.follow-hit.ensures.again tell there best alike;
+      steps = λ from.
+          c.follow-hit.ensures.again tell there best
+          (record (search_at haystack entries first last p) { from = from }) alike;
       kept = best_kept tell there.at c.follow-hit.result (best_of f.best) best;
     }) coming)

@@ -125,7 +125,7 @@ places-init g c = record {
   room = c.requires;
   on = record {
     walks = λ at is ways best walking. walking;
-    again = λ tell there alike at is ways best walking. walking;
+    again = λ tell there at alike is ways best walking. walking;
     spent = omega arith;
     spent_entries = omega arith;
   };

@@ -18,7 +18,7 @@ returns-clause-stands g c = λ s low q stands before scanning.
     let entries = g.P.Patterns.entries c.args.patterns.now in
     let stuck = c.args.stuck in
     let none : stuck.best ≡ None = search rules in
-    let reads = subst (λ o. IfSome o (ReadsAtMost table)) (sym c.in-Some.ensures)
+    let reads = subst (λ o. IfSome o (ReadsAtMost table entries)) (sym c.in-Some.ensures)
     c.requires.remembers.reach in
     let coming = subst
     (λ best. IsComing table h entries low (length h) q

@@ -1,11 +1,7 @@
-use Rattle.regex_lite_meta.proofs.Common.{IfSome, subst, places_of}
-use Rattle.regex_lite_engine.specs.Graph.Stored.{StoredTable}
-use Rattle.regex_lite_meta.specs.LazyDfa.Remembering.{RemembersFor}
+use Rattle.regex_lite_engine.proofs.search.list_patterns.ListStartLemmas.{all_of_entries}
 use Rattle.regex_lite_meta.proofs.lazy_dfa.automaton.LazyDfa.for_list.Goals as goal
 
-pub returns : goal.returns
-returns c =
-    let entries = c.args.list.now.entries in
-    subst (λ (table : StoredTable).
-    IfSome c.for_table.result (RemembersFor (places_of table) entries)) c.table.ensures.same
-    (c.for_table.ensures entries)
+pub for_patterns-requires : goal.for_patterns-requires
+for_patterns-requires c =
+    let told = c.entries-entries.ensures in
+    all_of_entries c.args.list.now c.entries-entries.result.now told.same told.inside told.few

@@ -21,6 +21,3 @@ returns-clause-cost g c = λ tree is.
     cost_told tree c.args.graph.now is c.args.haystack.now c.args.start c.requires.boundary.0
     steps.tried steps.entered steps.looked
     (rw c.pattern-pattern.ensures.table at c.find_once-found.ensures.bounded)
-
-pub find_once-found-requires-clause-alphabet : goal.find_once-found-requires-clause-alphabet
-find_once-found-requires-clause-alphabet g c = c.new-builder.ensures _

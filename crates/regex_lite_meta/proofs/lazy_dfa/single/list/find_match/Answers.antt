@@ -40,6 +40,3 @@ returns-clause-cost g c = λ trees is.
     cost_of_list trees c.args.list.now is c.args.haystack.now c.args.start c.requires.boundary.0
     c.find_once-found.new.cache.walk.steps
     (rw c.in_ok-patterns.ensures.list at c.find_once-found.ensures.bounded)
-
-pub find_once-found-requires-clause-alphabet : goal.find_once-found-requires-clause-alphabet
-find_once-found-requires-clause-alphabet g c = c.new-builder.ensures _

@@ -1,0 +1,128 @@
+//! The places among which searches for some patterns stay, whatever else is in their table.
+ghost use Rattle.std.specs.Prelude.{◌≡◌, ◌+◌, ◌≤◌, ◌<◌, ℕ, All, IfSome, length, slice_get, Some};
+ghost use Rattle.regex_lite_meta.specs.LazyDfa.Parts.{IsInPart, IsPartOf, LeadWithin, Widens};
+ghost use Rattle.regex_lite_engine.specs.Graph.Stored.{LeadInside, LeadsBelow, LeadsInto, place_of};
+ghost use Rattle.regex_lite_engine.specs.Search.Starts.{AreAllStarts};
+
+use regex_lite_engine::nfa::place::Place;
+use regex_lite_engine::search::patterns::Patterns;
+
+/// Places in a row: from `low` on, up to the one before `end`.
+#[derive(Clone, Copy)]
+pub(super) struct Part {
+    pub low: usize,
+    pub end: usize,
+}
+
+impl Part {
+    /// The least one in which all of these patterns are entered and that no arrow leaves. None
+    /// without a pattern.
+    pub(super) fn of<P: Patterns>(all: &P) -> Option<Part>
+        requires { AreAllStarts (P.table all.now) (P.entries all.now) (P.starts all.now) }
+        ensures { IfSome result (IsPartOf (P.table all.now) (P.entries all.now)) }
+    {
+        let patterns = all.len();
+        if patterns == 0 {
+            return None;
+        }
+        let mut part = Part::at(all.start(0).place);
+        'starts: for k in 0..patterns {
+            part.take_in(all.start(k).place);
+        }
+        part.close(all.table().all());
+        Some(part)
+    }
+
+    /// The place with this number alone.
+    fn at(place: u32) -> Part
+        ensures { result ≡ record { low = place; end = place + 1 } }
+    {
+        let low = place as usize;
+        Part { low, end: low + 1 }
+    }
+
+    /// Takes in the place with this number, and those between.
+    // Inlined, and so are those of a place, since each place passes here.
+    #[inline(always)]
+    fn take_in(&mut self, place: u32)
+        requires order { self.old.low ≤ self.old.end }
+        ensures taken { IsInPart self.new place }
+        ensures widens { Widens self.old self.new }
+        ensures inside { (n : ℕ) → self.old.end ≤ n → place < n → self.new.end ≤ n }
+    {
+        let place = place as usize;
+        if place < self.low {
+            self.low = place;
+        }
+        if place >= self.end {
+            self.end = place + 1;
+        }
+    }
+
+    /// Takes in the places that the arrows of this one lead to.
+    #[inline(always)]
+    fn take_in_targets(&mut self, place: &Place)
+        requires order { self.old.low ≤ self.old.end }
+        ensures taken { LeadsInto (IsInPart self.new) (place_of place.now) }
+        ensures widens { Widens self.old self.new }
+        ensures inside { (n : ℕ) → self.old.end ≤ n → LeadsBelow n (place_of place.now)
+            → self.new.end ≤ n }
+    {
+        match place {
+            Place::Empty { to } => self.take_in(*to),
+            Place::Char { to, .. } => self.take_in(*to),
+            Place::Class { to, set } => {
+                // Without a character there is no arrow.
+                if !set.ranges().is_empty() {
+                    self.take_in(*to);
+                }
+            }
+            Place::Look { to, .. } => self.take_in(*to),
+            Place::Slot { to, .. } => self.take_in(*to),
+            Place::Choice { first, second } => {
+                self.take_in(*first);
+                self.take_in(*second);
+            }
+            Place::Branches(entries) => self.take_in_all(entries),
+            Place::Match => (),
+        }
+    }
+
+    /// Takes in the places with these numbers.
+    fn take_in_all(&mut self, places: &[u32])
+        requires order { self.old.low ≤ self.old.end }
+        ensures taken { All (IsInPart self.new) places.now }
+        ensures widens { Widens self.old self.new }
+        ensures inside { (n : ℕ) → self.old.end ≤ n → All (λ place. place < n) places.now
+            → self.new.end ≤ n }
+    {
+        'places: for k in 0..places.len() {
+            self.take_in(places[k]);
+        }
+    }
+
+    /// Takes in the places that its own arrows lead to, and those that theirs do.
+    fn close(&mut self, places: &[Place])
+        requires order { self.old.low ≤ self.old.end }
+        requires inside { self.old.end ≤ length places.now }
+        requires closed { LeadInside places.now }
+        ensures closed { LeadWithin places.now self.new }
+        ensures widens { Widens self.old self.new }
+        ensures inside { self.new.end ≤ length places.now }
+    {
+        // The arrows of those from `low` on, up to the one before `end`, lead into it.
+        let mut low = self.end;
+        let mut end = self.end;
+        'places: loop {
+            if self.low < low {
+                low -= 1;
+                self.take_in_targets(&places[low]);
+            } else if end < self.end {
+                self.take_in_targets(&places[end]);
+                end += 1;
+            } else {
+                return;
+            }
+        }
+    }
+}
