@@ -19,4 +19,4 @@ pub mod Standing
 pub mod Slots
 pub mod Starts
 pub mod Prefixes
-pub mod OwnFilters
+pub mod Filters

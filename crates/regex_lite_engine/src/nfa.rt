@@ -8,7 +8,8 @@ ghost use Rattle.regex_lite_engine.specs.Graph.Renumbered.{arrows_of, IsGraphOf,
 ghost use Rattle.regex_lite_engine.specs.Graph.Size.{Fits, IsDueToTree};
 ghost use Rattle.regex_lite_engine.specs.Graph.Places.{kept_back_of, kept_back_with, reading_of};
 ghost use Rattle.regex_lite_engine.specs.Graph.Stored.{places_of, table_of};
-ghost use Rattle.regex_lite_engine.specs.Search.Starts.{AreHeadsOf, NoneBeginsAtEnd};
+ghost use Rattle.regex_lite_engine.specs.Search.Filters.{heads_of};
+ghost use Rattle.regex_lite_engine.specs.Search.Starts.{AreHeadsOf};
 
 pub(crate) mod class;
 pub(crate) mod groups;
@@ -20,6 +21,7 @@ mod write;
 
 use crate::count::Counts;
 use crate::search::one_pattern::OnePattern;
+use crate::search::pattern_filter::PatternFilter;
 use groups::Groups;
 use regex_lite_syntax::prefilter::Filter;
 use regex_lite_syntax::{Error, Hir};
@@ -119,22 +121,22 @@ impl Graph {
     }
 
     /// Where a match can begin.
-    pub fn filter(&self) -> &Filter
-        ensures all { AreHeadsOf (table_of self.now) self.now.start result.now }
+    pub fn filter(&self) -> PatternFilter<'_>
+        ensures all { AreHeadsOf (table_of self.now) self.now.start (heads_of result) }
         ensures inside { self.now.start < length self.now.places }
     {
-        &self.filter
+        PatternFilter::Whole(&self.filter)
     }
 
     /// Its pattern, which may start nowhere yet.
-    pub fn pattern(&self) -> OnePattern<'_, Filter>
+    pub fn pattern(&self) -> OnePattern<'_>
         ensures table { places_of result.table.now ≡ table_of self.now }
         ensures entry { result.entry ≡ self.now.start }
     {
         OnePattern {
             table: &self.table,
             entry: self.start,
-            filter: &self.filter,
+            filter: self.filter(),
             reads: self.reads,
             may_start: false,
         }

@@ -164,7 +164,8 @@ impl Kept {
             (slice_index list.now.entries number) (position_at haystack.now start)) }
         ensures kept { AreKeptFor list.now self.new }
     {
-        let searched = Searched::one_of_list(&list.pattern(number));
+        let pattern = list.pattern(number);
+        let searched = Searched::one(pattern.table, pattern.filter);
         let bytes = haystack.len() - start;
         if let Strategy::LazyDfa = choose(&searched, Wanted::Earliest, 0, bytes) {
             return self.search_learning(list, number, haystack, start);

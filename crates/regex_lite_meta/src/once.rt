@@ -52,7 +52,8 @@ pub fn search(
         return Ok((None, no_steps()));
     }
     let left = haystack.len() - start;
-    match choose(&Searched::one(graph), Wanted::Match { start }, slots, left) {
+    let searched = Searched::one(graph.table(), graph.filter());
+    match choose(&searched, Wanted::Match { start }, slots, left) {
         Strategy::LazyDfa => search_remembering(graph, alloc, haystack, start),
         Strategy::DepthFirst => graph.search_depth_first(alloc, haystack, start, slots),
         _ => graph.search_in_step(alloc, haystack, start, slots),
@@ -84,7 +85,8 @@ pub fn search_shortest(
         return Ok((None, no_steps()));
     }
     let left = haystack.len() - start;
-    if let Strategy::LazyDfa = choose(&Searched::one(graph), Wanted::Earliest, 0, left) {
+    let searched = Searched::one(graph.table(), graph.filter());
+    if let Strategy::LazyDfa = choose(&searched, Wanted::Earliest, 0, left) {
         return search_shortest_remembering(graph, alloc, haystack, start);
     }
     let mut pattern = graph.pattern();

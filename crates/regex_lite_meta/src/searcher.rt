@@ -71,7 +71,8 @@ impl<'g> Searcher<'g> {
         ensures graph { IfOk result (λ searcher. searcher.graph ≡ graph.now) }
         ensures slots { IfOk result (λ searcher. length searcher.slots ≡ slots) }
     {
-        let strategy = choose(&Searched::one(graph), Wanted::EachMatch, slots, bytes);
+        let searched = Searched::one(graph.table(), graph.filter());
+        let strategy = choose(&searched, Wanted::EachMatch, slots, bytes);
         let cache = cache_for(alloc, graph.table(), slots)?;
         let memory = SlotCache::new(alloc, cache, graph.table(), strategy.pairs());
         let dfa = match strategy {

@@ -19,7 +19,6 @@ use regex_lite_engine::pikevm::best::{Best, span_of};
 use regex_lite_engine::pikevm::cache::{Cache, cache_for, restart};
 use regex_lite_engine::pikevm::run::run;
 use regex_lite_engine::search::one_pattern::OnePattern;
-use regex_lite_engine::search::pattern_filter::PatternFilter;
 use std::alloc::{AllocError, Global};
 
 /// The memory in which slots are searched for. Those of the last match are in the cache's row.
@@ -53,9 +52,9 @@ impl SlotCache {
     }
 
     /// Sets the row to the slots of the match with this span, which it returns.
-    pub(crate) fn find_known<F: PatternFilter>(
+    pub(crate) fn find_known(
         &mut self,
-        pattern: &mut OnePattern<'_, F>,
+        pattern: &mut OnePattern<'_>,
         haystack: &str,
         span: (usize, usize),
     ) -> Option<(usize, usize)>
@@ -80,9 +79,9 @@ impl SlotCache {
 
     /// Where the most preferred match from the least start at or after this offset starts and
     /// ends, found by ordered sets. Its slots are in the row.
-    pub(crate) fn find_from<F: PatternFilter>(
+    pub(crate) fn find_from(
         &mut self,
-        pattern: &mut OnePattern<'_, F>,
+        pattern: &mut OnePattern<'_>,
         haystack: &str,
         start: usize,
     ) -> Option<(usize, usize)>
@@ -122,9 +121,9 @@ impl ShortSlots {
 
     /// Sets the row to the slots of the match with this span, which it returns, if little is left
     /// to search.
-    fn find<F: PatternFilter>(
+    fn find(
         &mut self,
-        pattern: &OnePattern<'_, F>,
+        pattern: &OnePattern<'_>,
         haystack: &str,
         span: (usize, usize),
         best: &mut Best<Origin>,

@@ -179,6 +179,8 @@ impl<'g> Searched<'g> {
     /// 1.05 where each match is a character; where each is empty, up to 1.32. A list without looks
     /// needs none, since a search for one pattern between known ends costs less than keeping the
     /// slots of all: it takes 0.69 to 0.95, and up to 1.29 where looks may see beyond the end.
+    // Not inlined, so that the memory of a searcher without it is cleared once less.
+    #[inline(never)]
     fn span_first(&self, wanted: Wanted, bytes: usize) -> Option<SpanSearch> {
         if bytes < LONG_BETWEEN_MATCHES || !wanted.may_search_twice() {
             return None;

@@ -1,7 +1,7 @@
 -- Where a match can begin in a graph, and the positions that a search passes over.
 use Rattle.std.specs.Prelude.{◌≡◌, ◌≤◌, ◌<◌, ◌^◌, ◌⊎◌, ℕ, suc, Bool, false, true, not, All}
 use Rattle.std.specs.Prelude.{List, [], ◌∷◌, length, map, slice_get, slice_index, slice_index_or}
-use Rattle.std.specs.Prelude.{Some}
+use Rattle.std.specs.Prelude.{Some, chars}
 use Rattle.regex_lite_syntax.specs.Text.{Text, after}
 use Rattle.regex_lite_syntax.specs.Tree.{Tree}
 use Rattle.regex_lite_syntax.specs.Tree.Properties.{nullable}
@@ -17,6 +17,7 @@ use Rattle.regex_lite_syntax.specs.Prefilter.Thirds.{may_go_on}
 use Rattle.regex_lite_engine.specs.Search.Explored.{IsDead}
 use Rattle.regex_lite_engine.specs.Search.NumberedAnswer.{numbered_step, is_end}
 use Rattle.regex_lite_engine.specs.Search.NumberedList.{IsEntry}
+use Rattle.regex_lite_engine.specs.Search.Offsets.{position_at}
 use Rattle.regex_lite_engine.specs.Search.Standing.{IsHere}
 
 module _ (table : List (Place ℕ)) where
@@ -87,6 +88,12 @@ pub record PassesTo (Passed : ℕ → Type 0) (haystack : Text) (p : ℕ) (here 
   pub later : p ≤ q
   pub is : IsHere haystack q here
   pub passed : (i : ℕ) → p ≤ i → i < q → Passed i
+
+-- where a search that goes on at this offset stands, it has only passed such positions
+abbrev pub SkipsTo : (Passed : ℕ → Type 0) → (haystack : List ℕ) → (p at : ℕ) → Type 0
+SkipsTo Passed haystack p at =
+    (here : Here) → here.at ≡ at → IsHere (chars haystack) (position_at haystack at) here
+    → PassesTo Passed (chars haystack) p here
 
 -- where the index of several patterns says so, no way from an entry leads to a complete match
 pub record AreListHeadsOf (table : List (Place ℕ)) (entries : List ℕ) (heads : ListHeads)

@@ -12,13 +12,12 @@ ghost use Rattle.regex_lite_engine.specs.Search.Standing.{IsHere};
 use crate::backtrack::walk::Walk;
 use crate::search::here::Here;
 use crate::search::one_pattern::OnePattern;
-use crate::search::pattern_filter::PatternFilter;
 
 /// Goes from start to start, up to the first from which a way leads to a match. Returns where the
 /// match starts and where it ends; its slots are those of the walk.
-pub fn run<F: PatternFilter>(
+pub fn run(
     walk: &mut Walk,
-    pattern: &OnePattern<'_, F>,
+    pattern: &OnePattern<'_>,
     haystack: &str,
     first: Here,
 ) -> Option<(usize, usize)>

@@ -15,7 +15,6 @@ use crate::backtrack::walk::Walk;
 use crate::nfa::table::Table;
 use crate::search::here::Here;
 use crate::search::one_pattern::OnePattern;
-use crate::search::pattern_filter::PatternFilter;
 use crate::steps::no_steps;
 use std::alloc::{AllocError, Global};
 
@@ -76,9 +75,9 @@ impl ShortSearcher {
     ///
     /// Condition: the offset is on a character boundary, the haystack is short enough from there,
     /// and the searcher is one for the table of this pattern.
-    pub fn search<F: PatternFilter>(
+    pub fn search(
         &mut self,
-        pattern: &OnePattern<'_, F>,
+        pattern: &OnePattern<'_>,
         haystack: &str,
         start: usize,
     ) -> Option<(usize, usize)>

@@ -14,7 +14,7 @@ ghost use Rattle.regex_lite_engine.specs.Graph.SideBySide.{AreRegularPatterns, p
 ghost use Rattle.regex_lite_engine.specs.Graph.Size.{Fits, IsDueToTree};
 ghost use Rattle.regex_lite_engine.specs.Graph.StoredList.{HasGroupsOfList, IsGraphOfList};
 ghost use Rattle.regex_lite_engine.specs.Graph.StoredList.{TellGroupsOf, table_of_list};
-ghost use Rattle.regex_lite_engine.specs.Search.OwnFilters.{heads_of};
+ghost use Rattle.regex_lite_engine.specs.Search.Filters.{own_heads_of};
 ghost use Rattle.regex_lite_engine.specs.Search.Starts.{AreAllAtEnd, AreListHeadsOf};
 ghost use Rattle.regex_lite_engine.specs.Search.Starts.{may_be_empty, TellReading};
 
@@ -54,7 +54,7 @@ impl Model for GraphList {
     ghost use Rattle.std.specs.Prelude.{◌<◌, ◌^◌, All, length, map};
     ghost use Rattle.regex_lite_engine.specs.Graph.Stored.{places_of};
     ghost use Rattle.regex_lite_engine.specs.Graph.StoredList.{StoredList};
-    ghost use Rattle.regex_lite_engine.specs.Search.OwnFilters.{heads_of};
+    ghost use Rattle.regex_lite_engine.specs.Search.Filters.{own_heads_of};
     ghost use Rattle.regex_lite_engine.specs.Search.Starts.{AreAllAtEnd, AreFiltersOf};
     ghost use Rattle.regex_lite_engine.specs.Search.Starts.{AreListHeadsOf, AreReading};
 
@@ -72,7 +72,7 @@ impl Model for GraphList {
         × (length list.entries.items < 2 ^ 32)
         × AreListHeadsOf (places_of list.table) list.entries.items list.heads
         × AreFiltersOf (places_of list.table) list.entries.items
-        (map heads_of list.filters.items)
+        (map own_heads_of list.filters.items)
         × AreReading (places_of list.table) list.entries.items list.reads.items
         × AreAllAtEnd (places_of list.table) list.entries.items list.at_end.items };
 }
@@ -169,7 +169,7 @@ impl GraphList {
     /// The pattern with this number, which may start nowhere yet.
     ///
     /// Condition: the list has more patterns than this number.
-    pub fn pattern(&self, number: usize) -> OnePattern<'_, OwnFilter>
+    pub fn pattern(&self, number: usize) -> OnePattern<'_>
         requires { number < length self.now.entries }
         ensures table { places_of result.table.now ≡ table_of_list self.now }
         ensures entry { result.entry ≡ slice_index self.now.entries number }
@@ -177,7 +177,7 @@ impl GraphList {
         OnePattern {
             table: &self.table,
             entry: self.entries[number],
-            filter: &self.filters[number],
+            filter: self.filters[number].view(),
             reads: self.reads[number],
             may_start: false,
         }
@@ -244,7 +244,7 @@ fn groups_of(alloc: Global, hirs: &[Measured]) -> Result<Vec<Groups>, AllocError
 /// If memory runs out.
 fn filters_of(alloc: Global, hirs: &[Measured]) -> Result<Vec<OwnFilter>, AllocError>
     ensures { IfOk result (λ filters. AreEachHeadsOf (map tree_of hirs.now)
-        (map heads_of filters.items)) }
+        (map own_heads_of filters.items)) }
 {
     let mut filters = Vec::with_capacity(alloc, hirs.len())?;
     for hir in hirs {

@@ -10,7 +10,7 @@ ghost use Rattle.regex_lite_engine.specs.Pikevm.Turns.{best_of};
 use crate::pikevm::beginning::Beginning;
 use crate::pikevm::cache::Cache;
 use crate::search::here::Here;
-use crate::search::patterns::Patterns;
+use crate::search::patterns::{Patterns, pass_over};
 
 impl<S: Beginning> Cache<S> {
     /// Goes on from here to the next position at which there is something to do, and over it.
@@ -56,6 +56,6 @@ impl<S: Beginning> Cache<S> {
         if !self.best.is_none() {
             return here;
         }
-        patterns.pass_over(haystack, here)
+        pass_over(patterns, haystack, here)
     }
 }

@@ -6,7 +6,7 @@ ghost use Rattle.regex_lite_engine.specs.Search.Starts.{AreAllStarts};
 use crate::nfa::list::GraphList;
 use crate::nfa::table::Table;
 use crate::search::here::Here;
-use crate::search::list_skip::pass_over_all;
+use crate::search::list_skip::skip_all;
 use crate::search::patterns::{Patterns, Start};
 
 /// The patterns of a list. All of them start at each position, so that a turn holds wherever it
@@ -33,8 +33,8 @@ impl<'g> Patterns for AllOfList<'g> {
         self.list.table()
     }
 
-    fn pass_over(&self, haystack: &str, here: Here) -> Here {
-        pass_over_all(self.list, haystack, here)
+    fn skip(&self, haystack: &str, here: Here) -> Option<Here> {
+        skip_all(self.list, haystack, here)
     }
 
     fn has_prefilter(&self) -> bool {

@@ -9,9 +9,9 @@ ghost use Rattle.regex_lite_engine.specs.Search.Starts.{AreDeadFrom, IsDeadAt, P
 
 use crate::search::here::Here;
 use crate::search::one_pattern::OnePattern;
-use crate::search::pattern_filter::PatternFilter;
+use crate::search::patterns::pass_over;
 
-impl<'g, F: PatternFilter> OnePattern<'g, F> {
+impl<'g> OnePattern<'g> {
     /// The first position from this offset on at which a match may begin. None if there is none. A
     /// search from the haystack's end is begun there, since that is its only start.
     ///
@@ -67,7 +67,7 @@ impl<'g, F: PatternFilter> OnePattern<'g, F> {
         ensures none { (p : ℕ) → IsHere (chars haystack.now) p here → result ≡ None
             → AreDeadFrom (places_of self.now.table.now) (chars haystack.now) self.now.entry p }
     {
-        let first = self.filter.pass_over(haystack, here);
+        let first = pass_over(self, haystack, here);
         if first.after.is_none() && self.reads {
             return None;
         }

@@ -14,7 +14,7 @@ ghost use Rattle.regex_lite_engine.specs.Search.Starts.{AreStartsAt, start_numbe
 use crate::nfa::list::GraphList;
 use crate::nfa::table::Table;
 use crate::search::here::Here;
-use crate::search::list_skip::pass_over_all;
+use crate::search::list_skip::skip_all;
 use crate::search::patterns::{Patterns, Start};
 use regex_lite_syntax::prefilter::ListHeads;
 use std::alloc::{AllocError, Global};
@@ -62,8 +62,8 @@ impl<'g> Patterns for ListPatterns<'g> {
         self.list.table()
     }
 
-    fn pass_over(&self, haystack: &str, here: Here) -> Here {
-        pass_over_all(self.list, haystack, here)
+    fn skip(&self, haystack: &str, here: Here) -> Option<Here> {
+        skip_all(self.list, haystack, here)
     }
 
     fn has_prefilter(&self) -> bool {

@@ -1,5 +1,5 @@
 //! The positions at which none of several patterns can start, which a search passes over.
-ghost use Rattle.std.specs.Prelude.{◌≡◌, ◌≤◌, ◌<◌, ◌+◌, ℕ, IsCharBoundary};
+ghost use Rattle.std.specs.Prelude.{◌≡◌, ◌≤◌, ◌<◌, ◌+◌, ℕ, IfSome, IsCharBoundary};
 ghost use Rattle.std.specs.Prelude.{IsTrue, chars, false, length, slice_index};
 ghost use Rattle.regex_lite_engine.specs.Graph.StoredList.{table_of_list};
 ghost use Rattle.regex_lite_syntax.specs.Prefilter.ListHeads.{IsPassedByAll};
@@ -13,23 +13,24 @@ use crate::nfa::list::GraphList;
 use crate::search::here::Here;
 use regex_lite_syntax::prefilter::{ListHeads, Starts};
 
-/// The next position from here on at which a match of any pattern can begin, or the haystack's end.
-pub fn pass_over_all(list: &GraphList, haystack: &str, here: Here) -> Here
+/// The next position after this one at which a match of any pattern can begin, or the haystack's
+/// end. None if one may begin here.
+pub fn skip_all(list: &GraphList, haystack: &str, here: Here) -> Option<Here>
     requires { (p : ℕ) × IsHere (chars haystack.now) p here }
-    ensures { (p : ℕ) → IsHere (chars haystack.now) p here
-        → PassesTo (AreDeadAt (table_of_list list.now) (chars haystack.now) list.now.entries)
-        (chars haystack.now) p result }
+    ensures { (p : ℕ) → IsHere (chars haystack.now) p here → IfSome result
+        (PassesTo (AreDeadAt (table_of_list list.now) (chars haystack.now) list.now.entries)
+        (chars haystack.now) p) }
 {
     let heads = list.heads();
     // At the haystack's start the pairs don't cover all patterns.
     if here.before.is_none() && heads.any.may_begin(here.before, here.after) {
-        return here;
+        return None;
     }
     let at = next_offset(heads, haystack.as_bytes(), here.at);
     if at == here.at {
-        return here;
+        return None;
     }
-    Here::at(haystack, at)
+    Some(Here::at(haystack, at))
 }
 
 /// The first offset from this one on at which a match can begin, judging by two bytes, or the end.

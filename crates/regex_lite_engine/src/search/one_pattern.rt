@@ -1,6 +1,7 @@
 //! One pattern, which is searched for by itself.
 ghost use Rattle.std.specs.Prelude.{◌<◌, IsTrue, length};
 ghost use Rattle.regex_lite_engine.specs.Graph.Stored.{places_of};
+ghost use Rattle.regex_lite_engine.specs.Search.Filters.{heads_of};
 ghost use Rattle.regex_lite_engine.specs.Search.Starts.{AreHeadsOf, NoneBeginsAtEnd};
 
 use crate::nfa::table::Table;
@@ -11,22 +12,22 @@ use crate::search::patterns::{Patterns, Start};
 /// A pattern of a graph, which may have others, and whether it may start at the position reached
 /// last.
 #[derive(Drop)]
-pub struct OnePattern<'g, F: PatternFilter> {
+pub struct OnePattern<'g> {
     pub table: &'g Table,
     /// Where it is entered.
     pub entry: u32,
     /// Where a match can begin.
-    pub filter: &'g F,
+    pub filter: PatternFilter<'g>,
     /// Whether each match reads a character. Then none begins at the haystack's end.
     pub reads: bool,
     /// At first it may start nowhere.
     pub may_start: bool,
     pub ghost inside: { entry < length (places_of table.now) },
-    pub ghost heads: { AreHeadsOf (places_of table.now) entry (F.heads filter.now) },
+    pub ghost heads: { AreHeadsOf (places_of table.now) entry (heads_of filter) },
     pub ghost ends: { IsTrue reads → NoneBeginsAtEnd (places_of table.now) entry },
 }
 
-impl<'g, F: PatternFilter> Patterns for OnePattern<'g, F> {
+impl<'g> Patterns for OnePattern<'g> {
     ghost use Rattle.std.specs.Prelude.{◌∷◌, [], if◌then◌else◌};
     ghost use Rattle.regex_lite_engine.specs.Graph.Stored.{places_of};
 
@@ -44,8 +45,8 @@ impl<'g, F: PatternFilter> Patterns for OnePattern<'g, F> {
     // Inlined, and so are the next ones, since each position passes here: as calls they cost
     // `is_match` by line up to 1.09 times as much.
     #[inline(always)]
-    fn pass_over(&self, haystack: &str, here: Here) -> Here {
-        self.filter.pass_over(haystack, here)
+    fn skip(&self, haystack: &str, here: Here) -> Option<Here> {
+        self.filter.skip(haystack, here)
     }
 
     fn has_prefilter(&self) -> bool {

@@ -1,64 +1,87 @@
 //! Where a match of one pattern can begin.
-ghost use Rattle.std.specs.Prelude.{◌≡◌, ℕ, IsTrue, false, chars};
+ghost use Rattle.std.specs.Prelude.{◌≡◌, ℕ, IfSome, IsTrue, false, chars, IsCharBoundary};
 ghost use Rattle.regex_lite_syntax.specs.Prefilter.Heads.{NeverBegins};
 ghost use Rattle.regex_lite_syntax.specs.Prefilter.Starts.{may_begin};
+ghost use Rattle.regex_lite_engine.specs.Search.Filters.{heads_of};
 ghost use Rattle.regex_lite_engine.specs.Search.Standing.{IsHere};
-ghost use Rattle.regex_lite_engine.specs.Search.Starts.{PassesTo};
+ghost use Rattle.regex_lite_engine.specs.Search.Starts.{PassesTo, SkipsTo};
 
 use crate::search::here::Here;
-use crate::search::skip::pass_over;
+use crate::search::prefix::Prefix;
+use crate::search::skip::next_start;
 use regex_lite_syntax::prefilter::Filter;
 
 /// What is known of the positions at which a match of a pattern can begin.
-pub trait PatternFilter {
-    ghost use Rattle.regex_lite_syntax.specs.declared.prefilter.heads.Heads.{Heads};
-
-    /// The characters that may begin a match.
-    ghost heads: { Self → Heads };
-
-    /// Whether a match can begin here, judging by the next character. At the haystack's end any
-    /// may.
-    fn may_begin(&self, here: Here) -> bool
-        ensures { result ≡ false
-            → may_begin (heads self.now).first here.before here.after ≡ false };
-
-    /// The next position from here on at which a match can begin, or the haystack's end.
-    fn pass_over(&self, haystack: &str, here: Here) -> Here
-        requires { (p : ℕ) × IsHere (chars haystack.now) p here }
-        ensures { (p : ℕ) → IsHere (chars haystack.now) p here
-            → PassesTo (NeverBegins (heads self.now) (chars haystack.now)) (chars haystack.now) p
-            result };
-
-    /// Whether no character begins a match: then none begins after the haystack's start but at its
-    /// end.
-    fn begins_with_none(&self) -> bool
-        ensures { IsTrue result → (heads self.now).first.any ≡ false };
-
-    /// Whether the positions that are passed over are found many bytes at a time.
-    fn has_prefilter(&self) -> bool;
+#[derive(Clone, Copy)]
+pub enum PatternFilter<'g> {
+    /// Each match begins with these characters.
+    Literal(Prefix),
+    /// What the whole tree tells.
+    Whole(&'g Filter),
 }
 
-impl PatternFilter for Filter {
-    ghost heads = { λ filter. filter };
-
+impl<'g> PatternFilter<'g> {
+    /// Whether a match can begin here, judging by the next character. At the haystack's end any
+    /// may.
     // Inlined, and so are the next ones, since each position passes here: as calls they cost `find`
     // by line up to 1.57 times as much.
     #[inline(always)]
-    fn may_begin(&self, here: Here) -> bool {
-        self.heads().first.may_begin(here.before, here.after)
+    pub(crate) fn may_begin(self, here: Here) -> bool
+        ensures { result ≡ false
+            → may_begin (heads_of self.entry).first here.before here.after ≡ false }
+    {
+        match self {
+            PatternFilter::Whole(filter) => {
+                filter.heads().first.may_begin(here.before, here.after)
+            }
+            PatternFilter::Literal(prefix) => prefix.may_begin(here.after),
+        }
     }
 
+    /// The next position after this one at which a match can begin, or the haystack's end. None if
+    /// one may begin here.
     #[inline(always)]
-    fn pass_over(&self, haystack: &str, here: Here) -> Here {
-        pass_over(self, haystack, here)
+    pub(crate) fn skip(self, haystack: &str, here: Here) -> Option<Here>
+        requires { (p : ℕ) × IsHere (chars haystack.now) p here }
+        ensures { (p : ℕ) → IsHere (chars haystack.now) p here → IfSome result
+            (PassesTo (NeverBegins (heads_of self.entry) (chars haystack.now))
+            (chars haystack.now) p) }
+    {
+        let at = self.next_start(haystack, here)?;
+        Some(Here::at(haystack, at))
     }
 
+    /// The offset of that position.
     #[inline(always)]
-    fn begins_with_none(&self) -> bool {
-        !self.heads().first.any
+    fn next_start(self, haystack: &str, here: Here) -> Option<usize>
+        requires { (p : ℕ) × IsHere (chars haystack.now) p here }
+        ensures boundary { IfSome result (IsCharBoundary haystack.now) }
+        ensures passes { (p : ℕ) → IsHere (chars haystack.now) p here → IfSome result
+            (SkipsTo (NeverBegins (heads_of self.entry) (chars haystack.now)) haystack.now p) }
+    {
+        match self {
+            PatternFilter::Whole(filter) => next_start(filter, haystack, here),
+            PatternFilter::Literal(prefix) => prefix.next_start(haystack, here),
+        }
     }
 
-    fn has_prefilter(&self) -> bool {
-        self.prefilter().is_some()
+    /// Whether no character begins a match: then none begins after the haystack's start but at its
+    /// end.
+    #[inline(always)]
+    pub(crate) fn begins_with_none(self) -> bool
+        ensures { IsTrue result → (heads_of self.entry).first.any ≡ false }
+    {
+        match self {
+            PatternFilter::Whole(filter) => !filter.heads().first.any,
+            PatternFilter::Literal(_) => false,
+        }
+    }
+
+    /// Whether the positions that are passed over are found many bytes at a time.
+    pub(crate) fn has_prefilter(self) -> bool {
+        match self {
+            PatternFilter::Whole(filter) => filter.prefilter().is_some(),
+            PatternFilter::Literal(_) => true,
+        }
     }
 }

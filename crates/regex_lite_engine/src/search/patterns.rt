@@ -1,5 +1,5 @@
 //! What is searched, and where patterns may start.
-ghost use Rattle.std.specs.Prelude.{◌≡◌, ◌≤◌, ◌<◌, ◌^◌, ℕ, List, All};
+ghost use Rattle.std.specs.Prelude.{◌≡◌, ◌≤◌, ◌<◌, ◌^◌, ℕ, List, All, IfSome};
 ghost use Rattle.std.specs.Prelude.{chars, length, slice_get, Some};
 ghost use Rattle.regex_lite_engine.specs.Graph.Places.{Place};
 ghost use Rattle.regex_lite_engine.specs.Graph.Stored.{places_of};
@@ -34,13 +34,13 @@ pub trait Patterns {
     fn table(&self) -> &Table
         ensures { places_of result.now ≡ table self.now };
 
-    /// The next position from here on at which a match can begin, or the haystack's end. Those
-    /// before it are passed over.
-    fn pass_over(&self, haystack: &str, here: Here) -> Here
+    /// The next position after this one at which a match can begin, or the haystack's end. Those
+    /// before it are skipped. None if a match may begin here.
+    fn skip(&self, haystack: &str, here: Here) -> Option<Here>
         requires { (p : ℕ) × IsHere (chars haystack.now) p here }
-        ensures { (p : ℕ) → IsHere (chars haystack.now) p here
-            → PassesTo (AreDeadAt (table self.now) (chars haystack.now) (entries self.now))
-            (chars haystack.now) p result };
+        ensures { (p : ℕ) → IsHere (chars haystack.now) p here → IfSome result
+            (PassesTo (AreDeadAt (table self.now) (chars haystack.now) (entries self.now))
+            (chars haystack.now) p) };
 
     /// Whether the positions that are passed over are found many bytes at a time.
     fn has_prefilter(&self) -> bool;
@@ -65,4 +65,20 @@ pub trait Patterns {
     fn start(&self, k: usize) -> Start
         requires { k < length (starts self.now) }
         ensures { slice_get (starts self.now) k ≡ Some result };
+}
+
+/// The next position from here on at which a match of these patterns can begin, or the haystack's
+/// end. Those before it are passed over.
+// Inlined, since each position passes here.
+#[inline(always)]
+pub fn pass_over<P: Patterns>(patterns: &P, haystack: &str, here: Here) -> Here
+    requires { (p : ℕ) × IsHere (chars haystack.now) p here }
+    ensures { (p : ℕ) → IsHere (chars haystack.now) p here
+        → PassesTo (AreDeadAt (P.table patterns.now) (chars haystack.now) (P.entries patterns.now))
+        (chars haystack.now) p result }
+{
+    match patterns.skip(haystack, here) {
+        None => here,
+        Some(next) => next,
+    }
 }

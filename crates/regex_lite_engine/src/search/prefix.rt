@@ -8,7 +8,7 @@ ghost use Rattle.regex_lite_syntax.specs.Prefilter.Heads.{AreHeadsOfTree, IsPass
 ghost use Rattle.regex_lite_syntax.specs.Prefilter.Starts.{may_begin};
 ghost use Rattle.regex_lite_engine.specs.Search.Prefixes.{just_starts, prefix_heads};
 ghost use Rattle.regex_lite_engine.specs.Search.Standing.{IsHere};
-ghost use Rattle.regex_lite_engine.specs.Search.Starts.{PassesTo};
+ghost use Rattle.regex_lite_engine.specs.Search.Starts.{SkipsTo};
 
 use crate::search::here::Here;
 use crate::search::skip::{NEAR, next_block};
@@ -78,18 +78,22 @@ impl Prefix {
         }
     }
 
-    /// The next position from here on at which both stand, or the haystack's end.
-    pub(super) fn pass_over(self, haystack: &str, here: Here) -> Here
+    /// The offset of the next position after this one at which both stand, or of the haystack's
+    /// end. None if they stand here.
+    // Inlined, since each position passes here.
+    #[inline(always)]
+    pub(super) fn next_start(self, haystack: &str, here: Here) -> Option<usize>
         requires { (p : ℕ) × IsHere (chars haystack.now) p here }
-        ensures { (p : ℕ) → IsHere (chars haystack.now) p here
-            → PassesTo (NeverBegins (prefix_heads self.first self.second) (chars haystack.now))
-            (chars haystack.now) p result }
+        ensures boundary { IfSome result (IsCharBoundary haystack.now) }
+        ensures passes { (p : ℕ) → IsHere (chars haystack.now) p here → IfSome result
+            (SkipsTo (NeverBegins (prefix_heads self.first self.second) (chars haystack.now))
+            haystack.now p) }
     {
         let at = self.next_offset(haystack.as_bytes(), here.at);
         if at == here.at {
-            return here;
+            return None;
         }
-        Here::at(haystack, at)
+        Some(at)
     }
 
     /// The first offset from this one on at which both stand, or the end.

@@ -1,11 +1,12 @@
 //! The positions at which no match can start, which a search passes over.
-ghost use Rattle.std.specs.Prelude.{◌≡◌, ◌≤◌, ◌<◌, ◌+◌, ◌⊎◌, ℕ, IfSome, IsTrue};
+ghost use Rattle.std.specs.Prelude.{◌≡◌, ◌≤◌, ◌<◌, ◌+◌, ◌⊎◌, ℕ, IfSome, IsTrue, MatchOption};
+ghost use Rattle.std.specs.Prelude.{IsCharBoundary};
 ghost use Rattle.std.specs.Prelude.{false, true, chars, length, slice_index};
 ghost use Rattle.regex_lite_syntax.specs.Prefilter.Heads.{IsCutOff, IsPassed, NeverBegins};
 ghost use Rattle.regex_lite_syntax.specs.Prefilter.Bytes.{suits, IsPrefilterOf};
 ghost use Rattle.regex_lite_syntax.specs.Prefilter.Starts.{may_begin, stops_at};
 ghost use Rattle.regex_lite_engine.specs.Search.Standing.{IsHere};
-ghost use Rattle.regex_lite_engine.specs.Search.Starts.{PassesTo};
+ghost use Rattle.regex_lite_engine.specs.Search.Starts.{SkipsTo};
 
 use crate::search::here::Here;
 use regex_lite_syntax::prefilter::{Filter, Heads, Prefilter, Starts};
@@ -17,20 +18,26 @@ const BLOCK: usize = 32;
 /// would be compared for nothing.
 pub(super) const NEAR: usize = 16;
 
-/// The next position from here on at which a match can begin, or the haystack's end.
-pub fn pass_over(filter: &Filter, haystack: &str, here: Here) -> Here
+/// The offset of the next position after this one at which a match can begin, or of the haystack's
+/// end. None if a match can begin here.
+// Inlined, since each position passes here.
+#[inline(always)]
+pub(super) fn next_start(filter: &Filter, haystack: &str, here: Here) -> Option<usize>
     requires { (p : ℕ) × IsHere (chars haystack.now) p here }
-    ensures passes { (p : ℕ) → IsHere (chars haystack.now) p here
-        → PassesTo (NeverBegins filter.now (chars haystack.now)) (chars haystack.now) p result }
-    ensures stops { may_begin filter.now.first result.before result.after ≡ true }
+    ensures boundary { IfSome result (IsCharBoundary haystack.now) }
+    ensures passes { (p : ℕ) → IsHere (chars haystack.now) p here → IfSome result
+        (SkipsTo (NeverBegins filter.now (chars haystack.now)) haystack.now p) }
+    ensures stops { MatchOption result
+        (may_begin filter.now.first here.before here.after ≡ true)
+        (λ at. at < length haystack.now
+        → stops_at filter.now.first (slice_index haystack.now at) ≡ true) }
 {
     let heads = filter.heads();
     let bytes = haystack.as_bytes();
     if can_begin(heads, bytes, here) {
-        return here;
+        return None;
     }
-    let at = next_offset(heads, filter.prefilter(), bytes, here.at);
-    Here::at(haystack, at)
+    Some(next_offset(heads, filter.prefilter(), bytes, here.at))
 }
 
 /// Whether a match can begin here, with the byte after the next character.

@@ -18,7 +18,7 @@ use crate::strategy::NEAR;
 use regex_lite_engine::pikevm::beginning::Origin;
 use regex_lite_engine::pikevm::cache::Cache;
 use regex_lite_engine::search::here::Here;
-use regex_lite_engine::search::patterns::Patterns;
+use regex_lite_engine::search::patterns::{Patterns, pass_over};
 
 impl LazyDfa {
     /// Where there is neither a thread nor a match, passes over positions at which no match can
@@ -101,7 +101,7 @@ impl LazyDfa {
             → PassesTo (AreDeadAt (P.table patterns.now) (chars haystack.now)
             (P.entries patterns.now)) (chars haystack.now) p result }
     {
-        let next = patterns.pass_over(haystack, here);
+        let next = pass_over(patterns, haystack, here);
         if self.is_worth_a_turn(patterns, here, next) {
             return here;
         }
@@ -154,7 +154,9 @@ impl LazyDfa {
         if !self.may_leap(patterns, at) {
             return false;
         }
-        let next = patterns.pass_over(haystack, at.here);
+        let Some(next) = patterns.skip(haystack, at.here) else {
+            return false;
+        };
         if next.at <= at.here.at {
             return false;
         }

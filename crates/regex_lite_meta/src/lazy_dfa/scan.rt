@@ -11,7 +11,7 @@ use crate::lazy_dfa::automaton::LazyDfa;
 use crate::lazy_dfa::state::{Hit, Side};
 use regex_lite_engine::pikevm::beginning::Origin;
 use regex_lite_engine::search::here::Here;
-use regex_lite_engine::search::patterns::Patterns;
+use regex_lite_engine::search::patterns::{Patterns, pass_over};
 
 /// Where a search that goes by remembered turns stands.
 #[derive(Clone, Copy)]
@@ -124,7 +124,7 @@ impl LazyDfa {
             (chars haystack.now) self.now at.old at.new }
         ensures none { at.new.best ≡ None }
     {
-        let here = patterns.pass_over(haystack, at.here);
+        let here = pass_over(patterns, haystack, at.here);
         if self.is_worth_a_turn(patterns, at.here, here) && !self.knows(at.state, at.here.after) {
             return false;
         }

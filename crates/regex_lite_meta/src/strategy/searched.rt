@@ -1,11 +1,9 @@
 //! What is searched, as far as the choice of a way depends on it: one pattern or several.
 ghost use Rattle.std.specs.Prelude.{◌≡◌};
 
-use regex_lite_engine::Graph;
 use regex_lite_engine::nfa::list::GraphList;
 use regex_lite_engine::nfa::table::Table;
-use regex_lite_engine::search::one_pattern::OnePattern;
-use regex_lite_engine::search::own_filter::OwnFilter;
+use regex_lite_engine::search::pattern_filter::PatternFilter;
 use regex_lite_syntax::prefilter::{Filter, ListHeads, Prefilter};
 
 /// The graph of one pattern or of several, and where their matches can begin. What it takes time to
@@ -19,8 +17,7 @@ pub(crate) struct Searched<'g> {
 /// What is known of the characters with which a match begins.
 #[derive(Clone, Copy)]
 enum HeadsOf<'g> {
-    One(&'g Filter),
-    OneOfList(&'g OwnFilter),
+    One(PatternFilter<'g>),
     Several(&'g ListHeads),
 }
 
@@ -40,25 +37,14 @@ pub(super) enum Beginning {
 }
 
 impl<'g> Searched<'g> {
-    /// One pattern.
+    /// One pattern, by itself.
     #[inline(always)]
-    pub(crate) fn one(graph: &'g Graph) -> Searched<'g>
-        ensures { result.table.now.places ≡ graph.now.places }
+    pub(crate) fn one(table: &'g Table, filter: PatternFilter<'g>) -> Searched<'g>
+        ensures { result.table.now ≡ table.now }
     {
         Searched {
-            table: graph.table(),
-            heads: HeadsOf::One(graph.filter()),
-        }
-    }
-
-    /// One pattern of a list, by itself.
-    #[inline(always)]
-    pub(crate) fn one_of_list(pattern: &OnePattern<'g, OwnFilter>) -> Searched<'g>
-        ensures { result.table.now ≡ pattern.now.table.now }
-    {
-        Searched {
-            table: pattern.table,
-            heads: HeadsOf::OneOfList(pattern.filter),
+            table,
+            heads: HeadsOf::One(filter),
         }
     }
 
@@ -77,10 +63,9 @@ impl<'g> Searched<'g> {
     #[inline(always)]
     pub(super) fn beginning(&self) -> Beginning {
         match self.heads {
-            HeadsOf::One(filter) => self.beginning_by(filter),
+            HeadsOf::One(PatternFilter::Whole(filter)) => self.beginning_by(filter),
             // One that begins with two characters that are known is mostly passed over.
-            HeadsOf::OneOfList(OwnFilter::Literal(_)) => Beginning::Indexed,
-            HeadsOf::OneOfList(OwnFilter::Whole(filter)) => self.beginning_by(filter),
+            HeadsOf::One(PatternFilter::Literal(_)) => Beginning::Indexed,
             HeadsOf::Several(heads) => {
                 if heads.begin_often() {
                     Beginning::Often
@@ -111,7 +96,7 @@ impl<'g> Searched<'g> {
     #[inline(always)]
     pub(super) fn are_several(&self) -> bool {
         match self.heads {
-            HeadsOf::One(_) | HeadsOf::OneOfList(_) => false,
+            HeadsOf::One(_) => false,
             HeadsOf::Several(_) => true,
         }
     }

@@ -1,6 +1,6 @@
 use Rattle.regex_lite_engine.proofs.Common.{◌≡◌, ℕ, map, length, slice_get, Some, Tree, tree_of, Heads}
 use Rattle.regex_lite_syntax.specs.Prefilter.Heads.{AreHeadsOfTree}
-use Rattle.regex_lite_engine.specs.Search.OwnFilters.{heads_of}
+use Rattle.regex_lite_engine.specs.Search.Filters.{own_heads_of}
 use Rattle.regex_lite_engine.proofs.nfa.list.filters_of.Given as goal
 
 -- those of the patterns so far
@@ -9,5 +9,5 @@ invariant-loop-hir l = record {
   all : length l.filters.items ≡ l.hir-index;
   each : (number : ℕ) (tree : Tree) (part : Heads)
       → slice_get (map tree_of l.hirs) number ≡ Some tree
-      → slice_get (map heads_of l.filters.items) number ≡ Some part → AreHeadsOfTree tree part;
+      → slice_get (map own_heads_of l.filters.items) number ≡ Some part → AreHeadsOfTree tree part;
 }

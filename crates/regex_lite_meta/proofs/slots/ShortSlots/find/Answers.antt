@@ -75,7 +75,7 @@ module _ (table : List (Place ℕ)) (entry : ℕ) (haystack : List ℕ) (utf8 : 
       subst Suffices (sym at) (up_to_end (no_looks none) s known)
 
 pub range-requires-clause-end_boundary : goal.range-requires-clause-end_boundary
-range-requires-clause-end_boundary g c =
+range-requires-clause-end_boundary c =
     let a = c.args in
     (suffices (places_of a.pattern.now.table.now) a.pattern.now.entry a.haystack.now
     c.utf8.haystack a.span
@@ -86,7 +86,7 @@ range-requires-clause-end_boundary g c =
     ]) c.requires.finds.looks c.requires.known).cut
 
 pub search-requires-clause-boundary : goal.search-requires-clause-boundary
-search-requires-clause-boundary g c =
+search-requires-clause-boundary c =
     let a = c.args in
     (suffices (places_of a.pattern.now.table.now) a.pattern.now.entry a.haystack.now
     c.utf8.haystack a.span
@@ -97,7 +97,7 @@ search-requires-clause-boundary g c =
     ]) c.requires.finds.looks c.requires.known).from c.range.result.now c.range.ensures.value
 
 pub returns-clause-found : goal.returns-clause-found
-returns-clause-found g c = λ s known.
+returns-clause-found c = λ s known.
     let a = c.args in
     let found = Some c.in_ok-found.found in
     let row = ap (λ (best : BestState). best.row) c.set_row.ensures ∙ c.row.ensures in

@@ -6,14 +6,14 @@ use Rattle.regex_lite_engine.proofs.search.OutcomeLemmas.{can_count}
 use Rattle.regex_lite_meta.proofs.slots.SlotCache.find_from.Goals as goal
 
 pub run-requires-clause-counts : goal.run-requires-clause-counts
-run-requires-clause-counts g c =
+run-requires-clause-counts c =
     let haystack = c.args.haystack.now in
     let short : length haystack < 2 ^ 63 = search rules in
     can_count (places_of c.args.pattern.now.table.now) haystack (position_at haystack c.args.start)
     c.utf8.haystack short c.requires.finds.countable 1 (omega arith)
 
 pub returns-clause-found : goal.returns-clause-found
-returns-clause-found g c =
+returns-clause-found c =
     let pattern = c.args.pattern.now in
     let table = places_of pattern.table.now in
     let haystack = chars c.args.haystack.now in

@@ -4,13 +4,13 @@ use Rattle.regex_lite_meta.proofs.lazy_dfa.SpanLemmas.{boundary, none_before}
 use Rattle.regex_lite_meta.proofs.slots.SlotCache.find_known.Goals as goal
 
 pub find_from-requires-clause-boundary : goal.find_from-requires-clause-boundary
-find_from-requires-clause-boundary g c =
+find_from-requires-clause-boundary c =
     let pattern = c.args.pattern.now in
     boundary (places_of pattern.table.now) pattern.entry c.args.haystack.now c.utf8.haystack
     c.requires.known.0 c.args.span c.requires.known.1
 
 pub returns-clause-found : goal.returns-clause-found
-returns-clause-found g c = λ s known.
+returns-clause-found c = λ s known.
     let pattern = c.args.pattern.now in
     let table = places_of pattern.table.now in
     let haystack = c.args.haystack.now in

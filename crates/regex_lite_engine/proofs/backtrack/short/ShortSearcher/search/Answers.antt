@@ -6,7 +6,7 @@ use Rattle.regex_lite_engine.proofs.search.OutcomeLemmas.{can_count}
 use Rattle.regex_lite_engine.proofs.backtrack.short.ShortSearcher.search.Goals as goal
 
 pub run-requires-clause-counts : goal.run-requires-clause-counts
-run-requires-clause-counts g c =
+run-requires-clause-counts c =
     let haystack = c.args.haystack.now in
     let short : length haystack < 2 ^ 63 = search rules in
     can_count (places_of c.args.pattern.now.table.now) haystack
@@ -14,12 +14,12 @@ run-requires-clause-counts g c =
     (omega arith)
 
 pub run-requires-clause-fresh : goal.run-requires-clause-fresh
-run-requires-clause-fresh g c =
+run-requires-clause-fresh c =
     subst (λ (z : ℕ). IsFresh (places_of c.args.pattern.now.table.now) c.args.haystack.now z
     c.restart.new.self.walk) (sym c.at.ensures.at) c.restart.ensures.fresh
 
 pub returns-clause-searches : goal.returns-clause-searches
-returns-clause-searches g c =
+returns-clause-searches c =
     let table = places_of c.args.pattern.now.table.now in
     let between = c.restart.new.self in
     let ready = c.restart.ensures.searches in

@@ -1,14 +1,15 @@
 use Rattle.regex_lite_engine.proofs.Common.{◌<◌, ◌≤◌, ◌⊎◌, length, subst, inl, inr, arith, cases_lt}
 use Rattle.regex_lite_engine.proofs.Common.{places_of, IsDeadAt}
+use Rattle.regex_lite_engine.specs.Search.Filters.{heads_of}
 use Rattle.regex_lite_engine.proofs.search.FirstStartLemmas.{only_at_start}
 use Rattle.regex_lite_engine.proofs.search.one_pattern.OnePattern.begins_at_start_alone.Goals
     as goal
 
 pub returns-then-self : goal.returns-then-self
-returns-then-self g c = λ told haystack i low high.
+returns-then-self c = λ told haystack i low high.
     let one = c.args.self.now in
     let table = places_of one.table.now in
-    let heads = g.F.PatternFilter.heads one.filter.now in
+    let heads = heads_of one.filter in
     let by_order : (i < length haystack) ⊎ (length haystack ≤ i)
     → IsDeadAt table haystack one.entry i = λ order. elim order [
       | inl before ↦

@@ -1,23 +1,24 @@
 use Rattle.regex_lite_engine.proofs.Common.{length, chars, inl, places_of}
+use Rattle.regex_lite_engine.specs.Search.Filters.{heads_of}
 use Rattle.regex_lite_engine.proofs.search.FirstByteLemmas.{never_at}
 use Rattle.regex_lite_engine.proofs.search.OneStartLemmas.{one_inside, one_at_most, one_starts}
 use Rattle.regex_lite_engine.proofs.search.one_pattern.OnePatternPatterns.come_to.Goals as goal
 
 pub returns-clause-inside : goal.returns-clause-inside
-returns-clause-inside g c =
+returns-clause-inside c =
     let one = c.args.self.now in
     one_inside (length (places_of one.table.now)) (record { number = 0; place = one.entry })
     c.may_begin-self.result one.inside
 
 pub returns-clause-starts : goal.returns-clause-starts
-returns-clause-starts g c = λ p is.
+returns-clause-starts c = λ p is.
     let one = c.args.self.now in
     let haystack = chars c.args.arg2.now in
     one_starts (places_of one.table.now) haystack one.entry p c.may_begin-self.result
     (λ off. one.heads haystack p
-    (inl (never_at (g.F.PatternFilter.heads one.filter.now).first haystack p c.args.here is
+    (inl (never_at (heads_of one.filter).first haystack p c.args.here is
     (c.may_begin-self.ensures off))))
 
 pub returns-clause-few : goal.returns-clause-few
-returns-clause-few g c =
+returns-clause-few c =
     one_at_most (record { number = 0; place = c.args.self.now.entry }) c.may_begin-self.result

@@ -7,13 +7,14 @@ may_leap-requires g c =
     let is = c.requires.scanning.2 in
     slice_get_within c.args.self.now.states c.args.at.now.state is.state is.is_state
 
-pub pass_over-next-requires : goal.pass_over-next-requires
-pass_over-next-requires g c = let from = c.requires.scanning in (from.1, from.2.is)
+pub skip-requires : goal.skip-requires
+skip-requires g c = let from = c.requires.scanning in (from.1, from.2.is)
 
 pub returns-clause-on : goal.returns-clause-on
 returns-clause-on g c = λ _ low p is.
     let may : c.may_leap.result ≡ true = search rules in
     leapt (g.P.Patterns.table c.args.patterns.now) (g.P.Patterns.entries c.args.patterns.now)
-    (chars c.args.haystack.now) low p c.args.self.now c.args.at.now is c.pass_over-next.result
-    (c.pass_over-next.ensures p is.is) (c.may_leap.ensures.empty may) (c.may_leap.ensures.none may)
+    (chars c.args.haystack.now) low p c.args.self.now c.args.at.now is c.in-Some.next
+    (rw c.in-Some.is at c.skip.ensures p is.is) (c.may_leap.ensures.empty may)
+    (c.may_leap.ensures.none may)
     (c.may_leap.ensures.looks may)

@@ -5,9 +5,8 @@ use Rattle.regex_lite_syntax.specs.Text.{before}
 use Rattle.regex_lite_engine.proofs.search.here.HereLemmas.{at_most}
 use Rattle.regex_lite_engine.proofs.search.ListSkipLemmas.{passes_to}
 use Rattle.regex_lite_engine.proofs.search.FirstByteLemmas.{never_at}
-use Rattle.regex_lite_engine.proofs.search.SkipLemmas.{stays}
-use Rattle.regex_lite_engine.proofs.search.list_skip.pass_over_all.Goals as goal
-use Rattle.regex_lite_engine.proofs.search.list_skip.pass_over_all.Goals.{
+use Rattle.regex_lite_engine.proofs.search.list_skip.skip_all.Goals as goal
+use Rattle.regex_lite_engine.proofs.search.list_skip.skip_all.Goals.{
   else-is_none-via-then-is_none+else-may_begin,
   else-is_none-via-else-is_none,
 }
@@ -16,12 +15,6 @@ pub next_offset-at-requires-clause-from : goal.next_offset-at-requires-clause-fr
 next_offset-at-requires-clause-from c =
     subst (λ z. c.args.here.at ≤ length z) (sym c.as_bytes.ensures.value)
     (at_most c.args.haystack.now c.requires.0 c.args.here c.utf8.haystack c.requires.1)
-
-pub returns-then-may_begin : goal.returns-then-may_begin
-returns-then-may_begin c = λ p is. stays (chars c.args.haystack.now) p c.args.here is
-
-pub returns-then-at-here : goal.returns-then-at-here
-returns-then-at-here c = λ p is. stays (chars c.args.haystack.now) p c.args.here is
 
 pub returns : goal.returns
 returns c = λ p is.
