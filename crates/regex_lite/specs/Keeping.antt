@@ -1,9 +1,12 @@
 -- What the searchers that callers keep hold.
-use Rattle.std.specs.Prelude.{◌≡◌, ◌*◌, Option, Some, None, length}
+use Rattle.std.specs.Prelude.{◌≡◌, ◌*◌, List, Option, Some, None, length}
 use Rattle.regex_lite_syntax.specs.Tree.Properties.{captures_len}
+use Rattle.regex_lite_engine.specs.Graph.SideBySide.{AreRegularPatterns}
+use Rattle.regex_lite_engine.specs.Graph.StoredList.{IsGraphOfList, StoredList}
 use Rattle.regex_lite_meta.specs.Searching.{Searching}
 use Rattle.regex_lite.specs.Compiled.{SearchesFor}
 use Rattle.regex_lite.specs.Expression.{Expression, OfTree}
+use Rattle.regex_lite.specs.RegexList.{OfTrees}
 use Rattle.regex_lite.specs.Scanning.{AreSlotsForAllGroups, ListSearching}
 
 -- one that finds groups keeps two slots for each. There is none where the whole match is the only
@@ -19,3 +22,8 @@ abbrev pub FindsAllGroups : (matches : ListSearching) → (groups : Option ListS
 FindsAllGroups matches None = AreSlotsForAllGroups matches.list (length matches.slots)
 FindsAllGroups matches (Some groups) =
     (groups.list ≡ matches.list) × AreSlotsForAllGroups groups.list (length groups.slots)
+
+-- what tells which patterns match goes over the graph of the patterns' trees
+abbrev pub SearchesForEach : List Expression → StoredList → Type 0
+SearchesForEach list graph =
+    OfTrees list (λ trees. AreRegularPatterns trees × IsGraphOfList trees graph)

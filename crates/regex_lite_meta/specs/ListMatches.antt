@@ -1,5 +1,6 @@
 -- Which of several patterns match, each of which is searched for by itself.
 use Rattle.std.specs.Prelude.{◌≡◌, ◌+◌, ◌<◌, ◌∷◌, [], ℕ, Bool, List, IfSome, IsTrue, is_some, length}
+use Rattle.std.specs.Prelude.{Option, Some, None}
 use Rattle.regex_lite_syntax.specs.Text.{Text}
 use Rattle.regex_lite_engine.specs.Graph.Parts.{IsOwnPart, row_of}
 use Rattle.regex_lite_engine.specs.Graph.Places.{Place}
@@ -34,3 +35,12 @@ pub record LearnsFor (list : StoredList) (learning : Learning) : Type 0 where
 pub record AreKeptFor (list : StoredList) (kept : Kept) : Type 0 where
   pub sets : IfSome kept.sets (GoesOnIn list)
   pub learning : IfSome kept.learning (λ learning. LearnsFor list learning.value)
+
+-- the memory of searches by ordered sets is there, and no others are needed
+abbrev pub NeedsNoMemory : Kept → Type 0
+NeedsNoMemory kept = kept.sets ≡ None → ⊥
+
+-- so it is for searches of this list. Without a pattern none is begun
+abbrev pub IsReadyFor : StoredList → Option Kept → Type 0
+IsReadyFor list None = length list.entries ≡ 0
+IsReadyFor list (Some kept) = AreKeptFor list kept × NeedsNoMemory kept

@@ -1,8 +1,8 @@
 //! Which of several patterns match: each is searched for by itself, in memory that is kept for the
 //! next.
-ghost use Rattle.std.specs.Prelude.{◌≡◌, ◌<◌, ◌⊎◌, ◌+◌, ◌↔◌, List, ℕ, IfOk, IsTrue};
+ghost use Rattle.std.specs.Prelude.{◌≡◌, ◌<◌, ◌⊎◌, ◌+◌, ◌↔◌, List, ℕ, IfErr, IfOk};
 ghost use Rattle.std.specs.Prelude.{IsCharBoundary, chars, is_some, false, length, slice_index};
-ghost use Rattle.std.specs.Prelude.{IfSome, slice_index_or};
+ghost use Rattle.std.specs.Prelude.{IfSome, IsTrue, None, slice_index_or};
 ghost use Rattle.regex_lite_syntax.specs.Tree.{Tree};
 ghost use Rattle.regex_lite_engine.specs.Graph.PlaceCounts.{whole_arrows, whole_places};
 ghost use Rattle.regex_lite_engine.specs.Graph.SideBySide.{AreRegularPatterns, places_of_all};
@@ -19,6 +19,7 @@ ghost use Rattle.regex_lite_engine.specs.Search.Outcomes.{HasCostOfList};
 ghost use Rattle.regex_lite_engine.specs.Pikevm.Searching.{IsBetween, IsFresh};
 ghost use Rattle.regex_lite_engine.specs.Pikevm.Turns.{best_of};
 ghost use Rattle.regex_lite_meta.specs.ListMatches.{AreKeptFor, IsToldOf, LearnsFor};
+ghost use Rattle.regex_lite_meta.specs.ListMatches.{NeedsNoMemory};
 
 use crate::lazy_dfa::single::find_once;
 use crate::strategy::{Searched, Strategy, Wanted, choose};
@@ -58,20 +59,24 @@ pub fn search_each(
     if start > haystack.len() || list.len() == 0 {
         return Ok((matched, no_steps()));
     }
-    let steps = search_all(list, alloc, haystack, start, &mut matched)?;
+    let mut kept = Kept::new(alloc);
+    let steps = search_all(list, &mut kept, haystack, start, &mut matched)?;
     Ok((matched, steps))
 }
 
-/// Searches for each pattern, and returns which of them match, and what all searches did.
-fn search_all(
+/// Searches for each pattern, and tells which of them match. Returns what all searches did.
+// Inlined: what is kept then needs no place in memory where a haystack is searched by itself.
+#[inline(always)]
+pub(crate) fn search_all(
     list: &GraphList,
-    alloc: Global,
+    kept: &mut Kept,
     haystack: &str,
     start: usize,
     matched: &mut [bool],
 ) -> Result<Steps, AllocError>
     requires boundary { IsCharBoundary haystack.now start }
     requires all { length matched.old ≡ length list.now.entries }
+    requires kept { AreKeptFor list.now kept.old }
     ensures found { IfOk result (λ _. (trees : List Tree) → AreRegularPatterns trees
         → IsGraphOfList trees list.now
         → TellsWhich trees (chars haystack.now) (position_at haystack.now start)
@@ -82,8 +87,9 @@ fn search_all(
     ensures entered { IfOk result (λ steps. (k : ℕ)
         → IsTrue (slice_index_or matched.new k false) → 0 < steps.entered) }
     ensures length { length matched.new ≡ length matched.old }
+    ensures kept { AreKeptFor list.now kept.new }
+    ensures ready { NeedsNoMemory kept.old → NeedsNoMemory kept.new × IfErr result (λ _. ⊥) }
 {
-    let mut kept = Kept::new(alloc);
     let mut steps = no_steps();
     for number in 0..list.len() {
         let (found, own) = kept.search_one(list, number, haystack, start)?;
@@ -95,7 +101,7 @@ fn search_all(
 
 /// What the search for one pattern keeps for those for the next.
 #[derive(Drop)]
-struct Kept {
+pub(crate) struct Kept {
     alloc: Global,
     /// The memory of searches by ordered sets.
     sets: Option<Cache<Unkept>>,
@@ -113,6 +119,28 @@ impl Kept {
             sets: None,
             learning: None,
         }
+    }
+
+    /// All that searches for the patterns of this list need. What they need to remember their turns
+    /// is asked for once one does, and they go without where it is refused.
+    ///
+    /// Condition: the list has a pattern.
+    ///
+    /// # Errors
+    ///
+    /// If memory runs out.
+    pub(crate) fn ready(alloc: Global, list: &GraphList) -> Result<Kept, AllocError>
+        requires { 0 < length list.now.entries }
+        ensures kept { IfOk result (AreKeptFor list.now) }
+        ensures ready { IfOk result NeedsNoMemory }
+    {
+        let _patterns = list.len();
+        let sets = cache_for(alloc, list.table(), 0)?;
+        Ok(Kept {
+            alloc,
+            sets: Some(sets),
+            learning: None,
+        })
     }
 
     /// Whether the pattern with this number matches, and what the search for it did. Memory is
@@ -139,6 +167,7 @@ impl Kept {
             (position_at haystack.now start) told.1.tried told.1.entered told.1.looked) }
         ensures entered { IfOk result (λ told. IsTrue told.0 → 0 < told.1.entered) }
         ensures kept { AreKeptFor list.now self.new }
+        ensures ready { NeedsNoMemory self.old → NeedsNoMemory self.new × IfErr result (λ _. ⊥) }
     {
         let pattern = list.pattern(number);
         let Some(first) = pattern.first_start(haystack, start) else {
@@ -163,18 +192,19 @@ impl Kept {
         ensures told { IfOk result (IsToldOf (table_of_list list.now) (chars haystack.now)
             (slice_index list.now.entries number) (position_at haystack.now start)) }
         ensures kept { AreKeptFor list.now self.new }
+        ensures ready { NeedsNoMemory self.old → NeedsNoMemory self.new × IfErr result (λ _. ⊥) }
     {
-        let pattern = list.pattern(number);
-        let searched = Searched::one(pattern.table, pattern.filter);
-        let bytes = haystack.len() - start;
-        if let Strategy::LazyDfa = choose(&searched, Wanted::Earliest, 0, bytes) {
-            return self.search_learning(list, number, haystack, start);
+        if pays_to_learn(list, number, haystack.len() - start) {
+            if let Some(told) = self.search_learning(list, number, haystack, start) {
+                return Ok(told);
+            }
         }
         self.search_by_sets(list, number, haystack, start)
     }
 
     /// The same by ordered sets alone.
-    #[inline(always)]
+    // Not inlined, since then its own loop is: there are two callers.
+    #[inline(never)]
     fn search_by_sets(
         &mut self,
         list: &GraphList,
@@ -188,6 +218,7 @@ impl Kept {
         ensures told { IfOk result (IsToldOf (table_of_list list.now) (chars haystack.now)
             (slice_index list.now.entries number) (position_at haystack.now start)) }
         ensures kept { AreKeptFor list.now self.new }
+        ensures ready { NeedsNoMemory self.old → NeedsNoMemory self.new × IfErr result (λ _. ⊥) }
     {
         let mut pattern = list.pattern(number);
         let mut cache = memory_again(self.alloc, pattern.table, self.sets.take())?;
@@ -197,7 +228,8 @@ impl Kept {
         Ok(told)
     }
 
-    /// The same, but it goes on with an automaton if it isn't over soon.
+    /// The same, but it goes on with an automaton if it isn't over soon. None if the memory for such
+    /// searches is refused.
     // Not inlined, so that searches in short haystacks cost no more for it.
     #[inline(never)]
     fn search_learning(
@@ -206,22 +238,37 @@ impl Kept {
         number: usize,
         haystack: &str,
         start: usize,
-    ) -> Result<(bool, Steps), AllocError>
+    ) -> Option<(bool, Steps)>
         requires number { number < length list.now.entries }
         requires boundary { IsCharBoundary haystack.now start }
         requires kept { AreKeptFor list.now self.old }
-        ensures told { IfOk result (IsToldOf (table_of_list list.now) (chars haystack.now)
+        ensures told { IfSome result (IsToldOf (table_of_list list.now) (chars haystack.now)
             (slice_index list.now.entries number) (position_at haystack.now start)) }
         ensures kept { AreKeptFor list.now self.new }
+        ensures ready { NeedsNoMemory self.old → NeedsNoMemory self.new }
     {
         let mut learning = match self.learning.take() {
             Some(learning) => learning,
-            None => Learning::new(self.alloc, list)?,
+            None => Learning::new(self.alloc, list).ok()?,
         };
         let told = learning.search(list, number, haystack, start);
         self.learning.replace(learning);
-        Ok(told)
+        Some(told)
     }
+}
+
+/// Whether a search for the pattern with this number that goes over so many bytes remembers its
+/// turns.
+#[inline(always)]
+fn pays_to_learn(list: &GraphList, number: usize, bytes: usize) -> bool
+    requires { number < length list.now.entries }
+{
+    let pattern = list.pattern(number);
+    let searched = Searched::one(pattern.table, pattern.filter);
+    matches!(
+        choose(&searched, Wanted::Earliest, 0, bytes),
+        Strategy::LazyDfa
+    )
 }
 
 /// What searches for single patterns of a list need that remember their turns.
@@ -291,6 +338,7 @@ fn memory_again(
         × IsCountable (places_of table.now)) }
     ensures fresh { IfOk result (IsFresh (places_of table.now)) }
     ensures countable { IfOk result (λ _. IsCountable (places_of table.now)) }
+    ensures refused { IfErr result (λ _. kept ≡ None) }
 {
     let Some(mut cache) = kept else {
         return cache_for(alloc, table, 0);

@@ -21,6 +21,7 @@ pub(super) mod kept;
 mod search;
 mod searcher;
 pub(super) mod set_matches;
+mod set_searcher;
 mod which;
 
 use crate::owner::Shared;

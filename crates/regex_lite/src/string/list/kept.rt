@@ -3,13 +3,15 @@ ghost use Rattle.std.specs.Prelude.{◌≡◌, ◌↔◌, None, IfOk, IfErr, IsT
 ghost use Rattle.regex_lite_syntax.specs.Errors.{out_of_memory};
 ghost use Rattle.regex_lite.specs.Keeping.{FindsAllGroups};
 ghost use Rattle.regex_lite.specs.RegexListSearches.{AnyMatches, TellsLocationsOfList};
-ghost use Rattle.regex_lite.specs.RegexListSearches.{TellsMatchOfList};
+ghost use Rattle.regex_lite.specs.RegexListSearches.{TellsMatchOfList, TellsWhichMatch};
 ghost use Rattle.regex_lite.specs.Scanning.{ListSearching};
 ghost use Rattle.regex_lite.specs.Searches.{CanStartAt};
 
 use crate::string::iter::scan::match_at;
 use crate::string::list::RegexList;
 use crate::string::list::searcher::ListSearcher;
+use crate::string::list::set_matches::SetMatches;
+use crate::string::list::set_searcher::SetSearcher;
 use crate::string::locations::CaptureLocations;
 use crate::string::matches::Match;
 use crate::string::regex_searcher::ENDLESS;
@@ -20,9 +22,10 @@ use std::marker::Model;
 /// A list of patterns, and the memory for its searches: for many haystacks, one after another.
 ///
 /// [`RegexList::searcher`] makes it. Whatever was searched before, `is_match`, `find` and `find_at`
-/// return what the calls of these names return for the list, and `captures_read` and
-/// `captures_read_at` write the groups that its `captures` and `captures_at` return. But no call
-/// needs memory, so none is refused, and what the searches of one haystack learn of the patterns
+/// return what the calls of these names return for the list, `captures_read` and `captures_read_at`
+/// write the groups that its `captures` and `captures_at` return, and `matches_read` and
+/// `matches_read_at` the set that its `matches` and `matches_at` return. But no call needs memory,
+/// so none is refused, and what the searches for a match in one haystack learn of the patterns
 /// speeds up those of the next.
 ///
 /// ```
@@ -38,10 +41,12 @@ pub struct RegexListSearcher<'r> {
     matches: ListSearcher<'r>,
     /// With slots for all groups, where some pattern has more than the whole match.
     groups: Option<ListSearcher<'r>>,
+    /// What tells which patterns match.
+    set: SetSearcher<'r>,
 }
 
 impl<'r> Model for RegexListSearcher<'r> {
-    ghost use Rattle.std.specs.Prelude.{List};
+    ghost use Rattle.std.specs.Prelude.{◌≡◌, List};
     ghost use Rattle.regex_lite.specs.Expression.{Expression};
     ghost use Rattle.regex_lite.specs.Keeping.{FindsAllGroups};
 
@@ -49,7 +54,8 @@ impl<'r> Model for RegexListSearcher<'r> {
 
     ghost view = { λ searcher. searcher.matches.list };
 
-    ghost invariant = { λ searcher. FindsAllGroups searcher.matches searcher.groups };
+    ghost invariant = { λ searcher. FindsAllGroups searcher.matches searcher.groups
+        × (searcher.set ≡ searcher.matches.list) };
 }
 
 impl RegexList {
@@ -66,7 +72,12 @@ impl RegexList {
     {
         let matches = ListSearcher::new(self, 0, ENDLESS)?;
         let groups = self.searcher_of_groups()?;
-        Ok(RegexListSearcher { matches, groups })
+        let set = SetSearcher::new(self)?;
+        Ok(RegexListSearcher {
+            matches,
+            groups,
+            set,
+        })
     }
 
     /// What finds groups, where some pattern has more than the whole match.
@@ -110,6 +121,50 @@ impl<'r> RegexListSearcher<'r> {
         ensures same { self.new ≡ self.old }
     {
         match_at(&mut self.matches, haystack, start)
+    }
+
+    /// Writes to the set which of the patterns match somewhere in the haystack: what
+    /// [`RegexList::matches`] returns. It is never refused.
+    ///
+    /// In long haystacks it requests memory in which searches remember their turns, as
+    /// [`RegexList::matches`] does. Where that is refused it goes without, and takes more time.
+    ///
+    /// Condition: the set is one of this list, as [`RegexList::set_matches`] makes it, or of
+    /// another one with as many patterns.
+    ///
+    /// ```
+    /// let list = RegexList::new(alloc, &["[0-9]+", "[a-z]+", "sam"])?;
+    /// let mut searcher = list.searcher()?;
+    /// let mut set = list.set_matches()?;
+    /// searcher.matches_read(&mut set, "sam");
+    /// set.matched(0); // false
+    /// set.matched(1); // true
+    /// set.matched(2); // true
+    /// searcher.matches_read(&mut set, "42");
+    /// set.matched(2); // false
+    /// ```
+    ///
+    /// The test `examples::lists::many_sets` in tests/unit runs this example.
+    pub fn matches_read(&mut self, set: &mut SetMatches, haystack: &str)
+        requires { length set.old ≡ length self.old }
+        ensures found { TellsWhichMatch self.old haystack.now 0 set.new }
+        ensures same { self.new ≡ self.old }
+    {
+        self.matches_read_at(set, haystack, 0);
+    }
+
+    /// Writes to the set which of the patterns match somewhere from this offset on: what
+    /// [`RegexList::matches_at`] returns. It is never refused.
+    ///
+    /// Conditions: the set is one of this list, or of another one with as many patterns, and the
+    /// start is above the haystack's length or on a character boundary.
+    pub fn matches_read_at(&mut self, set: &mut SetMatches, haystack: &str, start: usize)
+        requires room { length set.old ≡ length self.old }
+        requires start { CanStartAt haystack.now start }
+        ensures found { TellsWhichMatch self.old haystack.now start set.new }
+        ensures same { self.new ≡ self.old }
+    {
+        self.set.tell(set, haystack, start);
     }
 
     /// The match that [`RegexList::find`] returns, with the number of its pattern, and the groups

@@ -1,5 +1,6 @@
 //! Searches: which of several patterns match in a haystack.
-ghost use Rattle.std.specs.Prelude.{◌≡◌, ◌<◌, ℕ, IfOk, IfErr, IsTrue, false, slice_index_or};
+ghost use Rattle.std.specs.Prelude.{◌≡◌, ◌<◌, ℕ, IfOk, IfErr, IsTrue, false, length, replicate};
+ghost use Rattle.std.specs.Prelude.{slice_index_or};
 ghost use Rattle.regex_lite_syntax.specs.Errors.{out_of_memory};
 ghost use Rattle.regex_lite.specs.RegexListSearches.{IsWithinListCost, TellsWhichMatch};
 ghost use Rattle.regex_lite.specs.Searches.{CanStartAt};
@@ -11,6 +12,19 @@ use regex_lite_meta::search_each;
 use regex_lite_syntax::Error;
 
 impl RegexList {
+    /// A set of this list that holds none of its patterns. A searcher of the list writes to it.
+    ///
+    /// # Errors
+    ///
+    /// `Memory` if memory runs out.
+    pub fn set_matches(&self) -> Result<SetMatches, Error>
+        ensures ok { IfOk result (λ set. set ≡ replicate (length self.now) false) }
+        ensures refused { IfErr result (λ error. error ≡ out_of_memory) }
+    {
+        let matched = vec![in self.alloc; false; self.len()]?;
+        Ok(SetMatches { matched })
+    }
+
     /// Which of the patterns match somewhere in the haystack.
     ///
     /// Each pattern is searched for by itself, up to the first match that the search comes to. The

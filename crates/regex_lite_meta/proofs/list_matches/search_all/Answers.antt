@@ -30,6 +30,7 @@ loop-number-preserved c =
     let room : number < length matched = omega (arith, known, all, c.requires.all) in
     record {
       kept = c.in_ok-found.ensures.kept;
+      ready = λ none. (c.in_ok-found.ensures.ready (v.ready none)).0;
       within = omega (arith, known);
       all = length-set matched number c.in_ok-found.found ∙ v.all;
       found = λ trees regular is k tree less there. elim (cases_lt k number) [

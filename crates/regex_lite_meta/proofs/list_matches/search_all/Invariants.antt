@@ -3,13 +3,14 @@ use Rattle.regex_lite_engine.proofs.Common.{IsTrue, slice_index_or, chars, Tree,
 use Rattle.regex_lite_engine.proofs.Common.{places_of_all, tries_of_all}
 use Rattle.regex_lite_engine.proofs.Common.{HasMatchFrom, IsBoundedBy, position_at}
 use Rattle.regex_lite_engine.specs.Graph.StoredList.{IsGraphOfList}
-use Rattle.regex_lite_meta.specs.ListMatches.{AreKeptFor}
+use Rattle.regex_lite_meta.specs.ListMatches.{AreKeptFor, NeedsNoMemory}
 use Rattle.regex_lite_engine.specs.Graph.SideBySide.{AreRegularPatterns}
 use Rattle.regex_lite_meta.proofs.list_matches.search_all.Given as goal
 
 abbrev pub invariant-loop-number : goal.invariant-loop-number
 invariant-loop-number l = record {
   kept : AreKeptFor l.list l.kept;
+  ready : NeedsNoMemory l.fn.kept → NeedsNoMemory l.kept;
   within : l.number ≤ length l.list.entries;
   all : length l.matched ≡ length l.fn.matched;
   found : (trees : List Tree) → AreRegularPatterns trees → IsGraphOfList trees l.list

@@ -1,0 +1,87 @@
+//! Which of several patterns match, told of one haystack after another in the same working memory.
+ghost use Rattle.std.specs.Prelude.{◌≡◌, ◌<◌, ◌⊎◌, List, IfOk, IsCharBoundary, chars, length};
+ghost use Rattle.regex_lite_syntax.specs.Tree.{Tree};
+ghost use Rattle.regex_lite_engine.specs.Graph.SideBySide.{AreRegularPatterns};
+ghost use Rattle.regex_lite_engine.specs.Graph.StoredList.{IsGraphOfList};
+ghost use Rattle.regex_lite_engine.specs.Search.AnswerOfList.{TellsWhich};
+ghost use Rattle.regex_lite_engine.specs.Search.Offsets.{search_start};
+ghost use Rattle.regex_lite_meta.specs.ListMatches.{IsReadyFor};
+
+use crate::list_matches::{Kept, search_all};
+use regex_lite_engine::nfa::list::GraphList;
+use std::alloc::{AllocError, Global};
+use std::marker::Model;
+
+/// The graph of several patterns, and the memory in which each of them is searched for, haystack
+/// after haystack.
+#[derive(Drop)]
+pub struct SetSearcher<'g> {
+    graph: &'g GraphList,
+    /// Without a pattern nothing is searched for.
+    kept: Option<Kept>,
+}
+
+impl<'g> Model for SetSearcher<'g> {
+    ghost use Rattle.regex_lite_engine.specs.Graph.StoredList.{StoredList};
+    ghost use Rattle.regex_lite_meta.specs.ListMatches.{IsReadyFor};
+
+    ghost Value = { StoredList };
+
+    ghost view = { λ searcher. searcher.graph.now };
+
+    ghost invariant = { λ searcher. IsReadyFor searcher.graph.now searcher.kept };
+}
+
+impl<'g> SetSearcher<'g> {
+    /// A searcher of this graph. All the memory that its searches need is asked for here.
+    ///
+    /// # Errors
+    ///
+    /// If memory runs out.
+    pub fn new(alloc: Global, graph: &'g GraphList) -> Result<SetSearcher<'g>, AllocError>
+        ensures { IfOk result (λ searcher. searcher ≡ graph.now) }
+    {
+        let kept = memory_for(alloc, graph)?;
+        Ok(SetSearcher { graph, kept })
+    }
+
+    /// Tells of each pattern, by its number, whether it matches from a position at or after this
+    /// offset. In long haystacks it asks for memory in which searches remember their turns, and goes
+    /// without where it is refused: the results are the same.
+    ///
+    /// Conditions: there is room for as many answers as there are patterns, and the start is above
+    /// the haystack's length or on a character boundary.
+    pub fn search(&mut self, haystack: &str, start: usize, matched: &mut [bool])
+        requires all { length matched.old ≡ length self.old.entries }
+        requires start { (length haystack.now < start) ⊎ IsCharBoundary haystack.now start }
+        ensures found { (trees : List Tree) → AreRegularPatterns trees
+            → IsGraphOfList trees self.old → TellsWhich trees (chars haystack.now)
+            (search_start haystack.now start) matched.new }
+        ensures length { length matched.new ≡ length matched.old }
+        ensures same { self.new ≡ self.old }
+    {
+        matched.fill(false);
+        let Some(kept) = &mut self.kept else {
+            return;
+        };
+        if start <= haystack.len() {
+            // It is never refused, since all memory that it needs is there.
+            let _ = search_all(self.graph, kept, haystack, start, matched);
+        }
+    }
+}
+
+/// What searches for the patterns of this list need, if it has any.
+///
+/// # Errors
+///
+/// If memory runs out.
+fn memory_for(alloc: Global, list: &GraphList) -> Result<Option<Kept>, AllocError>
+    ensures { IfOk result (IsReadyFor list.now) }
+{
+    if list.len() == 0 {
+        return Ok(None);
+    }
+    let kept = Kept::ready(alloc, list)?;
+    Ok(Some(kept))
+}
