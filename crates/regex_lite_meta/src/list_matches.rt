@@ -228,8 +228,8 @@ impl Kept {
         Ok(told)
     }
 
-    /// The same, but it goes on with an automaton if it isn't over soon. None if the memory for such
-    /// searches is refused.
+    /// The same, but it goes on with an automaton if it isn't over soon. None if the memory for that
+    /// is refused.
     // Not inlined, so that searches in short haystacks cost no more for it.
     #[inline(never)]
     fn search_learning(

@@ -46,8 +46,8 @@ impl<'g> SetSearcher<'g> {
     }
 
     /// Tells of each pattern, by its number, whether it matches from a position at or after this
-    /// offset. In long haystacks it asks for memory in which searches remember their turns, and goes
-    /// without where it is refused: the results are the same.
+    /// offset. In long haystacks it asks for memory in which searches remember their turns, and
+    /// goes without where it is refused: the results are the same.
     ///
     /// Conditions: there is room for as many answers as there are patterns, and the start is above
     /// the haystack's length or on a character boundary.

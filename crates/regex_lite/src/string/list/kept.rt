@@ -61,7 +61,7 @@ impl<'r> Model for RegexListSearcher<'r> {
 impl RegexList {
     /// A searcher of this list, which callers keep for many haystacks.
     ///
-    /// All memory for its searches is requested here, including that for their groups.
+    /// All memory that its searches need is requested here, including that for their groups.
     ///
     /// # Errors
     ///
