@@ -20,3 +20,4 @@ pub mod Slots
 pub mod Starts
 pub mod Prefixes
 pub mod Filters
+pub mod OutcomeOfOne

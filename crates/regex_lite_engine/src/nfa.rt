@@ -1,12 +1,11 @@
 //! The graph of a pattern: numbered places with ordered arrows.
-ghost use Rattle.std.specs.Prelude.{◌≡◌, ◌+◌, ◌^◌, ◌<◌, length, slice_get};
-ghost use Rattle.std.specs.Prelude.{sum_by, Some, IfOk, IfErr, IsTrue};
+ghost use Rattle.std.specs.Prelude.{◌≡◌, ◌^◌, ◌<◌, length, IfOk, IfErr};
 ghost use Rattle.regex_lite_syntax.specs.Errors.{kind_of};
 ghost use Rattle.regex_lite_syntax.specs.Tree.Regular.{IsRegular};
 ghost use Rattle.regex_lite_syntax.specs.Tree.Views.{tree_of};
 ghost use Rattle.regex_lite_engine.specs.Graph.Renumbered.{arrows_of, IsGraphOf, HasGroupsOf};
 ghost use Rattle.regex_lite_engine.specs.Graph.Size.{Fits, IsDueToTree};
-ghost use Rattle.regex_lite_engine.specs.Graph.Places.{kept_back_of, kept_back_with, reading_of};
+ghost use Rattle.regex_lite_engine.specs.Graph.Places.{kept_back_of};
 ghost use Rattle.regex_lite_engine.specs.Graph.Stored.{places_of, table_of};
 ghost use Rattle.regex_lite_engine.specs.Search.Filters.{heads_of};
 ghost use Rattle.regex_lite_engine.specs.Search.Starts.{AreHeadsOf};
@@ -112,16 +111,8 @@ impl Graph {
         &self.table
     }
 
-    /// Where a search starts.
-    pub fn start(&self) -> u32
-        ensures same { result ≡ self.now.start }
-        ensures inside { result < length self.now.places }
-    {
-        self.start
-    }
-
     /// Where a match can begin.
-    pub fn filter(&self) -> PatternFilter<'_>
+    fn filter(&self) -> PatternFilter<'_>
         ensures all { AreHeadsOf (table_of self.now) self.now.start (heads_of result) }
         ensures inside { self.now.start < length self.now.places }
     {
@@ -159,22 +150,6 @@ impl Graph {
         ensures few { result < 2 ^ 34 }
     {
         self.table.arrows()
-    }
-
-    /// How many places read a character. A search relies on there being few arrows too.
-    pub fn reading(&self) -> usize
-        ensures each { result ≡ reading_of (table_of self.now) }
-        ensures few { result < length self.now.places }
-        ensures few_arrows { arrows_of (table_of self.now) < 2 ^ 34 }
-    {
-        self.table.reading()
-    }
-
-    /// How much a search with this number of slots keeps back if it enters each place once.
-    pub(crate) fn kept_back(&self, slots: usize) -> usize
-        ensures { result ≡ sum_by (kept_back_with slots) (table_of self.now) }
-    {
-        self.table.kept_back(slots)
     }
 
     /// The names of the groups by index, group 0 first.

@@ -1,38 +1,75 @@
 -- The least end that a search of one pattern finds, which begins where a match may begin first.
-use Rattle.regex_lite_meta.proofs.Common.{ℕ, ◌≤◌, List, [], ◌∷◌, None, length, IsUtf8, chars}
-use Rattle.regex_lite_meta.proofs.Common.{option_map, table_of, Best, IsNumberedEndOf, position_at}
-use Rattle.regex_lite_meta.proofs.Common.{PassesTo, Here}
-use Rattle.regex_lite_syntax.specs.Tree.{Tree}
-use Rattle.regex_lite_syntax.specs.Tree.Regular.{IsRegular}
-use Rattle.regex_lite_engine.specs.Graph.Renumbered.{IsGraphOf}
-use Rattle.regex_lite_engine.specs.Graph.Stored.{StoredGraph}
-use Rattle.regex_lite_engine.specs.Search.Outcomes.{IsEndOutcome}
+use Rattle.regex_lite_meta.proofs.Common.{◌≡◌, ℕ, List, [], ◌∷◌, Some, None, IsUtf8, chars, refl}
+use Rattle.regex_lite_meta.proofs.Common.{Option, option_map, sym, subst, Text}
+use Rattle.regex_lite_meta.proofs.Common.{Best, IsNumberedEndOf, position_at, PassesTo, Here}
+use Rattle.regex_lite_engine.specs.Graph.Places.{Place}
+use Rattle.regex_lite_engine.specs.Search.NumberedAnswer.{IsNumberedMatch}
+use Rattle.regex_lite_engine.specs.Search.NumberedList.{IsMatchOfAny}
+use Rattle.regex_lite_engine.specs.Search.OutcomeOfOne.{ending_at}
 use Rattle.regex_lite_engine.specs.Search.Starts.{AreDeadFrom, IsDeadAt}
 use Rattle.regex_lite_engine.proofs.pikevm.ShortestLemmas.{one_end}
 use Rattle.regex_lite_engine.proofs.search.FirstStartLemmas.{none_before_first, none_from}
-use Rattle.regex_lite_engine.proofs.search.OutcomeLemmas as outcome
-use Rattle.regex_lite_engine.proofs.search.OutcomeLemmas.{end_from}
+use Rattle.regex_lite_engine.proofs.search.OneStartLemmas.{only_entry}
+use Rattle.regex_lite_engine.proofs.search.OutcomeLemmas.{IsNumberedEnd, end_from}
 
-module _ (graph : StoredGraph) (haystack : List ℕ) (start : ℕ) (inside : start ≤ length haystack)
-    (tree : Tree) (regular : IsRegular tree) (is : IsGraphOf tree graph) where
+-- where a match ends that is told by its end alone
+pub ended : (end : Option ℕ) → option_map (λ best. best.1) (ending_at end) ≡ end
+ended None = refl
+ended (Some end) = refl
+
+-- a match that ends there ends there, whatever else is known of it
+pub ends_there : (table : List (Place ℕ)) (haystack : Text) (entries : List ℕ) (s : ℕ)
+    (best : Best) → IsNumberedEndOf table haystack entries s best
+    → IsNumberedEndOf table haystack entries s (ending_at (option_map (λ best. best.1) best))
+ends_there table haystack entries s None none = none
+ends_there table haystack entries s (Some best) found = found
+
+module _ (table : List (Place ℕ)) (haystack : Text) (entry s : ℕ) where
+  -- a match of one of them is one of the only pattern
+  pub own_match : (i k : ℕ) (way : List ℕ) (q j : ℕ)
+      → IsMatchOfAny table haystack (entry ∷ []) s i k way q j
+      → IsNumberedMatch table haystack entry s i way q j
+  own_match i k way q j is =
+      subst (λ z. IsNumberedMatch table haystack z s i way q j)
+      (sym (only_entry entry k is.entry is.is_entry).1) is.is_match
+
+  -- the least end of a pattern is that of a list that has no other
+  pub end_of_one : (best : Best) → IsNumberedEnd table haystack entry s best
+      → IsNumberedEndOf table haystack (entry ∷ []) s best
+  end_of_one None none = λ i k way q j is. none i q j way (own_match i k way q j is)
+  end_of_one (Some best) (end, ((i, q, way, is), least), at) = (
+    end,
+    record {
+      start = i;
+      number = 0;
+      way = way;
+      last = q;
+      is_match = record { entry = entry; is_entry = refl; is_match = is };
+      least = λ i k way q j is. least i q j way (own_match i k way q j is);
+    },
+    at,
+  )
+
+module _ (table : List (Place ℕ)) (bytes : List ℕ) (entry : ℕ) (start : ℕ) where
   -- it is the least end from the offset on
-  pub end_told : (utf8 : IsUtf8 haystack) (first : Here)
-      → PassesTo (IsDeadAt (table_of graph) (chars haystack) graph.start) (chars haystack)
-      (position_at haystack start) first
-      → (best : Best) → IsNumberedEndOf (table_of graph) (chars haystack) (graph.start ∷ [])
-      (position_at haystack first.at) best
-      → IsEndOutcome tree haystack start (option_map (λ best. best.1) best)
+  pub end_told : (utf8 : IsUtf8 bytes) (first : Here)
+      → PassesTo (IsDeadAt table (chars bytes) entry) (chars bytes) (position_at bytes start) first
+      → (best : Best)
+      → IsNumberedEndOf table (chars bytes) (entry ∷ []) (position_at bytes first.at) best
+      → IsNumberedEndOf table (chars bytes) (entry ∷ []) (position_at bytes start)
+      (ending_at (option_map (λ best. best.1) best))
   end_told utf8 first passes best found =
-      let s = position_at haystack start in
-      let m = position_at haystack first.at in
-      outcome.end_told tree regular graph is haystack start inside best
-      (end_from (table_of graph) (chars haystack) graph.start s m
-      (none_before_first (table_of graph) haystack utf8 graph.start s first passes) best
-      (one_end (table_of graph) (chars haystack) graph.start m best found))
+      let s = position_at bytes start in
+      let m = position_at bytes first.at in
+      ends_there table (chars bytes) (entry ∷ []) s best
+      (end_of_one table (chars bytes) entry s best
+      (end_from table (chars bytes) entry s m
+      (none_before_first table bytes utf8 entry s first passes) best
+      (one_end table (chars bytes) entry m best found)))
 
   -- where no match may begin there is none
-  pub none_told : AreDeadFrom (table_of graph) (chars haystack) graph.start
-      (position_at haystack start) → IsEndOutcome tree haystack start None
+  pub none_told : AreDeadFrom table (chars bytes) entry (position_at bytes start)
+      → IsNumberedEndOf table (chars bytes) (entry ∷ []) (position_at bytes start) None
   none_told dead =
-      outcome.end_told tree regular graph is haystack start inside None
-      (none_from (table_of graph) (chars haystack) graph.start (position_at haystack start) dead)
+      let s = position_at bytes start in
+      end_of_one table (chars bytes) entry s None (none_from table (chars bytes) entry s dead)

@@ -2,3 +2,4 @@
 pub mod Common
 -- lemmas that two folders share
 pub mod EndLemmas
+pub mod OneLemmas

@@ -1,24 +1,17 @@
 //! Searches for several patterns, one after another, in the same working memory.
-ghost use Rattle.std.specs.Prelude.{◌≡◌, ◌<◌, ◌⊎◌, ◌↔◌, ℕ, List, IfOk, IsCharBoundary, IsTrue};
-ghost use Rattle.std.specs.Prelude.{Some, chars, length, option_map};
-ghost use Rattle.regex_lite_meta.specs.LazyDfa.Scanning.{best_told};
-ghost use Rattle.regex_lite_meta.specs.Slots.{FindsListSlots, FindsSlotsIn, kept_row};
+ghost use Rattle.std.specs.Prelude.{◌≡◌, ◌<◌, ◌⊎◌, ◌↔◌, List, IfOk, IsCharBoundary, IsTrue};
+ghost use Rattle.std.specs.Prelude.{chars, length};
 ghost use Rattle.regex_lite_syntax.specs.Tree.{Tree};
 ghost use Rattle.regex_lite_engine.specs.Graph.SideBySide.{AreRegularPatterns};
-ghost use Rattle.regex_lite_engine.specs.Graph.StoredList.{IsGraphOfList, table_of_list};
+ghost use Rattle.regex_lite_engine.specs.Graph.StoredList.{IsGraphOfList};
 ghost use Rattle.regex_lite_engine.specs.Search.AnswerOfList.{AnyMatchesFrom};
-ghost use Rattle.regex_lite_engine.specs.Search.NumberedOutcomes.{IsBestOutcomeOf, numbered_at};
-ghost use Rattle.regex_lite_engine.specs.Search.NumberedOutcomes.{with_origin_kept};
 ghost use Rattle.regex_lite_engine.specs.Search.Offsets.{search_start};
 ghost use Rattle.regex_lite_engine.specs.Search.Outcomes.{IsSpanOutcomeOfList};
 
-use crate::lazy_dfa::list_spans::ListSpanSearcher;
-use crate::slots::SlotCache;
-use crate::strategy::{Searched, SpanSearch, Strategy, Wanted, choose};
+use crate::pattern_searcher::PatternSearcher;
+use crate::several_searcher::SeveralSearcher;
+use crate::strategy::SpanSearch;
 use regex_lite_engine::nfa::list::GraphList;
-use regex_lite_engine::pikevm::beginning::Origin;
-use regex_lite_engine::pikevm::best::numbered;
-use regex_lite_engine::pikevm::cache::cache_for_list;
 use std::alloc::{AllocError, Global};
 use std::marker::Model;
 
@@ -26,28 +19,29 @@ use std::marker::Model;
 #[derive(Drop)]
 pub struct ListSearcher<'g> {
     graph: &'g GraphList,
-    spans: ListSpanSearcher<'g>,
-    /// What finds the slots of a match, where they are searched for once it is known.
-    slots: Option<Box<SlotCache>>,
+    inner: Inner<'g>,
+}
+
+/// What searches the graph.
+#[derive(Drop)]
+pub(crate) enum Inner<'g> {
+    /// Of a pattern alone, which is searched for as that of a regex is.
+    One(PatternSearcher),
+    Several(SeveralSearcher<'g>),
 }
 
 impl<'g> Model for ListSearcher<'g> {
-    ghost use Rattle.std.specs.Prelude.{length, option_map};
-    ghost use Rattle.regex_lite_meta.specs.LazyDfa.Remembering.{FindsSpansInList};
+    ghost use Rattle.regex_lite_meta.specs.Memories.{SearchesForList, row_of_list};
     ghost use Rattle.regex_lite_meta.specs.Searching.{ListSearching};
-    ghost use Rattle.regex_lite_meta.specs.Slots.{FindsListSlots, kept_row};
 
     ghost Value = { ListSearching };
 
     ghost view = { λ searcher. record {
       graph = searcher.graph.now;
-      slots = kept_row searcher.spans.cache.best.row
-          (option_map (λ boxed. boxed.value) searcher.slots);
+      slots = row_of_list searcher.inner;
     } };
 
-    ghost invariant = { λ searcher. FindsSpansInList searcher.graph.now searcher.spans
-        × FindsListSlots searcher.graph.now (length searcher.spans.cache.best.row)
-        (option_map (λ boxed. boxed.value) searcher.slots) };
+    ghost invariant = { λ searcher. SearchesForList searcher.graph.now searcher.inner };
 }
 
 impl<'g> ListSearcher<'g> {
@@ -59,8 +53,6 @@ impl<'g> ListSearcher<'g> {
     /// # Errors
     ///
     /// If memory runs out without which it can't search.
-    // Not inlined, since what an inlined one needs is cleared each time.
-    #[inline(never)]
     pub fn new(
         alloc: Global,
         graph: &'g GraphList,
@@ -70,23 +62,15 @@ impl<'g> ListSearcher<'g> {
         ensures graph { IfOk result (λ searcher. searcher.graph ≡ graph.now) }
         ensures slots { IfOk result (λ searcher. length searcher.slots ≡ slots) }
     {
-        let by = match choose(&Searched::several(graph), Wanted::EachMatch, slots, bytes) {
-            Strategy::SpanFirst { by, pairs } => {
-                return ListSearcher::span_first(alloc, graph, slots, by, pairs);
-            }
-            Strategy::LazyDfa => SpanSearch::LazyDfa,
-            _ => SpanSearch::OrderedSets,
+        let inner = match graph.alone() {
+            Some(pattern) => { Inner::One(PatternSearcher::new(alloc, &pattern, slots, bytes)?) }
+            None => Inner::Several(SeveralSearcher::new(alloc, graph, slots, bytes)?),
         };
-        let spans = ListSpanSearcher::new(alloc, graph, slots, by)?;
-        Ok(ListSearcher {
-            graph,
-            spans,
-            slots: None,
-        })
+        Ok(ListSearcher { graph, inner })
     }
 
-    /// One that finds a match first, in this way, and then its slots: depth first if there are at
-    /// most this number of pairs.
+    /// One for several patterns that finds a match first, in this way, and then its slots: depth
+    /// first if there are at most this number of pairs.
     pub(crate) fn span_first(
         alloc: Global,
         graph: &'g GraphList,
@@ -97,13 +81,10 @@ impl<'g> ListSearcher<'g> {
         ensures graph { IfOk result (λ searcher. searcher.graph ≡ graph.now) }
         ensures slots { IfOk result (λ searcher. length searcher.slots ≡ slots) }
     {
-        let spans = ListSpanSearcher::new(alloc, graph, 0, by)?;
-        let cache = cache_for_list(alloc, graph, slots)?;
-        let memory = SlotCache::new(alloc, cache, graph.table(), pairs);
+        let several = SeveralSearcher::span_first(alloc, graph, slots, by, pairs)?;
         Ok(ListSearcher {
             graph,
-            spans,
-            slots: Some(Box::new(alloc, memory)?),
+            inner: Inner::Several(several),
         })
     }
 
@@ -123,11 +104,14 @@ impl<'g> ListSearcher<'g> {
         if start > haystack.len() || self.graph.len() == 0 {
             return None;
         }
-        let found = self.spans.find::<false>(self.graph, haystack, start)?;
-        let Some(slots) = &mut self.slots else {
-            return numbered(Some(found));
-        };
-        find_slots(self.graph, slots, haystack, found)
+        match &mut self.inner {
+            Inner::One(one) => {
+                let mut pattern = self.graph.pattern(0);
+                let span = one.find(&mut pattern, haystack, start)?;
+                Some((0, span))
+            }
+            Inner::Several(several) => several.find(self.graph, haystack, start),
+        }
     }
 
     /// Whether any pattern has a match that starts at or after this offset. The search is over at
@@ -146,9 +130,13 @@ impl<'g> ListSearcher<'g> {
         if start > haystack.len() || self.graph.len() == 0 {
             return false;
         }
-        self.spans
-            .find::<true>(self.graph, haystack, start)
-            .is_some()
+        match &mut self.inner {
+            Inner::One(one) => {
+                let mut pattern = self.graph.pattern(0);
+                one.find_end(&mut pattern, haystack, start).is_some()
+            }
+            Inner::Several(several) => several.find_end(self.graph, haystack, start).is_some(),
+        }
     }
 
     /// The slots of the last match that was found, none of them marked before the first. Slots 2k
@@ -156,35 +144,9 @@ impl<'g> ListSearcher<'g> {
     pub fn slots(&self) -> &[Option<usize>]
         ensures { result.now ≡ self.now.slots }
     {
-        match &self.slots {
-            Some(slots) => slots.cache.best.row(),
-            None => self.spans.row(),
+        match &self.inner {
+            Inner::One(one) => one.row(),
+            Inner::Several(several) => several.row(),
         }
     }
-}
-
-/// Searches for the slots of the match that starts and ends here, of the pattern with this number,
-/// which is the first match of any pattern. Its row has them afterwards. Returns the number, and
-/// where the match starts and ends.
-fn find_slots(
-    graph: &GraphList,
-    memory: &mut SlotCache,
-    haystack: &str,
-    found: (Origin, usize),
-) -> Option<(usize, (usize, usize))>
-    requires found { (s : ℕ) × IsBestOutcomeOf (table_of_list graph.now) (chars haystack.now)
-        graph.now.entries s (best_told (Some found)) }
-    requires finds { FindsSlotsIn (table_of_list graph.now) memory.old }
-    ensures found { (s : ℕ) → IsBestOutcomeOf (table_of_list graph.now) (chars haystack.now)
-        graph.now.entries s (best_told (Some found))
-        → IsBestOutcomeOf (table_of_list graph.now) (chars haystack.now) graph.now.entries s
-        (with_origin_kept (numbered_at result memory.new.cache.best.row)) }
-    ensures finds { FindsSlotsIn (table_of_list graph.now) memory.new }
-    ensures width { length memory.new.cache.best.row ≡ length memory.old.cache.best.row }
-{
-    let (origin, end) = found;
-    let number = origin.number as usize;
-    let mut pattern = graph.pattern(number);
-    let span = memory.find_known(&mut pattern, haystack, (origin.at, end))?;
-    Some((number, span))
 }

@@ -1,6 +1,6 @@
 //! Searches by themselves, each by the way that `strategy` chooses.
 ghost use Rattle.std.specs.Prelude.{◌≡◌, ◌<◌, ◌≤◌, ◌⊎◌, ◌↔◌, List, IfOk, IfSome, IsCharBoundary};
-ghost use Rattle.std.specs.Prelude.{IsTrue, chars, length};
+ghost use Rattle.std.specs.Prelude.{IsTrue, chars, length, option_map};
 ghost use Rattle.regex_lite_syntax.specs.Tree.{Tree};
 ghost use Rattle.regex_lite_syntax.specs.Tree.Regular.{IsRegular};
 ghost use Rattle.regex_lite_engine.specs.Graph.Renumbered.{IsGraphOf};
@@ -11,14 +11,11 @@ ghost use Rattle.regex_lite_engine.specs.Search.Offsets.{search_start};
 ghost use Rattle.regex_lite_engine.specs.Search.Outcomes.{IsOutcome, IsEndOutcome, HasCost};
 ghost use Rattle.regex_lite_engine.specs.Search.Outcomes.{HasCostOfList, IsOutcomeOfList};
 
-use crate::lazy_dfa::single::graph::{search_remembering, search_shortest_remembering};
 use crate::lazy_dfa::single::list::{search_any_remembering, search_list_remembering};
 use crate::list_searcher::ListSearcher;
-use crate::strategy::{Searched, Strategy, Wanted, choose};
+use crate::one::{search_one, search_shortest_one};
+use crate::strategy::{Searched, SpanSearch, Strategy, Wanted, choose};
 use regex_lite_engine::nfa::list::GraphList;
-use regex_lite_engine::pikevm::beginning::Unkept;
-use regex_lite_engine::pikevm::cache::{Cache, cache_for};
-use regex_lite_engine::pikevm::run::run_shortest;
 use regex_lite_engine::search::outcome::Outcome;
 use regex_lite_engine::steps::no_steps;
 use regex_lite_engine::{Graph, Steps};
@@ -51,13 +48,8 @@ pub fn search(
     if start > haystack.len() {
         return Ok((None, no_steps()));
     }
-    let left = haystack.len() - start;
-    let searched = Searched::one(graph.table(), graph.filter());
-    match choose(&searched, Wanted::Match { start }, slots, left) {
-        Strategy::LazyDfa => search_remembering(graph, alloc, haystack, start),
-        Strategy::DepthFirst => graph.search_depth_first(alloc, haystack, start, slots),
-        _ => graph.search_in_step(alloc, haystack, start, slots),
-    }
+    let mut pattern = graph.pattern();
+    search_one(&mut pattern, alloc, haystack, start, slots)
 }
 
 /// The least end of any match that starts at or after this offset, and what the search did. It
@@ -84,19 +76,8 @@ pub fn search_shortest(
     if start > haystack.len() {
         return Ok((None, no_steps()));
     }
-    let left = haystack.len() - start;
-    let searched = Searched::one(graph.table(), graph.filter());
-    if let Strategy::LazyDfa = choose(&searched, Wanted::Earliest, 0, left) {
-        return search_shortest_remembering(graph, alloc, haystack, start);
-    }
     let mut pattern = graph.pattern();
-    let Some(first) = pattern.first_start(haystack, start) else {
-        return Ok((None, no_steps()));
-    };
-    let mut cache = cache_for::<Unkept>(alloc, pattern.table, 0)?;
-    run_shortest(&mut cache, &mut pattern, haystack, first.at);
-    let Cache { walk, best, .. } = cache;
-    Ok((best.end(), walk.steps))
+    search_shortest_one(&mut pattern, alloc, haystack, start)
 }
 
 /// The match that starts first at or after this offset, of the pattern with the lowest number that
@@ -124,13 +105,16 @@ pub fn search_list(
         → HasCostOfList trees haystack.now start told.1) }
     ensures entered { IfOk result (λ told. IfSome told.0 (λ _. 0 < told.1.entered)) }
 {
-    let left = haystack.len().saturating_sub(start);
-    match choose(
-        &Searched::several(list),
-        Wanted::Match { start },
-        slots,
-        left,
-    ) {
+    if start > haystack.len() {
+        return Ok((None, no_steps()));
+    }
+    if let Some(mut pattern) = list.alone() {
+        let (found, steps) = search_one(&mut pattern, alloc, haystack, start, slots)?;
+        return Ok((first_of_list(found), steps));
+    }
+    let searched = Searched::several(list);
+    let left = haystack.len() - start;
+    match choose(&searched, Wanted::Match { start }, slots, left) {
         Strategy::LazyDfa => search_list_remembering(list, alloc, haystack, start),
         // With slots an automaton would find the match and another search its slots: both together
         // may try more places than are allowed.
@@ -160,13 +144,7 @@ pub fn search_list_uncounted(
         (λ found. length found.1.slots.items ≡ slots)) }
 {
     let left = haystack.len().saturating_sub(start);
-    let strategy = choose(
-        &Searched::several(list),
-        Wanted::Uncounted { start },
-        slots,
-        left,
-    );
-    let Strategy::SpanFirst { by, pairs } = strategy else {
+    let Some((by, pairs)) = span_first_in(list, start, slots, left) else {
         let (told, _) = search_list(list, alloc, haystack, start, slots)?;
         return Ok(told);
     };
@@ -206,9 +184,42 @@ pub fn search_list_any(
         → HasCostOfList trees haystack.now start told.1) }
     ensures entered { IfOk result (λ told. IsTrue told.0 → 0 < told.1.entered) }
 {
-    let left = haystack.len().saturating_sub(start);
+    if start > haystack.len() {
+        return Ok((false, no_steps()));
+    }
+    if let Some(mut pattern) = list.alone() {
+        let (end, steps) = search_shortest_one(&mut pattern, alloc, haystack, start)?;
+        return Ok((end.is_some(), steps));
+    }
+    let left = haystack.len() - start;
     match choose(&Searched::several(list), Wanted::Earliest, 0, left) {
         Strategy::LazyDfa => search_any_remembering(list, alloc, haystack, start),
         _ => list.search_any(alloc, haystack, start),
+    }
+}
+
+/// The match of a list's first pattern.
+fn first_of_list(found: Option<Outcome>) -> Option<(usize, Outcome)>
+    ensures { result ≡ option_map (λ outcome. (0, outcome)) found }
+{
+    let outcome = found?;
+    Some((0, outcome))
+}
+
+/// How the span of a match of several patterns is found before its slots, where that pays, and up to
+/// how many pairs these are searched for depth first.
+fn span_first_in(
+    list: &GraphList,
+    start: usize,
+    slots: usize,
+    bytes: usize,
+) -> Option<(SpanSearch, usize)> {
+    if list.len() == 1 {
+        return None;
+    }
+    let searched = Searched::several(list);
+    match choose(&searched, Wanted::Uncounted { start }, slots, bytes) {
+        Strategy::SpanFirst { by, pairs } => Some((by, pairs)),
+        _ => None,
     }
 }

@@ -1,24 +1,12 @@
 //! Searches in one graph, one after another, in the same working memory.
-ghost use Rattle.std.specs.Prelude.{◌≡◌, ◌<◌, ◌⊎◌, ℕ, IfOk, IfSome, IsCharBoundary, chars, length};
-ghost use Rattle.regex_lite_meta.specs.LazyDfa.Remembering.{RemembersAll};
-ghost use Rattle.regex_lite_meta.specs.Slots.{FindsSlotsIn};
+ghost use Rattle.std.specs.Prelude.{◌≡◌, ◌<◌, ◌⊎◌, IfOk, IsCharBoundary, length};
 ghost use Rattle.regex_lite_syntax.specs.Tree.{Tree};
 ghost use Rattle.regex_lite_syntax.specs.Tree.Regular.{IsRegular};
 ghost use Rattle.regex_lite_engine.specs.Graph.Renumbered.{IsGraphOf};
-ghost use Rattle.regex_lite_engine.specs.Graph.Stored.{table_of};
-ghost use Rattle.regex_lite_engine.specs.Search.NumberedAnswer.{NoneStartsBefore};
-ghost use Rattle.regex_lite_engine.specs.Search.NumberedOutcomes.{IsNumberedOutcome, best_at};
-ghost use Rattle.regex_lite_engine.specs.Search.Offsets.{position_at};
 ghost use Rattle.regex_lite_engine.specs.Search.Outcomes.{IsEndOutcome, IsSpanOutcome};
 
-use crate::lazy_dfa::automaton::LazyDfa;
-use crate::lazy_dfa::single::graph::end_of;
-use crate::lazy_dfa::spans::SpanSearcher;
-use crate::slots::SlotCache;
-use crate::strategy::{Searched, Strategy, Wanted, choose};
+use crate::pattern_searcher::PatternSearcher;
 use regex_lite_engine::Graph;
-use regex_lite_engine::pikevm::cache::{cache_for, restart};
-use regex_lite_engine::pikevm::run::advance;
 use std::alloc::{AllocError, Global};
 use std::marker::Model;
 
@@ -26,31 +14,23 @@ use std::marker::Model;
 #[derive(Drop)]
 pub struct Searcher<'g> {
     graph: &'g Graph,
-    memory: SlotCache,
-    /// What is remembered of the turns of earlier searches, if no slots are kept and it pays.
-    dfa: Option<Box<LazyDfa>>,
-    /// What finds where a match starts and ends, if slots are kept and it pays.
-    spans: Option<Box<SpanSearcher>>,
+    inner: PatternSearcher,
 }
 
 impl<'g> Model for Searcher<'g> {
-    ghost use Rattle.std.specs.Prelude.{IfSome, length, option_map};
-    ghost use Rattle.regex_lite_meta.specs.LazyDfa.Remembering.{FindsSpansIn, IsRemembering};
+    ghost use Rattle.regex_lite_meta.specs.Memories.{SearchesForOne};
     ghost use Rattle.regex_lite_meta.specs.Searching.{Searching};
-    ghost use Rattle.regex_lite_meta.specs.Slots.{FindsSlotsIn};
     ghost use Rattle.regex_lite_engine.specs.Graph.Stored.{table_of};
 
     ghost Value = { Searching };
 
     ghost view = { λ searcher. record {
       graph = searcher.graph.now;
-      slots = searcher.memory.cache.best.row;
+      slots = searcher.inner.memory.cache.best.row;
     } };
 
-    ghost invariant = { λ searcher. FindsSlotsIn (table_of searcher.graph.now) searcher.memory
-        × IsRemembering searcher.graph.now (length searcher.memory.cache.best.row)
-        (option_map (λ dfa. dfa.value) searcher.dfa)
-        × IfSome searcher.spans (λ boxed. FindsSpansIn searcher.graph.now boxed.value) };
+    ghost invariant = { λ searcher.
+        SearchesForOne (table_of searcher.graph.now) searcher.graph.now.start searcher.inner };
 }
 
 impl<'g> Searcher<'g> {
@@ -71,24 +51,9 @@ impl<'g> Searcher<'g> {
         ensures graph { IfOk result (λ searcher. searcher.graph ≡ graph.now) }
         ensures slots { IfOk result (λ searcher. length searcher.slots ≡ slots) }
     {
-        let searched = Searched::one(graph.table(), graph.filter());
-        let strategy = choose(&searched, Wanted::EachMatch, slots, bytes);
-        let cache = cache_for(alloc, graph.table(), slots)?;
-        let memory = SlotCache::new(alloc, cache, graph.table(), strategy.pairs());
-        let dfa = match strategy {
-            Strategy::LazyDfa => automaton_for(alloc, graph),
-            _ => None,
-        };
-        let spans = match strategy {
-            Strategy::SpanFirst { .. } => SpanSearcher::for_graph(alloc, graph),
-            _ => None,
-        };
-        Ok(Searcher {
-            graph,
-            memory,
-            dfa,
-            spans,
-        })
+        let pattern = graph.pattern();
+        let inner = PatternSearcher::new(alloc, &pattern, slots, bytes)?;
+        Ok(Searcher { graph, inner })
     }
 
     /// Where the most preferred match starts and ends, from the least start at or after this
@@ -105,17 +70,8 @@ impl<'g> Searcher<'g> {
         if start > haystack.len() {
             return None;
         }
-        if let Some(dfa) = &mut self.dfa {
-            let cache = &mut self.memory.cache;
-            restart(cache);
-            return dfa.find_in_graph(self.graph, cache, haystack, start);
-        }
         let mut pattern = self.graph.pattern();
-        let Some(spans) = &mut self.spans else {
-            return self.memory.find_from(&mut pattern, haystack, start);
-        };
-        let span = spans.find(self.graph, haystack, start)?;
-        self.memory.find_known(&mut pattern, haystack, span)
+        self.inner.find(&mut pattern, haystack, start)
     }
 
     /// The least end of any match that starts at or after this offset. The search is over at the
@@ -134,15 +90,7 @@ impl<'g> Searcher<'g> {
             return None;
         }
         let mut pattern = self.graph.pattern();
-        let first = pattern.first_start(haystack, start)?;
-        let cache = &mut self.memory.cache;
-        restart(cache);
-        let Some(dfa) = &mut self.dfa else {
-            advance::<_, _, true>(cache, &mut pattern, haystack, first, None);
-            return cache.best.end();
-        };
-        pattern.may_start = true;
-        end_of(dfa.find::<_, true>(&mut pattern, cache, haystack, first))
+        self.inner.find_end(&mut pattern, haystack, start)
     }
 
     /// The slots of the last match that was found, none of them marked before the first. Slots 2k
@@ -150,17 +98,6 @@ impl<'g> Searcher<'g> {
     pub fn slots(&self) -> &[Option<usize>]
         ensures { result.now ≡ self.now.slots }
     {
-        self.memory.cache.best.row()
+        self.inner.row()
     }
-}
-
-/// An automaton of this graph that remembers nothing yet, on the heap: most searchers have none,
-/// and are moved about often.
-// Not inlined, so that to make a searcher without one costs no more for it.
-#[inline(never)]
-fn automaton_for(alloc: Global, graph: &Graph) -> Option<Box<LazyDfa>>
-    ensures { IfSome result (λ dfa. RemembersAll graph.now dfa.value) }
-{
-    let dfa = LazyDfa::for_graph(alloc, graph)?;
-    Box::new(alloc, dfa).ok()
 }

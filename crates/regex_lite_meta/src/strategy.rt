@@ -127,7 +127,7 @@ pub(crate) fn choose(
 {
     if slots > 0 {
         if let Some(by) = searched.span_first(wanted, bytes) {
-            let pairs = searched.most_pairs();
+            let pairs = searched.most_pairs(bytes);
             return Strategy::SpanFirst { by, pairs };
         }
     } else if searched.pays_to_remember(wanted, bytes) {
@@ -185,6 +185,13 @@ impl<'g> Searched<'g> {
         if bytes < LONG_BETWEEN_MATCHES || !wanted.may_search_twice() {
             return None;
         }
+        if self.is_line_by_line(bytes) {
+            return Some(if self.pays_to_remember(wanted, bytes) {
+                SpanSearch::LazyDfa
+            } else {
+                SpanSearch::OrderedSets
+            });
+        }
         if self.pays_for_spans() {
             return Some(SpanSearch::LazyDfa);
         }
@@ -241,6 +248,13 @@ impl<'g> Searched<'g> {
         }
     }
 
+    /// Whether it is one pattern in haystacks of a searcher that a caller keeps: together they are
+    /// endless, and each is short. Most have no match, so that a search without slots is all that
+    /// they take. With slots from the start, lines of a log with two groups took 1.7 times as many.
+    fn is_line_by_line(&self, bytes: usize) -> bool {
+        bytes == usize::MAX && !self.are_several()
+    }
+
     /// Up to how many places an automaton finds spans.
     fn most_places(&self) -> usize {
         if self.are_several() {
@@ -252,8 +266,8 @@ impl<'g> Searched<'g> {
 
     /// Up to how many pairs the slots of a match whose span is known are searched for depth first.
     /// With looks, such a search goes up to the haystack's end.
-    fn most_pairs(&self) -> usize {
-        if self.are_several() {
+    fn most_pairs(&self, bytes: usize) -> usize {
+        if self.are_several() || self.is_line_by_line(bytes) {
             return MOST_PAIRS_OF_LINE;
         }
         if has_looks(self.table) {

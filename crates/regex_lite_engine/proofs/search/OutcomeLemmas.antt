@@ -1,6 +1,6 @@
 -- What a search returns: where it starts, that its counts fit, and the tree's answer by offsets.
 use Rattle.regex_lite_engine.proofs.Common.{◌≡◌, ℕ, ◌+◌, ◌*◌, ◌^◌, ◌<◌, ◌≤◌, List, [], length, Some}
-use Rattle.regex_lite_engine.proofs.Common.{None, IsUtf8, Option, option_map, chars, sym, ◌∙◌}
+use Rattle.regex_lite_engine.proofs.Common.{None, IfSome, IsUtf8, Option, option_map, chars, sym, ◌∙◌}
 use Rattle.regex_lite_engine.proofs.Common.{subst, arith, mul-le-mul_left, mul-le-mul_right}
 use Rattle.regex_lite_engine.proofs.Common.{length-map, encodes-chars, Tree, IsRegular}
 use Rattle.regex_lite_engine.proofs.Common.{whole_places, whole_arrows, arrows_of, place_of}
@@ -18,6 +18,7 @@ use Rattle.regex_lite_engine.specs.Graph.Places.{Place}
 use Rattle.regex_lite_engine.specs.Graph.Renumbered.{IsGraphOf}
 use Rattle.regex_lite_engine.specs.Search.Bounds.{IsBounded}
 use Rattle.regex_lite_engine.specs.Search.Answer.{IsShortest}
+use Rattle.regex_lite_engine.specs.Search.Rows.{Row}
 use Rattle.regex_lite_engine.proofs.laws.search.NumberedAnswerLemmas.{
   IsNumberedShortest,
   answer_of_numbers,
@@ -111,6 +112,13 @@ cost_told tree graph is haystack start inside tried entered looked bounded =
     (subst (λ z. IsBounded z (arrows_of (table_of graph)) (chars haystack)
     (position_at haystack start) tried entered looked)
     (length-map graph.places place_of ∙ is.places) bounded))
+
+-- where a match is told one was found, and what holds then holds
+pub told_entered : (P : Type 0) (outcome : Option Outcome) (found : Option (ℕ × ℕ)) (row : Row)
+    → match_told outcome ≡ best_at found row → IfSome found (λ _. P) → IfSome outcome (λ _. P)
+told_entered P None found row is holds = tt
+told_entered P (Some outcome) None row is holds = cc
+told_entered P (Some outcome) (Some span) row is holds = holds
 
 module _ (tree : Tree) (regular : IsRegular tree) (graph : StoredGraph)
     (is : IsGraphOf tree graph) (haystack : List ℕ) (start : ℕ)

@@ -1,24 +1,22 @@
 //! A depth-first search, from its working memory to its outcome.
 ghost use Rattle.std.specs.Prelude.{◌≡◌, ◌<◌, IfOk, IfSome, IsCharBoundary, length};
-ghost use Rattle.regex_lite_syntax.specs.Tree.{Tree};
-ghost use Rattle.regex_lite_syntax.specs.Tree.Regular.{IsRegular};
 ghost use Rattle.regex_lite_engine.specs.Backtrack.Searching.{IsFresh};
-ghost use Rattle.regex_lite_engine.specs.Graph.Renumbered.{IsGraphOf};
-ghost use Rattle.regex_lite_engine.specs.Graph.Stored.{table_of};
-ghost use Rattle.regex_lite_engine.specs.Search.Outcomes.{IsOutcome, HasCost};
+ghost use Rattle.regex_lite_engine.specs.Graph.Stored.{places_of};
 ghost use Rattle.regex_lite_engine.specs.Search.Counting.{IsCountable};
 ghost use Rattle.regex_lite_engine.specs.Search.NumberedOutcomes.{match_told, best_at};
+ghost use Rattle.regex_lite_engine.specs.Search.OutcomeOfOne.{TellsMatch};
 
-use crate::Graph;
 use crate::backtrack::run::run;
 use crate::backtrack::stack::Stack;
 use crate::backtrack::visited::Visited;
 use crate::backtrack::walk::Walk;
+use crate::nfa::table::Table;
+use crate::search::one_pattern::OnePattern;
 use crate::search::outcome::Outcome;
 use crate::steps::{Steps, no_steps};
 use std::alloc::{AllocError, Global};
 
-impl Graph {
+impl<'g> OnePattern<'g> {
     /// The most preferred match from the least start at or after this offset, with this number of
     /// slots, and what the search did. It goes depth first.
     ///
@@ -35,49 +33,44 @@ impl Graph {
         slots: usize,
     ) -> Result<(Option<Outcome>, Steps), AllocError>
         requires { IsCharBoundary haystack.now start }
-        ensures found { IfOk result (λ told. (tree : Tree) → IsRegular tree
-            → IsGraphOf tree self.now → IsOutcome tree haystack.now start told.0) }
-        ensures slots { IfOk result (λ told. IfSome told.0
-            (λ outcome. length outcome.slots.items ≡ slots)) }
-        ensures cost { IfOk result (λ told. (tree : Tree) → IsGraphOf tree self.now
-            → HasCost tree haystack.now start told.1) }
-        ensures entered { IfOk result (λ told. IfSome told.0 (λ _. 0 < told.1.entered)) }
+        ensures { IfOk result (TellsMatch (places_of self.now.table.now) self.now.entry haystack.now
+            start slots) }
     {
-        let pattern = self.pattern();
-        let Some(first) = pattern.first_start(haystack, start) else {
+        let Some(first) = self.first_start(haystack, start) else {
             return Ok((None, no_steps()));
         };
-        let mut walk = self.walk_for(alloc, haystack, first.at, slots)?;
-        let found = run(&mut walk, &pattern, haystack, first);
+        let mut walk = walk_for(self.table, alloc, haystack, first.at, slots)?;
+        let found = run(&mut walk, self, haystack, first);
         let Walk { stack, steps, .. } = walk;
         Ok((outcome_of(found, stack), steps))
     }
+}
 
-    /// All the memory of a search from this offset that keeps this number of slots, asked for
-    /// before its first step.
-    fn walk_for(
-        &self,
-        alloc: Global,
-        haystack: &str,
-        start: usize,
-        slots: usize,
-    ) -> Result<Walk, AllocError>
-        requires { IsCharBoundary haystack.now start }
-        ensures fresh { IfOk result (λ walk. IsFresh (table_of self.now) haystack.now start walk) }
-        ensures width { IfOk result (λ walk. length walk.stack.row ≡ slots) }
-        ensures countable { IfOk result (λ _. IsCountable (table_of self.now)) }
-    {
-        let offsets = (haystack.len() - start).checked_add(1).ok_or(AllocError)?;
-        let kept_back = self.kept_back(slots);
-        let room = kept_back.checked_mul(offsets).ok_or(AllocError)?;
-        let visited = Visited::none(alloc, self.places(), start, haystack.len())?;
-        let stack = Stack::blank(alloc, room, slots)?;
-        Ok(Walk {
-            visited,
-            stack,
-            steps: no_steps(),
-        })
-    }
+/// All the memory of a search in this table, from this offset, that keeps this number of slots,
+/// asked for before its first step.
+fn walk_for(
+    table: &Table,
+    alloc: Global,
+    haystack: &str,
+    start: usize,
+    slots: usize,
+) -> Result<Walk, AllocError>
+    requires places { 0 < length table.now.places }
+    requires boundary { IsCharBoundary haystack.now start }
+    ensures fresh { IfOk result (λ walk. IsFresh (places_of table.now) haystack.now start walk) }
+    ensures width { IfOk result (λ walk. length walk.stack.row ≡ slots) }
+    ensures countable { IfOk result (λ _. IsCountable (places_of table.now)) }
+{
+    let offsets = (haystack.len() - start).checked_add(1).ok_or(AllocError)?;
+    let kept_back = table.kept_back(slots);
+    let room = kept_back.checked_mul(offsets).ok_or(AllocError)?;
+    let visited = Visited::none(alloc, table.places(), start, haystack.len())?;
+    let stack = Stack::blank(alloc, room, slots)?;
+    Ok(Walk {
+        visited,
+        stack,
+        steps: no_steps(),
+    })
 }
 
 /// The match from and to these offsets, with the slots of the way that led there.

@@ -1,11 +1,12 @@
 //! The graph of several patterns: one table of places, with an entry and a match for each pattern.
-ghost use Rattle.std.specs.Prelude.{◌≡◌, ◌^◌, ◌<◌, ◌≤◌, ◌⊎◌, ℕ, All, IfOk};
+ghost use Rattle.std.specs.Prelude.{◌≡◌, ◌∷◌, [], ◌^◌, ◌<◌, ◌≤◌, ◌⊎◌, ℕ, All, IfOk, IfSome};
 ghost use Rattle.std.specs.Prelude.{IfErr, filter, map, length, slice_get, slice_index, Some};
 ghost use Rattle.std.specs.List.{range_with_len};
 ghost use Rattle.regex_lite_syntax.specs.declared.error.ErrorKind.TheVariants.{Places};
 ghost use Rattle.regex_lite_syntax.specs.Errors.{kind_of, out_of_memory};
 ghost use Rattle.regex_lite_syntax.specs.Tree.Regular.{IsRegular};
 ghost use Rattle.regex_lite_syntax.specs.Tree.Views.{tree_of};
+ghost use Rattle.regex_lite_syntax.specs.Prefilter.Heads.{AreHeadsOfTree};
 ghost use Rattle.regex_lite_syntax.specs.Prefilter.ListHeads.{AreEachHeadsOf};
 ghost use Rattle.regex_lite_engine.specs.Graph.PlaceCounts.{whole_places};
 ghost use Rattle.regex_lite_engine.specs.Graph.Renumbered.{arrows_of};
@@ -183,6 +184,19 @@ impl GraphList {
         }
     }
 
+    /// The pattern of a list that has no other. It is searched for as that of a regex is.
+    pub fn alone(&self) -> Option<OnePattern<'_>>
+        ensures table { IfSome result
+            (λ one. places_of one.table.now ≡ table_of_list self.now) }
+        ensures entry { IfSome result (λ one. self.now.entries ≡ one.entry ∷ []) }
+    {
+        if self.entries.len() == 1 {
+            Some(self.pattern(0))
+        } else {
+            None
+        }
+    }
+
     /// How many patterns there are. Each has places.
     pub fn len(&self) -> usize
         ensures same { result ≡ length self.now.entries }
@@ -237,7 +251,7 @@ fn groups_of(alloc: Global, hirs: &[Measured]) -> Result<Vec<Groups>, AllocError
     Ok(groups)
 }
 
-/// The filter of each of these trees, in their order.
+/// The filter of each of these trees, in their order. That of a tree alone is the one of a regex.
 ///
 /// # Errors
 ///
@@ -248,9 +262,24 @@ fn filters_of(alloc: Global, hirs: &[Measured]) -> Result<Vec<OwnFilter>, AllocE
 {
     let mut filters = Vec::with_capacity(alloc, hirs.len())?;
     for hir in hirs {
-        filters.push(OwnFilter::of(alloc, hir.hir())?)?;
+        filters.push(filter_of(alloc, hir.hir(), hirs.len())?)?;
     }
     Ok(filters)
+}
+
+/// The filter of this tree, one of so many.
+///
+/// # Errors
+///
+/// If memory runs out.
+fn filter_of(alloc: Global, hir: &Hir, trees: usize) -> Result<OwnFilter, AllocError>
+    ensures { IfOk result (λ filter. AreHeadsOfTree (tree_of hir.now) (own_heads_of filter)) }
+{
+    if trees == 1 {
+        OwnFilter::whole(alloc, hir)
+    } else {
+        OwnFilter::of(alloc, hir)
+    }
 }
 
 /// Of each of these trees whether its matches read a character, in their order.

@@ -1,18 +1,16 @@
 //! A search position by position, from its working memory to its outcome.
-ghost use Rattle.std.specs.Prelude.{◌≡◌, ◌<◌, IfOk, IfSome, IsCharBoundary, length};
-ghost use Rattle.regex_lite_syntax.specs.Tree.{Tree};
-ghost use Rattle.regex_lite_syntax.specs.Tree.Regular.{IsRegular};
-ghost use Rattle.regex_lite_engine.specs.Graph.Renumbered.{IsGraphOf};
-ghost use Rattle.regex_lite_engine.specs.Search.Outcomes.{IsOutcome, HasCost};
+ghost use Rattle.std.specs.Prelude.{IfOk, IsCharBoundary};
+ghost use Rattle.regex_lite_engine.specs.Graph.Stored.{places_of};
+ghost use Rattle.regex_lite_engine.specs.Search.OutcomeOfOne.{TellsMatch};
 
-use crate::Graph;
 use crate::pikevm::cache::{Cache, cache_for};
 use crate::pikevm::run::run;
+use crate::search::one_pattern::OnePattern;
 use crate::search::outcome::Outcome;
 use crate::steps::Steps;
 use std::alloc::{AllocError, Global};
 
-impl Graph {
+impl<'g> OnePattern<'g> {
     /// The most preferred match from the least start at or after this offset, with this number of
     /// slots, and what the search did. It goes position by position.
     ///
@@ -22,24 +20,18 @@ impl Graph {
     ///
     /// If memory runs out, which can happen only before the first step.
     pub fn search_in_step(
-        &self,
+        &mut self,
         alloc: Global,
         haystack: &str,
         start: usize,
         slots: usize,
     ) -> Result<(Option<Outcome>, Steps), AllocError>
         requires { IsCharBoundary haystack.now start }
-        ensures found { IfOk result (λ told. (tree : Tree) → IsRegular tree
-            → IsGraphOf tree self.now → IsOutcome tree haystack.now start told.0) }
-        ensures slots { IfOk result (λ told. IfSome told.0
-            (λ outcome. length outcome.slots.items ≡ slots)) }
-        ensures cost { IfOk result (λ told. (tree : Tree) → IsGraphOf tree self.now
-            → HasCost tree haystack.now start told.1) }
-        ensures entered { IfOk result (λ told. IfSome told.0 (λ _. 0 < told.1.entered)) }
+        ensures { IfOk result (TellsMatch (places_of self.old.table.now) self.old.entry haystack.now
+            start slots) }
     {
-        let mut cache = cache_for::<usize>(alloc, self.table(), slots)?;
-        let mut pattern = self.pattern();
-        run(&mut cache, &mut pattern, haystack, start);
+        let mut cache = cache_for::<usize>(alloc, self.table, slots)?;
+        run(&mut cache, self, haystack, start);
         let Cache { walk, best, .. } = cache;
         Ok((best.into_outcome(), walk.steps))
     }

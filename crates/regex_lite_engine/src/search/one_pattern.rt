@@ -1,5 +1,5 @@
 //! One pattern, which is searched for by itself.
-ghost use Rattle.std.specs.Prelude.{◌<◌, IsTrue, length};
+ghost use Rattle.std.specs.Prelude.{◌≡◌, ◌<◌, IsTrue, length, true};
 ghost use Rattle.regex_lite_engine.specs.Graph.Stored.{places_of};
 ghost use Rattle.regex_lite_engine.specs.Search.Filters.{heads_of};
 ghost use Rattle.regex_lite_engine.specs.Search.Starts.{AreHeadsOf, NoneBeginsAtEnd};
@@ -11,7 +11,7 @@ use crate::search::patterns::{Patterns, Start};
 
 /// A pattern of a graph, which may have others, and whether it may start at the position reached
 /// last.
-#[derive(Drop)]
+#[derive(Clone, Copy)]
 pub struct OnePattern<'g> {
     pub table: &'g Table,
     /// Where it is entered.
@@ -25,6 +25,20 @@ pub struct OnePattern<'g> {
     pub ghost inside: { entry < length (places_of table.now) },
     pub ghost heads: { AreHeadsOf (places_of table.now) entry (heads_of filter) },
     pub ghost ends: { IsTrue reads → NoneBeginsAtEnd (places_of table.now) entry },
+}
+
+impl<'g> OnePattern<'g> {
+    /// It, as one that starts everywhere, so that a turn holds wherever it looks the same.
+    #[inline(always)]
+    pub fn everywhere(&self) -> OnePattern<'g>
+        ensures table { result.table.now ≡ self.now.table.now }
+        ensures entry { result.entry ≡ self.now.entry }
+        ensures all { result.may_start ≡ true }
+    {
+        let mut all = *self;
+        all.may_start = true;
+        all
+    }
 }
 
 impl<'g> Patterns for OnePattern<'g> {

@@ -32,6 +32,17 @@ impl OwnFilter {
         if let Some(prefix) = Prefix::of(hir) {
             return Ok(OwnFilter::Literal(prefix));
         }
+        OwnFilter::whole(alloc, hir)
+    }
+
+    /// What the whole tree tells.
+    ///
+    /// # Errors
+    ///
+    /// If memory runs out.
+    pub(crate) fn whole(alloc: Global, hir: &Hir) -> Result<OwnFilter, AllocError>
+        ensures { IfOk result (λ filter. AreHeadsOfTree (tree_of hir.now) (own_heads_of filter)) }
+    {
         let filter = Box::new(alloc, Filter::of(hir))?;
         Ok(OwnFilter::Whole(filter))
     }

@@ -5,7 +5,9 @@ use Rattle.regex_lite_meta.proofs.Common.{MatchOption, sym, refl, ap, ◌∙◌,
 use Rattle.regex_lite_meta.proofs.Common.{cases_lt, Text, arrows_of, best_kept, offset, Row, IsHere}
 use Rattle.regex_lite_meta.proofs.Common.{AreDeadAt, PassesTo, Origin, Cache, Here, Automaton}
 use Rattle.regex_lite_meta.proofs.Common.{ways_of, Suits, side_of, IsFirstStart, IsIn, IsOnItsWay}
-use Rattle.regex_lite_meta.proofs.Common.{Thread, best_of, IsComing, Best}
+use Rattle.regex_lite_meta.proofs.Common.{Thread, best_of, IsComing, Best, places_of}
+use Rattle.std.specs.Prelude.{if◌then◌else◌}
+use Rattle.regex_lite_engine.specs.declared.search.one_pattern.OnePattern.{OnePattern}
 use Rattle.regex_lite_engine.specs.Graph.Parts.{IsOwnPart, row_of}
 use Rattle.regex_lite_engine.specs.Graph.Places.{Place}
 use Rattle.regex_lite_meta.specs.LazyDfa.Automaton.{FitsOwnParts, IsEmptyState}
@@ -37,6 +39,16 @@ all_of_one table entry inside = record {
         → IsAmong number s (record { number = 0; place = entry } ∷ [])
     among zero s is = inl (refl, sym (same_some is))
     among (suc n) s is = absurd (not_there is)
+
+-- and so may one that starts everywhere
+pub all_everywhere : (one : OnePattern) → one.may_start ≡ true
+    → AreAllStarts (places_of one.table.now) (one.entry ∷ [])
+    (if one.may_start then record { number = 0; place = one.entry } ∷ [] else [])
+all_everywhere one all =
+    let table = places_of one.table.now in
+    subst (λ may. AreAllStarts table (one.entry ∷ [])
+    (if may then record { number = 0; place = one.entry } ∷ [] else [])) (sym all)
+    (all_of_one table one.entry one.inside)
 
 more_bound : (m p r s : ℕ) → s ≤ p → p < r → m * (p - s) + m ≤ m * (r - s)
 more_bound m p r s low later =

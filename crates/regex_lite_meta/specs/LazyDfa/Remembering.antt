@@ -3,7 +3,6 @@ use Rattle.std.specs.Prelude.{◌≡◌, ℕ, List, [], ◌∷◌, Option, IfSom
 use Rattle.regex_lite_meta.specs.declared.lazy_dfa.list_spans.ListSpanSearcher.{ListSpanSearcher}
 use Rattle.regex_lite_meta.specs.declared.lazy_dfa.spans.SpanSearcher.{SpanSearcher}
 use Rattle.regex_lite_engine.specs.Graph.Places.{Place}
-use Rattle.regex_lite_engine.specs.Graph.Stored.{StoredGraph, table_of}
 use Rattle.regex_lite_engine.specs.Graph.StoredList.{StoredList, table_of_list}
 use Rattle.regex_lite_meta.specs.LazyDfa.Automaton.{Automaton, Remembers}
 use Rattle.regex_lite_engine.specs.Search.Counting.{IsCountable}
@@ -15,32 +14,24 @@ pub record RemembersFor (table : List (Place ℕ)) (entries : List ℕ) (automat
   pub remembers : Remembers table entries automaton
   pub none_pending : automaton.pending ≡ []
 
--- all turns are those of searches in this graph
-abbrev pub RemembersAll : StoredGraph → Automaton → Type 0
-RemembersAll graph automaton = RemembersFor (table_of graph) (graph.start ∷ []) automaton
-
 -- if there is an automaton, then no slots are kept
-abbrev pub IsRemembering : StoredGraph → (slots : ℕ) → Option Automaton → Type 0
-IsRemembering graph slots automaton =
-    IfSome automaton (λ automaton. RemembersAll graph automaton × (slots ≡ 0))
+abbrev pub IsRemembering : (table : List (Place ℕ)) → (entries : List ℕ) → (slots : ℕ)
+    → Option Automaton → Type 0
+IsRemembering table entries slots automaton =
+    IfSome automaton (λ automaton. RemembersFor table entries automaton × (slots ≡ 0))
 
--- the same of searches for all patterns of a list
-abbrev pub IsRememberingList : StoredList → (slots : ℕ) → Option Automaton → Type 0
-IsRememberingList list slots automaton =
-    IfSome automaton (λ automaton.
-    RemembersFor (table_of_list list) list.entries automaton × (slots ≡ 0))
-
--- searches for matches of the graph go on in its memory, which has no slots
-pub record FindsSpansIn (graph : StoredGraph) (spans : SpanSearcher) : Type 0 where
-  pub remembers : RemembersAll graph spans.dfa
-  pub between : IsBetween (table_of graph) spans.cache
+-- searches for matches of the pattern that is entered there go on in its memory, which has no slots
+pub record FindsSpansIn (table : List (Place ℕ)) (entry : ℕ) (spans : SpanSearcher)
+    : Type 0 where
+  pub remembers : IfSome spans.dfa (RemembersFor table (entry ∷ []))
+  pub between : IsBetween table spans.cache
   pub width : length spans.cache.walk.memory.row ≡ 0
-  pub countable : IsCountable (table_of graph)
+  pub countable : IsCountable table
 
 -- searches for matches of any pattern of the list go on in its memory
 pub record FindsSpansInList (list : StoredList) (spans : ListSpanSearcher) : Type 0 where
   pub table : table_of_list spans.patterns.list.now ≡ table_of_list list
   pub entries : spans.patterns.list.now.entries ≡ list.entries
   pub goes_on : GoesOnIn list spans.cache
-  pub remembers : IsRememberingList list (length spans.cache.best.row)
+  pub remembers : IsRemembering (table_of_list list) list.entries (length spans.cache.best.row)
       (option_map (λ dfa. dfa.value) spans.dfa)

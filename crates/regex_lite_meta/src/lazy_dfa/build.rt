@@ -1,6 +1,7 @@
 //! Automata that remember nothing yet.
-ghost use Rattle.std.specs.Prelude.{IfSome};
-ghost use Rattle.regex_lite_meta.specs.LazyDfa.Remembering.{RemembersFor, RemembersAll};
+ghost use Rattle.std.specs.Prelude.{◌∷◌, [], IfSome};
+ghost use Rattle.regex_lite_meta.specs.LazyDfa.Remembering.{RemembersFor};
+ghost use Rattle.regex_lite_engine.specs.Graph.Stored.{places_of};
 ghost use Rattle.regex_lite_engine.specs.Graph.StoredList.{table_of_list};
 ghost use Rattle.regex_lite_engine.specs.Search.Starts.{AreAllStarts};
 
@@ -10,9 +11,9 @@ use crate::lazy_dfa::part::Part;
 use crate::lazy_dfa::reach::{reach_for, reading_in};
 use crate::lazy_dfa::room::Room;
 use crate::strategy::spare_for;
-use regex_lite_engine::Graph;
 use regex_lite_engine::nfa::list::GraphList;
 use regex_lite_engine::search::all_of_list::AllOfList;
+use regex_lite_engine::search::one_pattern::OnePattern;
 use regex_lite_engine::search::patterns::Patterns;
 use std::alloc::Global;
 
@@ -38,13 +39,12 @@ impl LazyDfa {
         }
     }
 
-    /// One for this graph.
-    pub(crate) fn for_graph(alloc: Global, graph: &Graph) -> Option<LazyDfa>
-        ensures { IfSome result (RemembersAll graph.now) }
+    /// One for this pattern.
+    pub(crate) fn for_one(alloc: Global, pattern: &OnePattern<'_>) -> Option<LazyDfa>
+        ensures { IfSome result
+            (RemembersFor (places_of pattern.now.table.now) (pattern.now.entry ∷ [])) }
     {
-        let mut all = graph.pattern();
-        all.may_start = true;
-        LazyDfa::for_patterns(alloc, &all)
+        LazyDfa::for_patterns(alloc, &pattern.everywhere())
     }
 
     /// One for all patterns of this list.

@@ -2,7 +2,7 @@
 //! it pays they remember their turns, and keep no slots.
 ghost use Rattle.std.specs.Prelude.{◌≡◌, ◌<◌, IfOk, IfSome, IsCharBoundary, None, chars, length};
 ghost use Rattle.std.specs.Prelude.{option_map};
-ghost use Rattle.regex_lite_meta.specs.LazyDfa.Remembering.{FindsSpansInList, IsRememberingList};
+ghost use Rattle.regex_lite_meta.specs.LazyDfa.Remembering.{FindsSpansInList, IsRemembering};
 ghost use Rattle.regex_lite_meta.specs.LazyDfa.Remembering.{RemembersFor};
 ghost use Rattle.regex_lite_meta.specs.LazyDfa.Scanning.{best_told};
 ghost use Rattle.regex_lite_engine.specs.Graph.StoredList.{table_of_list};
@@ -132,16 +132,16 @@ fn find_remembering<const EARLIEST: bool>(
     start: usize,
 ) -> Option<Option<(Origin, usize)>>
     requires boundary { IsCharBoundary haystack.now start }
-    requires remembers { IsRememberingList list.now (length cache.old.best.row)
-        (option_map (λ dfa. dfa.value) dfa.old) }
+    requires remembers { IsRemembering (table_of_list list.now) list.now.entries
+        (length cache.old.best.row) (option_map (λ dfa. dfa.value) dfa.old) }
     requires fresh { IsFresh (table_of_list list.now) cache.old }
     requires counts { CanCount (table_of_list list.now) (length list.now.entries)
         (characters_left (chars haystack.now) (position_at haystack.now start)) }
     ensures found { IfSome result (λ found. IsFoundOf EARLIEST (table_of_list list.now)
         (chars haystack.now) list.now.entries (position_at haystack.now start)
         (best_told found)) }
-    ensures remembers { IsRememberingList list.now (length cache.new.best.row)
-        (option_map (λ dfa. dfa.value) dfa.new) }
+    ensures remembers { IsRemembering (table_of_list list.now) list.now.entries
+        (length cache.new.best.row) (option_map (λ dfa. dfa.value) dfa.new) }
     ensures fresh { result ≡ None → IsFresh (table_of_list list.now) cache.new }
     ensures between { IsBetween (table_of_list list.now) cache.new }
     ensures without_slots { IfSome result (λ _. length cache.new.best.row ≡ 0) }

@@ -24,8 +24,8 @@ use regex_lite_engine::search::here::Here;
 use regex_lite_engine::search::patterns::Patterns;
 use std::alloc::Global;
 
-pub(crate) mod graph;
 pub(crate) mod list;
+pub(crate) mod one;
 
 /// The start and the end of the match that a search by itself finds, with the number of its
 /// pattern. With EARLIEST it is one with the least end, and its start and number say nothing.

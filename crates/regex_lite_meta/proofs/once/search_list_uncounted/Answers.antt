@@ -11,4 +11,4 @@ returns-clause-found c = λ trees regular is.
     (c.in_ok-extend_from_slice.ensures.items
     ∙ ap (λ z. z ++ c.slots.result.now) c.in_ok-row.ensures.items
     ∙ c.slots.ensures)
-    (c.in-Some.ensures.found trees regular (rw c.in_ok-searcher.ensures.graph is))
+    (c.in-Some-search.ensures.found trees regular (rw c.in_ok-searcher.ensures.graph is))

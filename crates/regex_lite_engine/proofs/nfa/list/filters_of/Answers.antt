@@ -15,7 +15,7 @@ loop-hir-preserved c =
     let v = c.loop-hir.invariant in
     let there = mapped_there tree_of hirs k hir c.loop-hir-test.true c.hir-item.is in
     let before = c.loop-hir.filters.items in
-    let made = c.in_ok-of.field-0 in
+    let made = c.in_ok-filter_of.field-0 in
     let heads = map own_heads_of before in
     let next : slice_get trees (length heads) ≡ Some (tree_of hir) =
     ap (slice_get trees) (length-map before own_heads_of ∙ v.all) ∙ there in
@@ -27,5 +27,5 @@ loop-hir-preserved c =
           → slice_get trees number ≡ Some tree → slice_get list number ≡ Some part
           → AreHeadsOfTree tree part) (sym mapped)
           (told_more AreHeadsOfTree trees heads (tree_of hir) (own_heads_of made) next
-          (rw (← c.hir.ensures) c.in_ok-of.ensures) v.each);
+          (rw (← c.hir.ensures) c.in_ok-filter_of.ensures) v.each);
     }

@@ -1,27 +1,42 @@
-use Rattle.std.specs.Prelude.{◌↔◌, IsTrue}
-use Rattle.regex_lite_meta.proofs.Common.{chars, sym, ◌∙◌, subst, arith, best_kept}
+use Rattle.std.specs.Prelude.{◌↔◌, IsTrue, is_some}
+use Rattle.regex_lite_meta.proofs.Common.{[], chars, places_of, position_at, sym, ap, ◌∙◌, subst}
+use Rattle.regex_lite_meta.proofs.Common.{best_told, IsNumberedEndOf}
 use Rattle.regex_lite_engine.specs.Search.AnswerOfList.{AnyMatchesFrom}
 use Rattle.regex_lite_engine.specs.Search.Offsets.{search_start}
+use Rattle.regex_lite_engine.specs.Search.OutcomeOfOne.{ending_at}
 use Rattle.regex_lite_engine.proofs.search.ListOutcomeLemmas.{any_told}
-use Rattle.regex_lite_engine.proofs.nfa.BoundaryLemmas.{on_boundary}
+use Rattle.regex_lite_meta.proofs.EndLemmas.{ended}
+use Rattle.regex_lite_meta.proofs.OneLemmas.{in_list}
 use Rattle.regex_lite_meta.proofs.lazy_dfa.ScanLemmas.{some_kept}
 use Rattle.regex_lite_meta.proofs.list_searcher.ListSearcher.search_any.Goals as goal
-
-pub find-requires-clause-boundary : goal.find-requires-clause-boundary
-find-requires-clause-boundary c = on_boundary _ _ c.requires c.if-start-haystack.false
-
-pub find-requires-clause-some : goal.find-requires-clause-some
-find-requires-clause-some c = omega (arith, c.if-len-eq0.false, c.len.ensures.same)
+use Rattle.regex_lite_meta.proofs.list_searcher.ListSearcher.search_any.Goals.{in-One, in-Several}
 
 pub returns-clause-found : goal.returns-clause-found
 returns-clause-found c = λ trees regular is.
+    let list = c.self.inside.graph.now in
     let of_list = rw (← c.self.view_is) at is in
     let haystack = c.args.haystack.now in
-    let found = c.find.result in
-    let row = c.find.new.self.cache.best.row in
-    let told = any_told trees c.self.inside.graph.now of_list haystack c.args.start
-    (omega (arith, c.if-start-haystack.false)) regular (best_kept found row)
-    c.find.ensures.found in
-    subst (λ some. IsTrue some
-    ↔ AnyMatchesFrom trees (chars haystack) (search_start haystack c.args.start))
-    (sym (c.is_some.ensures ∙ some_kept found row)) told
+    let s = position_at haystack c.args.start in
+    let inside = c.if-start-haystack.false in
+    elim c.match-self.branch [
+      | in-One w ↦
+          let one = w.pattern-pattern.result in
+          let own = w.pattern-pattern.ensures in
+          let alone = rw w.in-One.is at c.self.invariant in
+          let end = w.find_end.result in
+          let told = any_told trees list of_list haystack c.args.start inside regular
+          (ending_at end)
+          (in_list list alone.0 alone.1 (places_of one.table.now) own.table one.entry own.entry
+          (λ table entries. IsNumberedEndOf table (chars haystack) entries s (ending_at end))
+          w.find_end.ensures.found) in
+          subst (λ some. IsTrue some
+          ↔ AnyMatchesFrom trees (chars haystack) (search_start haystack c.args.start))
+          (sym (w.result-is ∙ w.is_some.ensures ∙ ap is_some (sym (ended end)))) told
+      | in-Several w ↦
+          let found = w.find_end-in-Several.result in
+          let told = any_told trees list of_list haystack c.args.start inside regular
+          (best_told found) w.find_end-in-Several.ensures.found in
+          subst (λ some. IsTrue some
+          ↔ AnyMatchesFrom trees (chars haystack) (search_start haystack c.args.start))
+          (sym (w.result-is ∙ w.is_some-in-Several.ensures ∙ some_kept found [])) told
+    ]

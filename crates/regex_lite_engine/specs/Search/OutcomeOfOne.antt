@@ -1,0 +1,39 @@
+-- What searches tell of one pattern, of a regex or of a list: its match, and what they did.
+use Rattle.std.specs.Prelude.{◌≡◌, ◌<◌, ◌∷◌, [], ℕ, List, Option, Some, None, IfSome, chars, length}
+use Rattle.regex_lite_engine.specs.declared.search.outcome.Outcome.{Outcome}
+use Rattle.regex_lite_engine.specs.Graph.Places.{Place}
+use Rattle.regex_lite_engine.specs.Graph.Renumbered.{arrows_of}
+use Rattle.regex_lite_engine.specs.Search.Beginnings.{untold}
+use Rattle.regex_lite_engine.specs.Search.Bounds.{StepCounts, IsBounded}
+use Rattle.regex_lite_engine.specs.Search.NumberedOutcomes.{Best, IsNumberedEndOf, match_told}
+use Rattle.regex_lite_engine.specs.Search.NumberedOutcomes.{IsNumberedOutcome}
+use Rattle.regex_lite_engine.specs.Search.Offsets.{position_at}
+
+-- a search from an offset on did no more than is allowed in the table
+abbrev pub IsWithinBounds : List (Place ℕ) → (haystack : List ℕ) → (start : ℕ) → StepCounts
+    → Type 0
+IsWithinBounds table haystack start steps =
+    IsBounded (length table) (arrows_of table) (chars haystack) (position_at haystack start)
+    steps.tried steps.entered steps.looked
+
+-- the match of the pattern that is entered there, with this many slots
+pub record TellsMatch (table : List (Place ℕ)) (entry : ℕ) (haystack : List ℕ) (start width : ℕ)
+    (told : Option Outcome × StepCounts) : Type 0 where
+  pub found : IsNumberedOutcome table (chars haystack) entry (position_at haystack start)
+      (match_told told.0)
+  pub slots : IfSome told.0 (λ outcome. length outcome.slots.items ≡ width)
+  pub cost : IsWithinBounds table haystack start told.1
+  pub entered : IfSome told.0 (λ _. 0 < told.1.entered)
+
+-- a match that ends there, of which nothing else is known
+abbrev pub ending_at : Option ℕ → Best
+ending_at None = None
+ending_at (Some end) = Some (untold, end, [])
+
+-- the least end of any match of the pattern that is entered there
+pub record TellsEnd (table : List (Place ℕ)) (entry : ℕ) (haystack : List ℕ) (start : ℕ)
+    (told : Option ℕ × StepCounts) : Type 0 where
+  pub found : IsNumberedEndOf table (chars haystack) (entry ∷ []) (position_at haystack start)
+      (ending_at told.0)
+  pub cost : IsWithinBounds table haystack start told.1
+  pub entered : IfSome told.0 (λ _. 0 < told.1.entered)

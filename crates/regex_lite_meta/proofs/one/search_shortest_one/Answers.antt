@@ -1,0 +1,55 @@
+use Rattle.regex_lite_meta.proofs.Common.{◌^◌, ◌<◌, length, chars, arith, rules}
+use Rattle.regex_lite_meta.proofs.Common.{places_of, best_of, position_at, arrows_of}
+use Rattle.regex_lite_engine.proofs.search.FirstStartLemmas.{bounded_from, first_boundary}
+use Rattle.regex_lite_engine.proofs.search.FirstStartLemmas.{none_before_first, none_tried}
+use Rattle.regex_lite_engine.proofs.search.OutcomeLemmas.{can_count}
+use Rattle.regex_lite_meta.proofs.EndLemmas.{end_told, none_told}
+use Rattle.regex_lite_meta.proofs.one.search_shortest_one.Goals as goal
+
+pub run_shortest-requires : goal.run_shortest-requires
+run_shortest-requires c =
+    let one = c.args.pattern.now in
+    let haystack = c.args.haystack.now in record {
+      counts =
+          let short : length haystack < 2 ^ 63 = search rules in
+          can_count (places_of one.table.now) haystack (position_at haystack c.in-Some.first.at)
+          c.utf8.haystack short c.in_ok-cache.ensures.countable 1 (omega arith);
+      fresh = c.in_ok-cache.ensures.fresh;
+      boundary = first_boundary (places_of one.table.now) haystack c.utf8.haystack one.entry
+          (position_at haystack c.args.start) c.in-Some.first
+          (rw c.in-Some.is at c.first_start.ensures.first);
+    }
+
+pub returns : goal.returns
+returns c =
+    let one = c.args.pattern.now in
+    let table = places_of one.table.now in
+    let haystack = c.args.haystack.now in
+    let s = position_at haystack c.args.start in
+    let m = position_at haystack c.in-Some.first.at in
+    let steps = c.run_shortest.new.cache.walk.steps in
+    let passes = rw c.in-Some.is at c.first_start.ensures.first in
+    let before = none_before_first table haystack c.utf8.haystack one.entry s c.in-Some.first passes
+    in record {
+      found = rw c.end.ensures
+          (end_told table haystack one.entry c.args.start c.utf8.haystack c.in-Some.first passes
+          (best_of c.run_shortest.new.cache.best) c.run_shortest.ensures.found);
+      cost = bounded_from (length table) (arrows_of table) (chars haystack) s m steps.tried
+          steps.entered steps.looked before.from c.run_shortest.ensures.bounded;
+      entered = search rules;
+    }
+
+pub returns-in_default-first_start : goal.returns-in_default-first_start
+returns-in_default-first_start c =
+    let one = c.args.pattern.now in
+    let table = places_of one.table.now in
+    let haystack = c.args.haystack.now in
+    let steps = c.no_steps.result in
+    let none = c.no_steps.ensures in record {
+      found = none_told table haystack one.entry c.args.start
+          (c.first_start.ensures.none c.in_default-first_start.is);
+      cost = none_tried (length table) (arrows_of table) (chars haystack)
+          (position_at haystack c.args.start) steps.tried steps.entered steps.looked none.tried
+          none.entered none.looked;
+      entered = tt;
+    }

@@ -1,0 +1,73 @@
+use Rattle.regex_lite_meta.proofs.Common.{◌^◌, ◌<◌, length, refl, arith, rules}
+use Rattle.regex_lite_meta.proofs.Common.{places_of, best_of, best_told, position_at}
+use Rattle.regex_lite_engine.proofs.pikevm.PassLemmas.{begun}
+use Rattle.regex_lite_engine.proofs.pikevm.StopLemmas.{over_found}
+use Rattle.regex_lite_engine.proofs.search.FirstStartLemmas.{first_here}
+use Rattle.regex_lite_engine.proofs.search.OutcomeLemmas.{can_count}
+use Rattle.regex_lite_meta.proofs.EndLemmas.{end_told, none_told}
+use Rattle.regex_lite_meta.proofs.pattern_searcher.PatternSearcher.find_end.Goals as goal
+
+pub returns-in_err-first-clause-found : goal.returns-in_err-first-clause-found
+returns-in_err-first-clause-found c =
+    let one = c.args.pattern.now in
+    rw c.from_residual.ensures
+    (none_told (places_of one.table.now) c.args.haystack.now one.entry c.args.start
+    (c.in_err-first.ensures.none refl))
+
+pub advance-requires-clause-on : goal.advance-requires-clause-on
+advance-requires-clause-on c =
+    let one = c.args.pattern.now in
+    let table = places_of one.table.now in
+    let haystack = c.args.haystack.now in
+    let m = position_at haystack c.in_ok-first.first.at in
+    let short : length haystack < 2 ^ 63 = search rules in (
+      m,
+      m,
+      first_here table haystack c.utf8.haystack one.entry (position_at haystack c.args.start)
+          c.in_ok-first.first c.in_ok-first.ensures.first,
+      can_count table haystack m c.utf8.haystack short c.requires.searches.memory.countable 1
+          (omega arith),
+      begun _ _ _ m c.restart.new.cache
+          (c.restart.ensures.fresh table c.requires.searches.memory.between),
+    )
+
+pub returns-in_default-clause-found : goal.returns-in_default-clause-found
+returns-in_default-clause-found c =
+    let one = c.args.pattern.now in
+    let table = places_of one.table.now in
+    let haystack = c.args.haystack.now in
+    let m = position_at haystack c.in_ok-first.first.at in
+    let here = first_here table haystack c.utf8.haystack one.entry
+    (position_at haystack c.args.start) c.in_ok-first.first c.in_ok-first.ensures.first in
+    let fresh = c.restart.ensures.fresh table c.requires.searches.memory.between in
+    let found = over_found (rw (c.advance.ensures.all refl) at
+    (c.advance.ensures.stops m m here (begun _ _ _ m c.restart.new.cache fresh))) in
+    rw c.end.ensures
+    (end_told table haystack one.entry c.args.start c.utf8.haystack c.in_ok-first.first
+    c.in_ok-first.ensures.first (best_of c.advance.new.cache.best) found)
+
+pub find-requires-clause-on : goal.find-requires-clause-on
+find-requires-clause-on c =
+    let one = c.args.pattern.now in
+    let table = places_of one.table.now in
+    let haystack = c.args.haystack.now in
+    let m = position_at haystack c.in_ok-first.first.at in
+    let short : length haystack < 2 ^ 63 = search rules in (
+      m,
+      first_here table haystack c.utf8.haystack one.entry (position_at haystack c.args.start)
+          c.in_ok-first.first c.in_ok-first.ensures.first,
+      can_count table haystack m c.utf8.haystack short c.requires.searches.memory.countable 1
+          (omega arith),
+    )
+
+pub returns-clause-found : goal.returns-clause-found
+returns-clause-found c =
+    let one = c.args.pattern.now in
+    let table = places_of one.table.now in
+    let haystack = c.args.haystack.now in
+    let m = position_at haystack c.in_ok-first.first.at in
+    let here = first_here table haystack c.utf8.haystack one.entry
+    (position_at haystack c.args.start) c.in_ok-first.first c.in_ok-first.ensures.first in
+    rw c.end_of.ensures
+    (end_told table haystack one.entry c.args.start c.utf8.haystack c.in_ok-first.first
+    c.in_ok-first.ensures.first (best_told c.find.result) (c.find.ensures.found m here))

@@ -1,0 +1,91 @@
+//! Searches for one pattern by themselves that remember their turns.
+ghost use Rattle.std.specs.Prelude.{◌≡◌, ◌<◌, ◌∷◌, [], IfOk, IfSome, IsCharBoundary, chars};
+ghost use Rattle.std.specs.Prelude.{option_map};
+ghost use Rattle.regex_lite_meta.specs.LazyDfa.Scanning.{best_told};
+ghost use Rattle.regex_lite_engine.specs.Graph.Stored.{places_of};
+ghost use Rattle.regex_lite_engine.specs.Search.Offsets.{position_at};
+ghost use Rattle.regex_lite_engine.specs.Search.NumberedOutcomes.{IsFoundOf, best_at, match_told};
+ghost use Rattle.regex_lite_engine.specs.Search.NumberedOutcomes.{span_of};
+ghost use Rattle.regex_lite_engine.specs.Search.OutcomeOfOne.{IsWithinBounds, TellsEnd, TellsMatch};
+
+use crate::lazy_dfa::single::find_once;
+use regex_lite_engine::Steps;
+use regex_lite_engine::pikevm::beginning::Origin;
+use regex_lite_engine::pikevm::cache::{Cache, cache_for};
+use regex_lite_engine::search::one_pattern::OnePattern;
+use regex_lite_engine::search::outcome::Outcome;
+use std::alloc::{AllocError, Global};
+
+/// The match of the pattern without slots, by an automaton if the search isn't over soon.
+pub(crate) fn search_remembering(
+    pattern: &mut OnePattern<'_>,
+    alloc: Global,
+    haystack: &str,
+    start: usize,
+) -> Result<(Option<Outcome>, Steps), AllocError>
+    requires { IsCharBoundary haystack.now start }
+    ensures { IfOk result (TellsMatch (places_of pattern.old.table.now) pattern.old.entry
+        haystack.now start 0) }
+{
+    let (found, steps) = find_match::<false>(pattern, alloc, haystack, start)?;
+    Ok((without_slots(alloc, found), steps))
+}
+
+/// The least end of a match, by an automaton if the search isn't over soon.
+pub(crate) fn search_shortest_remembering(
+    pattern: &mut OnePattern<'_>,
+    alloc: Global,
+    haystack: &str,
+    start: usize,
+) -> Result<(Option<usize>, Steps), AllocError>
+    requires { IsCharBoundary haystack.now start }
+    ensures { IfOk result (TellsEnd (places_of pattern.old.table.now) pattern.old.entry haystack.now
+        start) }
+{
+    let (found, steps) = find_match::<true>(pattern, alloc, haystack, start)?;
+    Ok((end_of(found), steps))
+}
+
+/// Where the match starts and ends, and what the search did. With EARLIEST it is one with the least
+/// end, and its start says nothing.
+#[inline(always)]
+fn find_match<const EARLIEST: bool>(
+    pattern: &mut OnePattern<'_>,
+    alloc: Global,
+    haystack: &str,
+    start: usize,
+) -> Result<(Option<(Origin, usize)>, Steps), AllocError>
+    requires { IsCharBoundary haystack.now start }
+    ensures found { IfOk result (λ told. IsFoundOf EARLIEST (places_of pattern.old.table.now)
+        (chars haystack.now) (pattern.old.entry ∷ []) (position_at haystack.now start)
+        (best_told told.0)) }
+    ensures cost { IfOk result
+        (λ told. IsWithinBounds (places_of pattern.old.table.now) haystack.now start told.1) }
+    ensures entered { IfOk result (λ told. IfSome told.0 (λ _. 0 < told.1.entered)) }
+{
+    let all = pattern.everywhere();
+    let mut cache = cache_for::<Origin>(alloc, pattern.table, 0)?;
+    let found = find_once::<_, _, EARLIEST>(pattern, &all, alloc, &mut cache, haystack, start);
+    let Cache { walk, .. } = cache;
+    Ok((found, walk.steps))
+}
+
+/// The match that starts and ends there.
+fn without_slots(alloc: Global, found: Option<(Origin, usize)>) -> Option<Outcome>
+    ensures told { match_told result ≡ best_at (span_of found) [] }
+{
+    let (origin, end) = found?;
+    Some(Outcome {
+        start: origin.at,
+        end,
+        slots: Vec::new(alloc),
+    })
+}
+
+/// Where the match ends.
+pub(crate) fn end_of(found: Option<(Origin, usize)>) -> Option<usize>
+    ensures { result ≡ option_map (λ best. best.1) (best_told found) }
+{
+    let (_, end) = found?;
+    Some(end)
+}

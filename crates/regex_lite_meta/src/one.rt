@@ -1,0 +1,66 @@
+//! Searches by themselves for one pattern, of a regex or alone in a list.
+ghost use Rattle.std.specs.Prelude.{IfOk, IsCharBoundary};
+ghost use Rattle.regex_lite_engine.specs.Graph.Stored.{places_of};
+ghost use Rattle.regex_lite_engine.specs.Search.OutcomeOfOne.{TellsEnd, TellsMatch};
+
+use crate::lazy_dfa::single::one::{search_remembering, search_shortest_remembering};
+use crate::strategy::{Searched, Strategy, Wanted, choose};
+use regex_lite_engine::Steps;
+use regex_lite_engine::pikevm::beginning::Unkept;
+use regex_lite_engine::pikevm::cache::{Cache, cache_for};
+use regex_lite_engine::pikevm::run::run_shortest;
+use regex_lite_engine::search::one_pattern::OnePattern;
+use regex_lite_engine::search::outcome::Outcome;
+use regex_lite_engine::steps::no_steps;
+use std::alloc::{AllocError, Global};
+
+/// The most preferred match from the least start at or after this offset, with this number of
+/// slots, and what the search did.
+pub(crate) fn search_one(
+    pattern: &mut OnePattern<'_>,
+    alloc: Global,
+    haystack: &str,
+    start: usize,
+    slots: usize,
+) -> Result<(Option<Outcome>, Steps), AllocError>
+    requires { IsCharBoundary haystack.now start }
+    ensures { IfOk result (TellsMatch (places_of pattern.old.table.now) pattern.old.entry
+        haystack.now start slots) }
+{
+    let left = haystack.len() - start;
+    let searched = Searched::one(pattern.table, pattern.filter);
+    match choose(&searched, Wanted::Match { start }, slots, left) {
+        Strategy::LazyDfa => search_remembering(pattern, alloc, haystack, start),
+        Strategy::DepthFirst => pattern.search_depth_first(alloc, haystack, start, slots),
+        _ => pattern.search_in_step(alloc, haystack, start, slots),
+    }
+}
+
+/// The least end of any match that starts at or after this offset, and what the search did. It
+/// stops at the first match that it comes to.
+// Inlined, since many searches are over before their pattern is looked at twice: as a call it cost
+// `is_match` of 20 bytes up to 1.14 times as much.
+#[inline(always)]
+pub(crate) fn search_shortest_one(
+    pattern: &mut OnePattern<'_>,
+    alloc: Global,
+    haystack: &str,
+    start: usize,
+) -> Result<(Option<usize>, Steps), AllocError>
+    requires { IsCharBoundary haystack.now start }
+    ensures { IfOk result (TellsEnd (places_of pattern.old.table.now) pattern.old.entry haystack.now
+        start) }
+{
+    let left = haystack.len() - start;
+    let searched = Searched::one(pattern.table, pattern.filter);
+    if let Strategy::LazyDfa = choose(&searched, Wanted::Earliest, 0, left) {
+        return search_shortest_remembering(pattern, alloc, haystack, start);
+    }
+    let Some(first) = pattern.first_start(haystack, start) else {
+        return Ok((None, no_steps()));
+    };
+    let mut cache = cache_for::<Unkept>(alloc, pattern.table, 0)?;
+    run_shortest(&mut cache, pattern, haystack, first.at);
+    let Cache { walk, best, .. } = cache;
+    Ok((best.end(), walk.steps))
+}

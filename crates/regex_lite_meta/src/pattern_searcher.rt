@@ -1,0 +1,144 @@
+//! Searches for one pattern, of a regex or alone in a list, one after another in the same memory.
+ghost use Rattle.std.specs.Prelude.{◌≡◌, ◌∷◌, [], IfOk, IfSome, IsCharBoundary, chars, length};
+ghost use Rattle.regex_lite_meta.specs.LazyDfa.Remembering.{RemembersFor};
+ghost use Rattle.regex_lite_meta.specs.Memories.{SearchesForOne};
+ghost use Rattle.regex_lite_engine.specs.Graph.Stored.{places_of};
+ghost use Rattle.regex_lite_engine.specs.Search.NumberedOutcomes.{IsNumberedEndOf, best_at};
+ghost use Rattle.regex_lite_engine.specs.Search.NumberedOutcomes.{IsNumberedOutcome};
+ghost use Rattle.regex_lite_engine.specs.Search.Offsets.{position_at};
+ghost use Rattle.regex_lite_engine.specs.Search.OutcomeOfOne.{ending_at};
+
+use crate::lazy_dfa::automaton::LazyDfa;
+use crate::lazy_dfa::single::one::end_of;
+use crate::lazy_dfa::spans::SpanSearcher;
+use crate::slots::SlotCache;
+use crate::strategy::{Searched, Strategy, Wanted, choose};
+use regex_lite_engine::pikevm::cache::{cache_for, restart};
+use regex_lite_engine::pikevm::run::advance;
+use regex_lite_engine::search::one_pattern::OnePattern;
+use std::alloc::{AllocError, Global};
+
+/// The memory in which a pattern is searched for, search after search.
+#[derive(Drop)]
+pub(crate) struct PatternSearcher {
+    memory: SlotCache,
+    /// What is remembered of the turns of earlier searches, if no slots are kept and it pays.
+    dfa: Option<Box<LazyDfa>>,
+    /// What finds where a match starts and ends, if slots are kept and it pays.
+    spans: Option<Box<SpanSearcher>>,
+}
+
+impl PatternSearcher {
+    /// One for this pattern, whose matches have `slots` slots, and for haystacks of about `bytes`
+    /// bytes. All the memory that its searches need is asked for here. In long haystacks its
+    /// searches remember their turns, unless the memory for that is refused.
+    ///
+    /// # Errors
+    ///
+    /// If memory runs out without which it can't search.
+    pub(crate) fn new(
+        alloc: Global,
+        pattern: &OnePattern<'_>,
+        slots: usize,
+        bytes: usize,
+    ) -> Result<PatternSearcher, AllocError>
+        ensures searches { IfOk result
+            (SearchesForOne (places_of pattern.now.table.now) pattern.now.entry) }
+        ensures slots { IfOk result
+            (λ searcher. length searcher.memory.cache.best.row ≡ slots) }
+    {
+        let searched = Searched::one(pattern.table, pattern.filter);
+        let strategy = choose(&searched, Wanted::EachMatch, slots, bytes);
+        let cache = cache_for(alloc, pattern.table, slots)?;
+        let memory = SlotCache::new(alloc, cache, pattern.table, strategy.pairs());
+        let dfa = match strategy {
+            Strategy::LazyDfa => automaton_for(alloc, pattern),
+            _ => None,
+        };
+        let spans = match strategy {
+            Strategy::SpanFirst { by, .. } => SpanSearcher::for_one(alloc, pattern, by),
+            _ => None,
+        };
+        Ok(PatternSearcher { memory, dfa, spans })
+    }
+
+    /// Where the most preferred match starts and ends, from the least start at or after this
+    /// offset. It needs no memory, and the row has the slots of the match.
+    pub(crate) fn find(
+        &mut self,
+        pattern: &mut OnePattern<'_>,
+        haystack: &str,
+        start: usize,
+    ) -> Option<(usize, usize)>
+        requires boundary { IsCharBoundary haystack.now start }
+        requires searches { SearchesForOne (places_of pattern.old.table.now) pattern.old.entry
+            self.old }
+        ensures found { IsNumberedOutcome (places_of pattern.old.table.now) (chars haystack.now)
+            pattern.old.entry (position_at haystack.now start)
+            (best_at result self.new.memory.cache.best.row) }
+        ensures searches { SearchesForOne (places_of pattern.old.table.now) pattern.old.entry
+            self.new }
+        ensures slots { length self.new.memory.cache.best.row
+            ≡ length self.old.memory.cache.best.row }
+    {
+        if let Some(dfa) = &mut self.dfa {
+            let cache = &mut self.memory.cache;
+            restart(cache);
+            return dfa.find_span(pattern, cache, haystack, start);
+        }
+        let Some(spans) = &mut self.spans else {
+            return self.memory.find_from(pattern, haystack, start);
+        };
+        let span = spans.find(pattern, haystack, start)?;
+        self.memory.find_known(pattern, haystack, span)
+    }
+
+    /// The least end of any match that starts at or after this offset. The search is over at the
+    /// first match that it comes to, and needs no memory. What the row has then belongs to no
+    /// match.
+    pub(crate) fn find_end(
+        &mut self,
+        pattern: &mut OnePattern<'_>,
+        haystack: &str,
+        start: usize,
+    ) -> Option<usize>
+        requires boundary { IsCharBoundary haystack.now start }
+        requires searches { SearchesForOne (places_of pattern.old.table.now) pattern.old.entry
+            self.old }
+        ensures found { IsNumberedEndOf (places_of pattern.old.table.now) (chars haystack.now)
+            (pattern.old.entry ∷ []) (position_at haystack.now start) (ending_at result) }
+        ensures searches { SearchesForOne (places_of pattern.old.table.now) pattern.old.entry
+            self.new }
+        ensures slots { length self.new.memory.cache.best.row
+            ≡ length self.old.memory.cache.best.row }
+    {
+        let first = pattern.first_start(haystack, start)?;
+        let cache = &mut self.memory.cache;
+        restart(cache);
+        let Some(dfa) = &mut self.dfa else {
+            advance::<_, _, true>(cache, pattern, haystack, first, None);
+            return cache.best.end();
+        };
+        pattern.may_start = true;
+        end_of(dfa.find::<_, true>(pattern, cache, haystack, first))
+    }
+
+    /// The slots of the last match.
+    pub(crate) fn row(&self) -> &[Option<usize>]
+        ensures { result.now ≡ self.now.memory.cache.best.row }
+    {
+        self.memory.cache.best.row()
+    }
+}
+
+/// An automaton of this pattern that remembers nothing yet, on the heap: most searchers have none,
+/// and are moved about often.
+// Not inlined, so that to make a searcher without one costs no more for it.
+#[inline(never)]
+fn automaton_for(alloc: Global, pattern: &OnePattern<'_>) -> Option<Box<LazyDfa>>
+    ensures { IfSome result (λ dfa. RemembersFor (places_of pattern.now.table.now)
+        (pattern.now.entry ∷ []) dfa.value) }
+{
+    let dfa = LazyDfa::for_one(alloc, pattern)?;
+    Box::new(alloc, dfa).ok()
+}

@@ -1,0 +1,159 @@
+//! Searches for several patterns, one after another, in the same memory, over the table of their
+//! graph.
+ghost use Rattle.std.specs.Prelude.{◌≡◌, ◌<◌, ℕ, IfOk, IsCharBoundary, Some, chars, length};
+ghost use Rattle.regex_lite_meta.specs.LazyDfa.Scanning.{best_told};
+ghost use Rattle.regex_lite_meta.specs.Memories.{SearchesForSeveral, row_of_several};
+ghost use Rattle.regex_lite_meta.specs.Slots.{FindsSlotsIn};
+ghost use Rattle.regex_lite_engine.specs.Graph.StoredList.{table_of_list};
+ghost use Rattle.regex_lite_engine.specs.Search.NumberedOutcomes.{IsBestOutcomeOf, numbered_at};
+ghost use Rattle.regex_lite_engine.specs.Search.NumberedOutcomes.{IsNumberedEndOf, best_kept};
+ghost use Rattle.regex_lite_engine.specs.Search.NumberedOutcomes.{with_origin_kept};
+ghost use Rattle.regex_lite_engine.specs.Search.Offsets.{position_at};
+
+use crate::lazy_dfa::list_spans::ListSpanSearcher;
+use crate::slots::SlotCache;
+use crate::strategy::{Searched, SpanSearch, Strategy, Wanted, choose};
+use regex_lite_engine::nfa::list::GraphList;
+use regex_lite_engine::pikevm::beginning::Origin;
+use regex_lite_engine::pikevm::best::numbered;
+use regex_lite_engine::pikevm::cache::cache_for_list;
+use std::alloc::{AllocError, Global};
+
+/// The memory in which several patterns are searched for, search after search.
+#[derive(Drop)]
+pub(crate) struct SeveralSearcher<'g> {
+    spans: ListSpanSearcher<'g>,
+    /// What finds the slots of a match, where they are searched for once it is known.
+    slots: Option<Box<SlotCache>>,
+}
+
+impl<'g> SeveralSearcher<'g> {
+    /// One for this graph, whose matches have `slots` slots, for haystacks of about `bytes` bytes.
+    ///
+    /// # Errors
+    ///
+    /// If memory runs out without which it can't search.
+    // Not inlined, since what an inlined one needs is cleared each time.
+    #[inline(never)]
+    pub(crate) fn new(
+        alloc: Global,
+        graph: &'g GraphList,
+        slots: usize,
+        bytes: usize,
+    ) -> Result<SeveralSearcher<'g>, AllocError>
+        ensures searches { IfOk result (SearchesForSeveral graph.now) }
+        ensures slots { IfOk result (λ searcher. length (row_of_several searcher) ≡ slots) }
+    {
+        let by = match choose(&Searched::several(graph), Wanted::EachMatch, slots, bytes) {
+            Strategy::SpanFirst { by, pairs } => {
+                return SeveralSearcher::span_first(alloc, graph, slots, by, pairs);
+            }
+            Strategy::LazyDfa => SpanSearch::LazyDfa,
+            _ => SpanSearch::OrderedSets,
+        };
+        let spans = ListSpanSearcher::new(alloc, graph, slots, by)?;
+        Ok(SeveralSearcher { spans, slots: None })
+    }
+
+    /// One that finds a match first, in this way, and then its slots: depth first if there are at
+    /// most this number of pairs.
+    pub(crate) fn span_first(
+        alloc: Global,
+        graph: &'g GraphList,
+        slots: usize,
+        by: SpanSearch,
+        pairs: usize,
+    ) -> Result<SeveralSearcher<'g>, AllocError>
+        ensures searches { IfOk result (SearchesForSeveral graph.now) }
+        ensures slots { IfOk result (λ searcher. length (row_of_several searcher) ≡ slots) }
+    {
+        let spans = ListSpanSearcher::new(alloc, graph, 0, by)?;
+        let cache = cache_for_list(alloc, graph, slots)?;
+        let memory = SlotCache::new(alloc, cache, graph.table(), pairs);
+        Ok(SeveralSearcher {
+            spans,
+            slots: Some(Box::new(alloc, memory)?),
+        })
+    }
+
+    /// The match that starts first at or after this offset, of the pattern with the lowest number
+    /// that matches there: that number, and where the most preferred match of the pattern starts
+    /// and ends. It takes no memory, and the row has the slots of the match.
+    pub(crate) fn find(
+        &mut self,
+        graph: &GraphList,
+        haystack: &str,
+        start: usize,
+    ) -> Option<(usize, (usize, usize))>
+        requires some { 0 < length graph.now.entries }
+        requires boundary { IsCharBoundary haystack.now start }
+        requires searches { SearchesForSeveral graph.now self.old }
+        ensures found { IsBestOutcomeOf (table_of_list graph.now) (chars haystack.now)
+            graph.now.entries (position_at haystack.now start)
+            (with_origin_kept (numbered_at result (row_of_several self.new))) }
+        ensures searches { SearchesForSeveral graph.now self.new }
+        ensures slots { length (row_of_several self.new) ≡ length (row_of_several self.old) }
+    {
+        let found = self.spans.find::<false>(graph, haystack, start)?;
+        let Some(slots) = &mut self.slots else {
+            return numbered(Some(found));
+        };
+        find_slots(graph, slots, haystack, found)
+    }
+
+    /// The least end of a match of any pattern that starts at or after this offset. The search is
+    /// over at the first match that it comes to, and takes no memory. What the row has then belongs
+    /// to no match.
+    pub(crate) fn find_end(
+        &mut self,
+        graph: &GraphList,
+        haystack: &str,
+        start: usize,
+    ) -> Option<(Origin, usize)>
+        requires some { 0 < length graph.now.entries }
+        requires boundary { IsCharBoundary haystack.now start }
+        requires searches { SearchesForSeveral graph.now self.old }
+        ensures found { IsNumberedEndOf (table_of_list graph.now) (chars haystack.now)
+            graph.now.entries (position_at haystack.now start) (best_told result) }
+        ensures searches { SearchesForSeveral graph.now self.new }
+        ensures slots { length (row_of_several self.new) ≡ length (row_of_several self.old) }
+    {
+        self.spans.find::<true>(graph, haystack, start)
+    }
+
+    /// The slots of the last match that was found.
+    pub(crate) fn row(&self) -> &[Option<usize>]
+        ensures { result.now ≡ row_of_several self.now }
+    {
+        match &self.slots {
+            Some(slots) => slots.cache.best.row(),
+            None => self.spans.row(),
+        }
+    }
+}
+
+/// Searches for the slots of the match that starts and ends here, of the pattern with this number,
+/// which is the first match of any pattern. Its row has them afterwards. Returns the number, and
+/// where the match starts and ends.
+fn find_slots(
+    graph: &GraphList,
+    memory: &mut SlotCache,
+    haystack: &str,
+    found: (Origin, usize),
+) -> Option<(usize, (usize, usize))>
+    requires found { (s : ℕ) × IsBestOutcomeOf (table_of_list graph.now) (chars haystack.now)
+        graph.now.entries s (best_told (Some found)) }
+    requires finds { FindsSlotsIn (table_of_list graph.now) memory.old }
+    ensures found { (s : ℕ) → IsBestOutcomeOf (table_of_list graph.now) (chars haystack.now)
+        graph.now.entries s (best_told (Some found))
+        → IsBestOutcomeOf (table_of_list graph.now) (chars haystack.now) graph.now.entries s
+        (with_origin_kept (numbered_at result memory.new.cache.best.row)) }
+    ensures finds { FindsSlotsIn (table_of_list graph.now) memory.new }
+    ensures width { length memory.new.cache.best.row ≡ length memory.old.cache.best.row }
+{
+    let (origin, end) = found;
+    let number = origin.number as usize;
+    let mut pattern = graph.pattern(number);
+    let span = memory.find_known(&mut pattern, haystack, (origin.at, end))?;
+    Some((number, span))
+}
