@@ -17,7 +17,7 @@ use regex_lite_engine::nfa::table::Table;
 use regex_lite_engine::pikevm::beginning::Origin;
 use regex_lite_engine::pikevm::best::{Best, span_of};
 use regex_lite_engine::pikevm::cache::{Cache, cache_for, restart};
-use regex_lite_engine::pikevm::run::run;
+use regex_lite_engine::pikevm::run::advance;
 use regex_lite_engine::search::one_pattern::OnePattern;
 use std::alloc::{AllocError, Global};
 
@@ -93,8 +93,9 @@ impl SlotCache {
             (best_at result self.new.cache.best.row) }
         ensures width { length self.new.cache.best.row ≡ length self.old.cache.best.row }
     {
+        let first = pattern.first_start(haystack, start)?;
         restart(&mut self.cache);
-        run(&mut self.cache, pattern, haystack, start);
+        advance::<_, _, false>(&mut self.cache, pattern, haystack, first, None);
         span_of(self.cache.best.found())
     }
 }
