@@ -94,7 +94,7 @@ impl SlotCache {
         ensures width { length self.new.cache.best.row ≡ length self.old.cache.best.row }
     {
         restart(&mut self.cache);
-        run(&mut self.cache, pattern, haystack, start);
+        run::<_, _, false>(&mut self.cache, pattern, haystack, start);
         span_of(self.cache.best.found())
     }
 }

@@ -39,7 +39,7 @@ impl Graph {
     {
         let mut cache = cache_for::<usize>(alloc, self.table(), slots)?;
         let mut pattern = self.pattern();
-        run(&mut cache, &mut pattern, haystack, start);
+        run::<_, _, false>(&mut cache, &mut pattern, haystack, start);
         let Cache { walk, best, .. } = cache;
         Ok((best.into_outcome(), walk.steps))
     }

@@ -13,8 +13,8 @@ use Rattle.regex_lite_meta.proofs.once.search_shortest.Goals as goal
 pub first_start-requires : goal.first_start-requires
 first_start-requires c = on_boundary _ _ c.requires c.if-start-haystack.false
 
-pub run_shortest-requires : goal.run_shortest-requires
-run_shortest-requires c = record {
+pub run-requires : goal.run-requires
+run-requires c = record {
   counts =
       let short : length c.args.haystack.now < 2 ^ 63 = search rules in
       can_count (places_of c.pattern-pattern.result.table.now) c.args.haystack.now
@@ -36,14 +36,14 @@ returns-clause-found c = λ tree regular is.
     (end_told c.args.graph.now haystack c.args.start (omega (arith, over)) tree regular is
     c.utf8.haystack c.in-Some.first
     (rw (own.table, own.entry) at (rw c.in-Some.is at c.first_start.ensures.first))
-    (best_of c.run_shortest.new.cache.best)
-    (rw (own.table, own.entry) at c.run_shortest.ensures.found))
+    (best_of c.run.new.cache.best)
+    (rw (own.table, own.entry) at c.run.ensures.found))
 
 pub returns-clause-cost : goal.returns-clause-cost
 returns-clause-cost c = λ tree is.
     let over = c.if-start-haystack.false in
     let graph = c.args.graph.now in
-    let steps = c.run_shortest.new.cache.walk.steps in
+    let steps = c.run.new.cache.walk.steps in
     let s = position_at c.args.haystack.now c.args.start in
     let m = position_at c.args.haystack.now c.in-Some.first.at in
     let before = none_before_first (table_of graph) c.args.haystack.now c.utf8.haystack
@@ -54,7 +54,7 @@ returns-clause-cost c = λ tree is.
     (omega (arith, over)) steps.tried steps.entered steps.looked
     (bounded_from (length (table_of graph)) (arrows_of (table_of graph))
     (chars c.args.haystack.now) s m steps.tried steps.entered steps.looked before.from
-    (rw c.pattern-pattern.ensures.table at c.run_shortest.ensures.bounded))
+    (rw c.pattern-pattern.ensures.table at c.run.ensures.bounded))
 
 pub returns-in_default-first_start-clause-found : goal.returns-in_default-first_start-clause-found
 returns-in_default-first_start-clause-found c = λ tree regular is.
