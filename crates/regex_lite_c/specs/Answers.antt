@@ -1,5 +1,6 @@
 -- The numbers that calls return.
 use Rattle.std.specs.Prelude.{◌≡◌, ◌⊎◌, ◌↔◌, ◌≤◌, ℕ, List, IsUtf8, IsCharBoundary}
+use Rattle.std.specs.Prelude.{Result, MatchResult}
 use Rattle.regex_lite_syntax.specs.declared.error.ErrorKind.{ErrorKind}
 use Rattle.regex_lite_syntax.specs.declared.error.ErrorKind.TheVariants as kind
 use Rattle.regex_lite_c.specs.declared.answer.TheConstants.{NO, YES, NOT_TEXT, BAD_OFFSET, NO_ROOM}
@@ -22,6 +23,15 @@ abbrev pub IsRefusedText : (bytes : List ℕ) → (start : ℕ) → (answer : �
 IsRefusedText bytes start answer =
     ((answer ≡ NOT_TEXT) × (IsUtf8 bytes → ⊥))
     ⊎ ((answer ≡ BAD_OFFSET) × IsUtf8 bytes × (IsCharBoundary bytes start → ⊥))
+
+-- this is said of the bytes from this offset on; or they can't be searched, or memory ran out, and
+-- the number says which
+abbrev pub IsSaid : {X : Type 0} → (bytes : List ℕ) → (start : ℕ) → (Says : X → Type 0)
+    → Result X ℕ → Type 0
+IsSaid bytes start Says said =
+    MatchResult said (λ own. IsUtf8 bytes × IsCharBoundary bytes start × Says own)
+    (λ answer. IsRefusedText bytes start answer
+    ⊎ ((answer ≡ OUT_OF_MEMORY) × IsUtf8 bytes × IsCharBoundary bytes start))
 
 -- the bytes, or the offset, are refused exactly if that is due
 pub record RefusesText (bytes : List ℕ) (start answer : ℕ) : Type 0 where

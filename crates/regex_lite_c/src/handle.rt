@@ -84,19 +84,22 @@ pub(crate) trait Holds: Drop {
     }
 }
 
-/// What this says of the value that is held, and 0 where nothing is.
-pub(crate) fn ask<H: Holds, F: FnOnce(&H::Value) -> usize>(
+/// What this says of the value that is held, and `absent` where nothing is.
+// Calls that write to the caller's memory take the value and put it back themselves: where a
+// closure isn't called, nothing says that what it borrows stays the same.
+pub(crate) fn ask<H: Holds, R: Drop, F: FnOnce(&H::Value) -> R>(
     alloc: Global,
     handle: &mut H,
+    absent: R,
     say: F,
-) -> usize
+) -> R
     requires { F.IsAlwaysCallable say }
     ensures same { H.held handle.new ≡ H.held handle.old }
-    ensures said { MatchOption (H.held handle.old) (result ≡ 0)
+    ensures said { MatchOption (H.held handle.old) (result ≡ absent)
         (λ value. FnOnceReturnsAt F.FnOnce say value result) }
 {
     let Some(value) = handle.take(alloc) else {
-        return 0;
+        return absent;
     };
     let said = say(&*value);
     handle.put(value);

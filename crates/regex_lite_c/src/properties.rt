@@ -29,12 +29,7 @@ pub extern "C" fn regex_lite_pattern(
     ensures answer { IfSome handle.old.value (λ re.
         IsWritten re.pattern room.old room.new len.new result) }
 {
-    let Some(regex) = handle.take(alloc) else {
-        return NOTHING_HELD;
-    };
-    let answer = room::write(regex.as_str().as_bytes(), room, len);
-    handle.put(regex);
-    answer
+    room::write_from(alloc, handle, room, len, |regex| Ok(regex.as_str()))
 }
 
 /// The number of groups of a match, including the whole match; 0 if the handle holds nothing.
@@ -44,7 +39,7 @@ pub extern "C" fn regex_lite_groups(alloc: Global, handle: &mut Handle) -> usize
     ensures counted { MatchOption handle.old.value (result ≡ 0)
         (λ re. OfTree re (λ tree. result ≡ captures_len tree)) }
 {
-    ask(alloc, handle, |regex| regex.captures_len())
+    ask(alloc, handle, 0, |regex| regex.captures_len())
 }
 
 /// At least this many groups take part in every match, the whole match among them; 0 where that
@@ -58,6 +53,7 @@ pub extern "C" fn regex_lite_static_groups(alloc: Global, handle: &mut Handle) -
     ask(
         alloc,
         handle,
+        0,
         |regex| regex.static_captures_len().unwrap_or(0),
     )
 }
@@ -69,7 +65,7 @@ pub extern "C" fn regex_lite_places(alloc: Global, handle: &mut Handle) -> usize
     ensures counted { MatchOption handle.old.value (result ≡ 0)
         (λ re. OfTree re (λ tree. result ≡ whole_places tree)) }
 {
-    ask(alloc, handle, |regex| regex.places())
+    ask(alloc, handle, 0, |regex| regex.places())
 }
 
 /// How many arrows lead from place to place in the pattern written out; 0 where nothing is held.
@@ -79,7 +75,7 @@ pub extern "C" fn regex_lite_arrows(alloc: Global, handle: &mut Handle) -> usize
     ensures counted { MatchOption handle.old.value (result ≡ 0)
         (λ re. OfTree re (λ tree. result ≡ whole_arrows tree)) }
 {
-    ask(alloc, handle, |regex| regex.arrows())
+    ask(alloc, handle, 0, |regex| regex.arrows())
 }
 
 /// Writes the name of the group with this index to the room: 1, or 0 where the group has no name.

@@ -1,8 +1,11 @@
 //! Room of the caller for bytes.
-ghost use Rattle.std.specs.Prelude.{◌≡◌};
+ghost use Rattle.std.specs.Prelude.{◌≡◌, IfSome, MatchResult, None};
+ghost use Rattle.std.specs.Fn.{FnOnceReturnsAt};
 ghost use Rattle.regex_lite_c.specs.Rooms.{IsWritten};
 
-use crate::answer::{NO_ROOM, YES};
+use crate::answer::{NO_ROOM, NOTHING_HELD, YES};
+use crate::handle::Holds;
+use std::alloc::Global;
 
 /// Writes a text to the room, or nothing where that is too small, and how long the text is.
 pub(crate) fn write(text: &[u8], room: &mut [u8], len: &mut usize) -> u32
@@ -14,4 +17,41 @@ pub(crate) fn write(text: &[u8], room: &mut [u8], len: &mut usize) -> u32
     }
     room[..text.len()].copy_from_slice(text);
     YES
+}
+
+/// Writes the text that is found in what is held, or returns what stands for its absence.
+pub(crate) fn write_from<H: Holds, F: FnOnce(&H::Value) -> Result<&str, u32>>(
+    alloc: Global,
+    handle: &mut H,
+    room: &mut [u8],
+    len: &mut usize,
+    find: F,
+) -> u32
+    requires { F.IsAlwaysCallable find }
+    ensures same { H.held handle.new ≡ H.held handle.old }
+    ensures nothing_held { H.held handle.old ≡ None
+        → (result ≡ NOTHING_HELD) × (room.new ≡ room.old) × (len.new ≡ len.old) }
+    ensures found { IfSome (H.held handle.old) (λ value.
+        (found : _) × FnOnceReturnsAt F.FnOnce find value found × MatchResult found
+        (λ text. IsWritten text.now room.old room.new len.new result)
+        (λ answer. (result ≡ answer) × (room.new ≡ room.old) × (len.new ≡ len.old))) }
+{
+    let Some(value) = handle.take(alloc) else {
+        return NOTHING_HELD;
+    };
+    let answer = write_found(find(&*value), room, len);
+    handle.put(value);
+    answer
+}
+
+/// Writes this text, or returns what stands for its absence.
+fn write_found(found: Result<&str, u32>, room: &mut [u8], len: &mut usize) -> u32
+    ensures { MatchResult found.entry
+        (λ text. IsWritten text.now room.old room.new len.new result)
+        (λ answer. (result ≡ answer) × (room.new ≡ room.old) × (len.new ≡ len.old)) }
+{
+    match found {
+        Ok(text) => write(text.as_bytes(), room, len),
+        Err(answer) => answer,
+    }
 }

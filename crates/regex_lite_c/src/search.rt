@@ -6,7 +6,7 @@ ghost use Rattle.regex_lite_c.specs.Costs.{IsCostOfSearch};
 ghost use Rattle.regex_lite_c.specs.Spans.{FindsSpan, TellsSpan};
 
 use crate::answer::{NO, NOTHING_HELD, OUT_OF_MEMORY, YES};
-use crate::handle::{Handle, Holds};
+use crate::handle::{Handle, Holds, ask};
 use crate::sought::Sought;
 use crate::text::text_from;
 use crate::types::{Cost, Span};
@@ -26,12 +26,8 @@ pub extern "C" fn regex_lite_is_match(
     ensures answer { IfSome handle.old.value (λ re. IsSearchAnswer text.now start result
         (MatchesFrom re text.now start) (MatchesFrom re text.now start → ⊥)) }
 {
-    let Some(regex) = handle.take(alloc) else {
-        return NOTHING_HELD;
-    };
-    let answer = is_match(&*regex, text, start);
-    handle.put(regex);
-    answer
+    let say = |regex: &Regex| is_match(regex, text, start);
+    ask(alloc, handle, NOTHING_HELD, say)
 }
 
 /// Whether what is searched for matches there.

@@ -3,6 +3,7 @@ pub mod BlockLemmas
 pub mod CountLemmas
 pub mod FirstByteLemmas
 pub mod FirstStartLemmas
+pub mod LaterStartLemmas
 pub mod ListSkipLemmas
 pub mod MarkLemmas
 pub mod OfferLemmas

@@ -28,7 +28,7 @@ use regex_lite_engine::nfa::list::GraphList;
 use regex_lite_engine::nfa::table::Table;
 use regex_lite_engine::pikevm::beginning::{Origin, Unkept};
 use regex_lite_engine::pikevm::cache::{Cache, cache_for, restart};
-use regex_lite_engine::pikevm::run::run_shortest;
+use regex_lite_engine::pikevm::run::run;
 use regex_lite_engine::steps::no_steps;
 use std::alloc::{AllocError, Global};
 
@@ -222,7 +222,7 @@ impl Kept {
     {
         let mut pattern = list.pattern(number);
         let mut cache = memory_again(self.alloc, pattern.table, self.sets.take())?;
-        run_shortest(&mut cache, &mut pattern, haystack, start);
+        run::<_, _, true>(&mut cache, &mut pattern, haystack, start);
         let told = told_by(&cache);
         self.sets.replace(cache);
         Ok(told)

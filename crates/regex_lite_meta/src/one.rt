@@ -8,7 +8,7 @@ use crate::strategy::{Searched, Strategy, Wanted, choose};
 use regex_lite_engine::Steps;
 use regex_lite_engine::pikevm::beginning::Unkept;
 use regex_lite_engine::pikevm::cache::{Cache, cache_for};
-use regex_lite_engine::pikevm::run::run_shortest;
+use regex_lite_engine::pikevm::run::run;
 use regex_lite_engine::search::one_pattern::OnePattern;
 use regex_lite_engine::search::outcome::Outcome;
 use regex_lite_engine::steps::no_steps;
@@ -60,7 +60,7 @@ pub(crate) fn search_shortest_one(
         return Ok((None, no_steps()));
     };
     let mut cache = cache_for::<Unkept>(alloc, pattern.table, 0)?;
-    run_shortest(&mut cache, pattern, haystack, first.at);
+    run::<_, _, true>(&mut cache, pattern, haystack, first.at);
     let Cache { walk, best, .. } = cache;
     Ok((best.end(), walk.steps))
 }

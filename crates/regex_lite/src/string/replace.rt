@@ -156,7 +156,7 @@ impl Regex {
         ensures refused { IfErr result (λ error. (error ≡ out_of_memory)
             ⊎ IsRefused R.fixed R.appends rep (whole self.now haystack.now limit) error) }
     {
-        let searcher = Searcher::with_groups(self, haystack.len())?;
+        let searcher = Searcher::new(self, self.kept_slots(), haystack.len())?;
         let mut scan = GroupScan::new(searcher, haystack, limit);
         self.replace_each(haystack, &mut scan, rep)
     }

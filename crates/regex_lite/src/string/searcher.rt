@@ -2,7 +2,6 @@
 ghost use Rattle.std.specs.Prelude.{◌≡◌, ◌↔◌, IfOk, IfErr, IfSome, IsTrue, length};
 ghost use Rattle.regex_lite_syntax.specs.Errors.{out_of_memory};
 ghost use Rattle.regex_lite.specs.Compiled.{AreOfRegex, SharesGroups};
-ghost use Rattle.regex_lite.specs.Scanning.{AreSlotsForGroups};
 ghost use Rattle.regex_lite.specs.Searches.{MatchesFrom};
 
 use crate::string::captures::Captures;
@@ -47,16 +46,6 @@ impl<'r> Searcher<'r> {
         let graph = &regex.compiled.graph;
         let inner = regex_lite_meta::Searcher::new(regex.alloc, graph, slots, bytes)?;
         Ok(Searcher { regex, inner })
-    }
-
-    /// The regex, with memory for searches that keep the slots of all groups.
-    pub fn with_groups(regex: &'r Regex, bytes: usize) -> Result<Searcher<'r>, Error>
-        ensures regex { IfOk result (λ searcher. searcher.regex ≡ regex.now) }
-        ensures slots { IfOk result
-            (λ searcher. AreSlotsForGroups regex.now (length searcher.slots)) }
-        ensures refused { IfErr result (λ error. error ≡ out_of_memory) }
-    {
-        Searcher::new(regex, regex.kept_slots(), bytes)
     }
 
     /// The regex.

@@ -5,9 +5,8 @@ ghost use Rattle.regex_lite_engine.specs.Graph.SideBySide.{arrows_of_all, places
 ghost use Rattle.regex_lite_c.specs.Rooms.{IsPatternAnswer};
 
 use crate::answer::{NO, NOTHING_HELD};
-use crate::handle::{Holds, ListHandle, ask};
+use crate::handle::{ListHandle, ask};
 use crate::room;
-use regex_lite::RegexList;
 use std::alloc::Global;
 
 /// How many patterns the list has; 0 where nothing is held.
@@ -16,7 +15,7 @@ pub extern "C" fn regex_lite_list_len(alloc: Global, handle: &mut ListHandle) ->
     ensures same { handle.new.value ≡ handle.old.value }
     ensures counted { MatchOption handle.old.value (result ≡ 0) (λ list. result ≡ length list) }
 {
-    ask(alloc, handle, |list| list.len())
+    ask(alloc, handle, 0, |list| list.len())
 }
 
 /// Writes the pattern with this number to the room: 1, or 0 where there is none.
@@ -34,22 +33,13 @@ pub extern "C" fn regex_lite_list_pattern_at(
     ensures answer { IfSome handle.old.value (λ list.
         IsPatternAnswer list number room.old room.new len.old len.new result) }
 {
-    let Some(list) = handle.take(alloc) else {
-        return NOTHING_HELD;
-    };
-    let answer = pattern(&list, number, room, len);
-    handle.put(list);
-    answer
-}
-
-/// Writes the pattern of this list with this number.
-fn pattern(list: &RegexList, number: usize, room: &mut [u8], len: &mut usize) -> u32
-    ensures { IsPatternAnswer list.now number room.old room.new len.old len.new result }
-{
-    match list.as_str(number) {
-        Some(pattern) => room::write(pattern.as_bytes(), room, len),
-        None => NO,
-    }
+    room::write_from(
+        alloc,
+        handle,
+        room,
+        len,
+        |list| list.as_str(number).ok_or(NO),
+    )
 }
 
 /// How many places the patterns have together when they are written out; 0 where nothing is held.
@@ -59,7 +49,7 @@ pub extern "C" fn regex_lite_list_places(alloc: Global, handle: &mut ListHandle)
     ensures counted { MatchOption handle.old.value (result ≡ 0)
         (λ list. OfTrees list (λ trees. result ≡ places_of_all trees)) }
 {
-    ask(alloc, handle, |list| list.places())
+    ask(alloc, handle, 0, |list| list.places())
 }
 
 /// How many arrows lead from place to place in the patterns written out; 0 where nothing is held.
@@ -69,5 +59,5 @@ pub extern "C" fn regex_lite_list_arrows(alloc: Global, handle: &mut ListHandle)
     ensures counted { MatchOption handle.old.value (result ≡ 0)
         (λ list. OfTrees list (λ trees. result ≡ arrows_of_all trees)) }
 {
-    ask(alloc, handle, |list| list.arrows())
+    ask(alloc, handle, 0, |list| list.arrows())
 }

@@ -6,10 +6,11 @@ ghost use Rattle.regex_lite_c.specs.Costs.{IsCostOfListSearch};
 ghost use Rattle.regex_lite_c.specs.ListSpans.{FindsListSpan, TellsListSpan};
 
 use crate::answer::{NOTHING_HELD, YES};
-use crate::handle::{Holds, ListHandle};
+use crate::handle::{Holds, ListHandle, ask};
 use crate::list::types::ListSpan;
 use crate::search::{find, find_counted, is_match};
 use crate::types::Cost;
+use regex_lite::RegexList;
 use std::alloc::Global;
 
 /// Whether one of the patterns matches somewhere from this offset on: 1 or 0.
@@ -25,12 +26,8 @@ pub extern "C" fn regex_lite_list_is_match(
     ensures answer { IfSome handle.old.value (λ list. IsSearchAnswer text.now start result
         (AnyMatches list text.now start) (AnyMatches list text.now start → ⊥)) }
 {
-    let Some(list) = handle.take(alloc) else {
-        return NOTHING_HELD;
-    };
-    let answer = is_match(&*list, text, start);
-    handle.put(list);
-    answer
+    let say = |list: &RegexList| is_match(list, text, start);
+    ask(alloc, handle, NOTHING_HELD, say)
 }
 
 /// The match that starts first from this offset on, of those the one of the pattern with the lowest

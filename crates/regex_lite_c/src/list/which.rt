@@ -1,10 +1,12 @@
 //! Which of several patterns match, in bytes of the caller.
-ghost use Rattle.std.specs.Prelude.{◌≡◌, ◌<◌, ◌≤◌, IfSome, IsCharBoundary, None, length};
+ghost use Rattle.std.specs.Prelude.{◌≡◌, ◌<◌, ◌≤◌, IfSome, None, length};
+ghost use Rattle.regex_lite.specs.RegexListSearches.{TellsWhichMatch};
+ghost use Rattle.regex_lite_c.specs.Answers.{IsSaid};
 ghost use Rattle.regex_lite_c.specs.ListSpans.{IsFlagsAnswer, flag_of};
 ghost use Rattle.regex_lite_c.specs.Spans.{AreWrittenAs};
 
 use crate::answer::{NO_ROOM, NOTHING_HELD, OUT_OF_MEMORY, YES};
-use crate::handle::{Holds, ListHandle};
+use crate::handle::{ListHandle, ask};
 use crate::text::text_from;
 use regex_lite::{RegexList, SetMatches};
 use std::alloc::Global;
@@ -27,47 +29,23 @@ pub extern "C" fn regex_lite_list_matches(
     ensures answer { IfSome handle.old.value (λ list. IsFlagsAnswer list text.now start
         matched.old matched.new count.old count.new result) }
 {
-    let Some(list) = handle.take(alloc) else {
-        return NOTHING_HELD;
-    };
-    let answer = matches(&list, text, start, matched, count);
-    handle.put(list);
-    answer
-}
-
-/// Which of these patterns match.
-fn matches(
-    list: &RegexList,
-    text: &[u8],
-    start: usize,
-    matched: &mut [u8],
-    count: &mut usize,
-) -> u32
-    ensures { IsFlagsAnswer list.now text.now start matched.old matched.new count.old count.new
-        result }
-{
-    match text_from(text, start) {
-        Ok(text) => matches_at(list, text, start, matched, count),
-        Err(refusal) => refusal,
-    }
-}
-
-/// Which of these patterns match in a text that can be searched from there on.
-fn matches_at(
-    list: &RegexList,
-    text: &str,
-    start: usize,
-    matched: &mut [u8],
-    count: &mut usize,
-) -> u32
-    requires { IsCharBoundary text.now start }
-    ensures { IsFlagsAnswer list.now text.now start matched.old matched.new count.old count.new
-        result }
-{
-    match list.matches_at(text, start) {
+    match ask(
+        alloc,
+        handle,
+        Err(NOTHING_HELD),
+        |list| matches(list, text, start),
+    ) {
         Ok(set) => write_flags(&set, matched, count),
-        Err(_) => OUT_OF_MEMORY,
+        Err(answer) => answer,
     }
+}
+
+/// Which of these patterns match, or why that isn't known.
+fn matches(list: &RegexList, text: &[u8], start: usize) -> Result<SetMatches, u32>
+    ensures { IsSaid text.now start (TellsWhichMatch list.now text.now start) result }
+{
+    let text = text_from(text, start)?;
+    list.matches_at(text, start).map_err(|_| OUT_OF_MEMORY)
 }
 
 /// Writes for each pattern whether it matches, or nothing where there is too little room, and how

@@ -1,7 +1,7 @@
 -- A search stays in the part of the table in which its patterns are entered, and pays for no other.
 use Rattle.regex_lite_engine.proofs.Common.{◌≡◌, ℕ, zero, suc, ◌+◌, ◌<◌, ◌≤◌, List, [], ◌∷◌, length}
 use Rattle.regex_lite_engine.proofs.Common.{take, drop, if◌then◌else◌, Bool, true, false}
-use Rattle.regex_lite_engine.proofs.Common.{slice_index_or, refl, Some, sum_by, Option, sym, subst}
+use Rattle.regex_lite_engine.proofs.Common.{slice_index_or, refl, Some, sum_by, Option, subst}
 use Rattle.regex_lite_engine.proofs.Common.{arith, length-take, sum_by-cons, IsWithin, row_of}
 use Rattle.regex_lite_engine.proofs.Common.{IsOwnPart, InStep, SearchAt, numbered_step, is_end}
 use Rattle.regex_lite_engine.proofs.Common.{StartsOf, Node, Offer, Text, Leads, WayTold, Row, Told}

@@ -8,7 +8,6 @@ use Rattle.regex_lite_engine.proofs.Common.{if◌then◌else◌, nat_lt, length,
 use Rattle.regex_lite_engine.proofs.Common.{Starts, chars, IsCharBoundary, Text, characters_left}
 use Rattle.regex_lite_engine.proofs.Common.{IsDeadAt, position_at, IsHere, PassesTo, Here}
 use Rattle.regex_lite_engine.specs.Search.NumberedOutcomes.{IsBestOutcome, IsNumberedEndOf}
-use Rattle.regex_lite_engine.specs.Search.NumberedList.{IsMatchOfAny}
 use Rattle.regex_lite_engine.specs.Graph.Places.{Place}
 use Rattle.regex_lite_engine.specs.Search.NumberedAnswer.{NoneStartsBefore, IsNumberedAnswer}
 use Rattle.regex_lite_engine.specs.Search.NumberedAnswer.{IsNumberedMatch}
@@ -18,6 +17,7 @@ use Rattle.regex_lite_syntax.proofs.LookupLemmas.{there_is}
 use Rattle.regex_lite_engine.proofs.OffsetLemmas.{boundary_at}
 use Rattle.regex_lite_engine.proofs.PositionLemmas.{position_of}
 use Rattle.regex_lite_engine.proofs.search.FirstByteLemmas.{begins_later}
+use Rattle.regex_lite_engine.proofs.search.LaterStartLemmas.{later_end}
 use Rattle.regex_lite_engine.proofs.search.OneStartLemmas.{only_entry}
 
 -- where no way leads to a match, there is none
@@ -127,52 +127,17 @@ module _ (table : List (Place ℕ)) (bytes : List ℕ) (utf8 : IsUtf8 bytes) (st
             by_order (cases_lt i w.q));
       }
 
--- of one pattern of several
-module _ (table : List (Place ℕ)) (haystack : Text) (entry s m : ℕ)
-    (before : NoneStartsBefore table haystack entry s m) where
-  later : (i k : ℕ) (way : List ℕ) (q j : ℕ)
-      → IsMatchOfAny table haystack (entry ∷ []) s i k way q j
-      → IsMatchOfAny table haystack (entry ∷ []) m i k way q j
-  later i k way q j other =
-      let (first, same) = only_entry entry k other.entry other.is_entry in
-      record {
-        entry = other.entry;
-        is_entry = other.is_entry;
-        is_match = record {
-          from = before.least i q j way
-              (subst (λ e. IsNumberedMatch table haystack e s i way q j) (sym same) other.is_match);
-          inside = other.is_match.inside;
-          leads = other.is_match.leads;
-        };
-      }
-
-  -- the least end from a later start, before which no match starts, is the least end from here
-  pub ends_from : (best : Best) → IsNumberedEndOf table haystack (entry ∷ []) m best
-      → IsNumberedEndOf table haystack (entry ∷ []) s best
-  ends_from None none = λ i k way q j is. none i k way q j (later i k way q j is)
-  ends_from (Some best) (end, shortest, at) =
-      let m = shortest.is_match in
-      let low = before.from in
-      let high = m.is_match.from in (
-        end,
-        record {
-          start = shortest.start;
-          number = shortest.number;
-          way = shortest.way;
-          last = shortest.last;
-          is_match = record {
-            entry = m.entry;
-            is_entry = m.is_entry;
-            is_match = record {
-              from = omega (arith, low, high);
-              inside = m.is_match.inside;
-              leads = m.is_match.leads;
-            };
-          };
-          least = λ i k way q j other. shortest.least i k way q j (later i k way q j other);
-        },
-        at,
-      )
+-- the least end of one pattern of several from a later start, before which no match of it starts,
+-- is the least end from here
+pub ends_from : (table : List (Place ℕ)) (haystack : Text) (entry s m : ℕ)
+    → NoneStartsBefore table haystack entry s m → (best : Best)
+    → IsNumberedEndOf table haystack (entry ∷ []) m best
+    → IsNumberedEndOf table haystack (entry ∷ []) s best
+ends_from table haystack entry s m before =
+    later_end table haystack (entry ∷ []) s m before.from (λ i k way q j is.
+    let (first, same) = only_entry entry k is.entry is.is_entry in
+    before.least i q j way
+    (subst (λ e. IsNumberedMatch table haystack e s i way q j) (sym same) is.is_match))
 
 -- where no way of it leads to a match, it has none
 pub no_end_from : (table : List (Place ℕ)) (haystack : Text) (entry s : ℕ)

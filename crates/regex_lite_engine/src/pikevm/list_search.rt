@@ -11,7 +11,7 @@ ghost use Rattle.regex_lite_engine.specs.Search.Outcomes.{IsOutcomeOfList, HasCo
 use crate::nfa::list::GraphList;
 use crate::pikevm::beginning::{Origin, Unkept};
 use crate::pikevm::cache::{Cache, cache_for};
-use crate::pikevm::run::{run, run_shortest};
+use crate::pikevm::run::run;
 use crate::search::list_patterns::ListPatterns;
 use crate::search::outcome::Outcome;
 use crate::steps::{Steps, no_steps};
@@ -48,7 +48,7 @@ impl GraphList {
         }
         let mut patterns = ListPatterns::new(alloc, self)?;
         let mut cache = cache_for::<Origin>(alloc, self.table(), slots)?;
-        run(&mut cache, &mut patterns, haystack, start);
+        run::<_, _, false>(&mut cache, &mut patterns, haystack, start);
         let Cache { walk, best, .. } = cache;
         Ok((best.into_numbered(), walk.steps))
     }
@@ -80,7 +80,7 @@ impl GraphList {
         }
         let mut patterns = ListPatterns::new(alloc, self)?;
         let mut cache = cache_for::<Unkept>(alloc, self.table(), 0)?;
-        run_shortest(&mut cache, &mut patterns, haystack, start);
+        run::<_, _, true>(&mut cache, &mut patterns, haystack, start);
         let Cache { walk, best, .. } = cache;
         Ok((best.end().is_some(), walk.steps))
     }

@@ -5,7 +5,7 @@ ghost use Rattle.regex_lite_engine.specs.Graph.Parts.{IsOwnPart, row_of};
 ghost use Rattle.regex_lite_engine.specs.Graph.Renumbered.{arrows_of};
 ghost use Rattle.regex_lite_engine.specs.Search.Bounds.{IsBoundedBy, StaysCounted, characters_left};
 ghost use Rattle.regex_lite_engine.specs.Search.Offsets.{position_at};
-ghost use Rattle.regex_lite_engine.specs.Search.NumberedOutcomes.{IsBestOutcomeOf, IsNumberedEndOf};
+ghost use Rattle.regex_lite_engine.specs.Search.NumberedOutcomes.{IsFoundOf};
 ghost use Rattle.regex_lite_engine.specs.Search.Standing.{IsHere};
 ghost use Rattle.regex_lite_engine.specs.Pikevm.Passing.{IsUnderWay};
 ghost use Rattle.regex_lite_engine.specs.Pikevm.Stopping.{Stops};
@@ -13,16 +13,17 @@ ghost use Rattle.regex_lite_engine.specs.Pikevm.Searching.{IsFresh, IsBetween};
 ghost use Rattle.regex_lite_engine.specs.Search.Counting.{CanCount};
 ghost use Rattle.regex_lite_engine.specs.Pikevm.Turns.{best_of};
 
-use crate::pikevm::beginning::{Beginning, Unkept};
+use crate::pikevm::beginning::Beginning;
 use crate::pikevm::cache::Cache;
 use crate::search::here::Here;
 use crate::search::patterns::Patterns;
 
-/// Goes from position to position, until the most preferred match is known.
+/// Goes from position to position until the match is known: the most preferred one or, with
+/// EARLIEST, one that ends at the first position at which any match is complete.
 ///
 /// Condition: the start is on a character boundary, the cache has just been made for the table of
 /// the patterns or made ready for another search, and no count of the search can be too large.
-pub fn run<S: Beginning, P: Patterns>(
+pub fn run<S: Beginning, P: Patterns, const EARLIEST: bool>(
     cache: &mut Cache<S>,
     patterns: &mut P,
     haystack: &str,
@@ -32,36 +33,7 @@ pub fn run<S: Beginning, P: Patterns>(
     requires fresh { IsFresh (P.table patterns.old) cache.old }
     requires counts { CanCount (P.table patterns.old) (length (P.entries patterns.old))
         (characters_left (chars haystack.now) (position_at haystack.now start)) }
-    ensures found { IsBestOutcomeOf (P.table patterns.old) (chars haystack.now)
-        (P.entries patterns.old) (position_at haystack.now start) (best_of cache.new.best) }
-    ensures bounded { IsBoundedBy (length (P.table patterns.old))
-        (arrows_of (P.table patterns.old) + length (P.entries patterns.old)) (chars haystack.now)
-        (position_at haystack.now start) cache.new.walk.steps.tried
-        cache.new.walk.steps.entered cache.new.walk.steps.looked }
-    ensures counts { StaysCounted cache.old.walk.steps cache.new.walk.steps }
-    ensures width { length cache.new.best.row ≡ length cache.old.best.row }
-    ensures between { IsBetween (P.table patterns.old) cache.new }
-    ensures table { P.table patterns.new ≡ P.table patterns.old }
-    ensures entries { P.entries patterns.new ≡ P.entries patterns.old }
-{
-    advance::<_, _, false>(cache, patterns, haystack, Here::at(haystack, start), None);
-}
-
-/// Goes from position to position, up to the first at which a match is complete.
-///
-/// Condition: the start is on a character boundary, the cache has just been made for the table of
-/// the patterns or made ready for another search, and no count of the search can be too large.
-pub fn run_shortest<P: Patterns>(
-    cache: &mut Cache<Unkept>,
-    patterns: &mut P,
-    haystack: &str,
-    start: usize,
-)
-    requires boundary { IsCharBoundary haystack.now start }
-    requires fresh { IsFresh (P.table patterns.old) cache.old }
-    requires counts { CanCount (P.table patterns.old) (length (P.entries patterns.old))
-        (characters_left (chars haystack.now) (position_at haystack.now start)) }
-    ensures found { IsNumberedEndOf (P.table patterns.old) (chars haystack.now)
+    ensures found { IsFoundOf EARLIEST (P.table patterns.old) (chars haystack.now)
         (P.entries patterns.old) (position_at haystack.now start) (best_of cache.new.best) }
     ensures bounded { IsBoundedBy (length (P.table patterns.old))
         (arrows_of (P.table patterns.old) + length (P.entries patterns.old)) (chars haystack.now)
@@ -72,11 +44,14 @@ pub fn run_shortest<P: Patterns>(
         (arrows_of (row_of (P.table patterns.old) low len) + length (P.entries patterns.old))
         (chars haystack.now) (position_at haystack.now start) cache.new.walk.steps.tried
         cache.new.walk.steps.entered cache.new.walk.steps.looked }
-    ensures between { IsBetween (P.table patterns.old) cache.new }
-    ensures counts { StaysCounted cache.old.walk.steps cache.new.walk.steps }
     ensures entry { ¬ (best_of cache.new.best ≡ None) → 0 < cache.new.walk.steps.entered }
+    ensures counts { StaysCounted cache.old.walk.steps cache.new.walk.steps }
+    ensures width { length cache.new.best.row ≡ length cache.old.best.row }
+    ensures between { IsBetween (P.table patterns.old) cache.new }
+    ensures table { P.table patterns.new ≡ P.table patterns.old }
+    ensures entries { P.entries patterns.new ≡ P.entries patterns.old }
 {
-    advance::<_, _, true>(cache, patterns, haystack, Here::at(haystack, start), None);
+    advance::<_, _, EARLIEST>(cache, patterns, haystack, Here::at(haystack, start), None);
 }
 
 /// Goes on from where a search stands until its match is known: the most preferred one or, with

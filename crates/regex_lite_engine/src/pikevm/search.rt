@@ -31,7 +31,7 @@ impl<'g> OnePattern<'g> {
             start slots) }
     {
         let mut cache = cache_for::<usize>(alloc, self.table, slots)?;
-        run(&mut cache, self, haystack, start);
+        run::<_, _, false>(&mut cache, self, haystack, start);
         let Cache { walk, best, .. } = cache;
         Ok((best.into_outcome(), walk.steps))
     }

@@ -1,11 +1,12 @@
 -- A search that begins anew at a later start, since no match starts before.
 use Rattle.regex_lite_meta.proofs.Common.{ℕ, ◌+◌, ◌<◌, ◌≤◌, ◌⊎◌, List, length, Some, None, inl}
 use Rattle.regex_lite_meta.proofs.Common.{inr, arith, cases_lt, Text, Thread, IsComing, Best}
-use Rattle.regex_lite_meta.proofs.Common.{Bool, true, false, IsBestOutcomeOf, IsNumberedEndOf}
+use Rattle.regex_lite_meta.proofs.Common.{Bool, true, false, IsBestOutcomeOf}
 use Rattle.regex_lite_meta.proofs.Common.{IsFoundOf}
 use Rattle.regex_lite_engine.specs.Graph.Places.{Place}
 use Rattle.regex_lite_engine.specs.Search.NumberedList.{IsMatchOfAny}
 use Rattle.regex_lite_engine.proofs.pikevm.ShortestLemmas.{ends_later}
+use Rattle.regex_lite_engine.proofs.search.LaterStartLemmas.{later_end, later_match}
 use Rattle.regex_lite_meta.specs.LazyDfa.Automaton.{ReadsAtMost}
 use Rattle.regex_lite_meta.specs.LazyDfa.Running.{NoneStartsBeforeOf}
 
@@ -16,22 +17,14 @@ module _ (table : List (Place ℕ)) (h : Text) (entries : List ℕ) where
 
   module _ (s m : ℕ) (before : NoneStartsBeforeOf table h entries s m) where
     -- a match from here on is one from the later start on
-    later_match : (i k : ℕ) (way : List ℕ) (q j : ℕ) → IsMatchOfAny table h entries s i k way q j
+    match_from : (i k : ℕ) (way : List ℕ) (q j : ℕ) → IsMatchOfAny table h entries s i k way q j
         → IsMatchOfAny table h entries m i k way q j
-    later_match i k way q j is = record {
-      entry = is.entry;
-      is_entry = is.is_entry;
-      is_match = record {
-        from = before.least i k way q j is;
-        inside = is.is_match.inside;
-        leads = is.is_match.leads;
-      };
-    }
+    match_from = later_match table h entries s m before.from before.least
 
     -- the answer from the later start on is the answer from here on
     outcome_from : (best : Best) → IsBestOutcomeOf table h entries m best
         → IsBestOutcomeOf table h entries s best
-    outcome_from None none = λ i k way q j is. none i k way q j (later_match i k way q j is)
+    outcome_from None none = λ i k way q j is. none i k way q j (match_from i k way q j is)
     outcome_from (Some best) (number, found, answer, told, end, held) =
         let low = before.from in
         let own = answer.answer in
@@ -57,46 +50,18 @@ module _ (table : List (Place ℕ)) (h : Text) (entries : List ℕ) where
               preferred = own.preferred;
               marks = own.marks;
             };
-            first = λ i k way q j is. answer.first i k way q j (later_match i k way q j is);
+            first = λ i k way q j is. answer.first i k way q j (match_from i k way q j is);
           },
           told,
           end,
           held,
         )
 
-    -- and so is the least end
-    end_from : (best : Best) → IsNumberedEndOf table h entries m best
-        → IsNumberedEndOf table h entries s best
-    end_from None none = λ i k way q j is. none i k way q j (later_match i k way q j is)
-    end_from (Some best) (end, is, at) =
-        let low = before.from in
-        let own = is.is_match in
-        let high = own.is_match.from in (
-          end,
-          record {
-            start = is.start;
-            number = is.number;
-            way = is.way;
-            last = is.last;
-            is_match = record {
-              entry = own.entry;
-              is_entry = own.is_entry;
-              is_match = record {
-                from = omega (arith, low, high);
-                inside = own.is_match.inside;
-                leads = own.is_match.leads;
-              };
-            };
-            least = λ i k way q j other. is.least i k way q j (later_match i k way q j other);
-          },
-          at,
-        )
-
     -- and so is what is asked for
     pub found_from : (earliest : Bool) (best : Best) → IsFoundOf earliest table h entries m best
         → IsFoundOf earliest table h entries s best
     found_from false = outcome_from
-    found_from true = end_from
+    found_from true = later_end table h entries s m before.from before.least
 
     -- a search that stands at a position without a match has none that started as many characters
     -- before as a way reads at most, or earlier
@@ -115,6 +80,6 @@ module _ (table : List (Place ℕ)) (h : Text) (entries : List ℕ) where
         by_start i k way r j is (inr le) = le
         by_start i k way r j is (inl less) =
             let ends = ends_later table h entries m q threads coming i k way r j
-            (later_match i k way r j is) in
+            (match_from i k way r j is) in
             let few = reads h k is.entry i way r j is.is_entry is.is_match.leads.is_way.0 in
             absurd (omega (arith, ends, few, less, far))

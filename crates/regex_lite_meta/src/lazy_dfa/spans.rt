@@ -69,7 +69,7 @@ impl SpanSearcher {
             return dfa.find_span(pattern, &mut self.cache, haystack, start);
         }
         let mut own = *pattern;
-        run(&mut self.cache, &mut own, haystack, start);
+        run::<_, _, false>(&mut self.cache, &mut own, haystack, start);
         span_of(self.cache.best.found())
     }
 }

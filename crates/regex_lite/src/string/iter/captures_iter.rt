@@ -39,7 +39,7 @@ impl Regex {
         ensures begins { IfOk result (λ it. it.ended ≡ None) }
         ensures refused { IfErr result (λ error. error ≡ out_of_memory) }
     {
-        CaptureMatches::new(self, haystack, None)
+        self.captures_iter_after(haystack, None)
     }
 
     /// The groups of all matches that [`Regex::find_iter_after`] gives.
@@ -55,12 +55,11 @@ impl Regex {
         ended: Option<usize>,
     ) -> Result<CaptureMatches<'r, 'h>, Error>
         requires { IsCharBoundary haystack.now (unwrap_or ended 0) }
-        ensures ahead { IfOk result
-            (λ it. ahead_of it ≡ after self.now haystack.now ended) }
+        ensures ahead { IfOk result (λ it. ahead_of it ≡ after self.now haystack.now ended) }
         ensures begins { IfOk result (λ it. it.ended ≡ ended) }
         ensures refused { IfErr result (λ error. error ≡ out_of_memory) }
     {
-        let searcher = Searcher::with_groups(self, haystack.len())?;
+        let searcher = Searcher::new(self, self.kept_slots(), haystack.len())?;
         Ok(CaptureMatches {
             scan: GroupScan::after(searcher, haystack, ended),
         })
@@ -84,25 +83,6 @@ impl<'r, 'h> Model for CaptureMatches<'r, 'h> {
     ghost Value = { Scanning Expression };
 
     ghost view = { λ it. seen_by (λ own. own.regex) it.scan };
-}
-
-impl<'r, 'h> CaptureMatches<'r, 'h> {
-    /// The groups of the matches that the limit allows, where there is one.
-    pub(crate) fn new(
-        regex: &'r Regex,
-        haystack: &'h str,
-        limit: Option<usize>,
-    ) -> Result<CaptureMatches<'r, 'h>, Error>
-        ensures ahead { IfOk result
-            (λ it. ahead_of it ≡ whole regex.now haystack.now limit) }
-        ensures begins { IfOk result (λ it. it.ended ≡ None) }
-        ensures refused { IfErr result (λ error. error ≡ out_of_memory) }
-    {
-        let searcher = Searcher::with_groups(regex, haystack.len())?;
-        Ok(CaptureMatches {
-            scan: GroupScan::new(searcher, haystack, limit),
-        })
-    }
 }
 
 impl<'r, 'h> Iterator for CaptureMatches<'r, 'h> {

@@ -40,10 +40,7 @@ impl RegexList {
         ensures begins { IfOk result (λ it. it.ended ≡ None) }
         ensures refused { IfErr result (λ error. error ≡ out_of_memory) }
     {
-        let searcher = ListSearcher::with_groups(self, haystack.len())?;
-        Ok(ListCaptureMatches {
-            scan: GroupScan::new(searcher, haystack, None),
-        })
+        self.captures_iter_after(haystack, None)
     }
 
     /// The groups of all matches that [`RegexList::find_iter_after`] gives.
@@ -64,7 +61,7 @@ impl RegexList {
         ensures begins { IfOk result (λ it. it.ended ≡ ended) }
         ensures refused { IfErr result (λ error. error ≡ out_of_memory) }
     {
-        let searcher = ListSearcher::with_groups(self, haystack.len())?;
+        let searcher = ListSearcher::new(self, self.kept_slots(), haystack.len())?;
         Ok(ListCaptureMatches {
             scan: GroupScan::after(searcher, haystack, ended),
         })

@@ -50,16 +50,6 @@ impl<'r> ListSearcher<'r> {
         Ok(ListSearcher { list, inner })
     }
 
-    /// The patterns, with memory for searches that keep the slots of all groups.
-    pub fn with_groups(list: &'r RegexList, bytes: usize) -> Result<ListSearcher<'r>, Error>
-        ensures list { IfOk result (λ searcher. searcher.list ≡ list.now) }
-        ensures slots { IfOk result
-            (λ searcher. AreSlotsForAllGroups list.now (length searcher.slots)) }
-        ensures refused { IfErr result (λ error. error ≡ out_of_memory) }
-    {
-        ListSearcher::new(list, list.kept_slots(), bytes)
-    }
-
     /// Whether any pattern matches.
     pub fn is_match(&mut self, haystack: &str) -> bool
         ensures found { IsTrue result ↔ AnyMatches self.old.list haystack.now 0 }

@@ -6,8 +6,8 @@ use Rattle.regex_lite_engine.proofs.search.OutcomeLemmas.{can_count}
 use Rattle.regex_lite_meta.proofs.EndLemmas.{end_told, none_told}
 use Rattle.regex_lite_meta.proofs.one.search_shortest_one.Goals as goal
 
-pub run_shortest-requires : goal.run_shortest-requires
-run_shortest-requires c =
+pub run-requires : goal.run-requires
+run-requires c =
     let one = c.args.pattern.now in
     let haystack = c.args.haystack.now in record {
       counts =
@@ -27,15 +27,15 @@ returns c =
     let haystack = c.args.haystack.now in
     let s = position_at haystack c.args.start in
     let m = position_at haystack c.in-Some.first.at in
-    let steps = c.run_shortest.new.cache.walk.steps in
+    let steps = c.run.new.cache.walk.steps in
     let passes = rw c.in-Some.is at c.first_start.ensures.first in
     let before = none_before_first table haystack c.utf8.haystack one.entry s c.in-Some.first passes
     in record {
       found = rw c.end.ensures
           (end_told table haystack one.entry c.args.start c.utf8.haystack c.in-Some.first passes
-          (best_of c.run_shortest.new.cache.best) c.run_shortest.ensures.found);
+          (best_of c.run.new.cache.best) c.run.ensures.found);
       cost = bounded_from (length table) (arrows_of table) (chars haystack) s m steps.tried
-          steps.entered steps.looked before.from c.run_shortest.ensures.bounded;
+          steps.entered steps.looked before.from c.run.ensures.bounded;
       entered = search rules;
     }
 

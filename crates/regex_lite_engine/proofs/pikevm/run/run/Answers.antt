@@ -1,6 +1,6 @@
 use Rattle.regex_lite_engine.proofs.Common.{refl, position_at}
 use Rattle.regex_lite_engine.proofs.pikevm.PassLemmas.{begun}
-use Rattle.regex_lite_engine.proofs.pikevm.StopLemmas.{over_found, over_bounded}
+use Rattle.regex_lite_engine.proofs.pikevm.StopLemmas.{over_found, over_bounded, over_within}
 use Rattle.regex_lite_engine.proofs.pikevm.run.run.Goals as goal
 
 pub advance-requires : goal.advance-requires
@@ -28,3 +28,9 @@ returns-clause-bounded g c =
     let s = position_at c.args.haystack.now c.args.start in
     over_bounded (rw (c.advance.ensures.all refl) at c.advance.ensures.stops s s c.at.ensures.here
     (begun _ _ _ s c.args.cache.now c.requires.fresh))
+
+pub returns-clause-own : goal.returns-clause-own
+returns-clause-own g c = λ low len part.
+    let s = position_at c.args.haystack.now c.args.start in
+    over_within (rw (c.advance.ensures.all refl) at c.advance.ensures.stops s s c.at.ensures.here
+    (begun _ _ _ s c.args.cache.now c.requires.fresh)) low len part

@@ -13,8 +13,8 @@ cache_for-requires c =
     let some = c.len.ensures.places (omega (arith, c.if-len-eq0.false)) in
     subst (λ places. 0 < length places) (ap (λ t. t.places) (sym c.table.ensures.same)) some
 
-pub run_shortest-requires : goal.run_shortest-requires
-run_shortest-requires c = record {
+pub run-requires : goal.run-requires
+run-requires c = record {
   fresh =
       rw (c.in_ok-patterns.ensures.list, ← ap places_of c.table.ensures.same)
       c.in_ok-cache.ensures.fresh;
@@ -36,18 +36,18 @@ returns c = record {
   found = λ trees regular is.
       let list = c.args.self.now in
       let haystack = c.args.haystack.now in
-      let best = best_of c.run_shortest.new.cache.best in
+      let best = best_of c.run.new.cache.best in
       let told = any_told trees list is haystack c.args.start
       (omega (arith, c.if-start-haystack.false)) regular best
-      (rw c.in_ok-patterns.ensures.list at c.run_shortest.ensures.found) in
+      (rw c.in_ok-patterns.ensures.list at c.run.ensures.found) in
       subst (λ found. IsTrue found
       ↔ AnyMatchesFrom trees (chars haystack) (search_start haystack c.args.start))
       (sym (c.is_some.ensures ∙ ap is_some c.end.ensures)) told;
   cost = λ trees is.
       cost_of_list trees c.args.self.now is c.args.haystack.now c.args.start
-      (omega (arith, c.if-start-haystack.false)) c.run_shortest.new.cache.walk.steps
-      (rw c.in_ok-patterns.ensures.list at c.run_shortest.ensures.bounded);
-  entered = λ told. c.run_shortest.ensures.entry (λ none. (
+      (omega (arith, c.if-start-haystack.false)) c.run.new.cache.walk.steps
+      (rw c.in_ok-patterns.ensures.list at c.run.ensures.bounded);
+  entered = λ told. c.run.ensures.entry (λ none. (
       let is : IsTrue false = subst IsTrue (c.is_some.ensures ∙ ap is_some c.end.ensures
       ∙ ap (λ best. is_some (option_map (λ z. z.1) best)) none) told in
       cc));
