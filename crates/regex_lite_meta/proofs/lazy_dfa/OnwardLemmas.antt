@@ -1,11 +1,11 @@
 -- A search that goes on by remembered turns, from where it stands to where it stands then.
-use Rattle.regex_lite_meta.proofs.Common.{◌≡◌, ℕ, ◌+◌, ◌^◌, ◌<◌, ◌≤◌, ◌⊎◌, List, [], length, IfSome}
+use Rattle.regex_lite_meta.proofs.Common.{◌≡◌, ℕ, ◌+◌, ◌^◌, ◌<◌, ◌≤◌, List, [], length}
 use Rattle.regex_lite_meta.proofs.Common.{slice_get, Some, None, IsUtf8, Option, chars}
-use Rattle.regex_lite_meta.proofs.Common.{IsCharBoundary, sym, refl, ap, ◌∙◌, subst, inl, inr}
+use Rattle.regex_lite_meta.proofs.Common.{IsCharBoundary, sym, refl, ap, ◌∙◌, subst, inl}
 use Rattle.regex_lite_meta.proofs.Common.{arith, slice_get_within, Text, IsBestOutcomeOf}
 use Rattle.regex_lite_meta.proofs.Common.{Bool, IsFoundOf, true}
-use Rattle.regex_lite_meta.proofs.Common.{position_at, IsHere, Origin, Here, Automaton, best_told}
-use Rattle.regex_lite_meta.proofs.Common.{IsIdleAt, IsSince, IsScanning, Standing}
+use Rattle.regex_lite_meta.proofs.Common.{position_at, IsHere, Origin, Automaton, best_told}
+use Rattle.regex_lite_meta.proofs.Common.{IsSince, IsScanning, Standing}
 use Rattle.regex_lite_engine.specs.Graph.Places.{Place}
 use Rattle.regex_lite_meta.specs.LazyDfa.Automaton.{KeptOrigin, State}
 use Rattle.regex_lite_meta.specs.LazyDfa.Scanning.{GoesOn, LedTo}
@@ -13,9 +13,7 @@ use Rattle.regex_lite_meta.specs.LazyDfa.Stored.{known_hit}
 use Rattle.regex_lite_meta.specs.declared.lazy_dfa.spot.Spot.{Spot}
 use Rattle.regex_lite_meta.specs.declared.lazy_dfa.state.Target.{Target}
 use Rattle.regex_lite_meta.specs.LazyDfa.Spots.{EndsScan, IsTaken, IsTurn}
-use Rattle.regex_lite_engine.proofs.OffsetLemmas.{boundary_at}
 use Rattle.regex_lite_syntax.proofs.OptionLemmas.{same_some}
-use Rattle.regex_lite_engine.proofs.PositionLemmas.{position_of}
 use Rattle.regex_lite_meta.proofs.lazy_dfa.ScanLemmas.{IsFirstAfter, scanned_on}
 use Rattle.regex_lite_meta.proofs.lazy_dfa.SpotLemmas.{IsSpotAt, since_led, since_on, spot_edge}
 use Rattle.regex_lite_meta.proofs.lazy_dfa.SpotLemmas.{spot_completed, spot_of, spot_on, spot_over}

@@ -1,6 +1,6 @@
 -- A search that remembers its turns and goes by those that it remembers.
-use Rattle.std.specs.Prelude.{◌≡◌, ◌+◌, ◌-◌, ◌*◌, ◌^◌, ◌≤◌, ◌<◌, ℕ, List, []}
-use Rattle.std.specs.Prelude.{MatchOption, Some, false, length, slice_index}
+use Rattle.std.specs.Prelude.{◌≡◌, ◌+◌, ◌-◌, ◌*◌, ◌≤◌, ℕ, List, []}
+use Rattle.std.specs.Prelude.{MatchOption, Some, false, length}
 use Rattle.regex_lite_syntax.specs.Text.{Text}
 use Rattle.regex_lite_meta.specs.declared.lazy_dfa.run.Progress.{Progress}
 use Rattle.regex_lite_meta.specs.declared.lazy_dfa.state.StoredWay.{StoredWay}

@@ -8,7 +8,7 @@ use Rattle.regex_lite_engine.specs.declared.search.here.Here.{Here}
 use Rattle.regex_lite_engine.specs.Graph.Places.{Place}
 use Rattle.regex_lite_meta.specs.LazyDfa.Automaton.{Automaton, State, Suits, threads_of}
 use Rattle.regex_lite_meta.specs.LazyDfa.Intervals.{side_of}
-use Rattle.regex_lite_engine.specs.Search.NumberedOutcomes.{IsBestOutcomeOf, IsFoundOf}
+use Rattle.regex_lite_engine.specs.Search.NumberedOutcomes.{IsFoundOf}
 use Rattle.regex_lite_engine.specs.Search.NumberedOutcomes.{IsNumberedEndOf}
 use Rattle.regex_lite_engine.specs.Search.NumberedOutcomes.{Best, best_at, best_kept}
 use Rattle.regex_lite_engine.specs.Search.NumberedOutcomes.{with_start_kept}
