@@ -9,3 +9,5 @@ pub mod Slots
 pub mod LazyDfa
 -- What searches for single patterns of a list promise one another. No public contract rests on it.
 pub mod ListMatches
+-- What a pass for all patterns of a list promises. No public contract rests on it.
+pub mod ListPass

@@ -10,8 +10,8 @@ use Rattle.regex_lite_engine.specs.Pikevm.Searching.{GoesOnIn, IsBetween}
 use Rattle.regex_lite_engine.specs.Search.Bounds.{IsBoundedBy, StepCounts}
 use Rattle.regex_lite_engine.specs.Search.Counting.{IsCountable}
 use Rattle.regex_lite_engine.specs.Search.NumberedOutcomes.{Best, IsNumberedEndOf}
-use Rattle.regex_lite_meta.specs.declared.list_matches.Kept.{Kept}
-use Rattle.regex_lite_meta.specs.declared.list_matches.Learning.{Learning}
+use Rattle.regex_lite_meta.specs.declared.list_matches.kept.Kept.{Kept}
+use Rattle.regex_lite_meta.specs.declared.list_matches.kept.Learning.{Learning}
 
 -- it is told whether the pattern that is entered there matches from position m on, and what the
 -- search for it did: no more than is allowed in any part of its own

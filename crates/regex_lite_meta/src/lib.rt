@@ -22,7 +22,7 @@ mod slot_searcher;
 mod slots;
 mod strategy;
 
-pub use list_matches::search_each;
+pub use list_matches::{search_each, search_each_uncounted};
 pub use list_searcher::ListSearcher;
 pub use once::{search, search_list, search_list_any, search_list_uncounted, search_shortest};
 pub use searcher::Searcher;

@@ -1,35 +1,31 @@
 //! Which of several patterns match: each is searched for by itself, in memory that is kept for the
 //! next.
-ghost use Rattle.std.specs.Prelude.{◌≡◌, ◌<◌, ◌⊎◌, ◌+◌, ◌↔◌, List, ℕ, IfErr, IfOk};
-ghost use Rattle.std.specs.Prelude.{IsCharBoundary, chars, is_some, false, length, slice_index};
-ghost use Rattle.std.specs.Prelude.{IfSome, IsTrue, None, slice_index_or};
+ghost use Rattle.std.specs.Prelude.{◌≡◌, ◌<◌, ◌⊎◌, List, ℕ, IfErr, IfOk};
+ghost use Rattle.std.specs.Prelude.{IsCharBoundary, chars, false, length};
+ghost use Rattle.std.specs.Prelude.{IsTrue, slice_index_or};
 ghost use Rattle.regex_lite_syntax.specs.Tree.{Tree};
-ghost use Rattle.regex_lite_engine.specs.Graph.PlaceCounts.{whole_arrows, whole_places};
 ghost use Rattle.regex_lite_engine.specs.Graph.SideBySide.{AreRegularPatterns, places_of_all};
-ghost use Rattle.regex_lite_engine.specs.Graph.SideBySide.{tries_of_all, HasTree};
-ghost use Rattle.regex_lite_engine.specs.Graph.Stored.{places_of};
-ghost use Rattle.regex_lite_engine.specs.Graph.StoredList.{IsGraphOfList, StoredList};
-ghost use Rattle.regex_lite_engine.specs.Graph.StoredList.{table_of_list};
-ghost use Rattle.regex_lite_engine.specs.Search.Answer.{HasMatchFrom};
+ghost use Rattle.regex_lite_engine.specs.Graph.SideBySide.{tries_of_all};
+ghost use Rattle.regex_lite_engine.specs.Graph.StoredList.{IsGraphOfList};
 ghost use Rattle.regex_lite_engine.specs.Search.AnswerOfList.{TellsWhich};
 ghost use Rattle.regex_lite_engine.specs.Search.Bounds.{IsBoundedBy};
-ghost use Rattle.regex_lite_engine.specs.Search.Counting.{IsCountable};
 ghost use Rattle.regex_lite_engine.specs.Search.Offsets.{position_at, search_start};
 ghost use Rattle.regex_lite_engine.specs.Search.Outcomes.{HasCostOfList};
-ghost use Rattle.regex_lite_engine.specs.Pikevm.Searching.{IsBetween, IsFresh};
-ghost use Rattle.regex_lite_engine.specs.Pikevm.Turns.{best_of};
-ghost use Rattle.regex_lite_meta.specs.ListMatches.{AreKeptFor, IsToldOf, LearnsFor};
+ghost use Rattle.regex_lite_meta.specs.ListMatches.{AreKeptFor};
 ghost use Rattle.regex_lite_meta.specs.ListMatches.{NeedsNoMemory};
 
-use crate::lazy_dfa::single::find_once;
-use crate::strategy::{Searched, Strategy, Wanted, choose};
+mod attempt;
+mod kept;
+mod pass;
+mod standing;
+
+use crate::strategy::pays_in_one_pass;
+pub(crate) use kept::Kept;
+pub(crate) use pass::ListPass;
 use regex_lite_engine::Steps;
 use regex_lite_engine::nfa::list::GraphList;
-use regex_lite_engine::nfa::table::Table;
-use regex_lite_engine::pikevm::beginning::{Origin, Unkept};
-use regex_lite_engine::pikevm::cache::{Cache, cache_for, restart};
-use regex_lite_engine::pikevm::run::run;
 use regex_lite_engine::steps::no_steps;
+pub(crate) use standing::Standing;
 use std::alloc::{AllocError, Global};
 
 /// For each pattern whether it matches from a position at or after this offset, and what the
@@ -62,6 +58,36 @@ pub fn search_each(
     let mut kept = Kept::new(alloc);
     let steps = search_all(list, &mut kept, haystack, start, &mut matched)?;
     Ok((matched, steps))
+}
+
+/// [`search_each`] without what the searches did. Where it pays, the haystack is gone over once for
+/// all patterns.
+///
+/// Condition: the start is above the haystack's length or on a character boundary.
+///
+/// # Errors
+///
+/// If memory runs out.
+pub fn search_each_uncounted(
+    list: &GraphList,
+    alloc: Global,
+    haystack: &str,
+    start: usize,
+) -> Result<Vec<bool>, AllocError>
+    requires { (length haystack.now < start) ⊎ IsCharBoundary haystack.now start }
+    ensures { IfOk result (λ told. (trees : List Tree) → AreRegularPatterns trees
+        → IsGraphOfList trees list.now → TellsWhich trees (chars haystack.now)
+        (search_start haystack.now start) told.items) }
+{
+    if start > haystack.len() || !pays_in_one_pass(list) {
+        let (matched, _) = search_each(list, alloc, haystack, start)?;
+        return Ok(matched);
+    }
+    let mut matched = vec![in alloc; false; list.len()]?;
+    let mut pass = ListPass::new(alloc, list)?;
+    let mut kept = Kept::new(alloc);
+    pass.search(list, &mut kept, haystack, start, &mut matched)?;
+    Ok(matched)
 }
 
 /// Searches for each pattern, and tells which of them match. Returns what all searches did.
@@ -97,260 +123,4 @@ pub(crate) fn search_all(
         steps = steps.plus(&own);
     }
     Ok(steps)
-}
-
-/// What the search for one pattern keeps for those for the next.
-#[derive(Drop)]
-pub(crate) struct Kept {
-    alloc: Global,
-    /// The memory of searches by ordered sets.
-    sets: Option<Cache<Unkept>>,
-    /// What searches need that remember their turns.
-    learning: Option<Box<Learning>>,
-}
-
-impl Kept {
-    /// Nothing yet.
-    fn new(alloc: Global) -> Kept
-        ensures { (list : StoredList) → AreKeptFor list result }
-    {
-        Kept {
-            alloc,
-            sets: None,
-            learning: None,
-        }
-    }
-
-    /// All that searches for the patterns of this list need. What they need to remember their turns
-    /// is asked for once one does, and they go without where it is refused.
-    ///
-    /// Condition: the list has a pattern.
-    ///
-    /// # Errors
-    ///
-    /// If memory runs out.
-    pub(crate) fn ready(alloc: Global, list: &GraphList) -> Result<Kept, AllocError>
-        requires { 0 < length list.now.entries }
-        ensures kept { IfOk result (AreKeptFor list.now) }
-        ensures ready { IfOk result NeedsNoMemory }
-    {
-        let _patterns = list.len();
-        let sets = cache_for(alloc, list.table(), 0)?;
-        Ok(Kept {
-            alloc,
-            sets: Some(sets),
-            learning: None,
-        })
-    }
-
-    /// Whether the pattern with this number matches, and what the search for it did. Memory is
-    /// asked for before the first step of the first pattern of which a match may begin, and kept
-    /// for the next ones.
-    #[inline(always)]
-    fn search_one(
-        &mut self,
-        list: &GraphList,
-        number: usize,
-        haystack: &str,
-        start: usize,
-    ) -> Result<(bool, Steps), AllocError>
-        requires number { number < length list.now.entries }
-        requires boundary { IsCharBoundary haystack.now start }
-        requires kept { AreKeptFor list.now self.old }
-        ensures found { IfOk result (λ told. (trees : List Tree) (tree : Tree)
-            → AreRegularPatterns trees → IsGraphOfList trees list.now
-            → HasTree trees number tree → (IsTrue told.0
-            ↔ HasMatchFrom tree (chars haystack.now) (position_at haystack.now start))) }
-        ensures cost { IfOk result (λ told. (trees : List Tree) (tree : Tree)
-            → IsGraphOfList trees list.now → HasTree trees number tree
-            → IsBoundedBy (whole_places tree) (whole_arrows tree + 1) (chars haystack.now)
-            (position_at haystack.now start) told.1.tried told.1.entered told.1.looked) }
-        ensures entered { IfOk result (λ told. IsTrue told.0 → 0 < told.1.entered) }
-        ensures kept { AreKeptFor list.now self.new }
-        ensures ready { NeedsNoMemory self.old → NeedsNoMemory self.new × IfErr result (λ _. ⊥) }
-    {
-        let pattern = list.pattern(number);
-        let Some(first) = pattern.first_start(haystack, start) else {
-            return Ok((false, no_steps()));
-        };
-        self.search_from(list, number, haystack, first.at)
-    }
-
-    /// Whether the pattern matches from this offset on, where a match of it may begin, and what the
-    /// search did.
-    #[inline(always)]
-    fn search_from(
-        &mut self,
-        list: &GraphList,
-        number: usize,
-        haystack: &str,
-        start: usize,
-    ) -> Result<(bool, Steps), AllocError>
-        requires number { number < length list.now.entries }
-        requires boundary { IsCharBoundary haystack.now start }
-        requires kept { AreKeptFor list.now self.old }
-        ensures told { IfOk result (IsToldOf (table_of_list list.now) (chars haystack.now)
-            (slice_index list.now.entries number) (position_at haystack.now start)) }
-        ensures kept { AreKeptFor list.now self.new }
-        ensures ready { NeedsNoMemory self.old → NeedsNoMemory self.new × IfErr result (λ _. ⊥) }
-    {
-        if pays_to_learn(list, number, haystack.len() - start) {
-            if let Some(told) = self.search_learning(list, number, haystack, start) {
-                return Ok(told);
-            }
-        }
-        self.search_by_sets(list, number, haystack, start)
-    }
-
-    /// The same by ordered sets alone.
-    // Not inlined, since then its own loop is: there are two callers.
-    #[inline(never)]
-    fn search_by_sets(
-        &mut self,
-        list: &GraphList,
-        number: usize,
-        haystack: &str,
-        start: usize,
-    ) -> Result<(bool, Steps), AllocError>
-        requires number { number < length list.now.entries }
-        requires boundary { IsCharBoundary haystack.now start }
-        requires kept { AreKeptFor list.now self.old }
-        ensures told { IfOk result (IsToldOf (table_of_list list.now) (chars haystack.now)
-            (slice_index list.now.entries number) (position_at haystack.now start)) }
-        ensures kept { AreKeptFor list.now self.new }
-        ensures ready { NeedsNoMemory self.old → NeedsNoMemory self.new × IfErr result (λ _. ⊥) }
-    {
-        let mut pattern = list.pattern(number);
-        let mut cache = memory_again(self.alloc, pattern.table, self.sets.take())?;
-        run::<_, _, true>(&mut cache, &mut pattern, haystack, start);
-        let told = told_by(&cache);
-        self.sets.replace(cache);
-        Ok(told)
-    }
-
-    /// The same, but it goes on with an automaton if it isn't over soon. None if the memory for that
-    /// is refused.
-    // Not inlined, so that searches in short haystacks cost no more for it.
-    #[inline(never)]
-    fn search_learning(
-        &mut self,
-        list: &GraphList,
-        number: usize,
-        haystack: &str,
-        start: usize,
-    ) -> Option<(bool, Steps)>
-        requires number { number < length list.now.entries }
-        requires boundary { IsCharBoundary haystack.now start }
-        requires kept { AreKeptFor list.now self.old }
-        ensures told { IfSome result (IsToldOf (table_of_list list.now) (chars haystack.now)
-            (slice_index list.now.entries number) (position_at haystack.now start)) }
-        ensures kept { AreKeptFor list.now self.new }
-        ensures ready { NeedsNoMemory self.old → NeedsNoMemory self.new }
-    {
-        let mut learning = match self.learning.take() {
-            Some(learning) => learning,
-            None => Learning::new(self.alloc, list).ok()?,
-        };
-        let told = learning.search(list, number, haystack, start);
-        self.learning.replace(learning);
-        Some(told)
-    }
-}
-
-/// Whether a search for the pattern with this number that goes over so many bytes remembers its
-/// turns.
-#[inline(always)]
-fn pays_to_learn(list: &GraphList, number: usize, bytes: usize) -> bool
-    requires { number < length list.now.entries }
-{
-    let pattern = list.pattern(number);
-    let searched = Searched::one(pattern.table, pattern.filter);
-    matches!(
-        choose(&searched, Wanted::Earliest, 0, bytes),
-        Strategy::LazyDfa
-    )
-}
-
-/// What searches for single patterns of a list need that remember their turns.
-#[derive(Drop)]
-struct Learning {
-    alloc: Global,
-    cache: Cache<Origin>,
-}
-
-impl Learning {
-    /// That for the patterns of this list.
-    ///
-    /// Condition: the list has a pattern.
-    ///
-    /// # Errors
-    ///
-    /// If memory runs out.
-    fn new(alloc: Global, list: &GraphList) -> Result<Box<Learning>, AllocError>
-        requires { 0 < length list.now.entries }
-        ensures { IfOk result (λ learning. LearnsFor list.now learning.value) }
-    {
-        let _patterns = list.len();
-        let cache = cache_for::<Origin>(alloc, list.table(), 0)?;
-        Ok(Box::new(alloc, Learning { alloc, cache })?)
-    }
-
-    /// Whether the pattern with this number matches from this offset on, and what the search did.
-    fn search(
-        &mut self,
-        list: &GraphList,
-        number: usize,
-        haystack: &str,
-        start: usize,
-    ) -> (bool, Steps)
-        requires number { number < length list.now.entries }
-        requires boundary { IsCharBoundary haystack.now start }
-        requires learns { LearnsFor list.now self.old }
-        ensures told { IsToldOf (table_of_list list.now) (chars haystack.now)
-            (slice_index list.now.entries number) (position_at haystack.now start) result }
-        ensures learns { LearnsFor list.now self.new }
-    {
-        let mut pattern = list.pattern(number);
-        let mut all = list.pattern(number);
-        all.may_start = true;
-        let Learning { alloc, cache } = self;
-        restart(cache);
-        let found = find_once::<_, _, true>(&mut pattern, &all, *alloc, cache, haystack, start);
-        (found.is_some(), cache.walk.steps)
-    }
-}
-
-/// Memory for a search in this table: what was kept, made ready for another search, if there is
-/// any.
-///
-/// Condition: the table has a place.
-///
-/// # Errors
-///
-/// If memory runs out.
-fn memory_again(
-    alloc: Global,
-    table: &Table,
-    kept: Option<Cache<Unkept>>,
-) -> Result<Cache<Unkept>, AllocError>
-    requires some { 0 < length table.now.places }
-    requires ready { IfSome kept (λ cache. IsBetween (places_of table.now) cache
-        × IsCountable (places_of table.now)) }
-    ensures fresh { IfOk result (IsFresh (places_of table.now)) }
-    ensures countable { IfOk result (λ _. IsCountable (places_of table.now)) }
-    ensures refused { IfErr result (λ _. kept ≡ None) }
-{
-    let Some(mut cache) = kept else {
-        return cache_for(alloc, table, 0);
-    };
-    restart(&mut cache);
-    Ok(cache)
-}
-
-/// Whether the search in this memory found a match, and what it did.
-fn told_by(cache: &Cache<Unkept>) -> (bool, Steps)
-    ensures found { result.0 ≡ is_some (best_of cache.now.best) }
-    ensures steps { result.1 ≡ cache.now.walk.steps }
-{
-    (cache.best.end().is_some(), cache.walk.steps)
 }

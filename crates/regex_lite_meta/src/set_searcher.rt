@@ -1,13 +1,16 @@
 //! Which of several patterns match, told of one haystack after another in the same working memory.
-ghost use Rattle.std.specs.Prelude.{◌≡◌, ◌<◌, ◌⊎◌, List, IfOk, IsCharBoundary, chars, length};
+ghost use Rattle.std.specs.Prelude.{◌≡◌, ◌<◌, ◌⊎◌, List, IfOk, IfSome, IsCharBoundary, chars};
+ghost use Rattle.std.specs.Prelude.{length};
 ghost use Rattle.regex_lite_syntax.specs.Tree.{Tree};
 ghost use Rattle.regex_lite_engine.specs.Graph.SideBySide.{AreRegularPatterns};
 ghost use Rattle.regex_lite_engine.specs.Graph.StoredList.{IsGraphOfList};
 ghost use Rattle.regex_lite_engine.specs.Search.AnswerOfList.{TellsWhich};
 ghost use Rattle.regex_lite_engine.specs.Search.Offsets.{search_start};
 ghost use Rattle.regex_lite_meta.specs.ListMatches.{IsReadyFor};
+ghost use Rattle.regex_lite_meta.specs.ListPass.{IsPassOf};
 
-use crate::list_matches::{Kept, search_all};
+use crate::list_matches::{Kept, ListPass, search_all};
+use crate::strategy::pays_in_one_pass;
 use regex_lite_engine::nfa::list::GraphList;
 use std::alloc::{AllocError, Global};
 use std::marker::Model;
@@ -19,17 +22,22 @@ pub struct SetSearcher<'g> {
     graph: &'g GraphList,
     /// Without a pattern nothing is searched for.
     kept: Option<Kept>,
+    /// What a pass for all patterns needs, where one pays.
+    pass: Option<ListPass<'g>>,
 }
 
 impl<'g> Model for SetSearcher<'g> {
     ghost use Rattle.regex_lite_engine.specs.Graph.StoredList.{StoredList};
+    ghost use Rattle.std.specs.Prelude.{IfSome};
     ghost use Rattle.regex_lite_meta.specs.ListMatches.{IsReadyFor};
+    ghost use Rattle.regex_lite_meta.specs.ListPass.{IsPassOf};
 
     ghost Value = { StoredList };
 
     ghost view = { λ searcher. searcher.graph.now };
 
-    ghost invariant = { λ searcher. IsReadyFor searcher.graph.now searcher.kept };
+    ghost invariant = { λ searcher. IsReadyFor searcher.graph.now searcher.kept
+        × IfSome searcher.pass (IsPassOf searcher.graph.now) };
 }
 
 impl<'g> SetSearcher<'g> {
@@ -42,7 +50,8 @@ impl<'g> SetSearcher<'g> {
         ensures { IfOk result (λ searcher. searcher ≡ graph.now) }
     {
         let kept = memory_for(alloc, graph)?;
-        Ok(SetSearcher { graph, kept })
+        let pass = pass_for(alloc, graph)?;
+        Ok(SetSearcher { graph, kept, pass })
     }
 
     /// Tells of each pattern, by its number, whether it matches from a position at or after this
@@ -66,7 +75,14 @@ impl<'g> SetSearcher<'g> {
         };
         if start <= haystack.len() {
             // It is never refused, since all memory that it needs is there.
-            let _ = search_all(self.graph, kept, haystack, start, matched);
+            match &mut self.pass {
+                Some(pass) => {
+                    let _ = pass.search(self.graph, kept, haystack, start, matched);
+                }
+                None => {
+                    let _ = search_all(self.graph, kept, haystack, start, matched);
+                }
+            }
         }
     }
 }
@@ -84,4 +100,19 @@ fn memory_for(alloc: Global, list: &GraphList) -> Result<Option<Kept>, AllocErro
     }
     let kept = Kept::ready(alloc, list)?;
     Ok(Some(kept))
+}
+
+/// What passes for all patterns of the list need, where they pay.
+///
+/// # Errors
+///
+/// If memory runs out.
+fn pass_for<'g>(alloc: Global, list: &'g GraphList) -> Result<Option<ListPass<'g>>, AllocError>
+    ensures { IfOk result (λ pass. IfSome pass (IsPassOf list.now)) }
+{
+    if !pays_in_one_pass(list) {
+        return Ok(None);
+    }
+    let pass = ListPass::new(alloc, list)?;
+    Ok(Some(pass))
 }

@@ -9,10 +9,12 @@
 //! below.
 ghost use Rattle.std.specs.Prelude.{◌≡◌, ◌+◌, ◌*◌, ◌<◌, ◌≤◌, ◌↔◌, IsTrue, length};
 
+mod credit;
 mod searched;
 mod wanted;
 
 use crate::slots::has_looks;
+pub(crate) use credit::{Credit, pays_in_one_pass};
 use searched::Beginning;
 pub(crate) use searched::Searched;
 pub(crate) use wanted::Wanted;

@@ -37,8 +37,9 @@ use std::marker::Model;
 ///
 /// A search goes over the haystack once, whatever the number of patterns. It finds the match that
 /// starts first and, among the patterns that match there, the one with the lowest number. Only
-/// [`RegexList::matches`], which returns for each pattern whether it matches, goes over the
-/// haystack once for each.
+/// [`RegexList::matches`], which returns for each pattern whether it matches, may go over it once
+/// for each: it does so for fewer than 16 patterns, and where patterns may start so often that one
+/// pass for all of them doesn't pay.
 ///
 /// Clones share what was built, so a clone costs little. It always succeeds.
 #[derive(Drop)]

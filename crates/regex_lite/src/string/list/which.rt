@@ -8,7 +8,7 @@ ghost use Rattle.regex_lite.specs.Searches.{CanStartAt};
 use crate::string::list::RegexList;
 use crate::string::list::set_matches::SetMatches;
 use regex_lite_engine::Steps;
-use regex_lite_meta::search_each;
+use regex_lite_meta::{search_each, search_each_uncounted};
 use regex_lite_syntax::Error;
 
 impl RegexList {
@@ -27,7 +27,9 @@ impl RegexList {
 
     /// Which of the patterns match somewhere in the haystack.
     ///
-    /// Each pattern is searched for by itself, up to the first match that the search comes to. The
+    /// The haystack is gone over once for 16 patterns or more: each is tried where it may start, up
+    /// to the first match that the search comes to. Where that doesn't pay, as for fewer patterns or
+    /// for those that may start at most positions, each pattern is searched for by itself. The
     /// memory of one search is kept for the next. In a long haystack a pattern for which most
     /// characters take a turn is searched for as a [`Regex`](crate::Regex) by itself is, by turns
     /// that are remembered.
@@ -67,8 +69,9 @@ impl RegexList {
         ensures found { IfOk result (λ set. TellsWhichMatch self.now haystack.now start set) }
         ensures refused { IfErr result (λ error. error ≡ out_of_memory) }
     {
-        let (set, _) = self.matches_counted_at(haystack, start)?;
-        Ok(set)
+        let graph = &self.compiled.graph;
+        let matched = search_each_uncounted(graph, self.alloc, haystack, start)?;
+        Ok(SetMatches { matched })
     }
 
     /// [`RegexList::matches_at`], and what the searches for the patterns cost together: no more

@@ -1,6 +1,6 @@
 use Rattle.regex_lite_meta.proofs.Common.{ap, sym, ◌∙◌, subst, places_of}
 use Rattle.regex_lite_meta.specs.ListMatches.{LearnsFor}
-use Rattle.regex_lite_meta.proofs.list_matches.Learning.new.Goals as goal
+use Rattle.regex_lite_meta.proofs.list_matches.kept.Learning.new.Goals as goal
 
 pub returns : goal.returns
 returns c =

@@ -2,7 +2,7 @@ use Rattle.regex_lite_meta.proofs.Common.{◌^◌, ◌<◌, length, arith, rules
 use Rattle.regex_lite_meta.proofs.Common.{position_at, ◌∙◌, ap}
 use Rattle.regex_lite_engine.proofs.Common.{is_some, false, IsTrue, subst}
 use Rattle.regex_lite_engine.proofs.search.OutcomeLemmas.{can_count}
-use Rattle.regex_lite_meta.proofs.list_matches.Kept.search_by_sets.Goals as goal
+use Rattle.regex_lite_meta.proofs.list_matches.kept.Kept.search_by_sets.Goals as goal
 
 pub run-requires-clause-counts : goal.run-requires-clause-counts
 run-requires-clause-counts c =

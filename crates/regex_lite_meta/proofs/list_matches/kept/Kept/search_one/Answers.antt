@@ -1,9 +1,9 @@
-use Rattle.regex_lite_engine.proofs.Common.{◌≡◌, ◌+◌, ◌↔◌, List, Bool, None, is_some}
+use Rattle.regex_lite_engine.proofs.Common.{◌+◌, ◌↔◌, List, Bool, None}
 use Rattle.regex_lite_engine.proofs.Common.{Tree, HasTree, IsBoundedBy}
 use Rattle.regex_lite_engine.proofs.Common.{IsTrue, slice_index, chars, sym, ◌∙◌, subst}
 use Rattle.regex_lite_engine.proofs.Common.{slice_get-get_or, whole_places}
 use Rattle.regex_lite_engine.proofs.Common.{whole_arrows, table_of_list, HasMatchFrom}
-use Rattle.regex_lite_engine.proofs.Common.{position_at, Best, Some, refl, option_map}
+use Rattle.regex_lite_engine.proofs.Common.{position_at}
 use Rattle.regex_lite_engine.proofs.search.FirstStartLemmas.{bounded_from, ends_from}
 use Rattle.regex_lite_engine.proofs.search.FirstStartLemmas.{first_boundary, no_end_from}
 use Rattle.regex_lite_engine.proofs.search.FirstStartLemmas.{none_before_first, none_tried}
@@ -13,12 +13,9 @@ use Rattle.regex_lite_engine.specs.Graph.SideBySide.{AreRegularPatterns}
 use Rattle.regex_lite_engine.specs.Graph.StoredList.{IsGraphOfList}
 use Rattle.regex_lite_engine.specs.Search.Bounds.{StepCounts}
 use Rattle.regex_lite_meta.specs.ListMatches.{IsToldOf}
-use Rattle.regex_lite_meta.proofs.list_matches.Kept.search_one.Goals as goal
-
--- there is a match where it has an end
-ends_where_found : (best : Best) → is_some (option_map (λ z. z.1) best) ≡ is_some best
-ends_where_found None = refl
-ends_where_found (Some best) = refl
+use Rattle.regex_lite_meta.specs.ListPass.{IsToldFrom}
+use Rattle.regex_lite_meta.proofs.list_matches.WhichLemmas.{ends_where_found}
+use Rattle.regex_lite_meta.proofs.list_matches.kept.Kept.search_one.Goals as goal
 
 pub search_from-requires-clause-boundary : goal.search_from-requires-clause-boundary
 search_from-requires-clause-boundary c =
@@ -27,6 +24,33 @@ search_from-requires-clause-boundary c =
     first_boundary (table_of_list list) c.args.haystack.now c.utf8.haystack
     (slice_index list.entries c.args.number) (position_at c.args.haystack.now c.args.start)
     c.in-Some.first (rw (is.table, is.entry) at (rw c.in-Some.is at c.first_start.ensures.first))
+
+pub returns-clause-told : goal.returns-clause-told
+returns-clause-told c = IfOk-weaker c.search_from.result _ _ known c.search_from.ensures.told
+  where
+    known : (told : Bool × StepCounts)
+        → IsToldOf (table_of_list c.args.list.now) (chars c.args.haystack.now)
+        (slice_index c.args.list.now.entries c.args.number)
+        (position_at c.args.haystack.now c.in-Some.first.at) told
+        → IsToldFrom (table_of_list c.args.list.now) c.args.haystack.now
+        (slice_index c.args.list.now.entries c.args.number)
+        (position_at c.args.haystack.now c.args.start) told.0
+    known told from =
+        let list = c.args.list.now in
+        let haystack = c.args.haystack.now in
+        let s = position_at haystack c.args.start in
+        let m = position_at haystack c.in-Some.first.at in
+        let entry = slice_index list.entries c.args.number in
+        let own = c.pattern-pattern.ensures in
+        let before = none_before_first (table_of_list list) haystack c.utf8.haystack entry s
+        c.in-Some.first
+        (rw (own.table, own.entry) at (rw c.in-Some.is at c.first_start.ensures.first)) in
+        record {
+          best = from.best;
+          is = from.is;
+          end =
+              ends_from (table_of_list list) (chars haystack) entry s m before from.best from.end;
+        }
 
 pub returns-clause-found : goal.returns-clause-found
 returns-clause-found c = IfOk-weaker c.search_from.result _ _ found c.search_from.ensures.told

@@ -3,7 +3,7 @@ use Rattle.regex_lite_meta.proofs.Common.{position_at, sym, ◌∙◌, best_told
 use Rattle.regex_lite_meta.proofs.Common.{None, Origin, IfSome, refl, subst, false}
 use Rattle.regex_lite_engine.proofs.Common.{IsTrue, is_some}
 use Rattle.regex_lite_engine.proofs.search.OutcomeLemmas.{can_count}
-use Rattle.regex_lite_meta.proofs.list_matches.Learning.search.Goals as goal
+use Rattle.regex_lite_meta.proofs.list_matches.kept.Learning.search.Goals as goal
 
 -- there is a match where it is told of one
 some_told : (found : Option (Origin × ℕ)) → is_some (best_told found) ≡ is_some found

@@ -1,0 +1,6 @@
+-- what a pass knows of a pattern
+pub mod PassLemmas
+-- the patterns that it tries at a position
+pub mod TriedLemmas
+-- which patterns match
+pub mod WhichLemmas

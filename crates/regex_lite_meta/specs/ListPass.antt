@@ -1,0 +1,62 @@
+-- What a pass over a haystack for all patterns of a list knows of each of them.
+use Rattle.std.specs.Prelude.{◌≡◌, ◌+◌, ◌<◌, ◌∷◌, [], ℕ, Bool, List, IsCharBoundary, chars, is_some}
+use Rattle.std.specs.Prelude.{length, slice_index, slice_index_or, Option, Some, None}
+use Rattle.regex_lite_engine.specs.declared.search.here.Here.{Here}
+use Rattle.regex_lite_engine.specs.Graph.Places.{Place}
+use Rattle.regex_lite_engine.specs.Graph.StoredList.{StoredList, table_of_list}
+use Rattle.regex_lite_engine.specs.Search.NumberedAnswer.{NoneStartsBefore}
+use Rattle.regex_lite_engine.specs.Search.NumberedOutcomes.{Best, IsNumberedEndOf}
+use Rattle.regex_lite_engine.specs.Search.Offsets.{position_at}
+use Rattle.regex_lite_engine.specs.Search.Standing.{IsHere}
+use Rattle.regex_lite_meta.specs.declared.list_matches.pass.ListPass.{ListPass}
+use Rattle.regex_lite_meta.specs.declared.list_matches.standing.Standing.{Standing}
+use Rattle.regex_lite_meta.specs.declared.list_matches.standing.Standing.TheVariants.{Known, Open}
+use Rattle.regex_lite_meta.specs.declared.list_matches.standing.Standing.TheVariants.{Left}
+use Rattle.regex_lite_meta.specs.declared.list_matches.standing.Rest.{Rest}
+use Rattle.regex_lite_meta.specs.declared.list_matches.standing.Rest.TheVariants as rest
+
+-- of the pattern that is entered there
+module _ (table : List (Place ℕ)) (bytes : List ℕ) (entry : ℕ) where
+  -- it is told whether it matches from position s on
+  pub record IsToldFrom (s : ℕ) (told : Bool) : Type 0 where
+    pub best : Best
+    pub is : told ≡ is_some best
+    pub end : IsNumberedEndOf table (chars bytes) (entry ∷ []) s best
+
+  -- no match of it from position s on starts before the offset
+  pub record StartsNoSooner (s at : ℕ) : Type 0 where
+    pub boundary : IsCharBoundary bytes at
+    pub none : NoneStartsBefore table (chars bytes) entry s (position_at bytes at)
+
+  -- a pass from position s on that has come to position q knows this of it
+  abbrev pub IsPassed : (s q : ℕ) → Standing → Type 0
+  IsPassed s q (Known told) = IsToldFrom s told
+  IsPassed s q (Open at) =
+      StartsNoSooner s at × NoneStartsBefore table (chars bytes) entry s q
+  IsPassed s q (Left at) = StartsNoSooner s at
+
+  -- what is left to do for it
+  abbrev pub IsRest : (s : ℕ) → Rest → Type 0
+  IsRest s (rest.Known told) = IsToldFrom s told
+  IsRest s (rest.From at) = StartsNoSooner s at
+
+-- it knows this of all patterns
+pub record ArePassed (list : StoredList) (bytes : List ℕ) (s q : ℕ) (standings : List Standing)
+    : Type 0 where
+  pub all : length standings ≡ length list.entries
+  pub each : (number : ℕ) → number < length list.entries
+      → IsPassed (table_of_list list) bytes (slice_index list.entries number) s q
+      (slice_index_or standings number (Left 0))
+
+-- it was left at this position, or came to the haystack's end and went over it
+abbrev pub EndsPass : StoredList → (bytes : List ℕ) → (s : ℕ) → List Standing → Option Here
+    → Type 0
+EndsPass list bytes s standings None = ArePassed list bytes s (length (chars bytes) + 1) standings
+EndsPass list bytes s standings (Some here) =
+    (q : ℕ) × IsHere (chars bytes) q here × ArePassed list bytes s q standings
+
+-- the pass is one for the patterns of this list
+pub record IsPassOf (list : StoredList) (pass : ListPass) : Type 0 where
+  pub table : table_of_list pass.patterns.list.now ≡ table_of_list list
+  pub entries : pass.patterns.list.now.entries ≡ list.entries
+  pub all : length pass.standings.items ≡ length list.entries

@@ -1,0 +1,46 @@
+//! One attempt at a pattern: from a position at which a match of it may begin, until it matches or
+//! no thread is left.
+ghost use Rattle.std.specs.Prelude.{◌+◌, ℕ, chars};
+ghost use Rattle.regex_lite_engine.specs.Graph.Stored.{places_of};
+ghost use Rattle.regex_lite_engine.specs.Pikevm.Searching.{IsBetween, IsFresh};
+ghost use Rattle.regex_lite_engine.specs.Search.Counting.{IsCountable};
+ghost use Rattle.regex_lite_engine.specs.Search.Standing.{IsHere};
+ghost use Rattle.regex_lite_meta.specs.ListPass.{IsPassed};
+
+use crate::list_matches::standing::Standing;
+use regex_lite_engine::pikevm::beginning::Unkept;
+use regex_lite_engine::pikevm::cache::Cache;
+use regex_lite_engine::pikevm::run::is_done;
+use regex_lite_engine::search::here::Here;
+use regex_lite_engine::search::one_pattern::OnePattern;
+
+/// Searches for the pattern from here on until it matches, or no thread is left: then no match
+/// starts before the position that it has come to.
+// Not inlined, so that its loop keeps its registers.
+#[inline(never)]
+pub(super) fn attempt(
+    cache: &mut Cache<Unkept>,
+    pattern: &mut OnePattern<'_>,
+    haystack: &str,
+    from: Here,
+) -> Standing
+    requires here { (p : ℕ) × IsHere (chars haystack.now) p from }
+    requires fresh { IsFresh (places_of pattern.old.table.now) cache.old }
+    requires countable { IsCountable (places_of pattern.old.table.now) }
+    ensures told { (p : ℕ) → IsHere (chars haystack.now) p from
+        → IsPassed (places_of pattern.old.table.now) haystack.now pattern.old.entry p (p + 1)
+        result }
+    ensures between { IsBetween (places_of pattern.old.table.now) cache.new }
+{
+    let mut here = from;
+    'positions: loop {
+        here = cache.pass(pattern, haystack, here);
+        if is_done::<_, true>(here, cache) {
+            return Standing::Known(cache.best.end().is_some());
+        }
+        here = here.next(haystack);
+        if cache.walk.memory.threads() == 0 {
+            return Standing::Open(here.at);
+        }
+    }
+}

@@ -1,0 +1,182 @@
+//! One pass over a haystack for all patterns of a list, by their index.
+ghost use Rattle.std.specs.Prelude.{◌≡◌, ◌+◌, ◌<◌, ℕ, List, IfErr, IfOk, IsCharBoundary, IsTrue};
+ghost use Rattle.std.specs.Prelude.{chars, false, length, slice_index, slice_index_or};
+ghost use Rattle.regex_lite_syntax.specs.Tree.{Tree};
+ghost use Rattle.regex_lite_engine.specs.Graph.SideBySide.{AreRegularPatterns};
+ghost use Rattle.regex_lite_engine.specs.Graph.StoredList.{IsGraphOfList, table_of_list};
+ghost use Rattle.regex_lite_engine.specs.Search.AnswerOfList.{TellsWhich};
+ghost use Rattle.regex_lite_engine.specs.Search.Offsets.{position_at};
+ghost use Rattle.regex_lite_engine.specs.Search.Standing.{IsHere};
+ghost use Rattle.regex_lite_meta.specs.ListMatches.{AreKeptFor, NeedsNoMemory};
+ghost use Rattle.regex_lite_meta.specs.ListPass.{ArePassed, EndsPass, IsPassOf, IsToldFrom};
+
+use crate::list_matches::kept::Kept;
+use crate::list_matches::standing::{Rest, Standing};
+use crate::strategy::Credit;
+use regex_lite_engine::nfa::list::GraphList;
+use regex_lite_engine::search::here::Here;
+use regex_lite_engine::search::list_patterns::ListPatterns;
+use regex_lite_engine::search::patterns::{Patterns, pass_over};
+use std::alloc::{AllocError, Global};
+
+/// The patterns of a list, and what a pass over a haystack knows of each of them.
+#[derive(Drop)]
+pub(crate) struct ListPass<'g> {
+    patterns: ListPatterns<'g>,
+    /// By the number of the pattern.
+    standings: Vec<Standing>,
+}
+
+impl<'g> ListPass<'g> {
+    /// All that passes for the patterns of this list need of their own.
+    ///
+    /// # Errors
+    ///
+    /// If memory runs out.
+    pub(crate) fn new(alloc: Global, list: &'g GraphList) -> Result<ListPass<'g>, AllocError>
+        ensures { IfOk result (IsPassOf list.now) }
+    {
+        Ok(ListPass {
+            patterns: ListPatterns::new(alloc, list)?,
+            standings: vec![in alloc; Standing::Left(0); list.len()]?,
+        })
+    }
+
+    /// Tells which of the patterns match, by a pass over the haystack. What it doesn't find out is
+    /// searched for pattern by pattern.
+    pub(crate) fn search(
+        &mut self,
+        list: &GraphList,
+        kept: &mut Kept,
+        haystack: &str,
+        start: usize,
+        matched: &mut [bool],
+    ) -> Result<(), AllocError>
+        requires pass { IsPassOf list.now self.old }
+        requires boundary { IsCharBoundary haystack.now start }
+        requires all { length matched.old ≡ length list.now.entries }
+        requires kept { AreKeptFor list.now kept.old }
+        ensures found { IfOk result (λ _. (trees : List Tree) → AreRegularPatterns trees
+            → IsGraphOfList trees list.now
+            → TellsWhich trees (chars haystack.now) (position_at haystack.now start)
+            matched.new) }
+        ensures length { length matched.new ≡ length matched.old }
+        ensures pass { IsPassOf list.now self.new }
+        ensures kept { AreKeptFor list.now kept.new }
+        ensures ready { NeedsNoMemory kept.old → NeedsNoMemory kept.new × IfErr result (λ _. ⊥) }
+    {
+        self.standings.fill(Standing::Open(start));
+        let left = self.go(list, kept, haystack, Here::at(haystack, start))?;
+        self.finish(list, kept, haystack, left, matched)
+    }
+
+    /// Goes on from here, from one position at which patterns may start to the next, and tries them
+    /// there. Returns where it has left the pass. None if it came to the haystack's end.
+    fn go(
+        &mut self,
+        list: &GraphList,
+        kept: &mut Kept,
+        haystack: &str,
+        from: Here,
+    ) -> Result<Option<Here>, AllocError>
+        requires pass { IsPassOf list.now self.old }
+        requires passed { (s p : ℕ) × IsHere (chars haystack.now) p from
+            × ArePassed list.now haystack.now s p self.old.standings.items }
+        requires kept { AreKeptFor list.now kept.old }
+        ensures passed { IfOk result (λ left. (s p : ℕ) → IsHere (chars haystack.now) p from
+            → ArePassed list.now haystack.now s p self.old.standings.items
+            → EndsPass list.now haystack.now s self.new.standings.items left) }
+        ensures pass { IsPassOf list.now self.new }
+        ensures kept { AreKeptFor list.now kept.new }
+        ensures ready { NeedsNoMemory kept.old → NeedsNoMemory kept.new × IfErr result (λ _. ⊥) }
+    {
+        let mut credit = Credit::of(list.len(), haystack.len() - from.at);
+        let mut here = from;
+        'stops: loop {
+            let stop = pass_over(&self.patterns, haystack, here);
+            credit.earn(here.at, stop.at);
+            if !self.try_each(list, kept, haystack, stop, &mut credit)? {
+                return Ok(Some(stop));
+            }
+            if stop.after.is_none() {
+                return Ok(None);
+            }
+            here = stop.next(haystack);
+            if credit.is_spent() {
+                return Ok(Some(here));
+            }
+        }
+    }
+
+    /// Tries the patterns that may start here. Returns whether it tried all of them.
+    fn try_each(
+        &mut self,
+        list: &GraphList,
+        kept: &mut Kept,
+        haystack: &str,
+        here: Here,
+        credit: &mut Credit,
+    ) -> Result<bool, AllocError>
+        requires here { (p : ℕ) × IsHere (chars haystack.now) p here }
+        requires pass { IsPassOf list.now self.old }
+        requires kept { AreKeptFor list.now kept.old }
+        ensures tried { IfOk result (λ all. (s p : ℕ) → IsHere (chars haystack.now) p here
+            → ArePassed list.now haystack.now s p self.old.standings.items
+            → ArePassed list.now haystack.now s p self.new.standings.items
+            × (IsTrue all → ArePassed list.now haystack.now s (p + 1) self.new.standings.items)) }
+        ensures pass { IsPassOf list.now self.new }
+        ensures kept { AreKeptFor list.now kept.new }
+        ensures ready { NeedsNoMemory kept.old → NeedsNoMemory kept.new × IfErr result (λ _. ⊥) }
+    {
+        let ListPass {
+            patterns,
+            standings,
+        } = self;
+        patterns.come_to(haystack, here);
+        credit.pay_for_stop(patterns.len());
+        'listed: for k in 0..patterns.len() {
+            let number = patterns.start(k).number as usize;
+            if standings[number].is_due(here.at) {
+                if credit.is_spent() {
+                    return Ok(false);
+                }
+                let standing = kept.try_at(list, number, haystack, here)?;
+                standings[number] = standing;
+                credit.pay_for_try(standing);
+            }
+        }
+        Ok(true)
+    }
+
+    /// Tells which patterns match, after a pass that was left here, or that came to the haystack's
+    /// end.
+    fn finish(
+        &self,
+        list: &GraphList,
+        kept: &mut Kept,
+        haystack: &str,
+        left: Option<Here>,
+        matched: &mut [bool],
+    ) -> Result<(), AllocError>
+        requires all { length matched.old ≡ length list.now.entries }
+        requires kept { AreKeptFor list.now kept.old }
+        requires passed { (s : ℕ)
+            × EndsPass list.now haystack.now s self.now.standings.items left }
+        ensures told { IfOk result (λ _. (s : ℕ)
+            → EndsPass list.now haystack.now s self.now.standings.items left
+            → (number : ℕ) → number < length list.now.entries
+            → IsToldFrom (table_of_list list.now) haystack.now
+            (slice_index list.now.entries number) s (slice_index_or matched.new number false)) }
+        ensures length { length matched.new ≡ length matched.old }
+        ensures kept { AreKeptFor list.now kept.new }
+        ensures ready { NeedsNoMemory kept.old → NeedsNoMemory kept.new × IfErr result (λ _. ⊥) }
+    {
+        for number in 0..list.len() {
+            matched[number] = match self.standings[number].rest(left) {
+                Rest::Known(found) => found,
+                Rest::From(offset) => kept.search_one(list, number, haystack, offset)?.0,
+            };
+        }
+        Ok(())
+    }
+}

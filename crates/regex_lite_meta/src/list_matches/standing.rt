@@ -1,0 +1,70 @@
+//! What a pass over a haystack knows of a pattern.
+ghost use Rattle.std.specs.Prelude.{◌≡◌, ◌⊎◌, ◌+◌, ◌<◌, ℕ, List, IfSome, IsTrue, IsUtf8, None};
+ghost use Rattle.std.specs.Prelude.{chars, length};
+ghost use Rattle.regex_lite_engine.specs.Graph.Places.{Place};
+ghost use Rattle.regex_lite_engine.specs.Search.Standing.{IsHere};
+ghost use Rattle.regex_lite_meta.specs.ListPass.{IsPassed, IsRest};
+ghost use Rattle.regex_lite_meta.specs.declared.list_matches.standing.Standing.TheVariants.{Open};
+
+use regex_lite_engine::search::here::Here;
+
+/// What a pass over a haystack for all patterns of a list knows of one of them.
+#[derive(Clone, Copy)]
+pub(crate) enum Standing {
+    /// Whether it matches.
+    Known(bool),
+    /// No match of it starts before this offset, nor before the position that the pass has come
+    /// to.
+    Open(usize),
+    /// No match of it starts before this offset, from which on it is searched for by itself.
+    Left(usize),
+}
+
+/// What is left to do for a pattern after the pass.
+#[derive(Clone, Copy)]
+pub(super) enum Rest {
+    /// Nothing: it is known whether it matches.
+    Known(bool),
+    /// It is searched for by itself from this offset on.
+    From(usize),
+}
+
+impl Standing {
+    /// Whether a pattern that may start at this offset is tried there.
+    pub(super) fn is_due(self, at: usize) -> bool
+        ensures due { IsTrue result → (from : ℕ) × (self ≡ Open from) }
+        ensures later { ¬ IsTrue result → (from : ℕ) → self ≡ Open from → at < from }
+    {
+        match self {
+            Standing::Open(from) => from <= at,
+            Standing::Known(_) | Standing::Left(_) => false,
+        }
+    }
+
+    /// What is left to do for the pattern after a pass that was left here, or that came to the
+    /// haystack's end.
+    pub(super) fn rest(self, left: Option<Here>) -> Rest
+        ensures ended { left ≡ None → (table : List (Place ℕ)) (bytes : List ℕ) (entry s : ℕ)
+            → IsPassed table bytes entry s (length (chars bytes) + 1) self
+            → IsRest table bytes entry s result }
+        ensures left { IfSome left (λ here. (table : List (Place ℕ)) (bytes : List ℕ)
+            (entry s q : ℕ) → IsUtf8 bytes → IsHere (chars bytes) q here
+            → IsPassed table bytes entry s q self → IsRest table bytes entry s result) }
+    {
+        match self {
+            Standing::Known(found) => Rest::Known(found),
+            Standing::Left(from) => Rest::From(from),
+            Standing::Open(from) => match left {
+                None => Rest::Known(false),
+                Some(here) => Rest::From(later(from, here.at)),
+            },
+        }
+    }
+}
+
+/// The later of two offsets.
+fn later(one: usize, other: usize) -> usize
+    ensures { (result ≡ one) ⊎ (result ≡ other) }
+{
+    if one < other { other } else { one }
+}
