@@ -3,10 +3,11 @@
 //! [`search`] and [`search_shortest`] search a graph once, and [`search_list`],
 //! [`search_list_uncounted`] and [`search_list_any`] that of several patterns. A [`Searcher`]
 //! searches one graph again and again in the same memory, and a [`ListSearcher`] that of several
-//! patterns. [`search_each`] says which of several patterns match, and a [`SetSearcher`] does so again
-//! and again in the same memory. Each goes by a lazy automaton (`lazy_dfa`) where that pays, and
-//! otherwise by one of the two searches of `regex_lite_engine`. All of them return the same. A
-//! [`SlotSearcher`] finds the slots of matches that another search has found.
+//! patterns. [`search_each`] and [`search_each_uncounted`] say which of several patterns match, and
+//! a [`SetSearcher`] does so again and again in the same memory. Each goes by a lazy automaton
+//! (`lazy_dfa`) where that pays, and otherwise by one of the two searches of `regex_lite_engine`. All
+//! of them return the same. A [`SlotSearcher`] finds the slots of matches that another search has
+//! found.
 #![tactic(auto)]
 
 mod lazy_dfa;

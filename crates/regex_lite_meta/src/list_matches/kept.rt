@@ -1,20 +1,18 @@
 //! What the searches for the patterns of a list keep for one another.
-ghost use Rattle.std.specs.Prelude.{◌≡◌, ◌<◌, ◌⊎◌, ◌+◌, ◌↔◌, List, ℕ, IfErr, IfOk};
+ghost use Rattle.std.specs.Prelude.{◌≡◌, ◌<◌, ◌+◌, ◌↔◌, List, ℕ, IfErr, IfOk};
 ghost use Rattle.std.specs.Prelude.{IsCharBoundary, chars, is_some, false, length, slice_index};
-ghost use Rattle.std.specs.Prelude.{IfSome, IsTrue, None, slice_index_or};
+ghost use Rattle.std.specs.Prelude.{IfSome, IsTrue, None};
 ghost use Rattle.regex_lite_syntax.specs.Tree.{Tree};
 ghost use Rattle.regex_lite_engine.specs.Graph.PlaceCounts.{whole_arrows, whole_places};
-ghost use Rattle.regex_lite_engine.specs.Graph.SideBySide.{AreRegularPatterns, places_of_all};
-ghost use Rattle.regex_lite_engine.specs.Graph.SideBySide.{tries_of_all, HasTree};
+ghost use Rattle.regex_lite_engine.specs.Graph.SideBySide.{AreRegularPatterns};
+ghost use Rattle.regex_lite_engine.specs.Graph.SideBySide.{HasTree};
 ghost use Rattle.regex_lite_engine.specs.Graph.Stored.{places_of};
 ghost use Rattle.regex_lite_engine.specs.Graph.StoredList.{IsGraphOfList, StoredList};
 ghost use Rattle.regex_lite_engine.specs.Graph.StoredList.{table_of_list};
 ghost use Rattle.regex_lite_engine.specs.Search.Answer.{HasMatchFrom};
-ghost use Rattle.regex_lite_engine.specs.Search.AnswerOfList.{TellsWhich};
 ghost use Rattle.regex_lite_engine.specs.Search.Bounds.{IsBoundedBy};
 ghost use Rattle.regex_lite_engine.specs.Search.Counting.{IsCountable};
-ghost use Rattle.regex_lite_engine.specs.Search.Offsets.{position_at, search_start};
-ghost use Rattle.regex_lite_engine.specs.Search.Outcomes.{HasCostOfList};
+ghost use Rattle.regex_lite_engine.specs.Search.Offsets.{position_at};
 ghost use Rattle.regex_lite_engine.specs.Pikevm.Searching.{IsBetween, IsFresh};
 ghost use Rattle.regex_lite_engine.specs.Pikevm.Turns.{best_of};
 ghost use Rattle.regex_lite_meta.specs.ListMatches.{AreKeptFor, IsToldOf, LearnsFor};
