@@ -171,7 +171,7 @@ impl Kept {
         Ok(standing)
     }
 
-    /// The same by ordered sets alone.
+    /// What [`Kept::search_from`] tells, by ordered sets alone.
     // Not inlined, since then its own loop is: there are two callers.
     #[inline(never)]
     fn search_by_sets(
@@ -197,8 +197,8 @@ impl Kept {
         Ok(told)
     }
 
-    /// The same, but it goes on with an automaton if it isn't over soon. None if the memory for that
-    /// is refused.
+    /// What [`Kept::search_from`] tells, with an automaton if the search isn't over soon. None if the
+    /// memory for that is refused.
     // Not inlined, so that searches in short haystacks cost no more for it.
     #[inline(never)]
     fn search_learning(
