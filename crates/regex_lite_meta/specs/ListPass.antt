@@ -9,11 +9,11 @@ use Rattle.regex_lite_engine.specs.Search.NumberedOutcomes.{Best, IsNumberedEndO
 use Rattle.regex_lite_engine.specs.Search.Offsets.{position_at}
 use Rattle.regex_lite_engine.specs.Search.Standing.{IsHere}
 use Rattle.regex_lite_meta.specs.declared.list_matches.pass.ListPass.{ListPass}
-use Rattle.regex_lite_meta.specs.declared.list_matches.standing.Standing.{Standing}
-use Rattle.regex_lite_meta.specs.declared.list_matches.standing.Standing.TheVariants.{Known, Open}
-use Rattle.regex_lite_meta.specs.declared.list_matches.standing.Standing.TheVariants.{Left}
-use Rattle.regex_lite_meta.specs.declared.list_matches.standing.Rest.{Rest}
-use Rattle.regex_lite_meta.specs.declared.list_matches.standing.Rest.TheVariants as rest
+use Rattle.regex_lite_meta.specs.declared.list_matches.status.Status.{Status}
+use Rattle.regex_lite_meta.specs.declared.list_matches.status.Status.TheVariants.{Known, Open}
+use Rattle.regex_lite_meta.specs.declared.list_matches.status.Status.TheVariants.{Left}
+use Rattle.regex_lite_meta.specs.declared.list_matches.status.Rest.{Rest}
+use Rattle.regex_lite_meta.specs.declared.list_matches.status.Rest.TheVariants as rest
 
 -- of the pattern that is entered there
 module _ (table : List (Place ℕ)) (bytes : List ℕ) (entry : ℕ) where
@@ -29,11 +29,11 @@ module _ (table : List (Place ℕ)) (bytes : List ℕ) (entry : ℕ) where
     pub none : NoneStartsBefore table (chars bytes) entry s (position_at bytes at)
 
   -- a pass from position s on that has come to position q knows this of it
-  abbrev pub IsPassed : (s q : ℕ) → Standing → Type 0
-  IsPassed s q (Known told) = IsToldFrom s told
-  IsPassed s q (Open at) =
+  abbrev pub PassKnows : (s q : ℕ) → Status → Type 0
+  PassKnows s q (Known told) = IsToldFrom s told
+  PassKnows s q (Open at) =
       StartsNoSooner s at × NoneStartsBefore table (chars bytes) entry s q
-  IsPassed s q (Left at) = StartsNoSooner s at
+  PassKnows s q (Left at) = StartsNoSooner s at
 
   -- what is left to do for it
   abbrev pub IsRest : (s : ℕ) → Rest → Type 0
@@ -41,22 +41,22 @@ module _ (table : List (Place ℕ)) (bytes : List ℕ) (entry : ℕ) where
   IsRest s (rest.From at) = StartsNoSooner s at
 
 -- it knows this of all patterns
-pub record ArePassed (list : StoredList) (bytes : List ℕ) (s q : ℕ) (standings : List Standing)
+pub record PassKnowsAll (list : StoredList) (bytes : List ℕ) (s q : ℕ) (statuses : List Status)
     : Type 0 where
-  pub all : length standings ≡ length list.entries
+  pub all : length statuses ≡ length list.entries
   pub each : (number : ℕ) → number < length list.entries
-      → IsPassed (table_of_list list) bytes (slice_index list.entries number) s q
-      (slice_index_or standings number (Left 0))
+      → PassKnows (table_of_list list) bytes (slice_index list.entries number) s q
+      (slice_index_or statuses number (Left 0))
 
 -- it was left at this position, or came to the haystack's end and went over it
-abbrev pub EndsPass : StoredList → (bytes : List ℕ) → (s : ℕ) → List Standing → Option Here
+abbrev pub EndsPass : StoredList → (bytes : List ℕ) → (s : ℕ) → List Status → Option Here
     → Type 0
-EndsPass list bytes s standings None = ArePassed list bytes s (length (chars bytes) + 1) standings
-EndsPass list bytes s standings (Some here) =
-    (q : ℕ) × IsHere (chars bytes) q here × ArePassed list bytes s q standings
+EndsPass list bytes s statuses None = PassKnowsAll list bytes s (length (chars bytes) + 1) statuses
+EndsPass list bytes s statuses (Some here) =
+    (q : ℕ) × IsHere (chars bytes) q here × PassKnowsAll list bytes s q statuses
 
 -- the pass is one for the patterns of this list
 pub record IsPassOf (list : StoredList) (pass : ListPass) : Type 0 where
   pub table : table_of_list pass.patterns.list.now ≡ table_of_list list
   pub entries : pass.patterns.list.now.entries ≡ list.entries
-  pub all : length pass.standings.items ≡ length list.entries
+  pub all : length pass.statuses.items ≡ length list.entries

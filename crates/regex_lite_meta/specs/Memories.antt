@@ -36,7 +36,7 @@ row_of_list (One one) = one.memory.cache.best.row
 row_of_list (Several several) = row_of_several several
 
 -- searches of the list go on in it: of one that has a single pattern, or of any
-abbrev pub SearchesForList : StoredList → Inner → Type 0
-SearchesForList list (One one) =
+abbrev pub SearchesList : StoredList → Inner → Type 0
+SearchesList list (One one) =
     (entry : ℕ) × (list.entries ≡ entry ∷ []) × SearchesForOne (table_of_list list) entry one
-SearchesForList list (Several several) = SearchesForSeveral list several
+SearchesList list (Several several) = SearchesForSeveral list several

@@ -17,7 +17,7 @@ ghost use Rattle.regex_lite_meta.specs.ListMatches.{NeedsNoMemory};
 mod attempt;
 mod kept;
 mod pass;
-mod standing;
+mod status;
 
 use crate::strategy::pays_in_one_pass;
 pub(crate) use kept::Kept;
@@ -25,7 +25,7 @@ pub(crate) use pass::ListPass;
 use regex_lite_engine::Steps;
 use regex_lite_engine::nfa::list::GraphList;
 use regex_lite_engine::steps::no_steps;
-pub(crate) use standing::Standing;
+pub(crate) use status::Status;
 use std::alloc::{AllocError, Global};
 
 /// For each pattern whether it matches from a position at or after this offset, and what the

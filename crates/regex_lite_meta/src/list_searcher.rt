@@ -31,7 +31,7 @@ pub(crate) enum Inner<'g> {
 }
 
 impl<'g> Model for ListSearcher<'g> {
-    ghost use Rattle.regex_lite_meta.specs.Memories.{SearchesForList, row_of_list};
+    ghost use Rattle.regex_lite_meta.specs.Memories.{SearchesList, row_of_list};
     ghost use Rattle.regex_lite_meta.specs.Searching.{ListSearching};
 
     ghost Value = { ListSearching };
@@ -41,7 +41,7 @@ impl<'g> Model for ListSearcher<'g> {
       slots = row_of_list searcher.inner;
     } };
 
-    ghost invariant = { λ searcher. SearchesForList searcher.graph.now searcher.inner };
+    ghost invariant = { λ searcher. SearchesList searcher.graph.now searcher.inner };
 }
 
 impl<'g> ListSearcher<'g> {

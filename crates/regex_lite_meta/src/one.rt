@@ -1,7 +1,7 @@
 //! Searches by themselves for one pattern, of a regex or alone in a list.
 ghost use Rattle.std.specs.Prelude.{IfOk, IsCharBoundary};
 ghost use Rattle.regex_lite_engine.specs.Graph.Stored.{places_of};
-ghost use Rattle.regex_lite_engine.specs.Search.OutcomeOfOne.{TellsEnd, TellsMatch};
+ghost use Rattle.regex_lite_engine.specs.Search.OutcomeOfOne.{TellsEndOfOne, TellsOfOne};
 
 use crate::lazy_dfa::single::one::{search_remembering, search_shortest_remembering};
 use crate::strategy::{Searched, Strategy, Wanted, choose};
@@ -24,7 +24,7 @@ pub(crate) fn search_one(
     slots: usize,
 ) -> Result<(Option<Outcome>, Steps), AllocError>
     requires { IsCharBoundary haystack.now start }
-    ensures { IfOk result (TellsMatch (places_of pattern.old.table.now) pattern.old.entry
+    ensures { IfOk result (TellsOfOne (places_of pattern.old.table.now) pattern.old.entry
         haystack.now start slots) }
 {
     let left = haystack.len() - start;
@@ -48,7 +48,7 @@ pub(crate) fn search_shortest_one(
     start: usize,
 ) -> Result<(Option<usize>, Steps), AllocError>
     requires { IsCharBoundary haystack.now start }
-    ensures { IfOk result (TellsEnd (places_of pattern.old.table.now) pattern.old.entry haystack.now
+    ensures { IfOk result (TellsEndOfOne (places_of pattern.old.table.now) pattern.old.entry haystack.now
         start) }
 {
     let left = haystack.len() - start;

@@ -17,7 +17,7 @@ IsWithinBounds table haystack start steps =
     steps.tried steps.entered steps.looked
 
 -- the match of the pattern that is entered there, with this many slots
-pub record TellsMatch (table : List (Place ℕ)) (entry : ℕ) (haystack : List ℕ) (start width : ℕ)
+pub record TellsOfOne (table : List (Place ℕ)) (entry : ℕ) (haystack : List ℕ) (start width : ℕ)
     (told : Option Outcome × StepCounts) : Type 0 where
   pub found : IsNumberedOutcome table (chars haystack) entry (position_at haystack start)
       (match_told told.0)
@@ -31,7 +31,7 @@ ending_at None = None
 ending_at (Some end) = Some (untold, end, [])
 
 -- the least end of any match of the pattern that is entered there
-pub record TellsEnd (table : List (Place ℕ)) (entry : ℕ) (haystack : List ℕ) (start : ℕ)
+pub record TellsEndOfOne (table : List (Place ℕ)) (entry : ℕ) (haystack : List ℕ) (start : ℕ)
     (told : Option ℕ × StepCounts) : Type 0 where
   pub found : IsNumberedEndOf table (chars haystack) (entry ∷ []) (position_at haystack start)
       (ending_at told.0)

@@ -4,7 +4,7 @@ ghost use Rattle.regex_lite_engine.specs.Backtrack.Searching.{IsFresh};
 ghost use Rattle.regex_lite_engine.specs.Graph.Stored.{places_of};
 ghost use Rattle.regex_lite_engine.specs.Search.Counting.{IsCountable};
 ghost use Rattle.regex_lite_engine.specs.Search.NumberedOutcomes.{match_told, best_at};
-ghost use Rattle.regex_lite_engine.specs.Search.OutcomeOfOne.{TellsMatch};
+ghost use Rattle.regex_lite_engine.specs.Search.OutcomeOfOne.{TellsOfOne};
 
 use crate::backtrack::run::run;
 use crate::backtrack::stack::Stack;
@@ -33,7 +33,7 @@ impl<'g> OnePattern<'g> {
         slots: usize,
     ) -> Result<(Option<Outcome>, Steps), AllocError>
         requires { IsCharBoundary haystack.now start }
-        ensures { IfOk result (TellsMatch (places_of self.now.table.now) self.now.entry haystack.now
+        ensures { IfOk result (TellsOfOne (places_of self.now.table.now) self.now.entry haystack.now
             start slots) }
     {
         let Some(first) = self.first_start(haystack, start) else {

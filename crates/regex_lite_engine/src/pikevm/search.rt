@@ -1,7 +1,7 @@
 //! A search position by position, from its working memory to its outcome.
 ghost use Rattle.std.specs.Prelude.{IfOk, IsCharBoundary};
 ghost use Rattle.regex_lite_engine.specs.Graph.Stored.{places_of};
-ghost use Rattle.regex_lite_engine.specs.Search.OutcomeOfOne.{TellsMatch};
+ghost use Rattle.regex_lite_engine.specs.Search.OutcomeOfOne.{TellsOfOne};
 
 use crate::pikevm::cache::{Cache, cache_for};
 use crate::pikevm::run::run;
@@ -27,7 +27,7 @@ impl<'g> OnePattern<'g> {
         slots: usize,
     ) -> Result<(Option<Outcome>, Steps), AllocError>
         requires { IsCharBoundary haystack.now start }
-        ensures { IfOk result (TellsMatch (places_of self.old.table.now) self.old.entry haystack.now
+        ensures { IfOk result (TellsOfOne (places_of self.old.table.now) self.old.entry haystack.now
             start slots) }
     {
         let mut cache = cache_for::<usize>(alloc, self.table, slots)?;

@@ -19,10 +19,10 @@ use Rattle.regex_lite_engine.proofs.search.FirstStartLemmas.{ends_from}
 use Rattle.regex_lite_engine.proofs.search.OneStartLemmas.{only_entry}
 use Rattle.regex_lite_syntax.proofs.OptionLemmas.{not_there}
 use Rattle.regex_lite_meta.proofs.Common.{Here}
-use Rattle.regex_lite_meta.specs.ListPass.{IsToldFrom, StartsNoSooner, IsPassed}
-use Rattle.regex_lite_meta.specs.declared.list_matches.standing.Standing.{Standing}
-use Rattle.regex_lite_meta.specs.declared.list_matches.standing.Standing.TheVariants.{Known, Open}
-use Rattle.regex_lite_meta.specs.declared.list_matches.standing.Standing.TheVariants.{Left}
+use Rattle.regex_lite_meta.specs.ListPass.{IsToldFrom, StartsNoSooner, PassKnows}
+use Rattle.regex_lite_meta.specs.declared.list_matches.status.Status.{Status}
+use Rattle.regex_lite_meta.specs.declared.list_matches.status.Status.TheVariants.{Known, Open}
+use Rattle.regex_lite_meta.specs.declared.list_matches.status.Status.TheVariants.{Left}
 
 -- a search without a thread and without a match
 module _ (table : List (Place ℕ)) (haystack : Text) (entries : List ℕ) (s p : ℕ)
@@ -180,26 +180,26 @@ module _ (table : List (Place ℕ)) (bytes : List ℕ) (utf8 : IsUtf8 bytes) (en
     none = none_on table (chars bytes) entry s p (position_at bytes at) before after.none;
   }
 
-  pub passed_on : (s p q : ℕ) (standing : Standing)
+  pub passed_on : (s p q : ℕ) (status : Status)
       → NoneStartsBefore table (chars bytes) entry s p
-      → IsPassed table bytes entry p q standing → IsPassed table bytes entry s q standing
+      → PassKnows table bytes entry p q status → PassKnows table bytes entry s q status
   passed_on s p q (Known told) before after = told_on s p told before after
   passed_on s p q (Open at) before (sooner, none) =
       (sooner_on s p at before sooner, none_on table (chars bytes) entry s p q before none)
   passed_on s p q (Left at) before after = sooner_on s p at before after
 
   -- a pass comes to a later position, and no match can start between
-  pub passed_over : (s p q : ℕ) (standing : Standing) → p ≤ q
+  pub passed_over : (s p q : ℕ) (status : Status) → p ≤ q
       → ((i : ℕ) → p ≤ i → i < q → IsDeadAt table (chars bytes) entry i)
-      → IsPassed table bytes entry s p standing → IsPassed table bytes entry s q standing
+      → PassKnows table bytes entry s p status → PassKnows table bytes entry s q status
   passed_over s p q (Known told) later dead passed = passed
   passed_over s p q (Open at) later dead (sooner, none) =
       (sooner, none_past table (chars bytes) entry s p q later dead none)
   passed_over s p q (Left at) later dead passed = passed
 
   -- what is known at a later position is known here
-  pub passed_so_far : (s p q : ℕ) (standing : Standing) → s ≤ p → p ≤ q
-      → IsPassed table bytes entry s q standing → IsPassed table bytes entry s p standing
+  pub passed_so_far : (s p q : ℕ) (status : Status) → s ≤ p → p ≤ q
+      → PassKnows table bytes entry s q status → PassKnows table bytes entry s p status
   passed_so_far s p q (Known told) low later passed = passed
   passed_so_far s p q (Open at) low later (sooner, none) =
       (sooner, none_so_far table (chars bytes) entry s p q low later none)

@@ -15,27 +15,27 @@ use Rattle.regex_lite_syntax.proofs.OptionLemmas.{same_some}
 use Rattle.regex_lite_engine.proofs.OffsetLemmas.{offset_grows}
 use Rattle.regex_lite_engine.proofs.PositionLemmas.{position_is}
 use Rattle.regex_lite_meta.proofs.Common.{Here}
-use Rattle.regex_lite_meta.specs.ListPass.{IsPassed, ArePassed, EndsPass}
+use Rattle.regex_lite_meta.specs.ListPass.{PassKnows, PassKnowsAll, EndsPass}
 use Rattle.regex_lite_meta.specs.ListPass.{IsRest}
-use Rattle.regex_lite_meta.specs.declared.list_matches.standing.Rest.{Rest}
+use Rattle.regex_lite_meta.specs.declared.list_matches.status.Rest.{Rest}
 use Rattle.regex_lite_engine.proofs.Common.{Option, IfSome}
-use Rattle.regex_lite_meta.specs.declared.list_matches.standing.Standing.{Standing}
-use Rattle.regex_lite_meta.specs.declared.list_matches.standing.Standing.TheVariants.{Known, Open}
-use Rattle.regex_lite_meta.specs.declared.list_matches.standing.Standing.TheVariants.{Left}
+use Rattle.regex_lite_meta.specs.declared.list_matches.status.Status.{Status}
+use Rattle.regex_lite_meta.specs.declared.list_matches.status.Status.TheVariants.{Known, Open}
+use Rattle.regex_lite_meta.specs.declared.list_matches.status.Status.TheVariants.{Left}
 use Rattle.regex_lite_meta.proofs.list_matches.PassLemmas.{passed_over, passed_so_far}
 use Rattle.regex_lite_meta.proofs.list_matches.PassLemmas.{none_so_far}
 
 -- what is known of the pattern with this number
-abbrev pub standing_of : List Standing → (number : ℕ) → Standing
-standing_of standings number = slice_index_or standings number (Left 0)
+abbrev pub standing_of : List Status → (number : ℕ) → Status
+standing_of statuses number = slice_index_or statuses number (Left 0)
 
 -- at position p these starts are still to be tried
 pub record AreTried (list : StoredList) (bytes : List ℕ) (s p : ℕ) (starts : List Start)
-    (standings : List Standing) : Type 0 where
-  pub passed : ArePassed list bytes s p standings
+    (statuses : List Status) : Type 0 where
+  pub passed : PassKnowsAll list bytes s p statuses
   pub each : (number : ℕ) → number < length list.entries
-      → IsPassed (table_of_list list) bytes (slice_index list.entries number) s (p + 1)
-      (standing_of standings number)
+      → PassKnows (table_of_list list) bytes (slice_index list.entries number) s (p + 1)
+      (standing_of statuses number)
       ⊎ (IsAmong number (slice_index list.entries number) starts
       ⊎ IsDeadAt (table_of_list list) (chars bytes) (slice_index list.entries number) p)
 
@@ -74,13 +74,13 @@ none_left [] (suc k) high = refl
 none_left (first ∷ starts) zero high = absurd (omega (arith, high))
 none_left (first ∷ starts) (suc k) high = none_left starts k (omega (arith, high))
 
--- what is read of a standing
-pub standing_read : (standings : List Standing) (number : ℕ) (read : Standing)
-    → number < length standings → read ≡ slice_index_or standings number read
-    → standing_of standings number ≡ read
-standing_read standings number read within is =
-    get_or_from_slice_get standings number read (Left 0)
-    (slice_get_read standings (length standings) number read refl within is)
+-- what is read of a status
+pub standing_read : (statuses : List Status) (number : ℕ) (read : Status)
+    → number < length statuses → read ≡ slice_index_or statuses number read
+    → standing_of statuses number ≡ read
+standing_read statuses number read within is =
+    get_or_from_slice_get statuses number read (Left 0)
+    (slice_get_read statuses (length statuses) number read refl within is)
 
 -- the number of a pattern that may start there
 pub start_below : (list : StoredList) (table : List (Place ℕ)) (haystack : Text) (p k : ℕ)
@@ -91,19 +91,19 @@ start_below list table haystack p k starts start are e =
     (start_inside list.entries 0 k starts start are.in_order e)
 
 module _ (list : StoredList) (bytes : List ℕ) (utf8 : IsUtf8 bytes) (s p : ℕ) where
-  pub none_tried_yet : (starts : List Start) (standings : List Standing)
+  pub none_tried_yet : (starts : List Start) (statuses : List Status)
       → AreStartsAt (table_of_list list) (chars bytes) list.entries p starts
-      → ArePassed list bytes s p standings → AreTried list bytes s p starts standings
-  none_tried_yet starts standings are passed = record {
+      → PassKnowsAll list bytes s p statuses → AreTried list bytes s p starts statuses
+  none_tried_yet starts statuses are passed = record {
     passed = passed;
     each = λ number within.
         inr (are.each number (slice_index list.entries number)
         (slice_get-get_or list.entries number 0 within));
   }
 
-  pub all_tried : (standings : List Standing) → AreTried list bytes s p [] standings
-      → ArePassed list bytes s (p + 1) standings
-  all_tried standings tried = record {
+  pub all_tried : (statuses : List Status) → AreTried list bytes s p [] statuses
+      → PassKnowsAll list bytes s (p + 1) statuses
+  all_tried statuses tried = record {
     all = tried.passed.all;
     each = λ number within. elim (tried.each number within) [
       | inl known ↦ known
@@ -111,7 +111,7 @@ module _ (list : StoredList) (bytes : List ℕ) (utf8 : IsUtf8 bytes) (s p : ℕ
         | inl among ↦ absurd among
         | inr dead ↦
             passed_over (table_of_list list) bytes utf8 (slice_index list.entries number) s p (p + 1)
-            (standing_of standings number) (omega arith)
+            (standing_of statuses number) (omega arith)
             (λ i low high. subst (λ z. IsDeadAt (table_of_list list) (chars bytes)
             (slice_index list.entries number) z) (omega (arith, low, high)) dead)
             (tried.passed.each number within)
@@ -120,21 +120,21 @@ module _ (list : StoredList) (bytes : List ℕ) (utf8 : IsUtf8 bytes) (s p : ℕ
   }
 
   -- the next of them needs no try
-  pub passed_by : (start : Start) (starts : List Start) (standings : List Standing)
+  pub passed_by : (start : Start) (starts : List Start) (statuses : List Status)
       → IsEntry list.entries start.number start.place
-      → IsPassed (table_of_list list) bytes (slice_index list.entries start.number) s (p + 1)
-      (standing_of standings start.number)
-      → AreTried list bytes s p (start ∷ starts) standings
-      → AreTried list bytes s p starts standings
-  passed_by start starts standings is known tried = record {
+      → PassKnows (table_of_list list) bytes (slice_index list.entries start.number) s (p + 1)
+      (standing_of statuses start.number)
+      → AreTried list bytes s p (start ∷ starts) statuses
+      → AreTried list bytes s p starts statuses
+  passed_by start starts statuses is known tried = record {
     passed = tried.passed;
     each = λ number within. elim (tried.each number within) [
       | inl known ↦ inl known
       | inr other ↦ elim other [
         | inl among ↦ elim among [
           | inl (same, place) ↦
-              inl (subst (λ z. IsPassed (table_of_list list) bytes (slice_index list.entries z) s
-              (p + 1) (standing_of standings z)) (sym same) known)
+              inl (subst (λ z. PassKnows (table_of_list list) bytes (slice_index list.entries z) s
+              (p + 1) (standing_of statuses z)) (sym same) known)
           | inr among ↦ inr (inl among)
         ]
         | inr dead ↦ inr (inr dead)
@@ -143,53 +143,53 @@ module _ (list : StoredList) (bytes : List ℕ) (utf8 : IsUtf8 bytes) (s p : ℕ
   }
 
   -- a pattern is tried
-  pub set_standing : (number q : ℕ) (standings : List Standing) (new : Standing) → q ≤ p + 1
+  pub set_standing : (number q : ℕ) (statuses : List Status) (new : Status) → q ≤ p + 1
       → number < length list.entries
-      → IsPassed (table_of_list list) bytes (slice_index list.entries number) s q new
-      → ArePassed list bytes s q standings
-      → ArePassed list bytes s q (slice_set standings number new)
-  set_standing number q standings new low within known passed = record {
-    all = length-set standings number new ∙ passed.all;
+      → PassKnows (table_of_list list) bytes (slice_index list.entries number) s q new
+      → PassKnowsAll list bytes s q statuses
+      → PassKnowsAll list bytes s q (slice_set statuses number new)
+  set_standing number q statuses new low within known passed = record {
+    all = length-set statuses number new ∙ passed.all;
     each = λ other inside.
         let all = passed.all in
         elim (cases_eq other number) [
           | inl same ↦
-              subst (λ z. IsPassed (table_of_list list) bytes (slice_index list.entries z) s q
-              (standing_of (slice_set standings number new) z)) (sym same)
-              (subst (IsPassed (table_of_list list) bytes (slice_index list.entries number) s q)
-              (sym (get_or-set_same standings number new (Left 0) (omega (arith, all, within))))
+              subst (λ z. PassKnows (table_of_list list) bytes (slice_index list.entries z) s q
+              (standing_of (slice_set statuses number new) z)) (sym same)
+              (subst (PassKnows (table_of_list list) bytes (slice_index list.entries number) s q)
+              (sym (get_or-set_same statuses number new (Left 0) (omega (arith, all, within))))
               known)
           | inr apart ↦
-              subst (IsPassed (table_of_list list) bytes (slice_index list.entries other) s q)
-              (sym (get_or-set_other standings number other new (Left 0) apart))
+              subst (PassKnows (table_of_list list) bytes (slice_index list.entries other) s q)
+              (sym (get_or-set_other statuses number other new (Left 0) apart))
               (passed.each other inside)
         ];
   }
 
-  pub tried_one : (start : Start) (starts : List Start) (standings : List Standing)
-      (new : Standing) → start.number < length list.entries → s ≤ p
-      → IsPassed (table_of_list list) bytes (slice_index list.entries start.number) s (p + 1) new
-      → AreTried list bytes s p (start ∷ starts) standings
-      → AreTried list bytes s p starts (slice_set standings start.number new)
-  tried_one start starts standings new inside low known tried = record {
-    passed = set_standing start.number p standings new (omega arith) inside
+  pub tried_one : (start : Start) (starts : List Start) (statuses : List Status)
+      (new : Status) → start.number < length list.entries → s ≤ p
+      → PassKnows (table_of_list list) bytes (slice_index list.entries start.number) s (p + 1) new
+      → AreTried list bytes s p (start ∷ starts) statuses
+      → AreTried list bytes s p starts (slice_set statuses start.number new)
+  tried_one start starts statuses new inside low known tried = record {
+    passed = set_standing start.number p statuses new (omega arith) inside
         (passed_so_far (table_of_list list) bytes utf8 (slice_index list.entries start.number) s p
         (p + 1) new low (omega arith) known) tried.passed;
     each = λ number within.
         let all = tried.passed.all in
         elim (cases_eq number start.number) [
           | inl same ↦
-              inl (subst (λ z. IsPassed (table_of_list list) bytes (slice_index list.entries z) s
-              (p + 1) (standing_of (slice_set standings start.number new) z)) (sym same)
-              (subst (IsPassed (table_of_list list) bytes
+              inl (subst (λ z. PassKnows (table_of_list list) bytes (slice_index list.entries z) s
+              (p + 1) (standing_of (slice_set statuses start.number new) z)) (sym same)
+              (subst (PassKnows (table_of_list list) bytes
               (slice_index list.entries start.number) s (p + 1))
-              (sym (get_or-set_same standings start.number new (Left 0)
+              (sym (get_or-set_same statuses start.number new (Left 0)
               (omega (arith, all, inside)))) known))
           | inr apart ↦
-              let kept = sym (get_or-set_other standings start.number number new (Left 0) apart) in
+              let kept = sym (get_or-set_other statuses start.number number new (Left 0) apart) in
               elim (tried.each number within) [
                 | inl before ↦
-                    inl (subst (IsPassed (table_of_list list) bytes
+                    inl (subst (PassKnows (table_of_list list) bytes
                     (slice_index list.entries number) s (p + 1)) kept before)
                 | inr other ↦ elim other [
                   | inl among ↦ elim among [
@@ -203,10 +203,10 @@ module _ (list : StoredList) (bytes : List ℕ) (utf8 : IsUtf8 bytes) (s p : ℕ
   }
 
   -- a pattern that needs no try, since no match of it starts before a later offset
-  pub undue : (entry : ℕ) (standing : Standing) (here : Here) → IsHere (chars bytes) p here
-      → ((from : ℕ) → standing ≡ Open from → here.at < from)
-      → IsPassed (table_of_list list) bytes entry s p standing
-      → IsPassed (table_of_list list) bytes entry s (p + 1) standing
+  pub undue : (entry : ℕ) (status : Status) (here : Here) → IsHere (chars bytes) p here
+      → ((from : ℕ) → status ≡ Open from → here.at < from)
+      → PassKnows (table_of_list list) bytes entry s p status
+      → PassKnows (table_of_list list) bytes entry s (p + 1) status
   undue entry (Known told) here is after passed = passed
   undue entry (Left from) here is after passed = passed
   undue entry (Open from) here is after (sooner, none) = (
@@ -227,41 +227,41 @@ module _ (list : StoredList) (bytes : List ℕ) (utf8 : IsUtf8 bytes) (s p : ℕ
       ]
 
   -- where none of the patterns can start, a pass goes on
-  pub all_passed_over : (here : Here) (standings : List Standing)
+  pub all_passed_over : (here : Here) (statuses : List Status)
       → (w : PassesTo (AreDeadAt (table_of_list list) (chars bytes) list.entries) (chars bytes) p
       here)
-      → ArePassed list bytes s p standings → ArePassed list bytes s w.q standings
-  all_passed_over here standings w passed = record {
+      → PassKnowsAll list bytes s p statuses → PassKnowsAll list bytes s w.q statuses
+  all_passed_over here statuses w passed = record {
     all = passed.all;
     each = λ number within.
         passed_over (table_of_list list) bytes utf8 (slice_index list.entries number) s p w.q
-        (standing_of standings number) w.later
+        (standing_of statuses number) w.later
         (λ i low high. w.passed i low high number (slice_index list.entries number)
         (slice_get-get_or list.entries number 0 within)) (passed.each number within);
   }
 
--- after a pass there are as many standings as patterns
-pub ends_with_all : (list : StoredList) (bytes : List ℕ) (s : ℕ) (standings : List Standing)
-    (left : Option Here) → EndsPass list bytes s standings left
-    → length standings ≡ length list.entries
-ends_with_all list bytes s standings None ends = ends.all
-ends_with_all list bytes s standings (Some here) (q, is, ends) = ends.all
+-- after a pass there are as many statuses as patterns
+pub ends_with_all : (list : StoredList) (bytes : List ℕ) (s : ℕ) (statuses : List Status)
+    (left : Option Here) → EndsPass list bytes s statuses left
+    → length statuses ≡ length list.entries
+ends_with_all list bytes s statuses None ends = ends.all
+ends_with_all list bytes s statuses (Some here) (q, is, ends) = ends.all
 
 -- and what is left to do for a pattern is known
 pub rest_known : (list : StoredList) (bytes : List ℕ) → IsUtf8 bytes → (s number : ℕ)
-    (standings : List Standing) (rest : Rest) (left : Option Here) → number < length list.entries
+    (statuses : List Status) (rest : Rest) (left : Option Here) → number < length list.entries
     → (left ≡ None → (table : List (Place ℕ)) (bytes : List ℕ) (entry s : ℕ)
-    → IsPassed table bytes entry s (length (chars bytes) + 1) (standing_of standings number)
+    → PassKnows table bytes entry s (length (chars bytes) + 1) (standing_of statuses number)
     → IsRest table bytes entry s rest)
     → IfSome left (λ here. (table : List (Place ℕ)) (bytes : List ℕ) (entry s q : ℕ)
     → IsUtf8 bytes → IsHere (chars bytes) q here
-    → IsPassed table bytes entry s q (standing_of standings number)
+    → PassKnows table bytes entry s q (standing_of statuses number)
     → IsRest table bytes entry s rest)
-    → EndsPass list bytes s standings left
+    → EndsPass list bytes s statuses left
     → IsRest (table_of_list list) bytes (slice_index list.entries number) s rest
-rest_known list bytes utf8 s number standings rest None within ended on ends =
+rest_known list bytes utf8 s number statuses rest None within ended on ends =
     ended refl (table_of_list list) bytes (slice_index list.entries number) s
     (ends.each number within)
-rest_known list bytes utf8 s number standings rest (Some here) within ended on (q, is, ends) =
+rest_known list bytes utf8 s number statuses rest (Some here) within ended on (q, is, ends) =
     on (table_of_list list) bytes (slice_index list.entries number) s q utf8 is
     (ends.each number within)

@@ -9,8 +9,8 @@ use Rattle.regex_lite_engine.specs.Graph.SideBySide.{AreRegularPatterns}
 use Rattle.regex_lite_engine.specs.Graph.StoredList.{IsGraphOfList}
 use Rattle.regex_lite_engine.specs.Search.AnswerOfList.{TellsWhich}
 use Rattle.regex_lite_engine.proofs.search.ListOutcomeLemmas.{one_told}
-use Rattle.regex_lite_meta.specs.ListPass.{IsToldFrom, ArePassed, IsPassed}
-use Rattle.regex_lite_meta.specs.declared.list_matches.standing.Standing.TheVariants.{Open, Left}
+use Rattle.regex_lite_meta.specs.ListPass.{IsToldFrom, PassKnowsAll, PassKnows}
+use Rattle.regex_lite_meta.specs.declared.list_matches.status.Status.TheVariants.{Open, Left}
 use Rattle.regex_lite_meta.proofs.list_matches.PassLemmas.{none_yet}
 
 -- there is a match where it has an end
@@ -21,7 +21,7 @@ ends_where_found (Some best) = refl
 module _ (list : StoredList) (bytes : List ℕ) (start : ℕ) where
   -- before a pass all patterns are open
   pub all_open : IsCharBoundary bytes start
-      → ArePassed list bytes (position_at bytes start) (position_at bytes start)
+      → PassKnowsAll list bytes (position_at bytes start) (position_at bytes start)
       (replicate (length list.entries) (Open start))
   all_open boundary =
       let s = position_at bytes start in
@@ -32,7 +32,7 @@ module _ (list : StoredList) (bytes : List ℕ) (start : ℕ) where
             let table = table_of_list list in
             let entry = slice_index list.entries number in
             let none = none_yet table (chars bytes) entry s in
-            subst (IsPassed table bytes entry s s)
+            subst (PassKnows table bytes entry s s)
             (sym (get_or-replicate n number (Open start) (Left 0) within))
             (record { boundary = boundary; none = none }, none);
       }

@@ -5,9 +5,9 @@ ghost use Rattle.regex_lite_engine.specs.Graph.Stored.{places_of};
 ghost use Rattle.regex_lite_engine.specs.Pikevm.Searching.{IsBetween, IsFresh};
 ghost use Rattle.regex_lite_engine.specs.Search.Counting.{IsCountable};
 ghost use Rattle.regex_lite_engine.specs.Search.Standing.{IsHere};
-ghost use Rattle.regex_lite_meta.specs.ListPass.{IsPassed};
+ghost use Rattle.regex_lite_meta.specs.ListPass.{PassKnows};
 
-use crate::list_matches::standing::Standing;
+use crate::list_matches::status::Status;
 use regex_lite_engine::pikevm::beginning::Unkept;
 use regex_lite_engine::pikevm::cache::Cache;
 use regex_lite_engine::pikevm::run::is_done;
@@ -23,12 +23,12 @@ pub(super) fn attempt(
     pattern: &mut OnePattern<'_>,
     haystack: &str,
     from: Here,
-) -> Standing
+) -> Status
     requires here { (p : ℕ) × IsHere (chars haystack.now) p from }
     requires fresh { IsFresh (places_of pattern.old.table.now) cache.old }
     requires countable { IsCountable (places_of pattern.old.table.now) }
     ensures told { (p : ℕ) → IsHere (chars haystack.now) p from
-        → IsPassed (places_of pattern.old.table.now) haystack.now pattern.old.entry p (p + 1)
+        → PassKnows (places_of pattern.old.table.now) haystack.now pattern.old.entry p (p + 1)
         result }
     ensures between { IsBetween (places_of pattern.old.table.now) cache.new }
 {
@@ -36,11 +36,11 @@ pub(super) fn attempt(
     'positions: loop {
         here = cache.pass(pattern, haystack, here);
         if is_done::<_, true>(here, cache) {
-            return Standing::Known(cache.best.end().is_some());
+            return Status::Known(cache.best.end().is_some());
         }
         here = here.next(haystack);
         if cache.walk.memory.threads() == 0 {
-            return Standing::Open(here.at);
+            return Status::Open(here.at);
         }
     }
 }

@@ -18,11 +18,11 @@ ghost use Rattle.regex_lite_engine.specs.Pikevm.Turns.{best_of};
 ghost use Rattle.regex_lite_meta.specs.ListMatches.{AreKeptFor, IsToldOf, LearnsFor};
 ghost use Rattle.regex_lite_meta.specs.ListMatches.{NeedsNoMemory};
 ghost use Rattle.regex_lite_engine.specs.Search.Standing.{IsHere};
-ghost use Rattle.regex_lite_meta.specs.ListPass.{IsPassed, IsToldFrom};
+ghost use Rattle.regex_lite_meta.specs.ListPass.{PassKnows, IsToldFrom};
 
 use crate::lazy_dfa::single::find_once;
 use crate::list_matches::attempt::attempt;
-use crate::list_matches::standing::Standing;
+use crate::list_matches::status::Status;
 use crate::strategy::{Searched, Strategy, Wanted, choose};
 use regex_lite_engine::Steps;
 use regex_lite_engine::nfa::list::GraphList;
@@ -147,18 +147,18 @@ impl Kept {
         number: usize,
         haystack: &str,
         here: Here,
-    ) -> Result<Standing, AllocError>
+    ) -> Result<Status, AllocError>
         requires number { number < length list.now.entries }
         requires here { (p : ℕ) × IsHere (chars haystack.now) p here }
         requires kept { AreKeptFor list.now self.old }
-        ensures told { IfOk result (λ standing. (p : ℕ) → IsHere (chars haystack.now) p here
-            → IsPassed (table_of_list list.now) haystack.now (slice_index list.now.entries number)
-            p (p + 1) standing) }
+        ensures told { IfOk result (λ status. (p : ℕ) → IsHere (chars haystack.now) p here
+            → PassKnows (table_of_list list.now) haystack.now (slice_index list.now.entries number)
+            p (p + 1) status) }
         ensures kept { AreKeptFor list.now self.new }
         ensures ready { NeedsNoMemory self.old → NeedsNoMemory self.new × IfErr result (λ _. ⊥) }
     {
         if pays_to_learn(list, number, haystack.len() - here.at) {
-            return Ok(Standing::Left(here.at));
+            return Ok(Status::Left(here.at));
         }
         let mut pattern = list.pattern(number);
         if let Some(sets) = &mut self.sets {
@@ -166,9 +166,9 @@ impl Kept {
             return Ok(attempt(sets, &mut pattern, haystack, here));
         }
         let mut sets = cache_for(self.alloc, pattern.table, 0)?;
-        let standing = attempt(&mut sets, &mut pattern, haystack, here);
+        let status = attempt(&mut sets, &mut pattern, haystack, here);
         self.sets.replace(sets);
-        Ok(standing)
+        Ok(status)
     }
 
     /// What [`Kept::search_from`] tells, by ordered sets alone.

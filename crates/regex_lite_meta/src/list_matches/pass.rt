@@ -8,10 +8,10 @@ ghost use Rattle.regex_lite_engine.specs.Search.AnswerOfList.{TellsWhich};
 ghost use Rattle.regex_lite_engine.specs.Search.Offsets.{position_at};
 ghost use Rattle.regex_lite_engine.specs.Search.Standing.{IsHere};
 ghost use Rattle.regex_lite_meta.specs.ListMatches.{AreKeptFor, NeedsNoMemory};
-ghost use Rattle.regex_lite_meta.specs.ListPass.{ArePassed, EndsPass, IsPassOf, IsToldFrom};
+ghost use Rattle.regex_lite_meta.specs.ListPass.{PassKnowsAll, EndsPass, IsPassOf, IsToldFrom};
 
 use crate::list_matches::kept::Kept;
-use crate::list_matches::standing::{Rest, Standing};
+use crate::list_matches::status::{Rest, Status};
 use crate::strategy::Credit;
 use regex_lite_engine::nfa::list::GraphList;
 use regex_lite_engine::search::here::Here;
@@ -24,7 +24,7 @@ use std::alloc::{AllocError, Global};
 pub(crate) struct ListPass<'g> {
     patterns: ListPatterns<'g>,
     /// By the number of the pattern.
-    standings: Vec<Standing>,
+    statuses: Vec<Status>,
 }
 
 impl<'g> ListPass<'g> {
@@ -38,7 +38,7 @@ impl<'g> ListPass<'g> {
     {
         Ok(ListPass {
             patterns: ListPatterns::new(alloc, list)?,
-            standings: vec![in alloc; Standing::Left(0); list.len()]?,
+            statuses: vec![in alloc; Status::Left(0); list.len()]?,
         })
     }
 
@@ -65,7 +65,7 @@ impl<'g> ListPass<'g> {
         ensures kept { AreKeptFor list.now kept.new }
         ensures ready { NeedsNoMemory kept.old → NeedsNoMemory kept.new × IfErr result (λ _. ⊥) }
     {
-        self.standings.fill(Standing::Open(start));
+        self.statuses.fill(Status::Open(start));
         let left = self.go(list, kept, haystack, Here::at(haystack, start))?;
         self.finish(list, kept, haystack, left, matched)
     }
@@ -81,11 +81,11 @@ impl<'g> ListPass<'g> {
     ) -> Result<Option<Here>, AllocError>
         requires pass { IsPassOf list.now self.old }
         requires passed { (s p : ℕ) × IsHere (chars haystack.now) p from
-            × ArePassed list.now haystack.now s p self.old.standings.items }
+            × PassKnowsAll list.now haystack.now s p self.old.statuses.items }
         requires kept { AreKeptFor list.now kept.old }
         ensures passed { IfOk result (λ left. (s p : ℕ) → IsHere (chars haystack.now) p from
-            → ArePassed list.now haystack.now s p self.old.standings.items
-            → EndsPass list.now haystack.now s self.new.standings.items left) }
+            → PassKnowsAll list.now haystack.now s p self.old.statuses.items
+            → EndsPass list.now haystack.now s self.new.statuses.items left) }
         ensures pass { IsPassOf list.now self.new }
         ensures kept { AreKeptFor list.now kept.new }
         ensures ready { NeedsNoMemory kept.old → NeedsNoMemory kept.new × IfErr result (λ _. ⊥) }
@@ -121,28 +121,25 @@ impl<'g> ListPass<'g> {
         requires pass { IsPassOf list.now self.old }
         requires kept { AreKeptFor list.now kept.old }
         ensures tried { IfOk result (λ all. (s p : ℕ) → IsHere (chars haystack.now) p here
-            → ArePassed list.now haystack.now s p self.old.standings.items
-            → ArePassed list.now haystack.now s p self.new.standings.items
-            × (IsTrue all → ArePassed list.now haystack.now s (p + 1) self.new.standings.items)) }
+            → PassKnowsAll list.now haystack.now s p self.old.statuses.items
+            → PassKnowsAll list.now haystack.now s p self.new.statuses.items
+            × (IsTrue all → PassKnowsAll list.now haystack.now s (p + 1) self.new.statuses.items)) }
         ensures pass { IsPassOf list.now self.new }
         ensures kept { AreKeptFor list.now kept.new }
         ensures ready { NeedsNoMemory kept.old → NeedsNoMemory kept.new × IfErr result (λ _. ⊥) }
     {
-        let ListPass {
-            patterns,
-            standings,
-        } = self;
+        let ListPass { patterns, statuses } = self;
         patterns.come_to(haystack, here);
         credit.pay_for_stop(patterns.len());
         'listed: for k in 0..patterns.len() {
             let number = patterns.start(k).number as usize;
-            if standings[number].is_due(here.at) {
+            if statuses[number].is_due(here.at) {
                 if credit.is_spent() {
                     return Ok(false);
                 }
-                let standing = kept.try_at(list, number, haystack, here)?;
-                standings[number] = standing;
-                credit.pay_for_try(standing);
+                let status = kept.try_at(list, number, haystack, here)?;
+                statuses[number] = status;
+                credit.pay_for_try(status);
             }
         }
         Ok(true)
@@ -161,9 +158,9 @@ impl<'g> ListPass<'g> {
         requires all { length matched.old ≡ length list.now.entries }
         requires kept { AreKeptFor list.now kept.old }
         requires passed { (s : ℕ)
-            × EndsPass list.now haystack.now s self.now.standings.items left }
+            × EndsPass list.now haystack.now s self.now.statuses.items left }
         ensures told { IfOk result (λ _. (s : ℕ)
-            → EndsPass list.now haystack.now s self.now.standings.items left
+            → EndsPass list.now haystack.now s self.now.statuses.items left
             → (number : ℕ) → number < length list.now.entries
             → IsToldFrom (table_of_list list.now) haystack.now
             (slice_index list.now.entries number) s (slice_index_or matched.new number false)) }
@@ -172,7 +169,7 @@ impl<'g> ListPass<'g> {
         ensures ready { NeedsNoMemory kept.old → NeedsNoMemory kept.new × IfErr result (λ _. ⊥) }
     {
         for number in 0..list.len() {
-            matched[number] = match self.standings[number].rest(left) {
+            matched[number] = match self.statuses[number].rest(left) {
                 Rest::Known(found) => found,
                 Rest::From(offset) => kept.search_one(list, number, haystack, offset)?.0,
             };

@@ -1,6 +1,6 @@
 //! What a pass over a haystack for all patterns of a list may spend. All counts are instructions.
 
-use crate::list_matches::Standing;
+use crate::list_matches::Status;
 use regex_lite_engine::nfa::list::GraphList;
 
 /// From this number of patterns on a pass pays. With twelve filters it took 1.16 to 1.23 of what
@@ -74,8 +74,8 @@ impl Credit {
 
     /// Pays for a try after which this is known, if it has found nothing, and else notes that the
     /// pattern is no longer open.
-    pub(crate) fn pay_for_try(&mut self, standing: Standing) {
-        if let Standing::Open(_) = standing {
+    pub(crate) fn pay_for_try(&mut self, status: Status) {
+        if let Status::Open(_) = status {
             self.pay(TRY);
             return;
         }

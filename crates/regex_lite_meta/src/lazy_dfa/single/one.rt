@@ -6,7 +6,7 @@ ghost use Rattle.regex_lite_engine.specs.Graph.Stored.{places_of};
 ghost use Rattle.regex_lite_engine.specs.Search.Offsets.{position_at};
 ghost use Rattle.regex_lite_engine.specs.Search.NumberedOutcomes.{IsFoundOf, best_at, match_told};
 ghost use Rattle.regex_lite_engine.specs.Search.NumberedOutcomes.{span_of};
-ghost use Rattle.regex_lite_engine.specs.Search.OutcomeOfOne.{IsWithinBounds, TellsEnd, TellsMatch};
+ghost use Rattle.regex_lite_engine.specs.Search.OutcomeOfOne.{IsWithinBounds, TellsEndOfOne, TellsOfOne};
 
 use crate::lazy_dfa::single::find_once;
 use regex_lite_engine::Steps;
@@ -24,7 +24,7 @@ pub(crate) fn search_remembering(
     start: usize,
 ) -> Result<(Option<Outcome>, Steps), AllocError>
     requires { IsCharBoundary haystack.now start }
-    ensures { IfOk result (TellsMatch (places_of pattern.old.table.now) pattern.old.entry
+    ensures { IfOk result (TellsOfOne (places_of pattern.old.table.now) pattern.old.entry
         haystack.now start 0) }
 {
     let (found, steps) = find_match::<false>(pattern, alloc, haystack, start)?;
@@ -39,7 +39,7 @@ pub(crate) fn search_shortest_remembering(
     start: usize,
 ) -> Result<(Option<usize>, Steps), AllocError>
     requires { IsCharBoundary haystack.now start }
-    ensures { IfOk result (TellsEnd (places_of pattern.old.table.now) pattern.old.entry haystack.now
+    ensures { IfOk result (TellsEndOfOne (places_of pattern.old.table.now) pattern.old.entry haystack.now
         start) }
 {
     let (found, steps) = find_match::<true>(pattern, alloc, haystack, start)?;

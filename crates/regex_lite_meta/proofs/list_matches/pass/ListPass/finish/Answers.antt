@@ -12,16 +12,16 @@ pub search_one-requires-clause-boundary : goal.search_one-requires-clause-bounda
 search_one-requires-clause-boundary c =
     let list = c.args.list.now in
     let haystack = c.args.haystack.now in
-    let standings = c.args.self.now.standings.items in
+    let statuses = c.args.self.now.statuses.items in
     let number = c.loop-number.number in
     let ends = c.requires.passed.1 in
     let s = c.requires.passed.0 in
-    let all = ends_with_all list haystack s standings c.args.left ends in
+    let all = ends_with_all list haystack s statuses c.args.left ends in
     let inside : number < length list.entries
     = omega (arith, c.loop-number-test.true, c.len-number-end.ensures.same) in
-    let read = standing_read standings number c.index.result.now (omega (arith, all, inside))
+    let read = standing_read statuses number c.index.result.now (omega (arith, all, inside))
     c.index.ensures in
-    let rest = rest_known list haystack c.utf8.haystack s number standings c.rest.result c.args.left
+    let rest = rest_known list haystack c.utf8.haystack s number statuses c.rest.result c.args.left
     inside (rw read c.rest.ensures.ended) (rw read c.rest.ensures.left) ends in
     (rw c.in-From.is at rest).boundary
 
@@ -29,7 +29,7 @@ pub loop-number-preserved : goal.loop-number-preserved
 loop-number-preserved c =
     let list = c.args.list.now in
     let haystack = c.args.haystack.now in
-    let standings = c.args.self.now.standings.items in
+    let statuses = c.args.self.now.statuses.items in
     let number = c.loop-number.number in
     let matched = c.loop-number.matched in
     let v = c.loop-number.invariant in
@@ -37,9 +37,9 @@ loop-number-preserved c =
     let inside : number < length list.entries
     = omega (arith, c.loop-number-test.true, c.len-number-end.ensures.same) in
     let room : number < length matched = omega (arith, inside, all_told, c.requires.all) in
-    let all = ends_with_all list haystack c.requires.passed.0 standings c.args.left
+    let all = ends_with_all list haystack c.requires.passed.0 statuses c.args.left
     c.requires.passed.1 in
-    let read = standing_read standings number c.index.result.now (omega (arith, all, inside))
+    let read = standing_read statuses number c.index.result.now (omega (arith, all, inside))
     c.index.ensures in
     record {
       within = omega (arith, inside);
@@ -55,7 +55,7 @@ loop-number-preserved c =
             rw w.kept-is (λ none. (w.in_ok-matched-in-From.ensures.ready (v.ready none)).0)
       ];
       told = λ s ends k less.
-          let rest = rest_known list haystack c.utf8.haystack s number standings c.rest.result
+          let rest = rest_known list haystack c.utf8.haystack s number statuses c.rest.result
           c.args.left inside (rw read c.rest.ensures.ended) (rw read c.rest.ensures.left) ends in
           let known : IsToldFrom (table_of_list list) haystack (slice_index list.entries number) s
           c.match-rest.matched

@@ -10,7 +10,7 @@ invariant-loop-number l = record {
   all : length l.matched ≡ length l.fn.matched;
   kept : AreKeptFor l.list l.kept;
   ready : NeedsNoMemory l.fn.kept → NeedsNoMemory l.kept;
-  told : (s : ℕ) → EndsPass l.list l.haystack s l.self.standings.items l.left
+  told : (s : ℕ) → EndsPass l.list l.haystack s l.self.statuses.items l.left
       → (k : ℕ) → k < l.number → IsToldFrom (table_of_list l.list) l.haystack
       (slice_index l.list.entries k) s (slice_index_or l.matched k false);
 }

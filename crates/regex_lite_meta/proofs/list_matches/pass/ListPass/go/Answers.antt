@@ -2,7 +2,7 @@ use Rattle.regex_lite_meta.proofs.Common.{◌≡◌, ◌+◌, length, chars, Non
 use Rattle.regex_lite_meta.proofs.Common.{rules}
 use Rattle.regex_lite_engine.proofs.Common.{IsTrue}
 use Rattle.regex_lite_engine.proofs.search.here.HereLemmas.{at_most, less_left, over_at}
-use Rattle.regex_lite_meta.specs.ListPass.{ArePassed}
+use Rattle.regex_lite_meta.specs.ListPass.{PassKnowsAll}
 use Rattle.regex_lite_meta.proofs.list_matches.TriedLemmas.{all_passed_over}
 use Rattle.regex_lite_meta.proofs.list_matches.pass.ListPass.go.Goals as goal
 
@@ -41,7 +41,7 @@ returns-then-not-branch-clause-passed c = λ s p is passed.
       w.is,
       (c.in_ok-try_each.ensures.tried s w.q w.is
           (all_passed_over c.args.list.now c.args.haystack.now c.utf8.haystack s at.0
-          c.pass_over-stop.result c.stops.self.standings.items w at.2)).0,
+          c.pass_over-stop.result c.stops.self.statuses.items w at.2)).0,
     )
 
 pub returns-then-is_none-clause-passed : goal.returns-then-is_none-clause-passed
@@ -51,7 +51,7 @@ returns-then-is_none-clause-passed c = λ s p is passed.
     let w = rw (v.pass.table, v.pass.entries) at c.pass_over-stop.ensures at.0 at.1 in
     let tried = c.in_ok-try_each.ensures.tried s w.q w.is
     (all_passed_over c.args.list.now c.args.haystack.now c.utf8.haystack s at.0
-    c.pass_over-stop.result c.stops.self.standings.items w at.2) in
+    c.pass_over-stop.result c.stops.self.statuses.items w at.2) in
     let none : c.pass_over-stop.result.after ≡ None = search rules in
     let all : IsTrue c.in_ok-try_each.field-0 = search rules in
     let over : w.q ≡ length (chars c.args.haystack.now)
@@ -59,8 +59,8 @@ returns-then-is_none-clause-passed c = λ s p is passed.
       | inl same ↦ same
       | inr nothing ↦ absurd nothing
     ] in
-    subst (λ z. ArePassed c.args.list.now c.args.haystack.now s (z + 1)
-    c.try_each.new.self.standings.items) over (tried.1 all)
+    subst (λ z. PassKnowsAll c.args.list.now c.args.haystack.now s (z + 1)
+    c.try_each.new.self.statuses.items) over (tried.1 all)
 
 pub next-here-requires : goal.next-here-requires
 next-here-requires c =
@@ -79,7 +79,7 @@ returns-then-is_spent-clause-passed c = λ s p is passed.
       c.next-here.ensures w.q w.is,
       (c.in_ok-try_each.ensures.tried s w.q w.is
           (all_passed_over c.args.list.now c.args.haystack.now c.utf8.haystack s at.0
-          c.pass_over-stop.result c.stops.self.standings.items w at.2)).1 all,
+          c.pass_over-stop.result c.stops.self.statuses.items w at.2)).1 all,
     )
 
 pub stops-smaller : goal.stops-smaller
@@ -102,7 +102,7 @@ stops-preserved c =
             c.next-here.ensures w.q w.is,
             (c.in_ok-try_each.ensures.tried s w.q w.is
                 (all_passed_over c.args.list.now c.args.haystack.now c.utf8.haystack s at.0
-                c.pass_over-stop.result c.stops.self.standings.items w at.2)).1 all,
+                c.pass_over-stop.result c.stops.self.statuses.items w at.2)).1 all,
           );
       pass = c.in_ok-try_each.ensures.pass;
       kept = c.in_ok-try_each.ensures.kept;

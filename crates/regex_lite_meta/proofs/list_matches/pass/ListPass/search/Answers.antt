@@ -1,8 +1,8 @@
 use Rattle.regex_lite_meta.proofs.Common.{◌≡◌, ◌∙◌, length, subst, sym, rules, position_at}
 use Rattle.regex_lite_engine.proofs.Common.{replicate}
 use Rattle.std.proofs.lemmas.Result.{IfOk-weaker}
-use Rattle.regex_lite_meta.specs.ListPass.{ArePassed}
-use Rattle.regex_lite_meta.specs.declared.list_matches.standing.Standing.TheVariants.{Open}
+use Rattle.regex_lite_meta.specs.ListPass.{PassKnowsAll}
+use Rattle.regex_lite_meta.specs.declared.list_matches.status.Status.TheVariants.{Open}
 use Rattle.regex_lite_meta.proofs.list_matches.WhichLemmas.{all_open, told_which}
 use Rattle.regex_lite_meta.proofs.list_matches.pass.ListPass.search.Goals as goal
 
@@ -14,7 +14,7 @@ go-requires-clause-passed c =
       s,
       s,
       c.at.ensures.here,
-      subst (ArePassed c.args.list.now c.args.haystack.now s s) (sym filled)
+      subst (PassKnowsAll c.args.list.now c.args.haystack.now s s) (sym filled)
           (all_open c.args.list.now c.args.haystack.now c.args.start c.requires.boundary),
     )
 
@@ -25,7 +25,7 @@ finish-requires-clause-passed c =
     ≡ replicate (length c.args.list.now.entries) (Open c.args.start) = search rules in (
       s,
       c.in_ok-left.ensures.passed s s c.at.ensures.here
-          (subst (ArePassed c.args.list.now c.args.haystack.now s s) (sym filled)
+          (subst (PassKnowsAll c.args.list.now c.args.haystack.now s s) (sym filled)
           (all_open c.args.list.now c.args.haystack.now c.args.start c.requires.boundary)),
     )
 
@@ -35,7 +35,7 @@ returns-clause-found c =
     let filled : c.fill.new.self.items
     ≡ replicate (length c.args.list.now.entries) (Open c.args.start) = search rules in
     let ends = c.in_ok-left.ensures.passed s s c.at.ensures.here
-    (subst (ArePassed c.args.list.now c.args.haystack.now s s) (sym filled)
+    (subst (PassKnowsAll c.args.list.now c.args.haystack.now s s) (sym filled)
     (all_open c.args.list.now c.args.haystack.now c.args.start c.requires.boundary)) in
     IfOk-weaker c.finish.result _ _
     (λ _ told. told_which c.args.list.now c.args.haystack.now c.args.start c.finish.new.matched

@@ -9,7 +9,7 @@ use Rattle.regex_lite_meta.proofs.list_matches.TriedLemmas.{all_tried, passed_by
 use Rattle.regex_lite_meta.proofs.list_matches.TriedLemmas.{standing_read, start_inside}
 use Rattle.regex_lite_meta.proofs.list_matches.PassLemmas.{passed_on}
 use Rattle.regex_lite_meta.proofs.list_matches.pass.ListPass.try_each.Goals as goal
-use Rattle.regex_lite_meta.proofs.list_matches.pass.ListPass.try_each.Goals.{then-is_due+else-is_spent+in_ok-standing, else-is_due}
+use Rattle.regex_lite_meta.proofs.list_matches.pass.ListPass.try_each.Goals.{then-is_due+else-is_spent+in_ok-status, else-is_due}
 
 pub listed-init : goal.listed-init
 listed-init c =
@@ -33,7 +33,7 @@ index-requires c =
     (chars c.args.haystack.now) c.requires.here.0 c.listed.k _ c.start-number.result
     (rw (same_table, same_entries) at c.come_to.ensures.starts c.requires.here.0 c.requires.here.1)
     (rw same_entries at c.start-number.ensures) in
-    omega (arith, all, below, c.listed.standings.ok)
+    omega (arith, all, below, c.listed.statuses.ok)
 
 pub try_at-requires-clause-number : goal.try_at-requires-clause-number
 try_at-requires-clause-number c =
@@ -53,7 +53,7 @@ index_mut-requires c =
     (chars c.args.haystack.now) c.requires.here.0 c.listed.k _ c.start-number.result
     (rw (same_table, same_entries) at c.come_to.ensures.starts c.requires.here.0 c.requires.here.1)
     (rw same_entries at c.start-number.ensures) in
-    omega (arith, all, below, c.listed.standings.ok)
+    omega (arith, all, below, c.listed.statuses.ok)
 
 pub returns-then-is_spent-clause-tried : goal.returns-then-is_spent-clause-tried
 returns-then-is_spent-clause-tried c = λ s p is passed. (
@@ -70,9 +70,9 @@ returns-clause-tried c = λ s p is passed.
     = omega (arith, c.listed-test.false, rw same_entries at c.len-k-end.ensures) in (
       tried.passed,
       λ all. all_tried c.args.list.now c.args.haystack.now c.utf8.haystack s p
-          c.listed.standings.items
+          c.listed.statuses.items
           (subst (λ z. AreTried c.args.list.now c.args.haystack.now s p z
-          c.listed.standings.items) (none_left starts c.listed.k last) tried),
+          c.listed.statuses.items) (none_left starts c.listed.k last) tried),
     )
 
 pub listed-preserved : goal.listed-preserved
@@ -85,7 +85,7 @@ listed-preserved c =
     let start = c.start-number.result in
     let number = start.number in
     let starts = map (start_numbered list.entries) c.come_to.new.self.numbers.items in
-    let old = c.listed.standings.items in
+    let old = c.listed.statuses.items in
     let at = rw same_entries at c.start-number.ensures in
     let are = rw (same_table, same_entries) at c.come_to.ensures.starts c.requires.here.0
     c.requires.here.1 in
@@ -102,17 +102,17 @@ listed-preserved c =
           before in
           let known = before.passed.each number below in
           elim c.if-is_due.branch [
-            | then-is_due+else-is_spent+in_ok-standing w ↦
+            | then-is_due+else-is_spent+in_ok-status w ↦
                 let due = c.is_due.ensures.due (search rules) in
                 let none = (rw (read ∙ due.1) at known).1 in
-                rw w.standings-is
-                (tried_one list haystack c.utf8.haystack s p start _ old w.in_ok-standing.standing
+                rw w.statuses-is
+                (tried_one list haystack c.utf8.haystack s p start _ old w.in_ok-status.status
                 below none.from
                 (passed_on (table_of_list list) haystack c.utf8.haystack
-                (slice_index list.entries number) s p (p + 1) w.in_ok-standing.standing none
-                (w.in_ok-standing.ensures.told p is)) now)
+                (slice_index list.entries number) s p (p + 1) w.in_ok-status.status none
+                (w.in_ok-status.ensures.told p is)) now)
             | else-is_due w ↦
-                rw w.standings-is
+                rw w.statuses-is
                 (passed_by list haystack c.utf8.haystack s p start _ old entry
                 (undue list haystack c.utf8.haystack s p (slice_index list.entries number)
                 (standing_of old number) c.args.here is
@@ -120,17 +120,17 @@ listed-preserved c =
                 (not_true c.is_due.result w.if-is_due.false) from (sym read ∙ is_open)) known) now)
           ];
       all = elim c.if-is_due.branch [
-        | then-is_due+else-is_spent+in_ok-standing w ↦
-            rw w.standings-is (length-set old number w.in_ok-standing.standing ∙ v.all)
-        | else-is_due w ↦ rw w.standings-is v.all
+        | then-is_due+else-is_spent+in_ok-status w ↦
+            rw w.statuses-is (length-set old number w.in_ok-status.status ∙ v.all)
+        | else-is_due w ↦ rw w.statuses-is v.all
       ];
       kept = elim c.if-is_due.branch [
-        | then-is_due+else-is_spent+in_ok-standing w ↦ rw w.kept-is w.in_ok-standing.ensures.kept
+        | then-is_due+else-is_spent+in_ok-status w ↦ rw w.kept-is w.in_ok-status.ensures.kept
         | else-is_due w ↦ rw w.kept-is v.kept
       ];
       ready = elim c.if-is_due.branch [
-        | then-is_due+else-is_spent+in_ok-standing w ↦
-            rw w.kept-is (λ none. (w.in_ok-standing.ensures.ready (v.ready none)).0)
+        | then-is_due+else-is_spent+in_ok-status w ↦
+            rw w.kept-is (λ none. (w.in_ok-status.ensures.ready (v.ready none)).0)
         | else-is_due w ↦ rw w.kept-is v.ready
       ];
     }

@@ -3,14 +3,14 @@ ghost use Rattle.std.specs.Prelude.{◌≡◌, ◌⊎◌, ◌+◌, ◌<◌, ℕ,
 ghost use Rattle.std.specs.Prelude.{chars, length};
 ghost use Rattle.regex_lite_engine.specs.Graph.Places.{Place};
 ghost use Rattle.regex_lite_engine.specs.Search.Standing.{IsHere};
-ghost use Rattle.regex_lite_meta.specs.ListPass.{IsPassed, IsRest};
-ghost use Rattle.regex_lite_meta.specs.declared.list_matches.standing.Standing.TheVariants.{Open};
+ghost use Rattle.regex_lite_meta.specs.ListPass.{PassKnows, IsRest};
+ghost use Rattle.regex_lite_meta.specs.declared.list_matches.status.Status.TheVariants.{Open};
 
 use regex_lite_engine::search::here::Here;
 
 /// What a pass over a haystack for all patterns of a list knows of one of them.
 #[derive(Clone, Copy)]
-pub(crate) enum Standing {
+pub(crate) enum Status {
     /// Whether it matches.
     Known(bool),
     /// No match of it starts before this offset, nor before the position that the pass has come
@@ -29,15 +29,15 @@ pub(super) enum Rest {
     From(usize),
 }
 
-impl Standing {
+impl Status {
     /// Whether a pattern that may start at this offset is tried there.
     pub(super) fn is_due(self, at: usize) -> bool
         ensures due { IsTrue result → (from : ℕ) × (self ≡ Open from) }
         ensures later { ¬ IsTrue result → (from : ℕ) → self ≡ Open from → at < from }
     {
         match self {
-            Standing::Open(from) => from <= at,
-            Standing::Known(_) | Standing::Left(_) => false,
+            Status::Open(from) => from <= at,
+            Status::Known(_) | Status::Left(_) => false,
         }
     }
 
@@ -45,16 +45,16 @@ impl Standing {
     /// haystack's end.
     pub(super) fn rest(self, left: Option<Here>) -> Rest
         ensures ended { left ≡ None → (table : List (Place ℕ)) (bytes : List ℕ) (entry s : ℕ)
-            → IsPassed table bytes entry s (length (chars bytes) + 1) self
+            → PassKnows table bytes entry s (length (chars bytes) + 1) self
             → IsRest table bytes entry s result }
         ensures left { IfSome left (λ here. (table : List (Place ℕ)) (bytes : List ℕ)
             (entry s q : ℕ) → IsUtf8 bytes → IsHere (chars bytes) q here
-            → IsPassed table bytes entry s q self → IsRest table bytes entry s result) }
+            → PassKnows table bytes entry s q self → IsRest table bytes entry s result) }
     {
         match self {
-            Standing::Known(found) => Rest::Known(found),
-            Standing::Left(from) => Rest::From(from),
-            Standing::Open(from) => match left {
+            Status::Known(found) => Rest::Known(found),
+            Status::Left(from) => Rest::From(from),
+            Status::Open(from) => match left {
                 None => Rest::Known(false),
                 Some(here) => Rest::From(later(from, here.at)),
             },

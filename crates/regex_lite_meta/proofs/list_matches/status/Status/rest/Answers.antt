@@ -1,7 +1,7 @@
 use Rattle.regex_lite_engine.proofs.Common.{inl, inr, subst, sym}
 use Rattle.regex_lite_meta.specs.ListPass.{StartsNoSooner}
 use Rattle.regex_lite_meta.proofs.list_matches.PassLemmas.{no_sooner}
-use Rattle.regex_lite_meta.proofs.list_matches.standing.Standing.rest.Goals as goal
+use Rattle.regex_lite_meta.proofs.list_matches.status.Status.rest.Goals as goal
 
 pub returns-in-Some-clause-left : goal.returns-in-Some-clause-left
 returns-in-Some-clause-left c = rw c.in-Some.is (λ table bytes entry s q utf8 is passed.
