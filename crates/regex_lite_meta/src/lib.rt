@@ -5,9 +5,9 @@
 //! searches one graph again and again in the same memory, and a [`ListSearcher`] that of several
 //! patterns. [`search_each`] and [`search_each_uncounted`] say which of several patterns match, and
 //! a [`SetSearcher`] does so again and again in the same memory. Each goes by a lazy automaton
-//! (`lazy_dfa`) where that pays, and otherwise by one of the two searches of `regex_lite_engine`. All
-//! of them return the same. A [`SlotSearcher`] finds the slots of matches that another search has
-//! found.
+//! (`lazy_dfa`) where that pays, and otherwise by one of the two searches of `regex_lite_engine`.
+//! All of them return the same. A [`SlotSearcher`] finds the slots of matches that another search
+//! has found.
 #![tactic(auto)]
 
 mod lazy_dfa;

@@ -206,8 +206,8 @@ fn first_of_list(found: Option<Outcome>) -> Option<(usize, Outcome)>
     Some((0, outcome))
 }
 
-/// How the span of a match of several patterns is found before its slots, where that pays, and up to
-/// how many pairs these are searched for depth first.
+/// How the span of a match of several patterns is found before its slots, where that pays, and up
+/// to how many pairs these are searched for depth first.
 fn span_first_in(
     list: &GraphList,
     start: usize,

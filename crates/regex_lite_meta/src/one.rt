@@ -48,8 +48,8 @@ pub(crate) fn search_shortest_one(
     start: usize,
 ) -> Result<(Option<usize>, Steps), AllocError>
     requires { IsCharBoundary haystack.now start }
-    ensures { IfOk result (TellsEndOfOne (places_of pattern.old.table.now) pattern.old.entry haystack.now
-        start) }
+    ensures { IfOk result (TellsEndOfOne (places_of pattern.old.table.now) pattern.old.entry
+        haystack.now start) }
 {
     let left = haystack.len() - start;
     let searched = Searched::one(pattern.table, pattern.filter);

@@ -1,6 +1,7 @@
 -- What a search returns: where it starts, that its counts fit, and the tree's answer by offsets.
 use Rattle.regex_lite_engine.proofs.Common.{◌≡◌, ℕ, ◌+◌, ◌*◌, ◌^◌, ◌<◌, ◌≤◌, List, [], length, Some}
-use Rattle.regex_lite_engine.proofs.Common.{None, IfSome, IsUtf8, Option, option_map, chars, sym, ◌∙◌}
+use Rattle.regex_lite_engine.proofs.Common.{None, IfSome, IsUtf8, Option, option_map, chars, sym}
+use Rattle.regex_lite_engine.proofs.Common.{◌∙◌}
 use Rattle.regex_lite_engine.proofs.Common.{subst, arith, mul-le-mul_left, mul-le-mul_right}
 use Rattle.regex_lite_engine.proofs.Common.{length-map, encodes-chars, Tree, IsRegular}
 use Rattle.regex_lite_engine.proofs.Common.{whole_places, whole_arrows, arrows_of, place_of}

@@ -100,8 +100,9 @@ module _ {table : List (Place ℕ)} {entries : List ℕ} {automaton : Automaton}
     pub turn_within : target.state < length automaton.states
     turn_within = slice_get_within automaton.states target.state leads.to leads.is_to
 
-    pub turn_effect : (hit : Option KeptOrigin) → known_hit target.effect ≡ Some hit → (state : State)
-        → slice_get automaton.states target.state ≡ Some state → (state.ways ≡ [] → ⊥) × (state.hit ≡ hit)
+    pub turn_effect : (hit : Option KeptOrigin) → known_hit target.effect ≡ Some hit
+        → (state : State) → slice_get automaton.states target.state ≡ Some state
+        → (state.ways ≡ [] → ⊥) × (state.hit ≡ hit)
     turn_effect hit told state is =
         subst (λ (s : State). (s.ways ≡ [] → ⊥) × (s.hit ≡ hit)) (same_some (sym leads.is_to ∙ is))
         (leads.effect hit told)

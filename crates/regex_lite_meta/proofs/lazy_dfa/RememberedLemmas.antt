@@ -175,7 +175,8 @@ module _ (table : List (Place ℕ)) (entries : List ℕ) where
   pub still_remembers : (old new : Automaton) → Remembers table entries old → Extends old new
       → FitsTable table entries old.pending → Remembers table entries new
   still_remembers old new remembers extends fits = record {
-    intervals = subst (λ z. AreIntervalsFor table entries z) (sym extends.intervals) remembers.intervals;
+    intervals = subst (λ z. AreIntervalsFor table entries z) (sym extends.intervals)
+        remembers.intervals;
     reach = subst (λ z. IfSome z (ReadsAtMost table entries)) (sym extends.reach) remembers.reach;
     leads = λ x from class at inside known.
         by_age x from class at inside known (slice_get old.states x) refl;

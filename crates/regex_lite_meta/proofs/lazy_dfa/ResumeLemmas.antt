@@ -18,7 +18,8 @@ use Rattle.regex_lite_engine.specs.Pikevm.Walking.{WayTold, ThreadsHold}
 use Rattle.regex_lite_engine.specs.Search.Beginnings.{Told, IsTold}
 use Rattle.regex_lite_engine.specs.Search.Bounds.{StepCounts}
 use Rattle.regex_lite_engine.specs.Search.Offers.{Node, Offer}
-use Rattle.regex_lite_meta.proofs.Common.{IsCharBoundary, IsOffset, IsSince, IsUtf8, chars, position_at}
+use Rattle.regex_lite_meta.proofs.Common.{IsCharBoundary, IsOffset, IsSince, IsUtf8, chars}
+use Rattle.regex_lite_meta.proofs.Common.{position_at}
 use Rattle.regex_lite_engine.proofs.OffsetLemmas.{boundary_at}
 use Rattle.regex_lite_engine.proofs.PositionLemmas.{position_of}
 use Rattle.regex_lite_meta.proofs.lazy_dfa.RunLemmas.{maybe_in_empty, moved_on, own_first}

@@ -206,7 +206,8 @@ module _ (table : List (Place ℕ)) (bytes : List ℕ) (utf8 : IsUtf8 bytes) (en
   passed_so_far s p q (Left at) low later passed = passed
 
   -- where no match starts up to the end, there is none
-  pub none_at_all : (s : ℕ) → NoneStartsBefore table (chars bytes) entry s (length (chars bytes) + 1)
+  pub none_at_all : (s : ℕ)
+      → NoneStartsBefore table (chars bytes) entry s (length (chars bytes) + 1)
       → IsToldFrom table bytes entry s false
   none_at_all s none = record {
     best = None;

@@ -2,7 +2,8 @@
 use Rattle.regex_lite_engine.proofs.Common.{◌≡◌, ℕ, suc, ◌+◌, ◌<◌, ◌≤◌, ◌⊎◌, List}
 use Rattle.regex_lite_engine.proofs.Common.{[], ◌∷◌, length, drop, slice_get, slice_set, Some, None}
 use Rattle.regex_lite_engine.proofs.Common.{slice_index, slice_index_or, IsUtf8, chars, sym, refl}
-use Rattle.regex_lite_engine.proofs.Common.{ap, ◌∙◌, subst, inl, inr, arith, cases_lt, cases_eq, IsEntry, zero}
+use Rattle.regex_lite_engine.proofs.Common.{ap, ◌∙◌, subst, inl, inr, arith, cases_lt, cases_eq}
+use Rattle.regex_lite_engine.proofs.Common.{IsEntry, zero}
 use Rattle.regex_lite_engine.proofs.Common.{IsHere, IsDeadAt, AreDeadAt, PassesTo}
 use Rattle.regex_lite_engine.proofs.Common.{position_at, get_or-set_other}
 use Rattle.regex_lite_engine.proofs.Common.{get_or-set_same, length-set, slice_get-get_or}
@@ -110,7 +111,8 @@ module _ (list : StoredList) (bytes : List ℕ) (utf8 : IsUtf8 bytes) (s p : ℕ
       | inr other ↦ elim other [
         | inl among ↦ absurd among
         | inr dead ↦
-            passed_over (table_of_list list) bytes utf8 (slice_index list.entries number) s p (p + 1)
+            passed_over (table_of_list list) bytes utf8 (slice_index list.entries number) s p
+            (p + 1)
             (standing_of statuses number) (omega arith)
             (λ i low high. subst (λ z. IsDeadAt (table_of_list list) (chars bytes)
             (slice_index list.entries number) z) (omega (arith, low, high)) dead)

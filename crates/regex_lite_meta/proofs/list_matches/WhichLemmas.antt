@@ -1,5 +1,6 @@
 -- Which patterns match, by what is known of the pattern that is entered at each place.
-use Rattle.regex_lite_engine.proofs.Common.{◌≡◌, ℕ, ◌<◌, ◌≤◌, ◌↔◌, Bool, false, List, length, replicate}
+use Rattle.regex_lite_engine.proofs.Common.{◌≡◌, ℕ, ◌<◌, ◌≤◌, ◌↔◌, Bool, false, List, length}
+use Rattle.regex_lite_engine.proofs.Common.{replicate}
 use Rattle.regex_lite_engine.proofs.Common.{Some, None, option_map, is_some, IsTrue, chars}
 use Rattle.regex_lite_engine.proofs.Common.{IsCharBoundary, slice_index, slice_index_or, sym, refl}
 use Rattle.regex_lite_engine.proofs.Common.{◌∙◌, subst, arith, slice_get_within, table_of_list}

@@ -139,8 +139,8 @@ impl Kept {
         self.search_by_sets(list, number, haystack, start)
     }
 
-    /// Tries the pattern here, where a match of it may begin. It isn't tried where it pays to search
-    /// for it by itself.
+    /// Tries the pattern here, where a match of it may begin. It isn't tried where it pays to
+    /// search for it by itself.
     pub(super) fn try_at(
         &mut self,
         list: &GraphList,
@@ -197,8 +197,8 @@ impl Kept {
         Ok(told)
     }
 
-    /// What [`Kept::search_from`] tells, with an automaton if the search isn't over soon. None if the
-    /// memory for that is refused.
+    /// What [`Kept::search_from`] tells, with an automaton if the search isn't over soon. None if
+    /// the memory for that is refused.
     // Not inlined, so that searches in short haystacks cost no more for it.
     #[inline(never)]
     fn search_learning(

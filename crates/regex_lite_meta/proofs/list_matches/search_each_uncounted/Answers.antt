@@ -1,4 +1,5 @@
-use Rattle.regex_lite_engine.proofs.Common.{◌≡◌, ◌++◌, length, take, drop, chars, sym, ap, ◌∙◌, subst}
+use Rattle.regex_lite_engine.proofs.Common.{◌≡◌, ◌++◌, length, take, drop, chars, sym, ap, ◌∙◌}
+use Rattle.regex_lite_engine.proofs.Common.{subst}
 use Rattle.regex_lite_engine.proofs.Common.{arith, take-append_seam, search_start}
 use Rattle.regex_lite_engine.specs.Search.AnswerOfList.{TellsWhich}
 use Rattle.regex_lite_engine.proofs.search.ListOutcomeLemmas.{at_position}

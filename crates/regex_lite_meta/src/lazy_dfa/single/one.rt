@@ -6,7 +6,8 @@ ghost use Rattle.regex_lite_engine.specs.Graph.Stored.{places_of};
 ghost use Rattle.regex_lite_engine.specs.Search.Offsets.{position_at};
 ghost use Rattle.regex_lite_engine.specs.Search.NumberedOutcomes.{IsFoundOf, best_at, match_told};
 ghost use Rattle.regex_lite_engine.specs.Search.NumberedOutcomes.{span_of};
-ghost use Rattle.regex_lite_engine.specs.Search.OutcomeOfOne.{IsWithinBounds, TellsEndOfOne, TellsOfOne};
+ghost use Rattle.regex_lite_engine.specs.Search.OutcomeOfOne.{IsWithinBounds, TellsEndOfOne};
+ghost use Rattle.regex_lite_engine.specs.Search.OutcomeOfOne.{TellsOfOne};
 
 use crate::lazy_dfa::single::find_once;
 use regex_lite_engine::Steps;
@@ -39,8 +40,8 @@ pub(crate) fn search_shortest_remembering(
     start: usize,
 ) -> Result<(Option<usize>, Steps), AllocError>
     requires { IsCharBoundary haystack.now start }
-    ensures { IfOk result (TellsEndOfOne (places_of pattern.old.table.now) pattern.old.entry haystack.now
-        start) }
+    ensures { IfOk result (TellsEndOfOne (places_of pattern.old.table.now) pattern.old.entry
+        haystack.now start) }
 {
     let (found, steps) = find_match::<true>(pattern, alloc, haystack, start)?;
     Ok((end_of(found), steps))

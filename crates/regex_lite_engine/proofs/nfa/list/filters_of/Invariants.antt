@@ -1,4 +1,5 @@
-use Rattle.regex_lite_engine.proofs.Common.{◌≡◌, ℕ, map, length, slice_get, Some, Tree, tree_of, Heads}
+use Rattle.regex_lite_engine.proofs.Common.{◌≡◌, ℕ, map, length, slice_get, Some, Tree, tree_of}
+use Rattle.regex_lite_engine.proofs.Common.{Heads}
 use Rattle.regex_lite_syntax.specs.Prefilter.Heads.{AreHeadsOfTree}
 use Rattle.regex_lite_engine.specs.Search.Filters.{own_heads_of}
 use Rattle.regex_lite_engine.proofs.nfa.list.filters_of.Given as goal

@@ -70,7 +70,8 @@ returns-then-is_done-clause-told c = λ p is.
     record {
       best = best_of c.pass-here.new.self.best;
       is = search rules;
-      end = over_found {p = at.0} {cache = c.positions.cache} (record { q = w.q + 1; on = w.after; why = why });
+      end = over_found {p = at.0} {cache = c.positions.cache}
+          (record { q = w.q + 1; on = w.after; why = why });
     }
 
 pub returns-then-threads-eq0-clause-told : goal.returns-then-threads-eq0-clause-told
@@ -86,7 +87,8 @@ returns-then-threads-eq0-clause-told c = λ p is.
     let next = c.next-here.ensures w.q w.is in
     let low = at.2.low in
     let later = w.later in
-    let over = died table (chars haystack) entry p (w.q + 1) c.pass-here.new.self.walk.memory.threads
+    let over = died table (chars haystack) entry p (w.q + 1)
+    c.pass-here.new.self.walk.memory.threads
     (best_of c.pass-here.new.self.best) (omega (arith, low, later)) (search rules)
     (c.is_done.ensures.none_yet refl (not_true c.is_done.result c.if-is_done.false))
     w.after.coming in (

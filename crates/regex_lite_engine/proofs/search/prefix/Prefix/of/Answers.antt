@@ -1,4 +1,5 @@
-use Rattle.regex_lite_engine.proofs.Common.{◌≡◌, ◌<◌, List, IfSome, Some, None, Option, sym, ap, ◌∙◌}
+use Rattle.regex_lite_engine.proofs.Common.{◌≡◌, ◌<◌, List, IfSome, Some, None, Option, sym, ap}
+use Rattle.regex_lite_engine.proofs.Common.{◌∙◌}
 use Rattle.regex_lite_engine.proofs.Common.{subst}
 use Rattle.regex_lite_engine.proofs.Common.{arith, drop, Tree, character, look, concat, Trees, more}
 use Rattle.regex_lite_engine.proofs.Common.{tree_of}

@@ -4,5 +4,6 @@ use Rattle.regex_lite_meta.proofs.lazy_dfa.automaton.LazyDfa.is_last.Goals as go
 
 pub returns-then-target-clause-none : goal.returns-then-target-clause-none
 returns-then-target-clause-none g c = λ state at earliest told.
-    (c.requires.effect None (ap (λ is. hit_by is c.args.target.effect.completes) c.if-target.true) state
+    (c.requires.effect None (ap (λ is. hit_by is c.args.target.effect.completes) c.if-target.true)
+    state
     at).1

@@ -33,7 +33,8 @@ led g c =
 pub returns-in-Nowhere-clause-led : goal.returns-in-Nowhere-clause-led
 returns-in-Nowhere-clause-led g c = λ haystack low p scanning.
     led_none (g.P.Patterns.table c.args.patterns.now) (g.P.Patterns.entries c.args.patterns.now)
-    haystack low p c.args.self.now c.args.at.now scanning (not (g.row.EARLIEST == 0)) c.requires.none
+    haystack low p c.args.self.now c.args.at.now scanning (not (g.row.EARLIEST == 0))
+    c.requires.none
     (led_step (g.P.Patterns.table c.args.patterns.now) (g.P.Patterns.entries c.args.patterns.now)
     haystack low p c.args.self.now c.args.at.now scanning
     (led g (goal.at.returns-in-Nowhere-clause-led g c).After-index) c.args.at.now.best

@@ -1,4 +1,5 @@
-use Rattle.regex_lite_meta.proofs.Common.{[], ◌∷◌, chars, rules, places_of, span_of, position_at, span_told}
+use Rattle.regex_lite_meta.proofs.Common.{[], ◌∷◌, chars, rules, places_of, span_of, position_at}
+use Rattle.regex_lite_meta.proofs.Common.{span_told}
 use Rattle.regex_lite_meta.proofs.lazy_dfa.OnceLemmas.{spanned}
 use Rattle.regex_lite_engine.proofs.pikevm.EndLemmas.{one_best}
 use Rattle.regex_lite_meta.proofs.lazy_dfa.single.one.search_remembering.Goals as goal

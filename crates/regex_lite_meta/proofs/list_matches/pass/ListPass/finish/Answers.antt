@@ -4,9 +4,11 @@ use Rattle.regex_lite_meta.proofs.Common.{table_of_list, cases_lt, inl, inr, pos
 use Rattle.regex_lite_engine.proofs.Common.{get_or-set_other, get_or-set_same, length-set}
 use Rattle.regex_lite_meta.specs.ListPass.{IsToldFrom}
 use Rattle.regex_lite_meta.proofs.list_matches.PassLemmas.{told_on}
-use Rattle.regex_lite_meta.proofs.list_matches.TriedLemmas.{ends_with_all, rest_known, standing_read}
+use Rattle.regex_lite_meta.proofs.list_matches.TriedLemmas.{ends_with_all, rest_known}
+use Rattle.regex_lite_meta.proofs.list_matches.TriedLemmas.{standing_read}
 use Rattle.regex_lite_meta.proofs.list_matches.pass.ListPass.finish.Goals as goal
-use Rattle.regex_lite_meta.proofs.list_matches.pass.ListPass.finish.Goals.{in-Known, in-From+in_ok-matched-in-From}
+use Rattle.regex_lite_meta.proofs.list_matches.pass.ListPass.finish.Goals.{in-Known}
+use Rattle.regex_lite_meta.proofs.list_matches.pass.ListPass.finish.Goals.{in-From+in_ok-matched-in-From}
 
 pub search_one-requires-clause-boundary : goal.search_one-requires-clause-boundary
 search_one-requires-clause-boundary c =

@@ -1,4 +1,5 @@
-use Rattle.regex_lite_meta.proofs.Common.{◌≡◌, ℕ, ◌<◌, ◌≤◌, length, slice_index, slice_index_or, false}
+use Rattle.regex_lite_meta.proofs.Common.{◌≡◌, ℕ, ◌<◌, ◌≤◌, length, slice_index, slice_index_or}
+use Rattle.regex_lite_meta.proofs.Common.{false}
 use Rattle.regex_lite_meta.proofs.Common.{table_of_list}
 use Rattle.regex_lite_meta.specs.ListMatches.{AreKeptFor, NeedsNoMemory}
 use Rattle.regex_lite_meta.specs.ListPass.{EndsPass, IsToldFrom}

@@ -55,7 +55,8 @@ returns-then-is_none-clause-passed c = λ s p is passed.
     let none : c.pass_over-stop.result.after ≡ None = search rules in
     let all : IsTrue c.in_ok-try_each.field-0 = search rules in
     let over : w.q ≡ length (chars c.args.haystack.now)
-    = elim (over_at {Q = ⊥} (chars c.args.haystack.now) w.q c.pass_over-stop.result w.is (inl none)) [
+    = elim (over_at {Q = ⊥} (chars c.args.haystack.now) w.q c.pass_over-stop.result w.is
+    (inl none)) [
       | inl same ↦ same
       | inr nothing ↦ absurd nothing
     ] in

@@ -9,7 +9,9 @@ use Rattle.regex_lite_meta.proofs.list_matches.TriedLemmas.{all_tried, passed_by
 use Rattle.regex_lite_meta.proofs.list_matches.TriedLemmas.{standing_read, start_inside}
 use Rattle.regex_lite_meta.proofs.list_matches.PassLemmas.{passed_on}
 use Rattle.regex_lite_meta.proofs.list_matches.pass.ListPass.try_each.Goals as goal
-use Rattle.regex_lite_meta.proofs.list_matches.pass.ListPass.try_each.Goals.{then-is_due+else-is_spent+in_ok-status, else-is_due}
+use Rattle.regex_lite_meta.proofs.list_matches.pass.ListPass.try_each.Goals.{}
+use Rattle.regex_lite_meta.proofs.list_matches.pass.ListPass.try_each.Goals.{then-is_due+else-is_spent+in_ok-status}
+use Rattle.regex_lite_meta.proofs.list_matches.pass.ListPass.try_each.Goals.{else-is_due}
 
 pub listed-init : goal.listed-init
 listed-init c =
@@ -98,7 +100,8 @@ listed-preserved c =
     record {
       tried = λ s p is passed.
           let before = v.tried s p is passed in
-          let now = subst (λ z. AreTried list haystack s p z old) (left_from starts c.listed.k start at)
+          let now = subst (λ z. AreTried list haystack s p z old)
+          (left_from starts c.listed.k start at)
           before in
           let known = before.passed.each number below in
           elim c.if-is_due.branch [

@@ -24,7 +24,8 @@ returns-clause-found c =
     let new = c.search.new.matched in
     let items = c.set.inside.matched.items in
     let room : length c.deref_mut.result.now ≡ c.set.inside.matched.len = c.deref_mut.ensures.len in
-    let len : c.set.inside.matched.len ≡ length new = omega (arith, c.search.ensures.length, room) in
+    let len : c.set.inside.matched.len ≡ length new
+    = omega (arith, c.search.ensures.length, room) in
     let same = ap (λ n. take n (new ++ drop (length new) items)) len
     ∙ take-append_seam new (drop (length new) items) in
     let bytes = c.args.haystack.now in
