@@ -415,8 +415,8 @@ uint32_t regex_lite_list_captures_all(regex_lite_list *handle, const uint8_t *te
 
 /* Writes for each pattern, by its number, whether it matches somewhere from this offset on, 1 or 0,
  * and how many patterns there are: REGEX_LITE_YES. With room for fewer bytes it only writes how
- * many there are: REGEX_LITE_NO_ROOM. Each pattern is searched for by itself. It reads the whole
- * text, whatever the start. */
+ * many there are: REGEX_LITE_NO_ROOM. For 16 patterns or more it may find out in one pass, and else
+ * it searches for each pattern by itself. It reads the whole text, whatever the start. */
 uint32_t regex_lite_list_matches(regex_lite_list *handle, const uint8_t *text, size_t len,
                                  size_t start, uint8_t *matched, size_t room, size_t *count);
 
