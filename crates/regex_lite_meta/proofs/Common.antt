@@ -44,7 +44,7 @@ pub use Rattle.regex_lite_meta.specs.LazyDfa.Learning.{IsFirstStart, IsIn}
 pub use Rattle.regex_lite_meta.specs.LazyDfa.Running.{IsOnItsWay, Stands}
 pub use Rattle.regex_lite_meta.specs.LazyDfa.Scanning.{best_told, IsSince, IsScanning, span_told}
 pub use Rattle.regex_lite_meta.specs.LazyDfa.Scanning.{IsIdleAt}
-pub use Rattle.regex_lite_meta.specs.LazyDfa.Stored.{way_in, hit_in, state_in}
+pub use Rattle.regex_lite_meta.specs.LazyDfa.Stored.{way_in, hit_in, number_of, state_in}
 pub use Rattle.regex_lite_meta.specs.declared.lazy_dfa.scan.Standing.{Standing}
 pub use Rattle.regex_lite_meta.specs.declared.lazy_dfa.state.StoredState.{StoredState}
 pub use Rattle.regex_lite_meta.specs.declared.lazy_dfa.state.StoredWay.{StoredWay}

@@ -20,6 +20,7 @@ pub mod SpotLemmas
 pub mod StandsLemmas
 pub mod StoredChangeLemmas
 pub mod StoredStateLemmas
+pub mod TargetLemmas
 pub mod AlikeLemmas
 pub mod OnceLemmas
 pub mod PassedLemmas

@@ -4,6 +4,7 @@ pub mod Intervals
 pub mod Parts
 pub mod Automaton
 pub mod Stored
+pub mod Targets
 pub mod Extending
 pub mod Scanning
 pub mod Spots

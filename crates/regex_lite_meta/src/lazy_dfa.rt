@@ -9,6 +9,7 @@ pub(crate) mod idle;
 pub(crate) mod learn;
 pub(crate) mod list_spans;
 pub(crate) mod lookup;
+mod onward;
 mod part;
 pub(crate) mod reach;
 mod room;

@@ -3,16 +3,18 @@ use Rattle.regex_lite_meta.proofs.Common.{◌≡◌, ℕ, ◌+◌, ◌^◌, ◌<
 use Rattle.regex_lite_meta.proofs.Common.{slice_get, Some, None, IsUtf8, Option, chars}
 use Rattle.regex_lite_meta.proofs.Common.{IsCharBoundary, sym, refl, ap, ◌∙◌, subst, inl}
 use Rattle.regex_lite_meta.proofs.Common.{arith, slice_get_within, Text, IsBestOutcomeOf}
-use Rattle.regex_lite_meta.proofs.Common.{Bool, IsFoundOf, true}
+use Rattle.regex_lite_meta.proofs.Common.{Bool, IsFoundOf, true, ◌*◌, classes_in}
 use Rattle.regex_lite_meta.proofs.Common.{position_at, IsHere, Origin, Automaton, best_told}
 use Rattle.regex_lite_meta.proofs.Common.{IsSince, IsScanning, Standing}
 use Rattle.regex_lite_engine.specs.Graph.Places.{Place}
 use Rattle.regex_lite_meta.specs.LazyDfa.Automaton.{KeptOrigin, State}
 use Rattle.regex_lite_meta.specs.LazyDfa.Scanning.{GoesOn, LedTo}
-use Rattle.regex_lite_meta.specs.LazyDfa.Stored.{known_hit}
+use Rattle.regex_lite_meta.specs.LazyDfa.Stored.{is_emptying, known_hit}
 use Rattle.regex_lite_meta.specs.declared.lazy_dfa.spot.Spot.{Spot}
 use Rattle.regex_lite_meta.specs.declared.lazy_dfa.state.Target.{Target}
-use Rattle.regex_lite_meta.specs.LazyDfa.Spots.{EndsScan, IsTaken, IsTurn}
+use Rattle.regex_lite_meta.specs.LazyDfa.Spots.{EndsScan, IsTaken, IsTurn, IsTurned}
+use Rattle.regex_lite_meta.specs.LazyDfa.Targets.{IsRowOf}
+use Rattle.std.proofs.lemmas.Str.{len_utf8_bounds}
 use Rattle.regex_lite_syntax.proofs.OptionLemmas.{same_some}
 use Rattle.regex_lite_meta.proofs.lazy_dfa.ScanLemmas.{IsFirstAfter, scanned_on}
 use Rattle.regex_lite_meta.proofs.lazy_dfa.SpotLemmas.{IsSpotAt, since_led, since_on, spot_edge}
@@ -79,19 +81,21 @@ module _ {table : List (Place ℕ)} {entries : List ℕ} {h : Text} {automaton :
       slice_get_within automaton.states at.state is.state is.is_state
 
   -- a search goes by offsets from where it stands
-  pub to_spot : {spot : Spot} (at : Standing)
-      → spot ≡ record { at = at.here.at; state = at.state; idle = 0 }
+  pub to_spot : {spot : Spot} (at : Standing) → spot.at ≡ at.here.at
+      → spot.row ≡ at.state * classes_in automaton.intervals
       → GoesToSpot table entries h automaton at spot at
-  to_spot {spot} at e low p scanning =
-      (p, omega arith, spot_of table entries h low p automaton at spot scanning e, inl refl)
+  to_spot {spot} at e row low p scanning = (
+    p,
+    omega arith,
+    spot_of table entries h low p automaton at spot scanning e row,
+    inl refl,
+  )
 
-  pub state_at_spot : {from : Standing} {spot : Spot} {told : Standing}
+  pub row_at_spot : {from : Standing} {spot : Spot} {told : Standing}
       → GoesToSpot table entries h automaton from spot told
       → (low p : ℕ) × IsScanning table entries h low p automaton from →
-      spot.state < length automaton.states
-  state_at_spot {spot = spot} there from =
-      let is = (there from.0 from.1 from.2).2.scanning in
-      slice_get_within automaton.states spot.state is.state is.is_state
+      (x : ℕ) × IsRowOf automaton spot.row x
+  row_at_spot there from = let is = (there from.0 from.1 from.2).2 in (is.x, is.row)
 
 -- the state to which a turn leads
 module _ {table : List (Place ℕ)} {entries : List ℕ} {automaton : Automaton} {bs : List ℕ}
@@ -100,12 +104,32 @@ module _ {table : List (Place ℕ)} {entries : List ℕ} {automaton : Automaton}
     pub turn_within : target.state < length automaton.states
     turn_within = slice_get_within automaton.states target.state leads.to leads.is_to
 
+    -- it leads on by one byte at least
+    pub turn_later : at < end
+    turn_later =
+        let ends = leads.ahead.ends in
+        let some = (len_utf8_bounds leads.ahead.character).0 in omega (arith, ends, some)
+
     pub turn_effect : (hit : Option KeptOrigin) → known_hit target.effect ≡ Some hit
         → (state : State) → slice_get automaton.states target.state ≡ Some state
         → (state.ways ≡ [] → ⊥) × (state.hit ≡ hit)
     turn_effect hit told state is =
         subst (λ (s : State). (s.ways ≡ [] → ⊥) × (s.hit ≡ hit)) (same_some (sym leads.is_to ∙ is))
         (leads.effect hit told)
+
+    pub turn_emptied : is_emptying target.effect ≡ true → (state : State)
+        → slice_get automaton.states target.state ≡ Some state
+        → (state.ways ≡ []) × (state.hit ≡ None)
+    turn_emptied told state is =
+        subst (λ (s : State). (s.ways ≡ []) × (s.hit ≡ None)) (same_some (sym leads.is_to ∙ is))
+        (leads.emptied told)
+
+pub turned_later : {table : List (Place ℕ)} {entries : List ℕ} {automaton : Automaton}
+    {bs : List ℕ} {at x : ℕ} {before after : Standing} {on : Spot}
+    → IsTurned table entries automaton bs at x before after on → at < on.at
+turned_later turned =
+    let ends = turned.taken.ends in
+    let later = turn_later turned.turn in omega (arith, ends, later)
 
 module _ {table : List (Place ℕ)} {entries : List ℕ} {automaton : Automaton} (bs : List ℕ)
     (u : IsUtf8 bs) (fits : length bs + 1 < 2 ^ 64) where
@@ -119,51 +143,74 @@ module _ {table : List (Place ℕ)} {entries : List ℕ} {automaton : Automaton}
 
     -- the characters beside it are looked up
     pub from_spot : (at : Standing) → IsHere (chars bs) (position_at bs spot.at) at.here
-        → at ≡ record told { here = at.here; state = spot.state }
+        → ((x : ℕ) → IsRowOf automaton spot.row x
+        → at ≡ record told { here = at.here; state = x })
         → GoesOn table entries (chars bs) automaton from at
-    from_spot at here e low p scanning = let v = there low p scanning in (
-      v.0,
-      v.1,
-      subst (IsScanning table entries (chars bs) low v.0 automaton) (sym e)
-          (standing_there table entries bs u fits low v.0 automaton spot told v.2 at.here here),
-      subst (IsSince table entries (chars bs) low p from.first)
-          (sym (ap (λ (s : Standing). s.first) e)) v.3,
-    )
+    from_spot at here same low p scanning =
+        let v = there low p scanning in
+        let e = same v.2.x v.2.row in (
+          v.0,
+          v.1,
+          subst (IsScanning table entries (chars bs) low v.0 automaton) (sym e)
+              (standing_there table entries bs u fits low v.0 automaton spot told v.2 at.here
+              here),
+          subst (IsSince table entries (chars bs) low p from.first)
+              (sym (ap (λ (s : Standing). s.first) e)) v.3,
+        )
 
-    module _ {target : Target} {end : ℕ}
-        (leads : IsTurn table entries automaton bs spot.at spot.state target end) where
+    -- a turn is taken
+    pub turned_spot : (on : Spot) (after : Standing)
+        → ((x : ℕ) → IsRowOf automaton spot.row x
+        → IsTurned table entries automaton bs spot.at x told after on)
+        → GoesToSpot table entries (chars bs) automaton from on after
+    turned_spot on after turned low p scanning =
+        let v = there low p scanning in
+        let le = v.1 in
+        let own = turned v.2.x v.2.row in (
+          v.0 + 1,
+          omega (arith, le),
+          spot_on table entries bs u fits low v.0 automaton spot told v.2 own.target own.end
+              own.turn after on own.taken,
+          since_on table entries (chars bs) low p v.0 from.first told.first after.first le v.3
+              (spot_since table entries bs u fits low v.0 automaton spot told v.2 own.target
+              own.end own.turn after on own.taken),
+        )
+
+    module _ {target : Target} {end : ℕ} (leads : (x : ℕ) → IsRowOf automaton spot.row x
+        → IsTurn table entries automaton bs spot.at x target end) where
       pub next_spot : (on : Spot) (after : Standing)
-          → IsTaken spot.at target.state end leads.to told after on
+          → ((state : State) → slice_get automaton.states target.state ≡ Some state
+          → IsTaken spot.at target.row end state told after on)
           → GoesToSpot table entries (chars bs) automaton from on after
-      next_spot on after taken low p scanning =
-          let v = there low p scanning in
-          let le = v.1 in (
-            v.0 + 1,
-            omega (arith, le),
-            spot_on table entries bs u fits low v.0 automaton spot told v.2 target end leads
-                after on taken,
-            since_on table entries (chars bs) low p v.0 from.first told.first after.first le v.3
-                (spot_since table entries bs u fits low v.0 automaton spot told v.2 target end
-                leads after on taken),
-          )
+      next_spot on after taken = turned_spot on after (λ x row. let turn = leads x row in record {
+        target = target;
+        end = end;
+        turn = turn;
+        taken = taken turn.to turn.is_to;
+      })
 
       -- the turn completes a match where the least end is asked for
       pub completes_there : {earliest : Bool} → earliest ≡ true → told.best ≡ None
-          → (leads.to.hit ≡ None → ⊥) → (origin : Origin) → (after : Standing)
+          → ((state : State) → slice_get automaton.states target.state ≡ Some state
+          → state.hit ≡ None → ⊥) → (origin : Origin) → (after : Standing)
           → after ≡ record told { best = Some (origin, spot.at) } → (low p : ℕ)
           → IsScanning table entries (chars bs) low p automaton from →
           IsFoundOf earliest table (chars bs) entries low (best_told after.best)
       completes_there {earliest} is none some origin after same low p scanning =
           let v = there low p scanning in
+          let turn = leads v.2.x v.2.row in
           rw (is, same)
-          (spot_completed table entries bs u fits low v.0 automaton spot told v.2 target end leads
-          none some origin)
+          (spot_completed table entries bs u fits low v.0 automaton spot told v.2 target end turn
+          none (some turn.to turn.is_to) origin)
 
       -- the turn leads from a match to nothing
-      pub ends_there : (after : Standing) → EndsScan spot.at leads.to told after → (low p : ℕ)
+      pub ends_there : (after : Standing)
+          → ((state : State) → slice_get automaton.states target.state ≡ Some state
+          → EndsScan spot.at state told after) → (low p : ℕ)
           → IsScanning table entries (chars bs) low p automaton from →
           IsBestOutcomeOf table (chars bs) entries low (best_told after.best)
       ends_there after over low p scanning =
           let v = there low p scanning in
-          spot_over table entries bs u fits low v.0 automaton spot told v.2 target end leads
-          after over
+          let turn = leads v.2.x v.2.row in
+          spot_over table entries bs u fits low v.0 automaton spot told v.2 target end turn
+          after (over turn.to turn.is_to)

@@ -5,18 +5,21 @@ use Rattle.regex_lite_meta.proofs.Common.{IsCharBoundary, sym, refl, ap, ◌∙�
 use Rattle.regex_lite_meta.proofs.Common.{arith, len_utf8, Text, IsComing, IsBestOutcomeOf}
 use Rattle.regex_lite_meta.proofs.Common.{IsNumberedEndOf, true, true≢false}
 use Rattle.regex_lite_meta.proofs.Common.{IsOffset, position_at, IsHere, Origin, Here, Automaton}
-use Rattle.regex_lite_meta.proofs.Common.{threads_of, best_left, class_of, side_of, best_told}
+use Rattle.regex_lite_meta.proofs.Common.{threads_of, best_left, class_of, classes_in, side_of}
+use Rattle.regex_lite_meta.proofs.Common.{best_told, slice_get_within, ◌*◌}
 use Rattle.regex_lite_meta.proofs.Common.{IsSince, IsScanning, Standing}
 use Rattle.regex_lite_engine.specs.Graph.Places.{Place}
 use Rattle.regex_lite_meta.specs.LazyDfa.Automaton.{KeptOrigin, State}
 use Rattle.regex_lite_meta.specs.LazyDfa.Scanning.{LedTo}
 use Rattle.regex_lite_meta.specs.declared.lazy_dfa.spot.Spot.{Spot}
 use Rattle.regex_lite_meta.specs.declared.lazy_dfa.state.Target.{Target}
-use Rattle.regex_lite_meta.specs.LazyDfa.Spots.{EndsScan, IsTaken, IsTurn}
+use Rattle.regex_lite_meta.specs.LazyDfa.Spots.{EndsScan, IsTaken, IsTurn, Takes}
+use Rattle.regex_lite_meta.specs.LazyDfa.Spots.{TakesToNothing}
+use Rattle.regex_lite_meta.specs.LazyDfa.Targets.{IsRowOf}
 use Rattle.regex_lite_engine.proofs.PositionLemmas.{position_of, after_at}
 use Rattle.regex_lite_meta.proofs.lazy_dfa.ScanLemmas.{IsFirstAfter, TurnsTo, completed, led_step}
 use Rattle.regex_lite_meta.proofs.lazy_dfa.ScanLemmas.{scan_over, scanned_on}
-use Rattle.regex_lite_syntax.proofs.OptionLemmas.{same_some}
+use Rattle.regex_lite_syntax.proofs.OptionLemmas.{not_there, same_some}
 use Rattle.regex_lite_engine.proofs.OffsetLemmas.{boundary_at}
 use Rattle.regex_lite_engine.proofs.search.here.HereLemmas.{here_next, moved}
 
@@ -25,9 +28,11 @@ pub record IsSpotAt (table : List (Place ℕ)) (entries : List ℕ) (haystack : 
     (automaton : Automaton) (spot : Spot) (told : Standing) : Type 0 where
   pub here : Here
   pub at : here.at ≡ spot.at
+  pub x : ℕ
+  pub row : IsRowOf automaton spot.row x
   pub scanning : IsScanning table entries haystack low p automaton (record {
     here = here;
-    state = spot.state;
+    state = x;
     first = told.first;
     best = told.best;
   })
@@ -45,12 +50,20 @@ module _ (table : List (Place ℕ)) (entries : List ℕ) (h : Text) (low : ℕ) 
 
   -- a search goes by offsets from where it stands
   pub spot_of : (p : ℕ) (automaton : Automaton) (at : Standing) (spot : Spot)
-      → IsScanning table entries h low p automaton at
-      → spot ≡ record { at = at.here.at; state = at.state; idle = 0 }
+      → IsScanning table entries h low p automaton at → spot.at ≡ at.here.at
+      → spot.row ≡ at.state * classes_in automaton.intervals
       → IsSpotAt table entries h low p automaton spot at
-  spot_of p automaton at spot scanning e =
-      subst (λ z. IsSpotAt table entries h low p automaton z at) (sym e)
-      (record { here = at.here; at = refl; scanning = scanning })
+  spot_of p automaton at spot scanning e begins = record {
+    here = at.here;
+    at = sym e;
+    x = at.state;
+    row = record {
+      begins = begins;
+      within =
+          slice_get_within automaton.states at.state scanning.state scanning.is_state;
+    };
+    scanning = scanning;
+  }
 
   -- after a turn
   pub since_led : (q : ℕ) (automaton : Automaton) (at : Standing) (to : ℕ)
@@ -86,7 +99,7 @@ module _ (table : List (Place ℕ)) (entries : List ℕ) (bs : List ℕ) (u : Is
     -- the characters beside it are read
     pub standing_there : (x : Here) → IsHere (chars bs) (position_at bs spot.at) x
         → IsScanning table entries (chars bs) low p automaton
-        (record { here = x; state = spot.state; first = told.first; best = told.best })
+        (record { here = x; state = is.x; first = told.first; best = told.best })
     standing_there x there =
         let js = subst (λ z. IsHere (chars bs) z x) (position_of bs u p spot.at own_offset) there in
         let own = is.scanning in
@@ -102,12 +115,12 @@ module _ (table : List (Place ℕ)) (entries : List ℕ) (bs : List ℕ) (u : Is
         }
 
     module _ (target : Target) (end : ℕ)
-        (leads : IsTurn table entries automaton bs spot.at spot.state target end) where
+        (leads : IsTurn table entries automaton bs spot.at is.x target end) where
       abbrev next_character : ℕ
       next_character = leads.ahead.character
 
       abbrev from : Standing
-      from = record { here = is.here; state = spot.state; first = told.first; best = told.best }
+      from = record { here = is.here; state = is.x; first = told.first; best = told.best }
 
       after_is : is.here.after ≡ Some next_character
       after_is =
@@ -121,7 +134,7 @@ module _ (table : List (Place ℕ)) (entries : List ℕ) (bs : List ℕ) (u : Is
           subst (λ z. z ≤ length bs)
           (ap (λ z. z + len_utf8 next_character) is.at ∙ sym leads.ahead.ends) edge.0
 
-      turns : TurnsTo table entries automaton spot.state is.here.after target.state leads.to.hit
+      turns : TurnsTo table entries automaton is.x is.here.after target.state leads.to.hit
       turns = record {
         class = leads.class;
         is_class = ap (class_of automaton.intervals.boundaries) after_is ∙ leads.ahead.is_class;
@@ -141,7 +154,7 @@ module _ (table : List (Place ℕ)) (entries : List ℕ) (bs : List ℕ) (u : Is
           (left ∙ ap (λ z. best_left leads.to.hit told.first z (best_told told.best)) (sym is.at))
 
       module _ (after : Standing) (on : Spot)
-          (taken : IsTaken spot.at target.state end leads.to told after on) where
+          (taken : IsTaken spot.at target.row end leads.to told after on) where
         led : LedTo table entries (chars bs) low p automaton from target.state after.best
         led = led_with after.best taken.best
 
@@ -185,13 +198,11 @@ module _ (table : List (Place ℕ)) (entries : List ℕ) (bs : List ℕ) (u : Is
         spot_on = record {
           here = next;
           at = refl;
+          x = target.state;
+          row = subst (λ row. IsRowOf automaton row target.state) (sym taken.is_to) leads.row;
           scanning =
-              subst
-              (λ z. IsScanning table entries (chars bs) low (p + 1) automaton
-              (record { here = next; state = z; first = after.first; best = after.best }))
-              (sym taken.is_to)
-              (scanned_on table entries (chars bs) low p automaton from is.scanning
-              target.state after.best led next after.first next_is first_is);
+              scanned_on table entries (chars bs) low p automaton from is.scanning
+              target.state after.best led next after.first next_is first_is;
         }
 
         pub spot_since : IsSince table entries (chars bs) low p told.first after.first
@@ -226,3 +237,37 @@ module _ (table : List (Place ℕ)) (entries : List ℕ) (bs : List ℕ) (u : Is
             ap (λ (s : State). s.ways)
                 (same_some (sym led.is_state ∙ leads.is_to)) ∙ over.none,
           ))
+
+-- a match that there is, is one
+told_some : (found : Option (Origin × ℕ)) → (found ≡ None → ⊥) → best_told found ≡ None → ⊥
+told_some None some e = some refl
+told_some (Some found) some e = not_there (sym e)
+
+-- what comes of a turn to a state without ways, which completes no match
+pub to_nothing : (at row end : ℕ) (state : State) (before after : Standing) (there : Spot)
+    (result : Option (Option Spot)) → there.at ≡ end → there.row ≡ row
+    → state.ways ≡ [] → state.hit ≡ None → TakesToNothing there before after result
+    → Takes at row end state before after result
+to_nothing at row end state before after there (Some (Some on)) e f none free
+    (there_at, there_row, no_match, same) = record {
+      ends = there_at ∙ e;
+      is_to = there_row ∙ f;
+      best =
+          ap (λ (s : Standing). best_told s.best) same
+          ∙ sym (ap (λ hit. best_left hit before.first at (best_told before.best)) free);
+      first = inl (
+        none,
+        ap (λ (s : Standing). s.first) same ∙ sym there_at,
+        ap (λ (s : Standing). s.best) same ∙ no_match,
+      );
+    }
+to_nothing at row end state before after there (Some None) e f none free (same, some) = record {
+  none = none;
+  best =
+      ap (λ (s : Standing). best_told s.best) same
+      ∙ sym (ap (λ hit. best_left hit before.first at (best_told before.best)) free);
+  some = told_some after.best
+      (λ none. some (sym (ap (λ (s : Standing). s.best) same) ∙ none));
+  same = same ∙ sym (ap (λ (s : Standing). record before { best = s.best }) same);
+}
+to_nothing at row end state before after there None e f none free (same, no_match) = same

@@ -4,13 +4,15 @@ use Rattle.regex_lite_meta.proofs.Common.{[], ◌∷◌, ◌++◌, map, length, 
 use Rattle.regex_lite_meta.proofs.Common.{slice_index, slice_set, Some, None, Option, sym, refl, ap}
 use Rattle.regex_lite_meta.proofs.Common.{◌∙◌, arith, suc-mul, length-take-le, nil_from_length, Way}
 use Rattle.regex_lite_meta.proofs.Common.{Automaton, unknown, Extends, Intervals, classes_in}
-use Rattle.regex_lite_meta.proofs.Common.{way_in, state_in, StoredState, StoredWay, Target}
-use Rattle.regex_lite_meta.specs.LazyDfa.Stored.{Agrees, LieWithin, known_hit, states_in, AllAgree}
+use Rattle.regex_lite_meta.proofs.Common.{way_in, number_of, state_in, StoredState, StoredWay}
+use Rattle.regex_lite_meta.proofs.Common.{Target, false, true≢false}
+use Rattle.regex_lite_meta.specs.LazyDfa.Stored.{Agrees, LieWithin, is_emptying, is_known, known_hit}
+use Rattle.regex_lite_meta.specs.LazyDfa.Stored.{states_in, AllAgree, HasNoWays}
 use Rattle.regex_lite_meta.specs.LazyDfa.Stored.{HasWays}
 use Rattle.std.proofs.Math.Seq.{drop-length, take-length, take-set-lt}
 use Rattle.regex_lite_meta.specs.declared.lazy_dfa.state.Side.{Side}
 use Rattle.regex_lite_meta.specs.LazyDfa.Automaton.{KeptOrigin, State}
-use Rattle.std.proofs.Common.{replicate, length-drop}
+use Rattle.std.proofs.Common.{replicate, length-append, length-drop}
 use Rattle.std.proofs.lemmas.List.{length-replicate, take-append-le, drop-append-le}
 use Rattle.std.proofs.lemmas.List.{get_or-replicate, map-append, map-set, take-append-drop}
 use Rattle.std.proofs.lemmas.List.{take_rest, drop-set-add, drop-set-lt, get_or-map, take-set-le}
@@ -40,7 +42,7 @@ states_same (s ∷ states) used ways more classes targets within fits =
       searching = s.searching;
       before = s.before;
       hit = (state_in ways [] s).hit;
-      next = map (λ (target : Target). target.state) (take classes targets);
+      next = map number_of (take classes targets);
     } ∷ states_in (ways ++ more) classes (drop classes targets) states)
     (part_same s.from s.len ways more (omega (arith, own, fits)))
     ∙ ap (λ rest. state_in ways (take classes targets) s ∷ rest)
@@ -88,7 +90,7 @@ pub states_set : (states : List StoredState) (ways : List StoredWay) (classes : 
     slice_get (states_in ways classes targets states) x ≡ Some state →
     states_in ways classes (slice_set targets k t) states
     ≡ slice_set (states_in ways classes targets states) x
-    (record state { next = slice_set state.next class t.state })
+    (record state { next = slice_set state.next class (number_of t) })
 states_set [] ways classes targets x class k t state e lt at = absurd (not_there at)
 states_set (s ∷ states) ways classes targets zero class k t state e lt at =
     let here : k ≡ class = omega (arith, e) in
@@ -102,8 +104,8 @@ states_set (s ∷ states) ways classes targets zero class k t state e lt at =
     ∷ states_in ways classes (drop classes targets) states) here
     ∙ ap (λ next. record (state_in ways (take classes targets) s) { next = next }
     ∷ states_in ways classes (drop classes targets) states)
-    (map-set (λ (target : Target). target.state) (take classes targets) class t)
-    ∙ ap (λ (z : State). record z { next = slice_set z.next class t.state }
+    (map-set number_of (take classes targets) class t)
+    ∙ ap (λ (z : State). record z { next = slice_set z.next class (number_of t) }
     ∷ states_in ways classes (drop classes targets) states) own
 states_set (s ∷ states) ways classes targets (suc x) class k t state e lt at =
     let own = suc-mul x classes in
@@ -275,16 +277,39 @@ has_ways_still states more y hit own = record {
   same = own.same;
 }
 
+-- nor does a state without ways get any
+pub no_ways_still : (states more : List StoredState) (y : ℕ) → HasNoWays states y
+    → HasNoWays (states ++ more) y
+no_ways_still states more y own = record {
+  state = own.state;
+  is_state = still_there states more y own.state own.is_state;
+  none = own.none;
+  free = own.free;
+}
+
 -- and all effects that are known are still right when a blank row is added
 pub agree_added : (states more : List StoredState) (targets : List Target) (n : ℕ)
-    (blank : Target)
-    → known_hit blank.effect ≡ None → AllAgree states targets
-    → AllAgree (states ++ more) (targets ++ replicate n blank)
-agree_added states more targets n blank none agree =
-    All-append (Agrees (states ++ more)) targets (replicate n blank)
-    (λ k d lt hit told. has_ways_still states more _ hit (agree k d lt hit told))
-    (All-replicate (Agrees (states ++ more)) n blank
-    (λ hit told. absurd (not_there (sym none ∙ told))))
+    (classes : ℕ) (blank : Target)
+    → is_known blank.effect ≡ false → known_hit blank.effect ≡ None
+    → is_emptying blank.effect ≡ false
+    → AllAgree states classes targets
+    → AllAgree (states ++ more) classes (targets ++ replicate n blank)
+agree_added states more targets n classes blank free none full agree =
+    All-append (Agrees (states ++ more) classes) targets (replicate n blank)
+    (λ k d lt. let own = agree k d lt in record {
+      row = own.row;
+      within = λ told.
+          let inside = own.within told in
+          let m = length-append states more in omega (arith, inside, m);
+      effect = λ hit told. has_ways_still states more _ hit (own.effect hit told);
+      empties = λ told. no_ways_still states more _ (own.empties told);
+    })
+    (All-replicate (Agrees (states ++ more) classes) n blank (record {
+      row = λ told. absurd (true≢false (sym told ∙ free));
+      within = λ told. absurd (true≢false (sym told ∙ free));
+      effect = λ hit told. absurd (not_there (sym none ∙ told));
+      empties = λ told. absurd (true≢false (sym told ∙ full));
+    }))
 
 -- a state more lies within, if it has the ways that were pending
 pub within_added : (states : List StoredState) (used len : ℕ) (s : StoredState)
@@ -297,13 +322,13 @@ within_added states used len s within fits from own =
     (omega (arith, from, own, fits)))
 
 -- no turn is known from a blank row
-pub blank_row : (classes class : ℕ) (blank : Target) → blank.state ≡ unknown → class < classes
-    → slice_index (map (λ (target : Target). target.state) (replicate classes blank)) class
+pub blank_row : (classes class : ℕ) (blank : Target) → number_of blank ≡ unknown → class < classes
+    → slice_index (map number_of (replicate classes blank)) class
     ≡ unknown
 blank_row classes class blank none lt =
-    get_or-map (λ (target : Target). target.state) (replicate classes blank) class blank 0
+    get_or-map number_of (replicate classes blank) class blank 0
     (let n = length-replicate classes blank in omega (arith, n, lt))
-    ∙ ap (λ (target : Target). target.state) (get_or-replicate classes class blank blank lt) ∙ none
+    ∙ ap number_of (get_or-replicate classes class blank blank lt) ∙ none
 
 -- it extends what has the same states
 pub extends_same : (old new : Automaton) → new.intervals ≡ old.intervals

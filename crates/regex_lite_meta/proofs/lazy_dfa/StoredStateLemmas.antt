@@ -1,17 +1,20 @@
 -- The automaton that stored states, targets and ways stand for, and what is known of each state.
 use Rattle.regex_lite_meta.proofs.Common.{◌≡◌, ℕ, zero, suc, ◌+◌, ◌*◌, ◌<◌, ◌≤◌, List, [], ◌∷◌, map}
 use Rattle.regex_lite_meta.proofs.Common.{length, take, drop, slice_get, slice_index}
-use Rattle.regex_lite_meta.proofs.Common.{slice_index_or, Some, Option, sym, refl, ap, ◌∙◌, subst}
+use Rattle.regex_lite_meta.proofs.Common.{slice_index_or, Some, None, Option, sym, refl, ap, ◌∙◌, subst}
 use Rattle.regex_lite_meta.proofs.Common.{arith, suc-mul, length-map, length-take-le}
 use Rattle.regex_lite_meta.proofs.Common.{nil_from_length, get_or_from_slice_get, slice_get_within}
 use Rattle.regex_lite_meta.proofs.Common.{Automaton, unknown, LeadsOn, Remembers, Intervals}
-use Rattle.regex_lite_meta.proofs.Common.{class_of, classes_in, way_in, hit_in, state_in}
+use Rattle.regex_lite_meta.proofs.Common.{class_of, classes_in, number_of, way_in, hit_in, state_in}
 use Rattle.regex_lite_meta.proofs.Common.{StoredState, StoredWay, Target}
-use Rattle.regex_lite_meta.specs.LazyDfa.Stored.{LieWithin, states_in, HasWays}
+use Rattle.regex_lite_meta.specs.LazyDfa.Stored.{Agrees, AllAgree, HasNoWays, HasWays, LieWithin}
+use Rattle.regex_lite_meta.specs.LazyDfa.Stored.{number_if, states_in}
+use Rattle.regex_lite_meta.specs.LazyDfa.Targets.{IsRowOf, IsTargetOf}
 use Rattle.regex_lite_engine.specs.Graph.Places.{Place}
 use Rattle.regex_lite_meta.specs.LazyDfa.Automaton.{KeptOrigin, State}
 use Rattle.std.proofs.Common.{length-drop}
-use Rattle.std.proofs.Math.Nat.{mul-le-mul_right}
+use Rattle.std.proofs.Math.Nat.{mul-div_cancel, mul-le-mul_right}
+use Rattle.std.specs.Prelude.{◌/◌}
 use Rattle.std.proofs.lemmas.List.{get_or-take, get_or-drop, get_or-map}
 use Rattle.regex_lite_syntax.proofs.LookupLemmas.{there_is}
 use Rattle.regex_lite_meta.proofs.lazy_dfa.ScanLemmas.{TurnsTo}
@@ -49,15 +52,15 @@ row_index classes targets (suc y) class d lt =
     ∙ ap (λ k. slice_index_or targets k d)
     (let own = suc-mul y classes in omega (arith, own))
 
--- the state that a target of a state is
+-- the number of the state to which a target leads
 pub next_at : (classes : ℕ) (targets : List Target) (y class : ℕ) (d : Target) → class < classes
     → y * classes + classes ≤ length targets
-    → slice_index (map (λ (target : Target). target.state) (row classes targets y)) class
-    ≡ (slice_index_or targets (y * classes + class) d).state
+    → slice_index (map number_of (row classes targets y)) class
+    ≡ number_of (slice_index_or targets (y * classes + class) d)
 next_at classes targets y class d lt fits =
-    get_or-map (λ (target : Target). target.state) (row classes targets y) class d 0
+    get_or-map number_of (row classes targets y) class d 0
     (let n = row_length classes targets y fits in omega (arith, n, lt))
-    ∙ ap (λ (target : Target). target.state) (row_index classes targets y class d lt)
+    ∙ ap number_of (row_index classes targets y class d lt)
 
 -- a state that stands in the list
 pub state_at : (states : List StoredState) (ways : List StoredWay) (classes : ℕ)
@@ -147,6 +150,23 @@ module _ (states : List StoredState) (used : ℕ) (ways : List StoredWay) (class
         ap (λ (z : StoredState). (state_in ways [] z).hit) own ∙ own_ways.same,
       )
 
+  -- and one without ways is one without
+  pub has_no_ways : LieWithin used states → used ≤ length ways → (y : ℕ) → HasNoWays states y →
+      (to : State) × (slice_get (states_in ways classes targets states) y ≡ Some to)
+      × (to.ways ≡ []) × (to.hit ≡ None)
+  has_no_ways within fits y own_state =
+      let s = own_state.state in
+      let at = state_at states ways classes targets y s
+      (slice_get_within states y s own_state.is_state) in
+      let own : slice_index_or states y s ≡ s =
+      get_or_from_slice_get states y s s own_state.is_state in (
+        state_in ways (row classes targets y) (slice_index_or states y s),
+        at,
+        empty_by_len y s _ within fits at
+            (ap (λ (z : StoredState). z.len) own ∙ own_state.none),
+        ap (λ (z : StoredState). (state_in ways [] z).hit) own ∙ own_state.free,
+      )
+
 module _ (intervals : Intervals) (reach : Option ℕ) (states : List StoredState)
     (targets : List Target) (used : ℕ) (ways : List StoredWay) (automaton : Automaton)
     (view : seen intervals reach states targets used ways ≡ automaton) where
@@ -165,6 +185,15 @@ module _ (intervals : Intervals) (reach : Option ℕ) (states : List StoredState
       sym (ap (λ (z : Automaton). slice_get z.states x) view)
       ∙ state_at states ways (classes_in intervals) targets x found (stored_within x inside)
       ∙ ap (λ s. Some (state_in ways (row (classes_in intervals) targets x) s)) (sym stored)
+
+  -- the state whose row begins there
+  pub state_of_row : (row x : ℕ) → IsRowOf automaton row x → (width : ℕ)
+      → width ≡ classes_in intervals → row / width ≡ x
+  state_of_row row x is width e =
+      ap (λ n. row / n) e
+      ∙ ap (λ n. n / classes_in intervals)
+      (is.begins ∙ ap (λ (z : Automaton). x * classes_in z.intervals) (sym view))
+      ∙ mul-div_cancel x (omega arith)
 
   -- a turn that is remembered leads on
   module _ (table : List (Place ℕ)) (entries : List ℕ) (remembers : Remembers table entries
@@ -229,7 +258,7 @@ module _ (intervals : Intervals) (reach : Option ℕ) (states : List StoredState
     -- the target of a state for a class is where the turn leads
     pub target_is : (cell : ℕ) → cell ≡ x * classes_in automaton.intervals + class
         → (target : Target) → target ≡ slice_index_or targets cell target → (state : State)
-        → slice_get automaton.states x ≡ Some state → slice_index state.next class ≡ target.state
+        → slice_get automaton.states x ≡ Some state → slice_index state.next class ≡ number_of target
     target_is cell e target stored state at =
         let own = stored_within x inside in
         let s = there_is states x own in
@@ -237,6 +266,43 @@ module _ (intervals : Intervals) (reach : Option ℕ) (states : List StoredState
         ∙ state_at states ways (classes_in intervals) targets x s.0 own) in
         ap (λ (z : State). slice_index z.next class) same
         ∙ next_at (classes_in intervals) targets x class target own_few own_row
-        ∙ ap (λ n. (slice_index_or targets (x * n + class) target).state) (sym same_classes)
-        ∙ ap (λ k. (slice_index_or targets k target).state) (sym e)
-        ∙ ap (λ (t : Target). t.state) (sym stored)
+        ∙ ap (λ n. number_of (slice_index_or targets (x * n + class) target)) (sym same_classes)
+        ∙ ap (λ k. number_of (slice_index_or targets k target)) (sym e)
+        ∙ ap number_of (sym stored)
+
+    -- the target is one of that state for that class
+    pub target_of : LieWithin used states → used ≤ length ways → length states ≤ 256
+        → AllAgree states (classes_in intervals) targets
+        → (cell : ℕ) → cell ≡ x * classes_in automaton.intervals + class → (target : Target)
+        → target ≡ slice_index_or targets cell target → IsTargetOf automaton x class target
+    target_of within fits few_states agree cell e target stored =
+        let lt : cell < length targets = subst (λ k. k < length targets) (sym e) cell_within in
+        let own : Agrees states (classes_in intervals) target =
+        subst (Agrees states (classes_in intervals)) (sym stored) (agree cell target lt) in
+        record {
+          number = target_is cell e target stored;
+          known = λ told none.
+              let inside = own.within told in
+              let same = sym (ap (λ known. number_if known target.state) told) ∙ none in
+              omega (arith, inside, few_states, same);
+          row = λ told. record {
+            begins = own.row told ∙ ap (λ n. target.state * n) (sym same_classes);
+            within =
+                let inside = own.within told in
+                let n = ap (λ (z : Automaton). length z.states) view in
+                let m = length_states states ways (classes_in intervals) targets in
+                omega (arith, inside, n, m);
+          };
+          effect = λ hit told. subst
+              (λ (z : Automaton). (to : State) × (slice_get z.states target.state ≡ Some to)
+              × (to.ways ≡ [] → ⊥) × (to.hit ≡ hit))
+              view
+              (has_ways states used ways (classes_in intervals) targets within fits target.state
+              hit (own.effect hit told));
+          emptied = λ told. subst
+              (λ (z : Automaton). (to : State) × (slice_get z.states target.state ≡ Some to)
+              × (to.ways ≡ []) × (to.hit ≡ None))
+              view
+              (has_no_ways states used ways (classes_in intervals) targets within fits
+              target.state (own.empties told));
+        }

@@ -1,5 +1,5 @@
 -- A search that goes by remembered turns from offset to offset, without the characters beside them.
-use Rattle.std.specs.Prelude.{◌≡◌, ◌⊎◌, ℕ, List, [], Option, None, Some, slice_get}
+use Rattle.std.specs.Prelude.{◌≡◌, ◌⊎◌, ℕ, true, List, [], Option, None, Some, slice_get}
 use Rattle.regex_lite_meta.specs.declared.lazy_dfa.scan.Standing.{Standing}
 use Rattle.regex_lite_meta.specs.declared.lazy_dfa.spot.Spot.{Spot}
 use Rattle.regex_lite_meta.specs.declared.lazy_dfa.state.Target.{Target}
@@ -8,7 +8,8 @@ use Rattle.regex_lite_meta.specs.LazyDfa.Automaton.{Automaton, KeptOrigin, Leads
 use Rattle.regex_lite_meta.specs.LazyDfa.Automaton.{best_left}
 use Rattle.regex_lite_meta.specs.LazyDfa.Intervals.{IsAhead}
 use Rattle.regex_lite_meta.specs.LazyDfa.Scanning.{best_told}
-use Rattle.regex_lite_meta.specs.LazyDfa.Stored.{known_hit}
+use Rattle.regex_lite_meta.specs.LazyDfa.Stored.{is_emptying, is_known, known_hit}
+use Rattle.regex_lite_meta.specs.LazyDfa.Targets.{IsRowOf}
 
 -- wherever a search in state x sees a character of the class of the one at this offset, its turn
 -- leads to the target's state, and here to the end of that character
@@ -20,16 +21,26 @@ pub record IsTurn (table : List (Place ℕ)) (entries : List ℕ) (automaton : A
   pub is_from : slice_get automaton.states x ≡ Some from
   pub to : State
   pub is_to : slice_get automaton.states target.state ≡ Some to
+  pub row : IsRowOf automaton target.row target.state
   pub leads : LeadsOn table entries automaton.intervals from class to
   -- where the effect is known, the state has ways, and what is complete in it is known
   pub effect : (hit : Option KeptOrigin) → known_hit target.effect ≡ Some hit
       → (to.ways ≡ [] → ⊥) × (to.hit ≡ hit)
+  pub emptied : is_emptying target.effect ≡ true → (to.ways ≡ []) × (to.hit ≡ None)
 
--- after the turn at this offset to that state the search stands at its end, and has something to do
-pub record IsTaken (at x end : ℕ) (state : State) (before after : Standing) (on : Spot)
+-- if the turn from the state with this row is remembered, that is where it leads
+abbrev pub LeadsIfKnown : List (Place ℕ) → List ℕ → Automaton → (bytes : List ℕ) → (at row : ℕ)
+    → Target → (end : ℕ) → Type 0
+LeadsIfKnown table entries automaton bytes at row target end =
+    is_known target.effect ≡ true → (x : ℕ) → IsRowOf automaton row x
+    → IsTurn table entries automaton bytes at x target end
+
+-- after the turn at this offset to the state with this row the search stands at its end, and has
+-- something to do
+pub record IsTaken (at row end : ℕ) (state : State) (before after : Standing) (on : Spot)
     : Type 0 where
   pub ends : on.at ≡ end
-  pub is_to : on.state ≡ x
+  pub is_to : on.row ≡ row
   pub best : best_told after.best ≡ best_left state.hit before.first at (best_told before.best)
   pub first : ((state.ways ≡ []) × (after.first ≡ on.at) × (after.best ≡ None))
       ⊎ ((state.ways ≡ [] → ⊥) × (after.first ≡ before.first))
@@ -42,17 +53,25 @@ pub record EndsScan (at : ℕ) (state : State) (before after : Standing) : Type 
   pub same : after ≡ record before { best = after.best }
 
 -- what comes of the turn at this offset to that state, if it is taken
-abbrev pub Takes : (at x end : ℕ) → State → (before after : Standing) → Option (Option Spot)
+abbrev pub Takes : (at row end : ℕ) → State → (before after : Standing) → Option (Option Spot)
     → Type 0
-Takes at x end state before after (Some (Some on)) = IsTaken at x end state before after on
-Takes at x end state before after (Some None) = EndsScan at state before after
-Takes at x end state before after None = after ≡ before
+Takes at row end state before after (Some (Some on)) = IsTaken at row end state before after on
+Takes at row end state before after (Some None) = EndsScan at state before after
+Takes at row end state before after None = after ≡ before
+
+-- from there a turn is taken to where the search stands then
+pub record IsTurned (table : List (Place ℕ)) (entries : List ℕ) (automaton : Automaton)
+    (bytes : List ℕ) (at x : ℕ) (before after : Standing) (on : Spot) : Type 0 where
+  pub target : Target
+  pub end : ℕ
+  pub turn : IsTurn table entries automaton bytes at x target end
+  pub taken : IsTaken at target.row end turn.to before after on
 
 -- what comes of a turn after which there is nothing to go on from there
 abbrev pub TakesToNothing : (there : Spot) → (before after : Standing) → Option (Option Spot)
     → Type 0
 TakesToNothing there before after (Some (Some on)) =
-    (on.at ≡ there.at) × (on.state ≡ there.state) × (before.best ≡ None)
+    (on.at ≡ there.at) × (on.row ≡ there.row) × (before.best ≡ None)
     × (after ≡ record before { first = there.at })
 TakesToNothing there before after (Some None) = (after ≡ before) × (before.best ≡ None → ⊥)
 TakesToNothing there before after None = (after ≡ before) × (before.best ≡ None)

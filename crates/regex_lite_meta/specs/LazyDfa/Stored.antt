@@ -1,13 +1,14 @@
 -- How the states of the lazy automaton are stored.
-use Rattle.std.specs.Prelude.{◌≡◌, ◌+◌, ◌<◌, ◌≤◌, ℕ, Bool, true, false, All, List, [], ◌∷◌}
-use Rattle.std.specs.Prelude.{take, drop, map, slice_get, Option, Some, None}
-use Rattle.regex_lite_meta.specs.declared.lazy_dfa.state.Effect.{Effect}
+use Rattle.std.specs.Prelude.{◌≡◌, ◌+◌, ◌*◌, ◌<◌, ◌≤◌, ℕ, Bool, true, false, All, List, [], ◌∷◌}
+use Rattle.std.specs.Prelude.{length, take, drop, map, slice_get, Option, Some, None}
+use Rattle.regex_lite_meta.specs.declared.lazy_dfa.state.Effect as effects
+use Rattle.regex_lite_meta.specs.declared.lazy_dfa.state.Effect.TheVariants as effect
 use Rattle.regex_lite_meta.specs.declared.lazy_dfa.state.Hit as code
 use Rattle.regex_lite_meta.specs.declared.lazy_dfa.state.Hit.TheVariants as stored
 use Rattle.regex_lite_meta.specs.declared.lazy_dfa.state.StoredState.{StoredState}
 use Rattle.regex_lite_meta.specs.declared.lazy_dfa.state.StoredWay.{StoredWay}
 use Rattle.regex_lite_meta.specs.declared.lazy_dfa.state.Target.{Target}
-use Rattle.regex_lite_meta.specs.LazyDfa.Automaton.{KeptOrigin, Way, State}
+use Rattle.regex_lite_meta.specs.LazyDfa.Automaton.{KeptOrigin, Way, State, unknown}
 
 abbrev pub way_in : StoredWay → Way
 way_in way = record {
@@ -20,6 +21,22 @@ hit_in stored.Nowhere = None
 hit_in (stored.AtFirst number) = Some (record { first = true; number = Some number })
 hit_in (stored.AtLater number) = Some (record { first = false; number = Some number })
 
+-- whether a turn with this effect is remembered
+abbrev pub is_known : effects.Effect → Bool
+is_known effect.Plain = true
+is_known effect.Completes = true
+is_known effect.Empties = true
+is_known effect.ByState = true
+is_known effect.Unknown = false
+
+abbrev pub number_if : (is_known : Bool) → ℕ → ℕ
+number_if true y = y
+number_if false y = unknown
+
+-- the number of the state to which the turn leads
+abbrev pub number_of : Target → ℕ
+number_of target = number_if (is_known target.effect) target.state
+
 -- the state, whose ways lie among those of all, and whose turns lead to these targets
 abbrev pub state_in : List StoredWay → List Target → StoredState → State
 state_in ways targets state = record {
@@ -27,7 +44,7 @@ state_in ways targets state = record {
   searching = state.searching;
   before = state.before;
   hit = hit_in state.hit;
-  next = map (λ target. target.state) targets;
+  next = map number_of targets;
 }
 
 -- the states, each of which has its own row of targets, one for each class
@@ -41,14 +58,28 @@ states_in ways classes targets (state ∷ states) =
 abbrev pub LieWithin : (used : ℕ) → List StoredState → Type 0
 LieWithin used states = All (λ state. state.from + state.len ≤ used) states
 
-abbrev pub hit_by : (is_plain completes : Bool) → Option (Option KeptOrigin)
-hit_by true completes = Some None
-hit_by false true = Some (hit_in (stored.AtFirst 0))
-hit_by false false = None
-
 -- where the way began by which a turn with this effect completes a match, if that is known
-abbrev pub known_hit : Effect → Option (Option KeptOrigin)
-known_hit effect = hit_by effect.is_plain effect.completes
+abbrev pub known_hit : effects.Effect → Option (Option KeptOrigin)
+known_hit effect.Plain = Some None
+known_hit effect.Completes = Some (hit_in (stored.AtFirst 0))
+known_hit effect.Empties = None
+known_hit effect.ByState = None
+known_hit effect.Unknown = None
+
+-- whether a turn with this effect leads to a state without ways, and completes no match
+abbrev pub is_emptying : effects.Effect → Bool
+is_emptying effect.Plain = false
+is_emptying effect.Completes = false
+is_emptying effect.Empties = true
+is_emptying effect.ByState = false
+is_emptying effect.Unknown = false
+
+-- the state with this number has no ways, and no match is complete in it
+pub record HasNoWays (states : List StoredState) (y : ℕ) : Type 0 where
+  pub state : StoredState
+  pub is_state : slice_get states y ≡ Some state
+  pub none : state.len ≡ 0
+  pub free : hit_in state.hit ≡ None
 
 -- the state with this number has ways, and this is where the way began by which a match is complete
 pub record HasWays (states : List StoredState) (y : ℕ) (hit : Option KeptOrigin) : Type 0 where
@@ -57,11 +88,14 @@ pub record HasWays (states : List StoredState) (y : ℕ) (hit : Option KeptOrigi
   pub some : 0 < state.len
   pub same : hit_in state.hit ≡ hit
 
--- what is known of the turn's effect is so in its state
-abbrev pub Agrees : List StoredState → Target → Type 0
-Agrees states target =
-    (hit : Option KeptOrigin) → known_hit target.effect ≡ Some hit
-    → HasWays states target.state hit
+-- if the turn is remembered, the target names a state and where its row begins; and what is known of
+-- its effect is so in its state
+pub record Agrees (states : List StoredState) (classes : ℕ) (target : Target) : Type 0 where
+  pub row : is_known target.effect ≡ true → target.row ≡ target.state * classes
+  pub within : is_known target.effect ≡ true → target.state < length states
+  pub effect : (hit : Option KeptOrigin) → known_hit target.effect ≡ Some hit
+      → HasWays states target.state hit
+  pub empties : is_emptying target.effect ≡ true → HasNoWays states target.state
 
-abbrev pub AllAgree : List StoredState → List Target → Type 0
-AllAgree states targets = All (Agrees states) targets
+abbrev pub AllAgree : List StoredState → (classes : ℕ) → List Target → Type 0
+AllAgree states classes targets = All (Agrees states classes) targets

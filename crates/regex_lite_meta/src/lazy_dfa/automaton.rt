@@ -1,11 +1,12 @@
 //! What a lazy automaton remembers.
 ghost use Rattle.std.specs.Prelude.{◌≡◌, ◌+◌, ◌*◌, ◌≤◌, ◌<◌, ◌++◌, ◌∷◌, [], IfOk, IfSome};
-ghost use Rattle.std.specs.Prelude.{Option, Some, length, map, slice_get, slice_index, slice_set};
+ghost use Rattle.std.specs.Prelude.{Option, Some, length, map, slice_get, slice_index, slice_set, ℕ};
 ghost use Rattle.std.specs.Prelude.{false, true};
-ghost use Rattle.regex_lite_meta.specs.LazyDfa.Automaton.{KeptOrigin, State, unknown};
+ghost use Rattle.regex_lite_meta.specs.LazyDfa.Automaton.{State, unknown};
 ghost use Rattle.regex_lite_meta.specs.LazyDfa.Extending.{Extends, IsState};
 ghost use Rattle.regex_lite_meta.specs.LazyDfa.Intervals.{classes_in};
-ghost use Rattle.regex_lite_meta.specs.LazyDfa.Stored.{hit_in, known_hit, way_in};
+ghost use Rattle.regex_lite_meta.specs.LazyDfa.Stored.{hit_in, way_in};
+ghost use Rattle.regex_lite_meta.specs.LazyDfa.Targets.{IsRowOf, IsTargetOf};
 
 use crate::lazy_dfa::classes::Classes;
 use crate::lazy_dfa::lookup::Lookup;
@@ -15,9 +16,6 @@ use crate::lazy_dfa::state::{Effect, Hit, Side, StoredState, StoredWay, Target};
 use crate::strategy::BYTES_FOR_ONE;
 use std::alloc::{AllocError, Global};
 use std::marker::Model;
-
-/// Stands for the state to which a turn leads that isn't remembered.
-const UNKNOWN: u16 = 0xFFFF;
 
 /// Classes of characters, and the states that searches have come to. All its memory is requested at
 /// once. When that is full, nothing more is remembered.
@@ -61,7 +59,7 @@ impl Model for LazyDfa {
 
     ghost invariant = { λ dfa. LieWithin dfa.used dfa.states.items
         × (dfa.used ≤ length dfa.ways.items) × (length dfa.states.items ≤ 256)
-        × AllAgree dfa.states.items dfa.targets.items
+        × AllAgree dfa.states.items (classes_in dfa.classes) dfa.targets.items
         × (length dfa.targets.items ≡ length dfa.states.items * classes_in dfa.classes)
         × (dfa.width ≡ classes_in dfa.classes) × (dfa.width < 128) };
 }
@@ -179,11 +177,9 @@ impl LazyDfa {
         let rows = self.targets.len();
         let longer = rows + self.classes.len();
         let unknown = Target {
-            state: UNKNOWN,
-            effect: Effect {
-                is_plain: false,
-                completes: false,
-            },
+            effect: Effect::Unknown,
+            state: 0,
+            row: 0,
         };
         let Ok(()) = self.targets.resize(longer, unknown) else {
             return false;
@@ -213,10 +209,11 @@ impl LazyDfa {
             } }
     {
         let target = Target {
-            state: y,
             effect: self.states[y as usize].effect(),
+            state: y as u8,
+            row: self.row(y) as u16,
         };
-        let cell = self.cell(x, class);
+        let cell = self.row(x) + class;
         self.targets[cell] = target;
     }
 
@@ -228,27 +225,40 @@ impl LazyDfa {
         ensures known { IfSome result (λ target. ¬ (target.state ≡ unknown)
             × ((state : State) → slice_get self.now.states x ≡ Some state
             → slice_index state.next class ≡ target.state)) }
-        ensures effect { IfSome result (λ target. (hit : Option KeptOrigin)
-            → known_hit target.effect ≡ Some hit → (to : State)
-            × (slice_get self.now.states target.state ≡ Some to) × ¬ (to.ways ≡ [])
-            × (to.hit ≡ hit)) }
     {
-        let target = self.targets[self.cell(x, class)];
-        // Most turns lead to plain states. These are remembered, so no other test is needed.
-        if !target.effect.is_plain && target.state as usize >= self.states.len() {
+        let target = self.target(self.row(x), class);
+        if let Effect::Unknown = target.effect {
             return None;
         }
         Some(target)
     }
 
-    /// Where the target of this state for this class lies in the list of all.
+    /// The target in this row for this class.
     #[inline(always)]
-    fn cell(&self, x: u16, class: usize) -> usize
-        requires state { x < length self.now.states }
+    pub(super) fn target(&self, row: usize, class: usize) -> Target
+        requires row { (x : ℕ) × IsRowOf self.now row x }
         requires class { class < classes_in self.now.intervals }
-        ensures { result ≡ x * classes_in self.now.intervals + class }
+        ensures { (x : ℕ) → IsRowOf self.now row x → IsTargetOf self.now x class result }
     {
-        x as usize * self.width + class
+        self.targets[row + class]
+    }
+
+    /// Where the row of this state begins.
+    #[inline(always)]
+    pub(super) fn row(&self, x: u16) -> usize
+        requires { x < length self.now.states }
+        ensures { result ≡ x * classes_in self.now.intervals }
+    {
+        x as usize * self.width
+    }
+
+    /// The state whose row begins there.
+    #[inline(always)]
+    pub(super) fn state_of(&self, row: usize) -> u16
+        requires { (x : ℕ) × IsRowOf self.now row x }
+        ensures { (x : ℕ) → IsRowOf self.now row x → result ≡ x }
+    {
+        (row / self.width) as u16
     }
 
     /// The ways of the state.

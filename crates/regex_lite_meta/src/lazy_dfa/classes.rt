@@ -1,6 +1,7 @@
 //! Classes of characters that no place of a graph distinguishes.
 ghost use Rattle.std.specs.Prelude.{◌≡◌, ◌+◌, ◌≤◌, ◌<◌, ℕ, IfSome, IsCharBoundary, length, nat_le};
 ghost use Rattle.std.specs.Prelude.{slice_index, List, true};
+ghost use Rattle.std.specs.Char.{len_utf8};
 ghost use Rattle.regex_lite_meta.specs.LazyDfa.Intervals.{AreIntervalsOf, IsAhead, IsInterval};
 ghost use Rattle.regex_lite_meta.specs.LazyDfa.Intervals.{class_of, classes_in, interval_of, tick};
 
@@ -87,6 +88,17 @@ impl Classes {
         }
     }
 
+    /// The class of this ASCII character.
+    #[inline(always)]
+    #[tactic(auto, using(crate::proofs::lazy_dfa::IntervalLemmas::interval_within))]
+    pub(super) fn ascii_class(&self, byte: u8) -> usize
+        requires { byte < 128 }
+        ensures same { interval_of self.now.boundaries byte ≡ result }
+        ensures few { result < classes_in self.now }
+    {
+        self.ascii[byte as usize] as usize
+    }
+
     /// The class of the character at this offset, and where the character ends. None at the end of
     /// the haystack. The interval of one that isn't ASCII is remembered as `near`.
     #[inline(always)]
@@ -129,7 +141,7 @@ impl Classes {
         let Some(c) = first_char(haystack, at) else {
             return None;
         };
-        Some((self.class_near(c as u32, near), at + c.len_utf8()))
+        Some((self.class_near(c as u32, near), at + width_of(c)))
     }
 
     /// The class of the character, which is likely to be in this interval. If it isn't, the
@@ -147,6 +159,18 @@ impl Classes {
         }
         near.class
     }
+}
+
+/// How many bytes the character takes.
+// Most that aren't ASCII take two: one test tells it.
+#[inline(always)]
+fn width_of(c: char) -> usize
+    ensures { result ≡ len_utf8 c }
+{
+    if 0x80 <= c as u32 && (c as u32) < 0x800 {
+        return 2;
+    }
+    c.len_utf8()
 }
 
 /// The intervals of the ASCII characters: a boundary counts for those from it on.

@@ -188,7 +188,7 @@ impl LazyDfa {
         ensures state { IfSome result (λ told. told.0 < length self.now.states) }
     {
         let class = self.classes.class(at.here.after);
-        let to = self.known_target(at.state, class)?.state;
+        let to = self.known_target(at.state, class)?.state as u16;
         match self.states[to as usize].hit {
             Hit::Nowhere => Some((to, at.best)),
             Hit::AtFirst(number) => Some((to, at.completed(number))),

@@ -1,7 +1,7 @@
 //! The states of a lazy automaton.
-ghost use Rattle.std.specs.Prelude.{◌≡◌, ◌<◌, Option, Some, true, ◌↔◌, IsTrue, None};
+ghost use Rattle.std.specs.Prelude.{◌≡◌, ◌<◌, IfSome, Option, Some, true, ◌↔◌, IsTrue, None};
 ghost use Rattle.regex_lite_meta.specs.LazyDfa.Automaton.{KeptOrigin};
-ghost use Rattle.regex_lite_meta.specs.LazyDfa.Stored.{hit_in, known_hit};
+ghost use Rattle.regex_lite_meta.specs.LazyDfa.Stored.{hit_in, is_emptying, is_known, known_hit};
 ghost use Rattle.regex_lite_meta.specs.LazyDfa.Intervals.{side_of};
 
 use regex_lite_syntax::Look;
@@ -45,21 +45,27 @@ const _: () = prove!(size_of::<StoredState>() == 32);
 /// Where a turn leads.
 #[derive(Clone, Copy)]
 pub(crate) struct Target {
-    /// The number of the state, or that the turn isn't remembered.
-    pub state: u16,
     pub effect: Effect,
+    /// The number of the state.
+    pub state: u8,
+    /// Where the row of the state begins in the list of all targets.
+    pub row: u16,
 }
 
-/// What a turn does besides, as far as that is known without a look at the state it leads to. At
-/// most one of both holds.
-// A test of one of them in memory takes fewer instructions than that of an enum.
+/// What a turn does besides, as far as that is known without a look at the state it leads to.
 #[derive(Clone, Copy)]
-pub(crate) struct Effect {
+pub(crate) enum Effect {
     /// Nothing: the state has ways, and no match was complete.
-    pub is_plain: bool,
+    Plain,
     /// The state has ways, and a match of the first pattern was complete, which began at the first
     /// start.
-    pub completes: bool,
+    Completes,
+    /// The state has no ways, and no match was complete.
+    Empties,
+    /// Only the state says.
+    ByState,
+    /// The turn isn't remembered.
+    Unknown,
 }
 
 // An automaton has memory for thousands of them.
@@ -78,6 +84,19 @@ pub(crate) fn are_same(ways: &[StoredWay], others: &[StoredWay]) -> bool
         }
     }
     true
+}
+
+impl Target {
+    /// The target, if the turn is remembered.
+    #[inline(always)]
+    pub(super) fn remembered(self) -> Option<Target>
+        ensures { IfSome result (λ target. (target ≡ self) × (is_known self.effect ≡ true)) }
+    {
+        if let Effect::Unknown = self.effect {
+            return None;
+        }
+        Some(self)
+    }
 }
 
 impl StoredWay {
@@ -106,14 +125,30 @@ impl StoredState {
 
     /// What a turn to it does besides.
     pub(crate) fn effect(&self) -> Effect
+        ensures known { is_known result ≡ true }
+        ensures empties { is_emptying result ≡ true
+            → (self.now.len ≡ 0) × (hit_in self.now.hit ≡ None) }
         ensures some { (hit : Option KeptOrigin) → known_hit result ≡ Some hit
             → 0 < self.now.len }
         ensures hit { (hit : Option KeptOrigin) → known_hit result ≡ Some hit
             → hit_in self.now.hit ≡ hit }
     {
-        Effect {
-            is_plain: self.len > 0 && self.hit.is(Hit::Nowhere),
-            completes: self.len > 0 && self.hit.is(Hit::AtFirst(0)),
+        match self.hit {
+            Hit::Nowhere => {
+                if self.len > 0 {
+                    Effect::Plain
+                } else {
+                    Effect::Empties
+                }
+            }
+            Hit::AtFirst(0) => {
+                if self.len > 0 {
+                    Effect::Completes
+                } else {
+                    Effect::ByState
+                }
+            }
+            Hit::AtFirst(_) | Hit::AtLater(_) => Effect::ByState,
         }
     }
 }

@@ -1,7 +1,8 @@
-use Rattle.regex_lite_meta.proofs.Common.{◌≡◌, suc, ◌+◌, ◌-◌, ◌*◌, ◌<◌, ◌≤◌, false, List, [], ◌∷◌}
+use Rattle.regex_lite_meta.proofs.Common.{◌≡◌, suc, ◌+◌, ◌-◌, ◌*◌, ◌<◌, ◌≤◌, List, [], ◌∷◌}
 use Rattle.regex_lite_meta.proofs.Common.{◌++◌, map, length, take, drop, sym, refl, ap, ◌∙◌, subst}
-use Rattle.regex_lite_meta.proofs.Common.{arith, rules, suc-mul, take_all, Automaton, unknown}
-use Rattle.regex_lite_meta.proofs.Common.{classes_in, way_in, hit_in, StoredState, Target}
+use Rattle.regex_lite_meta.proofs.Common.{arith, rules, suc-mul, take_all, Automaton}
+use Rattle.regex_lite_meta.proofs.Common.{classes_in, way_in, hit_in, number_of, StoredState, Target}
+use Rattle.regex_lite_meta.specs.declared.lazy_dfa.state.Effect.TheVariants.{Unknown}
 use Rattle.std.proofs.Math.Seq.{drop-length}
 use Rattle.regex_lite_meta.specs.LazyDfa.Automaton.{State}
 use Rattle.regex_lite_meta.specs.LazyDfa.Stored.{LieWithin, AllAgree}
@@ -20,7 +21,7 @@ use Rattle.regex_lite_meta.proofs.lazy_dfa.automaton.LazyDfa.add.Goals.{
 }
 
 abbrev blank : Target
-blank = record { state = unknown; effect = record { is_plain = false; completes = false } }
+blank = record { row = 0; state = 0; effect = Unknown }
 
 -- the row of the new state comes after those of all others
 rows : (c : In-Ok) →
@@ -66,10 +67,10 @@ invariant_of-self-in-Ok-push c =
           (omega (arith, len, own))),
       omega (arith, count, len),
       omega (arith, next, few, view, there),
-      subst (λ targets. AllAgree c.push.new.self.items targets) (sym all)
+      subst (λ targets. AllAgree c.push.new.self.items n targets) (sym all)
           (subst
-          (λ states. AllAgree states (i.targets.items ++ replicate n blank)) (sym items)
-          (agree_added i.states.items (s ∷ []) i.targets.items n blank refl v.3)),
+          (λ states. AllAgree states n (i.targets.items ++ replicate n blank)) (sym items)
+          (agree_added i.states.items (s ∷ []) i.targets.items n n blank refl refl refl v.3)),
       ap length all ∙ length-append i.targets.items (replicate n blank)
           ∙ (let full = v.4 in
           let more = length-replicate n blank in
@@ -85,7 +86,7 @@ new_state c = record {
   searching = c.args.searching;
   before = c.args.before;
   hit = hit_in c.args.hit;
-  next = map (λ (target : Target). target.state)
+  next = map number_of
       (replicate (classes_in c.self.inside.classes) blank);
 }
 
@@ -158,8 +159,8 @@ invariant_of-self-in-Err c =
       subst (LieWithin i.used) (sym states) v.0,
       v.1,
       subst (λ (all : List StoredState). length all ≤ 256) (sym states) v.2,
-      subst (AllAgree c.push.new.self.items) (sym targets)
-          (subst (λ all. AllAgree all i.targets.items) (sym states) v.3),
+      subst (AllAgree c.push.new.self.items (classes_in i.classes)) (sym targets)
+          (subst (λ all. AllAgree all (classes_in i.classes) i.targets.items) (sym states) v.3),
       ap length targets ∙ v.4
           ∙ ap (λ (all : List StoredState). length all * classes_in i.classes) (sym states),
       v.5,

@@ -1,7 +1,7 @@
 use Rattle.regex_lite_meta.proofs.Common.{◌+◌, ◌*◌, ◌<◌, map, drop, slice_get, slice_set, Some, sym}
 use Rattle.regex_lite_meta.proofs.Common.{ap, ◌∙◌, subst, rules, Automaton, StoredState, Target}
-use Rattle.regex_lite_meta.proofs.Common.{classes_in, way_in}
-use Rattle.regex_lite_meta.specs.LazyDfa.Stored.{Agrees}
+use Rattle.regex_lite_meta.proofs.Common.{classes_in, number_of, way_in}
+use Rattle.regex_lite_meta.specs.LazyDfa.Stored.{Agrees, number_if}
 use Rattle.std.proofs.lemmas.Option.{slice_get-get_or}
 use Rattle.std.proofs.Common.{length-set}
 use Rattle.std.proofs.lemmas.List.Elements.{All-set}
@@ -14,21 +14,37 @@ invariant_of-self c =
     let i = c.self.inside in
     let v = c.self.invariant in
     let to : StoredState = c.index.result.now in
-    let target : Target = record { state = c.args.y; effect = c.effect.result } in
+    let target : Target =
+    record { row = c.row.result; state = c.args.y; effect = c.effect.result } in
+    let same = ap (λ (z : Automaton). classes_in z.intervals) (sym c.self.view_is) in
     let inside = stored_within i.classes i.reach i.states.items i.targets.items i.used i.ways.items
     c.args.self.now c.self.view_is c.args.y c.requires.target in (
       v.0,
       v.1,
       v.2,
-      All-set (Agrees i.states.items) i.targets.items c.cell-cell.result target
-          (λ hit told. record {
-            state = to;
-            is_state =
-                slice_get-get_or i.states.items c.args.y to inside ∙ ap Some (sym c.index.ensures);
-            some = c.effect.ensures.some hit told;
-            same = c.effect.ensures.hit hit told;
+      All-set (Agrees i.states.items (classes_in i.classes)) i.targets.items
+          (c.row-2.result + c.args.class) target
+          (record {
+            row = λ _. c.row.ensures ∙ ap (λ n. c.args.y * n) same;
+            within = λ _. inside;
+            effect = λ hit told. record {
+              state = to;
+              is_state =
+                  slice_get-get_or i.states.items c.args.y to inside
+                  ∙ ap Some (sym c.index.ensures);
+              some = c.effect.ensures.some hit told;
+              same = c.effect.ensures.hit hit told;
+            };
+            empties = λ told. record {
+              state = to;
+              is_state =
+                  slice_get-get_or i.states.items c.args.y to inside
+                  ∙ ap Some (sym c.index.ensures);
+              none = (c.effect.ensures.empties told).0;
+              free = (c.effect.ensures.empties told).1;
+            };
           }) v.3,
-      length-set i.targets.items c.cell-cell.result target ∙ v.4,
+      length-set i.targets.items (c.row-2.result + c.args.class) target ∙ v.4,
       v.5,
       v.6,
     )
@@ -36,23 +52,30 @@ invariant_of-self c =
 pub returns : goal.returns
 returns c = λ state at.
     let i = c.self.inside in
+    let x = c.args.x in
+    let class = c.args.class in
+    let target : Target =
+    record { row = c.row.result; state = c.args.y; effect = c.effect.result } in
     let same = ap (λ (z : Automaton). classes_in z.intervals) (sym c.self.view_is) in
-    let there = ap (λ (z : Automaton). slice_get z.states c.args.x) c.self.view_is ∙ at in
+    let there = ap (λ (z : Automaton). slice_get z.states x) c.self.view_is ∙ at in
     ap (λ states. record {
       intervals = i.classes;
       reach = i.reach;
       states = states;
       pending = map way_in (drop i.used i.ways.items);
     })
-    (states_set i.states.items i.ways.items (classes_in i.classes) i.targets.items c.args.x
-    c.args.class c.cell-cell.result (record { state = c.args.y; effect = c.effect.result })
-    state (c.cell-cell.ensures ∙ ap (λ n. c.args.x * n + c.args.class) same)
-    (subst (λ n. c.args.class < n) same c.requires.class) there)
+    (states_set i.states.items i.ways.items (classes_in i.classes) i.targets.items x class
+    (c.row-2.result + class) target state
+    (ap (λ row. row + class) (c.row-2.ensures ∙ ap (λ n. x * n) same))
+    (subst (λ n. class < n) same c.requires.class) there)
     ∙ ap (λ (z : Automaton). record z {
-      states =
-          slice_set z.states c.args.x
-          (record state { next = slice_set state.next c.args.class c.args.y });
+      states = slice_set z.states x
+          (record state { next = slice_set state.next class (number_of target) });
     }) c.self.view_is
+    ∙ ap (λ y. record c.args.self.now {
+      states = slice_set c.args.self.now.states x
+          (record state { next = slice_set state.next class y });
+    }) (ap (λ known. number_if known c.args.y) c.effect.ensures.known)
 
 pub index-requires : goal.index-requires
 index-requires c =

@@ -6,6 +6,6 @@ returns-clause-ahead c = record {
   inside = c.requires.inside;
   character = c.in-Some.c;
   begins = sym c.first_char.ensures ∙ c.in-Some.is;
-  ends = ap (λ z. c.args.at + z) c.len_utf8.ensures.value;
+  ends = ap (λ z. c.args.at + z) c.width_of.ensures;
   is_class = c.class_near.ensures.same;
 }

@@ -1,0 +1,238 @@
+//! Scans that go on by remembered turns, by offsets alone.
+ghost use Rattle.std.specs.Prelude.{◌≡◌, ◌+◌, ◌<◌, [], ℕ, IfErr, IfOk, IfSome, IsCharBoundary};
+ghost use Rattle.std.specs.Prelude.{None, Option, Some, chars, false, true, length, slice_get};
+ghost use Rattle.regex_lite_meta.specs.LazyDfa.Automaton.{KeptOrigin, Remembers, State};
+ghost use Rattle.regex_lite_meta.specs.LazyDfa.Intervals.{IsInterval};
+ghost use Rattle.regex_lite_meta.specs.LazyDfa.Scanning.{EndsWith, GoesOn, IsScanning};
+ghost use Rattle.regex_lite_meta.specs.LazyDfa.Spots.{IsTurn, IsTurned, LeadsIfKnown, Takes};
+ghost use Rattle.regex_lite_meta.specs.LazyDfa.Stored.{hit_in, is_emptying, known_hit};
+ghost use Rattle.regex_lite_meta.specs.LazyDfa.Targets.{IsRowOf};
+
+use crate::lazy_dfa::automaton::LazyDfa;
+use crate::lazy_dfa::classes::Interval;
+use crate::lazy_dfa::scan::Standing;
+use crate::lazy_dfa::spot::{Spot, take_known, take_to_nothing};
+use crate::lazy_dfa::state::{Effect, Hit, Target};
+use regex_lite_engine::search::patterns::Patterns;
+
+impl LazyDfa {
+    /// Goes on while turns are remembered, up to the last of them before the end of the search.
+    /// Returns whether the last match is the answer: nothing leads on from it or, with EARLIEST, it
+    /// is the first that a turn completes, of which only the end is known.
+    // Not inlined, since what an inlined one needs is cleared each time.
+    #[inline(never)]
+    pub(super) fn run<P: Patterns, const EARLIEST: bool>(
+        &self,
+        patterns: &P,
+        haystack: &str,
+        at: &mut Standing,
+    ) -> bool
+        requires remembers { Remembers (P.table patterns.now) (P.entries patterns.now) self.now }
+        requires none { EARLIEST ≡ true → at.old.best ≡ None }
+        requires scanning { (low p : ℕ) × IsScanning (P.table patterns.now) (P.entries patterns.now)
+            (chars haystack.now) low p self.now at.old }
+        ensures over { result ≡ true → EndsWith (P.table patterns.now) (P.entries patterns.now)
+            (chars haystack.now) self.now EARLIEST at.old at.new.best }
+        ensures on { result ≡ false → GoesOn (P.table patterns.now) (P.entries patterns.now)
+            (chars haystack.now) self.now at.old at.new }
+        ensures none { EARLIEST ≡ true → result ≡ false → at.new.best ≡ None }
+    {
+        let mut near = Interval::none();
+        let mut spot = self.spot_of(at);
+        'turns: loop {
+            // A way out for itself: one for all would cost each turn two moves.
+            if spot.at >= haystack.len() {
+                self.settle_at(haystack, spot, at);
+                return false;
+            }
+            let ascii = match self.take_ascii::<P, EARLIEST>(patterns, haystack, spot, at) {
+                Ok(on) => {
+                    spot = on;
+                    continue;
+                }
+                Err(ascii) => ascii,
+            };
+            let Some((target, end)) = self.turn(patterns, haystack, spot, ascii, &mut near) else {
+                break;
+            };
+            if self.is_last::<EARLIEST>(target) {
+                at.complete(0, spot.at);
+                return true;
+            }
+            match self.take(spot, target, end, at) {
+                Some(Some(on)) => spot = on,
+                Some(None) => return true,
+                None => break,
+            }
+        }
+        self.settle_at(haystack, spot, at);
+        false
+    }
+
+    /// Takes the turn from there if the character is ASCII and the effect is known, as for most
+    /// turns. With EARLIEST none is taken that completes a match. If it isn't taken, returns the
+    /// target for an ASCII character.
+    #[inline(always)]
+    fn take_ascii<P: Patterns, const EARLIEST: bool>(
+        &self,
+        patterns: &P,
+        haystack: &str,
+        spot: Spot,
+        at: &mut Standing,
+    ) -> Result<Spot, Option<Target>>
+        requires remembers { Remembers (P.table patterns.now) (P.entries patterns.now) self.now }
+        requires boundary { IsCharBoundary haystack.now spot.at }
+        requires inside { spot.at < length haystack.now }
+        requires row { (x : ℕ) × IsRowOf self.now spot.row x }
+        ensures taken { IfOk result (λ on. (x : ℕ) → IsRowOf self.now spot.row x
+            → IsTurned (P.table patterns.now) (P.entries patterns.now) self.now haystack.now spot.at
+            x at.old at.new on) }
+        ensures ascii { IfErr result (λ ascii. IfSome ascii (λ target.
+            LeadsIfKnown (P.table patterns.now) (P.entries patterns.now) self.now haystack.now
+            spot.at spot.row target (spot.at + 1))) }
+        ensures same { IfErr result (λ _. at.new ≡ at.old) }
+        ensures best { EARLIEST ≡ true → at.new.best ≡ at.old.best }
+    {
+        let byte = haystack.as_bytes()[spot.at];
+        if byte >= 128 {
+            return Err(None);
+        }
+        let target = self.target(spot.row, self.classes.ascii_class(byte));
+        match take_known::<EARLIEST>(spot, target, spot.at + 1, at) {
+            Some(on) => Ok(on),
+            None => Err(Some(target)),
+        }
+    }
+
+    /// Where the turn from there leads, if it is remembered: the target, and the offset. None at
+    /// the end of the haystack. For an ASCII character the target may be known.
+    #[inline(always)]
+    fn turn<P: Patterns>(
+        &self,
+        patterns: &P,
+        haystack: &str,
+        spot: Spot,
+        ascii: Option<Target>,
+        near: &mut Interval,
+    ) -> Option<(Target, usize)>
+        requires remembers { Remembers (P.table patterns.now) (P.entries patterns.now) self.now }
+        requires boundary { IsCharBoundary haystack.now spot.at }
+        requires row { (x : ℕ) × IsRowOf self.now spot.row x }
+        requires inside { spot.at < length haystack.now }
+        requires ascii { IfSome ascii (λ target. LeadsIfKnown (P.table patterns.now)
+            (P.entries patterns.now) self.now haystack.now spot.at spot.row target (spot.at + 1)) }
+        requires near { IsInterval self.now.intervals.boundaries near.old }
+        ensures turn { IfSome result (λ turn. (x : ℕ) → IsRowOf self.now spot.row x
+            → IsTurn (P.table patterns.now) (P.entries patterns.now) self.now haystack.now spot.at x
+            turn.0 turn.1) }
+        ensures near { IsInterval self.now.intervals.boundaries near.new }
+    {
+        if let Some(target) = ascii {
+            let known = target.remembered()?;
+            return Some((known, spot.at + 1));
+        }
+        let Some((class, end)) = self.classes.ahead(haystack, spot.at, near) else {
+            return None;
+        };
+        let known = self.target(spot.row, class).remembered()?;
+        Some((known, end))
+    }
+
+    /// Takes the turn to this target and offset. Returns where the scan stands then, or nothing if
+    /// the search is over: nothing leads on from its match. None if the turn isn't taken: it
+    /// completes a match of which the start isn't known, or leads from nothing to go on from to
+    /// nothing too often in a row.
+    #[inline(always)]
+    fn take(
+        &self,
+        spot: Spot,
+        target: Target,
+        end: usize,
+        at: &mut Standing,
+    ) -> Option<Option<Spot>>
+        requires to { target.state < length self.now.states }
+        requires effect { (hit : Option KeptOrigin) → known_hit target.effect ≡ Some hit
+            → (state : State) → slice_get self.now.states target.state ≡ Some state
+            → ¬ (state.ways ≡ []) × (state.hit ≡ hit) }
+        requires emptied { is_emptying target.effect ≡ true → (state : State)
+            → slice_get self.now.states target.state ≡ Some state
+            → (state.ways ≡ []) × (state.hit ≡ None) }
+        ensures taken { (state : State) → slice_get self.now.states target.state ≡ Some state
+            → Takes spot.at target.row end state at.old at.new result }
+        ensures same { (state : State) → slice_get self.now.states target.state ≡ Some state
+            → state.hit ≡ None → at.new.best ≡ at.old.best }
+    {
+        if let Some(on) = take_known::<false>(spot, target, end, at) {
+            return Some(Some(on));
+        }
+        if let Effect::Empties = target.effect {
+            return take_to_nothing(spot, spot.after(target, end), at);
+        }
+        self.take_by_state(spot, target, end, at)
+    }
+
+    /// The same, by what the state says.
+    #[inline(always)]
+    fn take_by_state(
+        &self,
+        spot: Spot,
+        target: Target,
+        end: usize,
+        at: &mut Standing,
+    ) -> Option<Option<Spot>>
+        requires to { target.state < length self.now.states }
+        ensures taken { (state : State) → slice_get self.now.states target.state ≡ Some state
+            → Takes spot.at target.row end state at.old at.new result }
+        ensures same { (state : State) → slice_get self.now.states target.state ≡ Some state
+            → state.hit ≡ None → at.new.best ≡ at.old.best }
+    {
+        let state = target.state as u16;
+        let hit = self.hit(state);
+        if let Hit::AtLater(_) = hit {
+            return None;
+        }
+        if let Hit::AtFirst(number) = hit {
+            at.complete(number, spot.at);
+        }
+        let on = spot.after(target, end);
+        if self.is_empty(state) {
+            return take_to_nothing(spot, on, at);
+        }
+        Some(Some(on))
+    }
+
+    /// Where the way began by which a match is complete in this state.
+    #[inline(always)]
+    #[tactic(auto, using(crate::proofs::lazy_dfa::StoredStateLemmas::length_states))]
+    fn hit(&self, x: u16) -> Hit
+        requires { x < length self.now.states }
+        ensures { (state : State) → slice_get self.now.states x ≡ Some state
+            → hit_in result ≡ state.hit }
+    {
+        self.states[x as usize].hit
+    }
+
+    /// Whether the turn completes a match, if the least end is asked for.
+    #[inline(always)]
+    fn is_last<const EARLIEST: bool>(&self, target: Target) -> bool
+        requires to { target.state < length self.now.states }
+        requires effect { (hit : Option KeptOrigin) → known_hit target.effect ≡ Some hit
+            → (state : State) → slice_get self.now.states target.state ≡ Some state
+            → ¬ (state.ways ≡ []) × (state.hit ≡ hit) }
+        ensures none { (state : State) → slice_get self.now.states target.state ≡ Some state
+            → EARLIEST ≡ true → result ≡ false → state.hit ≡ None }
+        ensures hit { (state : State) → slice_get self.now.states target.state ≡ Some state
+            → result ≡ true → (EARLIEST ≡ true) × ¬ (state.hit ≡ None) }
+    {
+        if !EARLIEST {
+            return false;
+        }
+        if let Effect::Plain = target.effect {
+            return false;
+        }
+        match self.hit(target.state as u16) {
+            Hit::Nowhere => false,
+            Hit::AtFirst(_) | Hit::AtLater(_) => true,
+        }
+    }
+}
