@@ -1,3 +1,4 @@
 -- lemmas that proofs of other modules need too
 pub mod BoundaryLemmas
 pub mod WayLemmas
+pub mod WholeWordLemmas

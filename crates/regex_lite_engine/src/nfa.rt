@@ -7,8 +7,8 @@ ghost use Rattle.regex_lite_engine.specs.Graph.Renumbered.{arrows_of, IsGraphOf,
 ghost use Rattle.regex_lite_engine.specs.Graph.Size.{Fits, IsDueToTree};
 ghost use Rattle.regex_lite_engine.specs.Graph.Places.{kept_back_of};
 ghost use Rattle.regex_lite_engine.specs.Graph.Stored.{places_of, table_of};
-ghost use Rattle.regex_lite_engine.specs.Search.Filters.{heads_of};
-ghost use Rattle.regex_lite_engine.specs.Search.Starts.{AreHeadsOf};
+ghost use Rattle.regex_lite_engine.specs.Search.Filters.{facts_of};
+ghost use Rattle.regex_lite_engine.specs.Search.Starts.{AreFactsOf, DoWordsAnswer};
 
 pub(crate) mod class;
 pub(crate) mod groups;
@@ -47,7 +47,8 @@ pub struct Graph {
 impl Model for Graph {
     ghost use Rattle.std.specs.Prelude.{◌<◌, IsTrue, length};
     ghost use Rattle.regex_lite_engine.specs.Graph.Stored.{StoredGraph, places_of};
-    ghost use Rattle.regex_lite_engine.specs.Search.Starts.{AreHeadsOf, NoneBeginsAtEnd};
+    ghost use Rattle.regex_lite_engine.specs.Search.Starts.{AreFactsOf, DoWordsAnswer};
+    ghost use Rattle.regex_lite_engine.specs.Search.Starts.{NoneBeginsAtEnd};
 
     ghost Value = { StoredGraph };
 
@@ -60,8 +61,9 @@ impl Model for Graph {
     } };
 
     ghost invariant = { λ graph. (graph.start < length graph.table.places)
-        × AreHeadsOf (places_of graph.table) graph.start graph.filter
-        × (IsTrue graph.reads → NoneBeginsAtEnd (places_of graph.table) graph.start) };
+        × AreFactsOf (places_of graph.table) graph.start graph.filter
+        × (IsTrue graph.reads → NoneBeginsAtEnd (places_of graph.table) graph.start)
+        × DoWordsAnswer (places_of graph.table) graph.start graph.filter };
 }
 
 impl Graph {
@@ -90,7 +92,7 @@ impl Graph {
         let groups = Groups::of(alloc, hir, &counts)?;
         let (places, start) = write_out(alloc, hir, count)?;
         let table = Table::new(places, counts.arrows(), counts.reading());
-        let filter = Filter::of(hir);
+        let filter = Filter::of(alloc, hir);
         Ok(Graph {
             table,
             start,
@@ -113,7 +115,8 @@ impl Graph {
 
     /// Where a match can begin.
     fn filter(&self) -> PatternFilter<'_>
-        ensures all { AreHeadsOf (table_of self.now) self.now.start (heads_of result) }
+        ensures all { AreFactsOf (table_of self.now) self.now.start (facts_of result) }
+        ensures answers { DoWordsAnswer (table_of self.now) self.now.start (facts_of result) }
         ensures inside { self.now.start < length self.now.places }
     {
         PatternFilter::Whole(&self.filter)
@@ -123,6 +126,8 @@ impl Graph {
     pub fn pattern(&self) -> OnePattern<'_>
         ensures table { places_of result.table.now ≡ table_of self.now }
         ensures entry { result.entry ≡ self.now.start }
+        ensures answers { DoWordsAnswer (places_of result.table.now) result.entry
+            (facts_of result.filter) }
     {
         OnePattern {
             table: &self.table,

@@ -12,3 +12,4 @@ pub mod pattern_filter;
 pub mod patterns;
 pub mod prefix;
 pub(crate) mod skip;
+mod word_search;

@@ -1,7 +1,9 @@
 //! Searches by themselves for one pattern, of a regex or alone in a list.
 ghost use Rattle.std.specs.Prelude.{IfOk, IsCharBoundary};
 ghost use Rattle.regex_lite_engine.specs.Graph.Stored.{places_of};
+ghost use Rattle.regex_lite_engine.specs.Search.Filters.{facts_of};
 ghost use Rattle.regex_lite_engine.specs.Search.OutcomeOfOne.{TellsEndOfOne, TellsOfOne};
+ghost use Rattle.regex_lite_engine.specs.Search.Starts.{DoWordsAnswer};
 
 use crate::lazy_dfa::single::one::{search_remembering, search_shortest_remembering};
 use crate::strategy::{Searched, Strategy, Wanted, choose};
@@ -23,10 +25,17 @@ pub(crate) fn search_one(
     start: usize,
     slots: usize,
 ) -> Result<(Option<Outcome>, Steps), AllocError>
-    requires { IsCharBoundary haystack.now start }
+    requires boundary { IsCharBoundary haystack.now start }
+    requires answers { DoWordsAnswer (places_of pattern.old.table.now) pattern.old.entry
+        (facts_of pattern.old.filter) }
     ensures { IfOk result (TellsOfOne (places_of pattern.old.table.now) pattern.old.entry
         haystack.now start slots) }
 {
+    if slots == 0 {
+        if let Some(told) = pattern.search_words(alloc, haystack, start) {
+            return Ok(told);
+        }
+    }
     let left = haystack.len() - start;
     let searched = Searched::one(pattern.table, pattern.filter);
     match choose(&searched, Wanted::Match { start }, slots, left) {

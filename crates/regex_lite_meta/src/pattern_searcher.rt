@@ -3,10 +3,12 @@ ghost use Rattle.std.specs.Prelude.{◌≡◌, ◌∷◌, [], IfOk, IfSome, IsCh
 ghost use Rattle.regex_lite_meta.specs.LazyDfa.Remembering.{RemembersFor};
 ghost use Rattle.regex_lite_meta.specs.Memories.{SearchesForOne};
 ghost use Rattle.regex_lite_engine.specs.Graph.Stored.{places_of};
+ghost use Rattle.regex_lite_engine.specs.Search.Filters.{facts_of};
 ghost use Rattle.regex_lite_engine.specs.Search.NumberedOutcomes.{IsNumberedEndOf, best_at};
 ghost use Rattle.regex_lite_engine.specs.Search.NumberedOutcomes.{IsNumberedOutcome};
 ghost use Rattle.regex_lite_engine.specs.Search.Offsets.{position_at};
 ghost use Rattle.regex_lite_engine.specs.Search.OutcomeOfOne.{ending_at};
+ghost use Rattle.regex_lite_engine.specs.Search.Starts.{DoWordsAnswer};
 
 use crate::lazy_dfa::automaton::LazyDfa;
 use crate::lazy_dfa::single::one::end_of;
@@ -65,6 +67,36 @@ impl PatternSearcher {
     /// Where the most preferred match starts and ends, from the least start at or after this
     /// offset. It needs no memory, and the row has the slots of the match.
     pub(crate) fn find(
+        &mut self,
+        pattern: &mut OnePattern<'_>,
+        haystack: &str,
+        start: usize,
+    ) -> Option<(usize, usize)>
+        requires boundary { IsCharBoundary haystack.now start }
+        requires searches { SearchesForOne (places_of pattern.old.table.now) pattern.old.entry
+            self.old }
+        requires answers { DoWordsAnswer (places_of pattern.old.table.now) pattern.old.entry
+            (facts_of pattern.old.filter) }
+        ensures found { IsNumberedOutcome (places_of pattern.old.table.now) (chars haystack.now)
+            pattern.old.entry (position_at haystack.now start)
+            (best_at result self.new.memory.cache.best.row) }
+        ensures searches { SearchesForOne (places_of pattern.old.table.now) pattern.old.entry
+            self.new }
+        ensures slots { length self.new.memory.cache.best.row
+            ≡ length self.old.memory.cache.best.row }
+    {
+        if self.row().is_empty() {
+            if let Some(words) = pattern.whole_words() {
+                return words.find_span(haystack.as_bytes(), start);
+            }
+        }
+        self.find_in_graph(pattern, haystack, start)
+    }
+
+    /// The same, whether the pattern is nothing but its words or not.
+    // Inlined, since a search in a short line takes few instructions.
+    #[inline(always)]
+    fn find_in_graph(
         &mut self,
         pattern: &mut OnePattern<'_>,
         haystack: &str,

@@ -7,7 +7,8 @@ pub use Rattle.std.proofs.Common.{None, Ok, Err, codes, MatchBool, All, Contains
 pub use Rattle.std.proofs.Common.{option_map, chars, Global, sym, refl, ap, ◌∙◌, subst, inl, inr}
 pub use Rattle.std.proofs.Common.{append_assoc, add-one, arith, length-append, rules, bit_and}
 pub use Rattle.std.proofs.Common.{bit_or, is_none, replicate, slice_get, slice_index}
-pub use Rattle.std.proofs.Common.{slice_index_or, slice_set, vec_capacity}
+pub use Rattle.std.proofs.Common.{slice_index_or, slice_set, vec_capacity, IfSome, MatchOption}
+pub use Rattle.std.proofs.Common.{IsCharBoundary, length-drop}
 pub use Rattle.std.proofs.Math.Bool.{or-false}
 pub use Rattle.std.proofs.lemmas.Bool.{and_from, and_parts, both_ways, eqb-false, eqb-true}
 pub use Rattle.std.proofs.lemmas.Bool.{false≢true, le-leb, leb-true, ne_eqb, not-true}
@@ -15,7 +16,7 @@ pub use Rattle.std.proofs.lemmas.Bool.{not_from_false, or_cases, or_left, or_par
 pub use Rattle.std.proofs.lemmas.Bool.{cases_eq, cases_lt}
 pub use Rattle.std.proofs.lemmas.Bool.Decides.{nat_tests}
 pub use Rattle.std.proofs.lemmas.List.{append-nil, drop_all, drop_more, get_or-drop, take_all}
-pub use Rattle.std.proofs.lemmas.List.{get_or-set_other}
+pub use Rattle.std.proofs.lemmas.List.{get_or-set_other, get_or-set_same}
 pub use Rattle.std.proofs.lemmas.List.Folds.{drop_split, list_all-append}
 pub use Rattle.std.proofs.lemmas.List.Sums.{AllPass-from_list_all, fold-append}
 pub use Rattle.std.proofs.lemmas.List.Sums.{list_all-from_AllPass}
@@ -89,6 +90,7 @@ pub use Rattle.regex_lite_syntax.specs.Parser.States.{frame_of, StepsTo, CanRead
 pub use Rattle.regex_lite_syntax.specs.Parser.States.{BeginsCapture, BeginsTooMany}
 pub use Rattle.regex_lite_syntax.specs.Prefilter.Bytes.{StandsBelow, is_among}
 pub use Rattle.regex_lite_syntax.specs.Prefilter.Heads.{Reads, ReadsEach}
+pub use Rattle.regex_lite_syntax.specs.Prefilter.Leaps.{IsReached, NeverPasses}
 pub use Rattle.regex_lite_syntax.specs.Prefilter.ListHeads.{AreEachHeadsOf, IsIndexOf, may_start}
 pub use Rattle.regex_lite_syntax.specs.Prefilter.Pairs.{begins_with_pair, has_pair, in_set}
 pub use Rattle.regex_lite_syntax.specs.Prefilter.Rows.{belongs, column, first_row, goes_on_with}
@@ -97,6 +99,8 @@ pub use Rattle.regex_lite_syntax.specs.Prefilter.Rows.{start_row}
 pub use Rattle.regex_lite_syntax.specs.Prefilter.Starts.{BeginsOrPasses, IsUnionOf, IsWider}
 pub use Rattle.regex_lite_syntax.specs.Prefilter.Starts.{MayBegin, begins_with, may_begin}
 pub use Rattle.regex_lite_syntax.specs.Prefilter.Thirds.{in_mask}
+pub use Rattle.regex_lite_syntax.specs.Prefilter.Words.{IsLetter, NoneStands}
+pub use Rattle.regex_lite_syntax.specs.Prefilter.Words.{StartsWith, word_at}
 pub use Rattle.regex_lite_syntax.specs.Ranges.{in_ranges, next_character, AreRuns, AreRunsOf}
 pub use Rattle.regex_lite_syntax.specs.Refusals.{NoReading, Refuses, Denies, Completable}
 pub use Rattle.regex_lite_syntax.specs.Refusals.{IfCutShort}
@@ -120,3 +124,4 @@ pub use Rattle.regex_lite_syntax.specs.declared.parse.fault.Stop.{Stop}
 pub use Rattle.regex_lite_syntax.specs.declared.prefilter.heads.Heads.{Heads}
 pub use Rattle.regex_lite_syntax.specs.declared.prefilter.list_heads.ListHeads.{ListHeads}
 pub use Rattle.regex_lite_syntax.specs.declared.prefilter.starts.Starts.{Starts}
+pub use Rattle.regex_lite_syntax.specs.declared.prefilter.words.letter.Letter.{Letter}

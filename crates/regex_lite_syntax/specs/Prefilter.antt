@@ -6,3 +6,12 @@ pub mod Pairs
 pub mod ListHeads
 pub mod Thirds
 pub mod Bytes
+-- Words with which matches begin, and how they are found.
+pub mod Words
+pub mod WholeWords
+pub mod WordLists
+pub mod WordWalk
+pub mod Leaps
+pub mod Finders
+-- The characters and the words together.
+pub mod StartFacts

@@ -2,7 +2,8 @@
 //!
 //! [`Starts`] are the possible first characters, and [`Heads`] also the second ones. A [`Filter`]
 //! has them with a [`Prefilter`], if few bytes begin a match: it compares a block of the haystack
-//! with all of them at once. [`ListHeads`] is an index of several trees: which of them may match
+//! with all of them at once. Where each match begins with one of some [`Words`], these are looked
+//! for instead. [`ListHeads`] is an index of several trees: which of them may match
 //! from a position.
 ghost use Rattle.std.specs.Prelude.{◌≡◌, ◌≤◌, ◌<◌, ◌+◌, ◌*◌, ℕ, IfSome};
 ghost use Rattle.std.specs.Prelude.{IsTrue, false, true, length, slice_index};
@@ -20,11 +21,13 @@ mod filter;
 mod heads;
 pub mod list_heads;
 mod starts;
+pub mod words;
 
 pub use filter::Filter;
 pub use heads::Heads;
 pub use list_heads::ListHeads;
 pub use starts::Starts;
+pub use words::Words;
 
 /// The bytes with which a match begins. If there is room for more, one of them is repeated.
 #[derive(Clone, Copy)]

@@ -10,3 +10,4 @@ pub mod RankLemmas
 pub mod RankedWalkLemmas
 pub mod ReadingLemmas
 pub mod WholeListLemmas
+pub mod WordEntryLemmas

@@ -16,11 +16,16 @@ use Rattle.std.proofs.lemmas.Option.{get_or_from_slice_get}
 use Rattle.std.proofs.Common.{MatchOption}
 use Rattle.regex_lite_engine.specs.Graph.Places.{Place}
 use Rattle.regex_lite_engine.specs.Graph.SideBySide.{AreRegularPatterns}
-use Rattle.regex_lite_engine.specs.Search.Starts.{AreFiltersOf, AreHeadsOf, NoneBeginsAtEnd}
+use Rattle.regex_lite_engine.specs.Search.Starts.{AreFiltersOf, AreFactsOf, NoneBeginsAtEnd}
+use Rattle.regex_lite_engine.specs.Search.Starts.{DoWordsAnswer}
 use Rattle.regex_lite_engine.specs.Search.Starts.{AreAllAtEnd, AreReading, TellReading}
 use Rattle.regex_lite_engine.specs.Search.Starts.{may_be_empty}
 use Rattle.regex_lite_syntax.specs.Prefilter.Heads.{AreSecondOfTree, AreHeadsOfTree}
-use Rattle.regex_lite_syntax.specs.Prefilter.ListHeads.{AreEachHeadsOf, AreHeadsOfTrees}
+use Rattle.regex_lite_syntax.specs.Prefilter.ListHeads.{AreHeadsOfTrees}
+use Rattle.regex_lite_syntax.specs.Prefilter.StartFacts.{AreEachFactsOf, AreFactsOfTree}
+use Rattle.regex_lite_syntax.specs.Prefilter.StartFacts.{NeverStarts, NoneStandsIn, StartFacts}
+use Rattle.regex_lite_syntax.specs.Prefilter.Words.{AreWordsOfTree}
+use Rattle.regex_lite_syntax.specs.declared.prefilter.words.letter.Letter.{Letter}
 use Rattle.regex_lite_syntax.proofs.prefilter.list_heads.IndexLemmas.{walkable}
 use Rattle.regex_lite_syntax.proofs.prefilter.list_heads.ThirdLemmas.{stuck_matches}
 use Rattle.regex_lite_syntax.proofs.prefilter.list_heads.TreeLemmas.{left_out_matches, none_matches}
@@ -33,6 +38,7 @@ use Rattle.regex_lite_engine.proofs.laws.list.ReadingLemmas.{reads}
 use Rattle.regex_lite_engine.proofs.laws.PatternWayLemmas.{walk_match, one_or_two_pairs}
 use Rattle.regex_lite_engine.proofs.laws.search.NumberedWayLemmas.{IsPart, IsPartNumber, whole_part}
 use Rattle.regex_lite_engine.proofs.laws.search.NumberedWayLemmas.{whole_number, in_addresses}
+use Rattle.regex_lite_engine.proofs.nfa.WholeWordLemmas.{words_answer}
 use Rattle.regex_lite_syntax.proofs.LookupLemmas.{there_is}
 use Rattle.regex_lite_syntax.proofs.prefilter.list_heads.WalkLemmas.{filter_at_most}
 use Rattle.regex_lite_engine.proofs.search.list_patterns.ListStartLemmas.{all_below, tested_start}
@@ -72,13 +78,38 @@ never_matches tree heads of_tree haystack i (inr off) j m =
     by_second None told off = off
     by_second (Some second) told off = off (told haystack i j m)
 
--- the heads of a tree are those of its written-out places
-pub written_heads : (tree : Tree) → IsRegular tree → (table : List (Place ℕ)) (start : ℕ)
-    → table ≡ pattern_table tree 0 → start ≡ (pattern_layout tree 0).1 → (heads : Heads)
-    → AreHeadsOfTree tree heads → AreHeadsOf table start heads
-written_heads tree regular table start table_is start_is heads of_tree haystack i never =
+-- none matches where what is known of the tree rules it out
+never_starts : (tree : Tree) (facts : StartFacts) → AreFactsOfTree tree facts → (haystack : Text)
+    (i : ℕ) → NeverStarts facts haystack i → (j : ℕ) → Matches haystack tree i j → ⊥
+never_starts tree facts of_tree haystack i (inl never) j m =
+    never_matches tree facts.heads of_tree.heads haystack i never j m
+never_starts tree facts of_tree haystack i (inr none) j m = by_words facts.words of_tree.words none
+  where
+    by_words : (o : Option (List (List Letter))) → IfSome o (AreWordsOfTree tree)
+        → MatchOption o ⊥ (λ words. NoneStandsIn words haystack i) → ⊥
+    by_words None told none = none
+    by_words (Some words) told none = none (told haystack i j m)
+
+-- what is known of a tree is so of its written-out places
+pub written_facts : (tree : Tree) → IsRegular tree → (table : List (Place ℕ)) (start : ℕ)
+    → table ≡ pattern_table tree 0 → start ≡ (pattern_layout tree 0).1 → (facts : StartFacts)
+    → AreFactsOfTree tree facts → AreFactsOf table start facts
+written_facts tree regular table start table_is start_is facts of_tree haystack i never =
     rw (table_is, start_is) (dead_in_pattern tree regular haystack i
-    (never_matches tree heads of_tree haystack i never))
+    (never_starts tree facts of_tree haystack i never))
+
+-- and if the tree is nothing but its words, so are its places
+pub written_answers : (tree : Tree) → IsRegular tree → (table : List (Place ℕ)) (start : ℕ)
+    → table ≡ pattern_table tree 0 → start ≡ (pattern_layout tree 0).1 → (facts : StartFacts)
+    → AreFactsOfTree tree facts → DoWordsAnswer table start facts
+written_answers tree regular table start table_is start_is facts of_tree all =
+    let name = whole_names tree regular in
+    let places = pattern_table tree 0 in
+    let first = (pattern_layout tree 0).1 in
+    rw (table_is, start_is) (words_answer tree regular places first name
+    (λ q. q < length places) (whole_part (written_out tree) name places (renumbered tree regular))
+    (whole_number name places start_address first (starts_there tree regular)) facts.words
+    of_tree.words (of_tree.all all))
 
 -- where each match reads a character, none begins at the end
 pub none_at_end : (tree : Tree) → IsRegular tree → (table : List (Place ℕ)) (start : ℕ)
@@ -113,15 +144,24 @@ module _ (trees : List Tree) (regular : AreRegularPatterns trees) (name : ℕ �
       (entry_of_part trees number own.0 own.1 name table written entry own.2)
       (regular number own.0 own.1) i none
 
-  -- the heads of the trees are those of the places where the patterns are entered
-  pub listed_filters : length entries ≡ length trees → (filters : List Heads)
-      → AreEachHeadsOf trees filters → AreFiltersOf table entries filters
+  -- what is known of the trees is so of the places where the patterns are entered
+  pub listed_filters : length entries ≡ length trees → (filters : List StartFacts)
+      → AreEachFactsOf trees filters → AreFiltersOf table entries filters
   listed_filters all filters w = record {
     all = w.all ∙ sym all;
     each = λ number entry filter is there haystack i never. (
         let own = are.of_pattern number entry is in
         dead number entry is haystack i
-        (never_matches own.0 filter (w.each number own.0 filter own.1 there) haystack i never));
+        (never_starts own.0 filter (w.each number own.0 filter own.1 there) haystack i never));
+    answers = λ number entry filter is there whole. (
+        let own = are.of_pattern number entry is in
+        let told = w.each number own.0 filter own.1 there in
+        words_answer own.0 (regular number own.0 own.1) table entry
+        (name_in_pattern trees number own.0 own.1 name table written)
+        (InPattern trees number own.0 own.1 name table written)
+        (part_of_list trees number own.0 own.1 name table written)
+        (entry_of_part trees number own.0 own.1 name table written entry own.2)
+        filter.words told.words (told.all whole));
   }
 
   -- those of which each match reads a character

@@ -5,10 +5,15 @@ use Rattle.regex_lite_engine.proofs.Common.{chars, sym, ap, ◌∙◌, subst, in
 use Rattle.regex_lite_engine.proofs.Common.{mul-le-mul_left, cases_eq, cases_lt, Text, NeverBegins}
 use Rattle.regex_lite_engine.proofs.Common.{IsPassed, stops_at, MayBegin, offset, IsHere, PassesTo}
 use Rattle.regex_lite_engine.proofs.Common.{Heads, Starts, Here}
-use Rattle.std.proofs.Common.{MatchOption}
+use Rattle.regex_lite_engine.proofs.Common.{IfSome, drop, encodes-chars}
+use Rattle.std.proofs.Common.{MatchOption, encode_utf8_all}
+use Rattle.regex_lite_syntax.specs.Prefilter.StartFacts.{NoneStandsIn}
+use Rattle.regex_lite_syntax.specs.Prefilter.Words.{AnyStandsAt, NoneStands}
+use Rattle.regex_lite_syntax.specs.declared.prefilter.words.letter.Letter.{Letter}
+use Rattle.regex_lite_engine.specs.Search.Starts.{SkipsTo}
 use Rattle.regex_lite_syntax.specs.Prefilter.Heads.{IsCutOff}
 use Rattle.regex_lite_syntax.proofs.LookupLemmas.{there_is}
-use Rattle.regex_lite_engine.proofs.OffsetLemmas.{offset_less, positions_order}
+use Rattle.regex_lite_engine.proofs.OffsetLemmas.{offset_less, positions_order, rest_at}
 use Rattle.regex_lite_engine.proofs.search.FirstByteLemmas.{begins_later, first_byte, second_off}
 use Rattle.regex_lite_engine.proofs.search.FirstByteLemmas.{whole}
 
@@ -108,6 +113,25 @@ passes_as Passed Other h p x each w = record {
   is = w.is;
   passed = λ i low high. each i (w.passed i low high);
 }
+
+pub skips_as : (Passed Other : ℕ → Type 0) (bs : List ℕ) (p : ℕ) (next : Option ℕ)
+    → ((i : ℕ) → Passed i → Other i) → IfSome next (SkipsTo Passed bs p)
+    → IfSome next (SkipsTo Other bs p)
+skips_as Passed Other bs p None each none = none
+skips_as Passed Other bs p (Some at) each skips = λ here same is.
+    passes_as Passed Other (chars bs) p here each (skips here same is)
+
+-- no word stands at the positions that a search passes over, since none does at their offsets
+pub passes_words : (words : List (List Letter)) (bs : List ℕ) {p q : ℕ} {x y : Here} → IsUtf8 bs
+    → IsHere (chars bs) p x → IsHere (chars bs) q y → x.at ≤ y.at
+    → NoneStands words bs x.at y.at
+    → PassesTo (NoneStandsIn words (chars bs)) (chars bs) p y
+passes_words words bs utf8 is js le none =
+    passes_where is js le (λ i low within from below stands. none (offset (chars bs) i) from below
+    (subst (λ (rest : List ℕ). AnyStandsAt words rest 0) (sym (rest i)) stands))
+  where
+    rest : (i : ℕ) → drop (offset (chars bs) i) bs ≡ encode_utf8_all (drop i (chars bs))
+    rest i = ap (drop (offset (chars bs) i)) (sym (encodes-chars bs utf8)) ∙ rest_at (chars bs) i
 
 -- a bound up to a position holds up to a later one
 pub bound_later : (a p q s m : ℕ) → p ≤ q → a ≤ m * (p - s) → a ≤ m * (q - s)

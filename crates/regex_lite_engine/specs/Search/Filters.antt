@@ -1,5 +1,6 @@
 -- Where matches of one pattern can begin, as a search takes it and as a list keeps it.
-use Rattle.regex_lite_syntax.specs.declared.prefilter.heads.Heads.{Heads}
+use Rattle.std.specs.Prelude.{ℕ, None, false}
+use Rattle.regex_lite_syntax.specs.Prefilter.StartFacts.{StartFacts}
 use Rattle.regex_lite_engine.specs.declared.search.own_filter.OwnFilter.{OwnFilter}
 use Rattle.regex_lite_engine.specs.declared.search.own_filter.OwnFilter.TheVariants as own
 use Rattle.regex_lite_engine.specs.declared.search.pattern_filter.PatternFilter.{PatternFilter}
@@ -9,12 +10,20 @@ use Rattle.regex_lite_engine.specs.declared.search.pattern_filter.PatternFilter.
 }
 use Rattle.regex_lite_engine.specs.Search.Prefixes.{prefix_heads}
 
--- the heads that a search's filter stands for
-abbrev pub heads_of : PatternFilter → Heads
-heads_of (Literal prefix) = prefix_heads prefix.first prefix.second
-heads_of (Whole filter) = filter.now
+-- two characters with which each match begins
+abbrev pub prefix_facts : (first second : ℕ) → StartFacts
+prefix_facts first second = record {
+  heads = prefix_heads first second;
+  words = None;
+  are_all = false;
+}
 
--- and those that the filter of a list's pattern stands for
-abbrev pub own_heads_of : OwnFilter → Heads
-own_heads_of (own.Literal prefix) = prefix_heads prefix.first prefix.second
-own_heads_of (own.Whole filter) = filter.value
+-- what a search's filter tells
+abbrev pub facts_of : PatternFilter → StartFacts
+facts_of (Literal prefix) = prefix_facts prefix.first prefix.second
+facts_of (Whole filter) = filter.now
+
+-- and what the filter of a list's pattern tells
+abbrev pub own_facts_of : OwnFilter → StartFacts
+own_facts_of (own.Literal prefix) = prefix_facts prefix.first prefix.second
+own_facts_of (own.Whole filter) = filter.value

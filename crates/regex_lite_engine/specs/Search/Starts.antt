@@ -1,22 +1,24 @@
 -- Where a match can begin in a graph, and the positions that a search passes over.
 use Rattle.std.specs.Prelude.{◌≡◌, ◌≤◌, ◌<◌, ◌^◌, ◌⊎◌, ℕ, suc, Bool, false, true, not, All}
 use Rattle.std.specs.Prelude.{List, [], ◌∷◌, length, map, slice_get, slice_index, slice_index_or}
-use Rattle.std.specs.Prelude.{Some, chars}
+use Rattle.std.specs.Prelude.{IfSome, IsCharBoundary, IsTrue, IsUtf8, Option, Some, chars}
 use Rattle.regex_lite_syntax.specs.Text.{Text, after}
 use Rattle.regex_lite_syntax.specs.Tree.{Tree}
 use Rattle.regex_lite_syntax.specs.Tree.Properties.{nullable}
-use Rattle.regex_lite_syntax.specs.declared.prefilter.heads.Heads.{Heads}
 use Rattle.regex_lite_syntax.specs.declared.prefilter.list_heads.ListHeads.{ListHeads}
 use Rattle.regex_lite_engine.specs.declared.search.here.Here.{Here}
 use Rattle.regex_lite_engine.specs.declared.search.patterns.Start.{Start}
 use Rattle.regex_lite_engine.specs.Graph.Places.{Place}
-use Rattle.regex_lite_syntax.specs.Prefilter.Heads.{NeverBegins}
+use Rattle.regex_lite_syntax.specs.Prefilter.StartFacts.{NeverStarts, StartFacts}
+use Rattle.regex_lite_syntax.specs.declared.prefilter.words.letter.Letter.{Letter}
+use Rattle.regex_lite_syntax.specs.Prefilter.WholeWords.{IsNextSpan}
 use Rattle.regex_lite_syntax.specs.Prefilter.ListHeads.{may_start_at, IsWalkable}
 use Rattle.regex_lite_syntax.specs.Prefilter.Starts.{MayBegin}
 use Rattle.regex_lite_syntax.specs.Prefilter.Thirds.{may_go_on}
 use Rattle.regex_lite_engine.specs.Search.Explored.{IsDead}
 use Rattle.regex_lite_engine.specs.Search.NumberedAnswer.{numbered_step, is_end}
 use Rattle.regex_lite_engine.specs.Search.NumberedList.{IsEntry}
+use Rattle.regex_lite_engine.specs.Search.NumberedOutcomes.{IsNumberedOutcome, best_at}
 use Rattle.regex_lite_engine.specs.Search.Offsets.{position_at}
 use Rattle.regex_lite_engine.specs.Search.Standing.{IsHere}
 
@@ -60,17 +62,31 @@ pub record AreAllStarts (table : List (Place ℕ)) (entries : List ℕ) (starts 
     pub few : length starts ≤ length entries
     pub countable : length starts < 2 ^ 32
 
--- no way from the start leads to a complete match where none can begin
-abbrev pub AreHeadsOf : List (Place ℕ) → (start : ℕ) → Heads → Type 0
-AreHeadsOf table start heads =
-    (haystack : Text) (i : ℕ) → NeverBegins heads haystack i → IsDeadAt table haystack start i
+-- wherever a search starts, what it finds is the next of the words
+abbrev pub IsAnsweredBy : List (Place ℕ) → (start : ℕ) → (words : List (List Letter)) → Type 0
+IsAnsweredBy table start words =
+    (bytes : List ℕ) (from : ℕ) (span : Option (ℕ × ℕ)) → IsUtf8 bytes → IsCharBoundary bytes from
+    → IsNextSpan words bytes from span
+    → IsNumberedOutcome table (chars bytes) start (position_at bytes from) (best_at span [])
 
--- of each of several patterns these are the heads
-pub record AreFiltersOf (table : List (Place ℕ)) (entries : List ℕ) (filters : List Heads) : Type 0
-  where
-    pub all : length filters ≡ length entries
-    pub each : (number entry : ℕ) (filter : Heads) → IsEntry entries number entry
-        → slice_get filters number ≡ Some filter → AreHeadsOf table entry filter
+-- if the pattern is nothing but its words, they answer searches
+abbrev pub DoWordsAnswer : List (Place ℕ) → (start : ℕ) → StartFacts → Type 0
+DoWordsAnswer table start facts =
+    IsTrue facts.are_all → IfSome facts.words (IsAnsweredBy table start)
+
+-- no way from the start leads to a complete match where none can begin
+abbrev pub AreFactsOf : List (Place ℕ) → (start : ℕ) → StartFacts → Type 0
+AreFactsOf table start facts =
+    (haystack : Text) (i : ℕ) → NeverStarts facts haystack i → IsDeadAt table haystack start i
+
+-- this is known of each of several patterns
+pub record AreFiltersOf (table : List (Place ℕ)) (entries : List ℕ) (filters : List StartFacts)
+    : Type 0 where
+  pub all : length filters ≡ length entries
+  pub each : (number entry : ℕ) (filter : StartFacts) → IsEntry entries number entry
+      → slice_get filters number ≡ Some filter → AreFactsOf table entry filter
+  pub answers : (number entry : ℕ) (filter : StartFacts) → IsEntry entries number entry
+      → slice_get filters number ≡ Some filter → DoWordsAnswer table entry filter
 
 -- no way from the start leads to a complete match at the haystack's end
 abbrev pub NoneBeginsAtEnd : List (Place ℕ) → (start : ℕ) → Type 0

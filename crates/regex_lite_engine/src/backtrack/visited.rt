@@ -17,7 +17,7 @@ const BLOCK: usize = 16;
 
 /// A bit for each pair, in words of 64.
 #[derive(Drop)]
-enum Words {
+enum BitWords {
     Few([u64; FEW]),
     /// As many as a search has reached. There is capacity for all; those after the last count as 0.
     Many(Vec<u64>),
@@ -26,7 +26,7 @@ enum Words {
 /// Which pairs were entered. It is never cleared: entering a pair again cannot help a search.
 #[derive(Drop)]
 pub struct Visited {
-    words: Words,
+    words: BitWords,
     /// The number of pairs.
     count: usize,
     /// There is memory for this number of pairs.
@@ -36,20 +36,20 @@ pub struct Visited {
     first: usize,
 }
 
-impl Words {
+impl BitWords {
     /// Words for this number of pairs, each 0.
     // Inlined, since the few words would otherwise be copied.
     #[inline(always)]
-    fn for_pairs(alloc: Global, count: usize) -> Result<Words, AllocError>
+    fn for_pairs(alloc: Global, count: usize) -> Result<BitWords, AllocError>
         ensures none { IfOk result (λ words. bits_of (words_of words) count
             ≡ replicate count false) }
         ensures room { IfOk result (λ words. count ≤ 64 * room_of words) }
     {
         if count <= 64 * FEW {
-            return Ok(Words::Few([0; FEW]));
+            return Ok(BitWords::Few([0; FEW]));
         }
         let words = Vec::with_capacity(alloc, count.div_ceil(64))?;
-        Ok(Words::Many(words))
+        Ok(BitWords::Many(words))
     }
 
     /// Makes all words 0. Their memory is kept.
@@ -58,8 +58,8 @@ impl Words {
         ensures room { room_of self.old ≤ room_of self.new }
     {
         match self {
-            Words::Few(words) => words.fill(0),
-            Words::Many(words) => words.clear(),
+            BitWords::Few(words) => words.fill(0),
+            BitWords::Many(words) => words.clear(),
         }
     }
 }
@@ -99,7 +99,7 @@ impl Visited {
         let columns = (last - first).checked_add(1).ok_or(AllocError)?;
         let count = places.checked_mul(columns).ok_or(AllocError)?;
         Ok(Visited {
-            words: Words::for_pairs(alloc, count)?,
+            words: BitWords::for_pairs(alloc, count)?,
             count,
             room: count,
             places,
@@ -112,7 +112,7 @@ impl Visited {
         ensures { IfOk result (λ visited. visited.room ≡ pairs) }
     {
         Ok(Visited {
-            words: Words::for_pairs(alloc, pairs)?,
+            words: BitWords::for_pairs(alloc, pairs)?,
             count: 0,
             room: pairs,
             places: 0,
@@ -152,8 +152,8 @@ impl Visited {
     {
         let pair = (at - self.first) * self.places + place as usize;
         match &mut self.words {
-            Words::Few(words) => set_bit(words, pair),
-            Words::Many(words) => set_bit_beyond(words, pair),
+            BitWords::Few(words) => set_bit(words, pair),
+            BitWords::Many(words) => set_bit_beyond(words, pair),
         }
     }
 }

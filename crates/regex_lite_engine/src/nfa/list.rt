@@ -6,8 +6,7 @@ ghost use Rattle.regex_lite_syntax.specs.declared.error.ErrorKind.TheVariants.{P
 ghost use Rattle.regex_lite_syntax.specs.Errors.{kind_of, out_of_memory};
 ghost use Rattle.regex_lite_syntax.specs.Tree.Regular.{IsRegular};
 ghost use Rattle.regex_lite_syntax.specs.Tree.Views.{tree_of};
-ghost use Rattle.regex_lite_syntax.specs.Prefilter.Heads.{AreHeadsOfTree};
-ghost use Rattle.regex_lite_syntax.specs.Prefilter.ListHeads.{AreEachHeadsOf};
+ghost use Rattle.regex_lite_syntax.specs.Prefilter.StartFacts.{AreEachFactsOf, AreFactsOfTree};
 ghost use Rattle.regex_lite_engine.specs.Graph.PlaceCounts.{whole_places};
 ghost use Rattle.regex_lite_engine.specs.Graph.Renumbered.{arrows_of};
 ghost use Rattle.regex_lite_engine.specs.Graph.Stored.{places_of};
@@ -15,8 +14,9 @@ ghost use Rattle.regex_lite_engine.specs.Graph.SideBySide.{AreRegularPatterns, p
 ghost use Rattle.regex_lite_engine.specs.Graph.Size.{Fits, IsDueToTree};
 ghost use Rattle.regex_lite_engine.specs.Graph.StoredList.{HasGroupsOfList, IsGraphOfList};
 ghost use Rattle.regex_lite_engine.specs.Graph.StoredList.{TellGroupsOf, table_of_list};
-ghost use Rattle.regex_lite_engine.specs.Search.Filters.{own_heads_of};
+ghost use Rattle.regex_lite_engine.specs.Search.Filters.{facts_of, own_facts_of};
 ghost use Rattle.regex_lite_engine.specs.Search.Starts.{AreAllAtEnd, AreListHeadsOf};
+ghost use Rattle.regex_lite_engine.specs.Search.Starts.{DoWordsAnswer};
 ghost use Rattle.regex_lite_engine.specs.Search.Starts.{may_be_empty, TellReading};
 
 use crate::count::Counts;
@@ -55,7 +55,7 @@ impl Model for GraphList {
     ghost use Rattle.std.specs.Prelude.{◌<◌, ◌^◌, All, length, map};
     ghost use Rattle.regex_lite_engine.specs.Graph.Stored.{places_of};
     ghost use Rattle.regex_lite_engine.specs.Graph.StoredList.{StoredList};
-    ghost use Rattle.regex_lite_engine.specs.Search.Filters.{own_heads_of};
+    ghost use Rattle.regex_lite_engine.specs.Search.Filters.{own_facts_of};
     ghost use Rattle.regex_lite_engine.specs.Search.Starts.{AreAllAtEnd, AreFiltersOf};
     ghost use Rattle.regex_lite_engine.specs.Search.Starts.{AreListHeadsOf, AreReading};
 
@@ -73,7 +73,7 @@ impl Model for GraphList {
         × (length list.entries.items < 2 ^ 32)
         × AreListHeadsOf (places_of list.table) list.entries.items list.heads
         × AreFiltersOf (places_of list.table) list.entries.items
-        (map own_heads_of list.filters.items)
+        (map own_facts_of list.filters.items)
         × AreReading (places_of list.table) list.entries.items list.reads.items
         × AreAllAtEnd (places_of list.table) list.entries.items list.at_end.items };
 }
@@ -174,6 +174,8 @@ impl GraphList {
         requires { number < length self.now.entries }
         ensures table { places_of result.table.now ≡ table_of_list self.now }
         ensures entry { result.entry ≡ slice_index self.now.entries number }
+        ensures answers { DoWordsAnswer (places_of result.table.now) result.entry
+            (facts_of result.filter) }
     {
         OnePattern {
             table: &self.table,
@@ -189,6 +191,8 @@ impl GraphList {
         ensures table { IfSome result
             (λ one. places_of one.table.now ≡ table_of_list self.now) }
         ensures entry { IfSome result (λ one. self.now.entries ≡ one.entry ∷ []) }
+        ensures answers { IfSome result (λ one. DoWordsAnswer (places_of one.table.now) one.entry
+            (facts_of one.filter)) }
     {
         if self.entries.len() == 1 {
             Some(self.pattern(0))
@@ -257,8 +261,8 @@ fn groups_of(alloc: Global, hirs: &[Measured]) -> Result<Vec<Groups>, AllocError
 ///
 /// If memory runs out.
 fn filters_of(alloc: Global, hirs: &[Measured]) -> Result<Vec<OwnFilter>, AllocError>
-    ensures { IfOk result (λ filters. AreEachHeadsOf (map tree_of hirs.now)
-        (map own_heads_of filters.items)) }
+    ensures { IfOk result (λ filters. AreEachFactsOf (map tree_of hirs.now)
+        (map own_facts_of filters.items)) }
 {
     let mut filters = Vec::with_capacity(alloc, hirs.len())?;
     for hir in hirs {
@@ -273,7 +277,7 @@ fn filters_of(alloc: Global, hirs: &[Measured]) -> Result<Vec<OwnFilter>, AllocE
 ///
 /// If memory runs out.
 fn filter_of(alloc: Global, hir: &Hir, trees: usize) -> Result<OwnFilter, AllocError>
-    ensures { IfOk result (λ filter. AreHeadsOfTree (tree_of hir.now) (own_heads_of filter)) }
+    ensures { IfOk result (λ filter. AreFactsOfTree (tree_of hir.now) (own_facts_of filter)) }
 {
     if trees == 1 {
         OwnFilter::whole(alloc, hir)

@@ -1,13 +1,15 @@
 //! One pattern, which is searched for by itself.
-ghost use Rattle.std.specs.Prelude.{◌≡◌, ◌<◌, IsTrue, length, true};
+ghost use Rattle.std.specs.Prelude.{◌≡◌, ◌<◌, IfSome, IsTrue, length, true};
 ghost use Rattle.regex_lite_engine.specs.Graph.Stored.{places_of};
-ghost use Rattle.regex_lite_engine.specs.Search.Filters.{heads_of};
-ghost use Rattle.regex_lite_engine.specs.Search.Starts.{AreHeadsOf, NoneBeginsAtEnd};
+ghost use Rattle.regex_lite_engine.specs.Search.Filters.{facts_of};
+ghost use Rattle.regex_lite_engine.specs.Search.Starts.{AreFactsOf, DoWordsAnswer, IsAnsweredBy};
+ghost use Rattle.regex_lite_engine.specs.Search.Starts.{NoneBeginsAtEnd};
 
 use crate::nfa::table::Table;
 use crate::search::here::Here;
 use crate::search::pattern_filter::PatternFilter;
 use crate::search::patterns::{Patterns, Start};
+use regex_lite_syntax::prefilter::Words;
 
 /// A pattern of a graph, which may have others, and whether it may start at the position reached
 /// last.
@@ -23,7 +25,7 @@ pub struct OnePattern<'g> {
     /// At first it may start nowhere.
     pub may_start: bool,
     pub ghost inside: { entry < length (places_of table.now) },
-    pub ghost heads: { AreHeadsOf (places_of table.now) entry (heads_of filter) },
+    pub ghost facts: { AreFactsOf (places_of table.now) entry (facts_of filter) },
     pub ghost ends: { IsTrue reads → NoneBeginsAtEnd (places_of table.now) entry },
 }
 
@@ -38,6 +40,18 @@ impl<'g> OnePattern<'g> {
         let mut all = *self;
         all.may_start = true;
         all
+    }
+
+    /// The words of the pattern, if each match is one of them, and nothing else. Then the next of
+    /// them is what a search finds.
+    #[inline(always)]
+    pub fn whole_words(&self) -> Option<&'g Words>
+        requires { DoWordsAnswer (places_of self.now.table.now) self.now.entry
+            (facts_of self.now.filter) }
+        ensures { IfSome result (λ words.
+            IsAnsweredBy (places_of self.now.table.now) self.now.entry words.now) }
+    {
+        self.filter.whole_words()
     }
 }
 

@@ -1,8 +1,8 @@
 //! Where a match of one of several patterns can begin, in little memory.
 ghost use Rattle.std.specs.Prelude.{◌≡◌, IfOk};
 ghost use Rattle.regex_lite_syntax.specs.Tree.Views.{tree_of};
-ghost use Rattle.regex_lite_syntax.specs.Prefilter.Heads.{AreHeadsOfTree};
-ghost use Rattle.regex_lite_engine.specs.Search.Filters.{heads_of, own_heads_of};
+ghost use Rattle.regex_lite_syntax.specs.Prefilter.StartFacts.{AreFactsOfTree};
+ghost use Rattle.regex_lite_engine.specs.Search.Filters.{facts_of, own_facts_of};
 
 use crate::search::pattern_filter::PatternFilter;
 use crate::search::prefix::Prefix;
@@ -27,7 +27,7 @@ impl OwnFilter {
     ///
     /// If memory runs out.
     pub(crate) fn of(alloc: Global, hir: &Hir) -> Result<OwnFilter, AllocError>
-        ensures { IfOk result (λ filter. AreHeadsOfTree (tree_of hir.now) (own_heads_of filter)) }
+        ensures { IfOk result (λ filter. AreFactsOfTree (tree_of hir.now) (own_facts_of filter)) }
     {
         if let Some(prefix) = Prefix::of(hir) {
             return Ok(OwnFilter::Literal(prefix));
@@ -41,15 +41,15 @@ impl OwnFilter {
     ///
     /// If memory runs out.
     pub(crate) fn whole(alloc: Global, hir: &Hir) -> Result<OwnFilter, AllocError>
-        ensures { IfOk result (λ filter. AreHeadsOfTree (tree_of hir.now) (own_heads_of filter)) }
+        ensures { IfOk result (λ filter. AreFactsOfTree (tree_of hir.now) (own_facts_of filter)) }
     {
-        let filter = Box::new(alloc, Filter::of(hir))?;
+        let filter = Box::new(alloc, Filter::of(alloc, hir))?;
         Ok(OwnFilter::Whole(filter))
     }
 
     /// It, as searches take it.
     pub(crate) fn view(&self) -> PatternFilter<'_>
-        ensures { heads_of result ≡ own_heads_of self.now }
+        ensures { facts_of result ≡ own_facts_of self.now }
     {
         match self {
             OwnFilter::Literal(prefix) => PatternFilter::Literal(*prefix),

@@ -1,15 +1,15 @@
 //! Where a match of one pattern can begin.
-ghost use Rattle.std.specs.Prelude.{◌≡◌, ℕ, IfSome, IsTrue, false, chars, IsCharBoundary};
-ghost use Rattle.regex_lite_syntax.specs.Prefilter.Heads.{NeverBegins};
+ghost use Rattle.std.specs.Prelude.{◌≡◌, ℕ, IfSome, IsTrue, Some, false, chars, IsCharBoundary};
+ghost use Rattle.regex_lite_syntax.specs.Prefilter.StartFacts.{NeverStarts};
 ghost use Rattle.regex_lite_syntax.specs.Prefilter.Starts.{may_begin};
-ghost use Rattle.regex_lite_engine.specs.Search.Filters.{heads_of};
+ghost use Rattle.regex_lite_engine.specs.Search.Filters.{facts_of};
 ghost use Rattle.regex_lite_engine.specs.Search.Standing.{IsHere};
 ghost use Rattle.regex_lite_engine.specs.Search.Starts.{PassesTo, SkipsTo};
 
 use crate::search::here::Here;
 use crate::search::prefix::Prefix;
 use crate::search::skip::next_start;
-use regex_lite_syntax::prefilter::Filter;
+use regex_lite_syntax::prefilter::{Filter, Words};
 
 /// What is known of the positions at which a match of a pattern can begin.
 #[derive(Clone, Copy)]
@@ -28,7 +28,7 @@ impl<'g> PatternFilter<'g> {
     #[inline(always)]
     pub(crate) fn may_begin(self, here: Here) -> bool
         ensures { result ≡ false
-            → may_begin (heads_of self.entry).first here.before here.after ≡ false }
+            → may_begin (facts_of self.entry).heads.first here.before here.after ≡ false }
     {
         match self {
             PatternFilter::Whole(filter) => {
@@ -44,7 +44,7 @@ impl<'g> PatternFilter<'g> {
     pub(crate) fn skip(self, haystack: &str, here: Here) -> Option<Here>
         requires { (p : ℕ) × IsHere (chars haystack.now) p here }
         ensures { (p : ℕ) → IsHere (chars haystack.now) p here → IfSome result
-            (PassesTo (NeverBegins (heads_of self.entry) (chars haystack.now))
+            (PassesTo (NeverStarts (facts_of self.entry) (chars haystack.now))
             (chars haystack.now) p) }
     {
         let at = self.next_start(haystack, here)?;
@@ -57,7 +57,7 @@ impl<'g> PatternFilter<'g> {
         requires { (p : ℕ) × IsHere (chars haystack.now) p here }
         ensures boundary { IfSome result (IsCharBoundary haystack.now) }
         ensures passes { (p : ℕ) → IsHere (chars haystack.now) p here → IfSome result
-            (SkipsTo (NeverBegins (heads_of self.entry) (chars haystack.now)) haystack.now p) }
+            (SkipsTo (NeverStarts (facts_of self.entry) (chars haystack.now)) haystack.now p) }
     {
         match self {
             PatternFilter::Whole(filter) => next_start(filter, haystack, here),
@@ -69,7 +69,7 @@ impl<'g> PatternFilter<'g> {
     /// end.
     #[inline(always)]
     pub(crate) fn begins_with_none(self) -> bool
-        ensures { IsTrue result → (heads_of self.entry).first.any ≡ false }
+        ensures { IsTrue result → (facts_of self.entry).heads.first.any ≡ false }
     {
         match self {
             PatternFilter::Whole(filter) => !filter.heads().first.any,
@@ -77,10 +77,24 @@ impl<'g> PatternFilter<'g> {
         }
     }
 
+    /// The words of the pattern, if each match is one of them, and nothing else.
+    #[inline(always)]
+    pub(crate) fn whole_words(self) -> Option<&'g Words>
+        ensures words { IfSome result (λ words. (facts_of self.entry).words ≡ Some words.now) }
+        ensures all { IfSome result (λ _. IsTrue (facts_of self.entry).are_all) }
+    {
+        match self {
+            PatternFilter::Whole(filter) => filter.whole_words(),
+            PatternFilter::Literal(_) => None,
+        }
+    }
+
     /// Whether the positions that are passed over are found many bytes at a time.
     pub(crate) fn has_prefilter(self) -> bool {
         match self {
-            PatternFilter::Whole(filter) => filter.prefilter().is_some(),
+            PatternFilter::Whole(filter) => {
+                filter.words().is_some() || filter.prefilter().is_some()
+            }
             PatternFilter::Literal(_) => true,
         }
     }

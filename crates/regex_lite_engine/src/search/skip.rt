@@ -4,12 +4,14 @@ ghost use Rattle.std.specs.Prelude.{IsCharBoundary};
 ghost use Rattle.std.specs.Prelude.{false, true, chars, length, slice_index};
 ghost use Rattle.regex_lite_syntax.specs.Prefilter.Heads.{IsCutOff, IsPassed, NeverBegins};
 ghost use Rattle.regex_lite_syntax.specs.Prefilter.Bytes.{suits, IsPrefilterOf};
+ghost use Rattle.regex_lite_syntax.specs.Prefilter.StartFacts.{NeverStarts, NoneStandsIn};
+ghost use Rattle.regex_lite_syntax.specs.Prefilter.Words.{AnyStandsAt};
 ghost use Rattle.regex_lite_syntax.specs.Prefilter.Starts.{may_begin, stops_at};
 ghost use Rattle.regex_lite_engine.specs.Search.Standing.{IsHere};
 ghost use Rattle.regex_lite_engine.specs.Search.Starts.{SkipsTo};
 
 use crate::search::here::Here;
-use regex_lite_syntax::prefilter::{Filter, Heads, Prefilter, Starts};
+use regex_lite_syntax::prefilter::{Filter, Heads, Prefilter, Starts, Words};
 
 /// How many bytes a prefilter is asked about at a time.
 const BLOCK: usize = 32;
@@ -26,11 +28,43 @@ pub(super) fn next_start(filter: &Filter, haystack: &str, here: Here) -> Option<
     requires { (p : ℕ) × IsHere (chars haystack.now) p here }
     ensures boundary { IfSome result (IsCharBoundary haystack.now) }
     ensures passes { (p : ℕ) → IsHere (chars haystack.now) p here → IfSome result
-        (SkipsTo (NeverBegins filter.now (chars haystack.now)) haystack.now p) }
+        (SkipsTo (NeverStarts filter.now (chars haystack.now)) haystack.now p) }
+{
+    match filter.words() {
+        None => next_by_heads(filter, haystack, here),
+        Some(words) => next_by_words(words, haystack, here),
+    }
+}
+
+/// The same by the words of which a match begins with one.
+#[inline(always)]
+fn next_by_words(words: &Words, haystack: &str, here: Here) -> Option<usize>
+    requires { (p : ℕ) × IsHere (chars haystack.now) p here }
+    ensures boundary { IfSome result (IsCharBoundary haystack.now) }
+    ensures passes { (p : ℕ) → IsHere (chars haystack.now) p here → IfSome result
+        (SkipsTo (NoneStandsIn words.now (chars haystack.now)) haystack.now p) }
     ensures stops { MatchOption result
-        (may_begin filter.now.first here.before here.after ≡ true)
+        (here.at < length haystack.now → AnyStandsAt words.now haystack.now here.at)
+        (λ at. at < length haystack.now → AnyStandsAt words.now haystack.now at) }
+{
+    let at = words.next_offset(haystack, here.at);
+    if at == here.at {
+        return None;
+    }
+    Some(at)
+}
+
+/// The same by the characters that can come first and second.
+#[inline(always)]
+fn next_by_heads(filter: &Filter, haystack: &str, here: Here) -> Option<usize>
+    requires { (p : ℕ) × IsHere (chars haystack.now) p here }
+    ensures boundary { IfSome result (IsCharBoundary haystack.now) }
+    ensures passes { (p : ℕ) → IsHere (chars haystack.now) p here → IfSome result
+        (SkipsTo (NeverBegins filter.now.heads (chars haystack.now)) haystack.now p) }
+    ensures stops { MatchOption result
+        (may_begin filter.now.heads.first here.before here.after ≡ true)
         (λ at. at < length haystack.now
-        → stops_at filter.now.first (slice_index haystack.now at) ≡ true) }
+        → stops_at filter.now.heads.first (slice_index haystack.now at) ≡ true) }
 {
     let heads = filter.heads();
     let bytes = haystack.as_bytes();

@@ -28,11 +28,12 @@ pub(super) enum Beginning {
     Often,
     /// With a character of a range, which is looked for.
     InRange,
-    /// With one of a few bytes, or of a few pairs of them, which are looked for.
+    /// With one of a few bytes, of a few pairs of them, or of some words, which are looked for.
     Rarely,
     /// With any character, since the pattern reads none.
     Unread,
-    /// At few positions, which an index of several patterns or two known characters find.
+    /// At few positions, which an index of several patterns, two known characters or whole words
+    /// find.
     Indexed,
 }
 
@@ -79,6 +80,12 @@ impl<'g> Searched<'g> {
     /// How a match of one pattern begins.
     #[inline(always)]
     fn beginning_by(&self, filter: &Filter) -> Beginning {
+        if filter.whole_words().is_some() {
+            return Beginning::Indexed;
+        }
+        if filter.words().is_some() {
+            return Beginning::Rarely;
+        }
         match filter.prefilter() {
             None if self.table.reading() == 0 => Beginning::Unread,
             None => Beginning::Often,

@@ -1,55 +1,129 @@
-//! The heads of a pattern, with the prefilter for them.
-ghost use Rattle.std.specs.Prelude.{◌≡◌, IfSome};
+//! What is known of the positions at which the matches of a pattern can begin.
+ghost use Rattle.std.specs.Prelude.{◌≡◌, IfSome, IsTrue, Some, option_map};
 ghost use Rattle.regex_lite_syntax.specs.Tree.Views.{tree_of};
 ghost use Rattle.regex_lite_syntax.specs.Prefilter.Bytes.{IsPrefilterOf};
-ghost use Rattle.regex_lite_syntax.specs.Prefilter.Heads.{AreHeadsOfTree};
+ghost use Rattle.regex_lite_syntax.specs.Prefilter.StartFacts.{AreFactsOfTree};
+ghost use Rattle.regex_lite_syntax.specs.Prefilter.Words.{AreWordsOfTree};
 
 use crate::hir::Hir;
 use crate::prefilter::Prefilter;
 use crate::prefilter::heads::Heads;
+use crate::prefilter::starts::Starts;
+use crate::prefilter::words::Words;
+use std::alloc::Global;
 use std::marker::Model;
 
-/// The heads of a tree, and the prefilter for them, if there is one.
+/// The words with which the matches of a tree begin, or else the characters, with a prefilter for
+/// them, if there is one.
 #[derive(Drop)]
 pub struct Filter {
     heads: Heads,
-    /// What rules out whole blocks of bytes; `None` if too many bytes can begin a match.
+    /// What rules out whole blocks of bytes; `None` if too many bytes can begin a match, or if
+    /// words do.
     prefilter: Option<Prefilter>,
+    /// On the heap, since few patterns have words, and filters are moved about.
+    words: Option<Box<Words>>,
+    /// Whether the tree is nothing but one of its words.
+    are_all: bool,
 }
 
 impl Model for Filter {
-    ghost use Rattle.std.specs.Prelude.{IfSome};
-    ghost use Rattle.regex_lite_syntax.specs.declared.prefilter.heads.Heads.{Heads};
+    ghost use Rattle.std.specs.Prelude.{IfSome, option_map};
     ghost use Rattle.regex_lite_syntax.specs.Prefilter.Bytes.{IsPrefilterOf};
+    ghost use Rattle.regex_lite_syntax.specs.Prefilter.StartFacts.{StartFacts};
 
-    ghost Value = { Heads };
+    ghost Value = { StartFacts };
 
-    ghost view = { λ filter. filter.heads };
+    ghost view = { λ filter. record {
+      heads = filter.heads;
+      words = option_map (λ words. words.value) filter.words;
+      are_all = filter.are_all;
+    } };
 
     ghost invariant = { λ filter. IfSome filter.prefilter (IsPrefilterOf filter.heads) };
 }
 
 impl Filter {
-    /// That of the tree.
-    pub fn of(hir: &Hir) -> Filter
-        ensures { AreHeadsOfTree (tree_of hir.now) result }
+    /// That of the tree. Where memory runs out, no words are known.
+    pub fn of(alloc: Global, hir: &Hir) -> Filter
+        ensures { AreFactsOfTree (tree_of hir.now) result }
     {
-        let heads = Heads::of(hir);
+        let first = Starts::of(hir);
+        // Where matches begin at the haystack's start, words would be looked for up to its end.
+        if first.any && !first.at_start {
+            if let Some(words) = words_of(alloc, hir) {
+                let are_all = words.are_all_of(hir);
+                return Filter {
+                    heads: Heads {
+                        first,
+                        second: None,
+                    },
+                    prefilter: None,
+                    words: Some(words),
+                    are_all,
+                };
+            }
+        }
+        let heads = Heads::with_first(first, hir);
         let prefilter = Prefilter::of(&heads);
-        Filter { heads, prefilter }
+        Filter {
+            heads,
+            prefilter,
+            words: None,
+            are_all: false,
+        }
     }
 
     /// The characters that can come first and second.
     pub fn heads(&self) -> &Heads
-        ensures { result.now ≡ self.now }
+        ensures { result.now ≡ self.now.heads }
     {
         &self.heads
     }
 
-    /// What rules out whole blocks of bytes; `None` if too many bytes can begin a match.
+    /// What rules out whole blocks of bytes; `None` if too many bytes can begin a match, or if
+    /// words do.
     pub fn prefilter(&self) -> &Option<Prefilter>
-        ensures { IfSome result.now (IsPrefilterOf self.now) }
+        ensures { IfSome result.now (IsPrefilterOf self.now.heads) }
     {
         &self.prefilter
+    }
+
+    /// The words of which each match begins with one, if there are such words.
+    #[inline(always)]
+    pub fn words(&self) -> Option<&Words>
+        ensures { option_map (λ words. words.now) result ≡ self.now.words }
+    {
+        match &self.words {
+            None => None,
+            Some(words) => Some(words),
+        }
+    }
+
+    /// The words, if each match is one of them, and nothing else.
+    #[inline(always)]
+    pub fn whole_words(&self) -> Option<&Words>
+        ensures words { IfSome result (λ words. self.now.words ≡ Some words.now) }
+        ensures all { IfSome result (λ _. IsTrue self.now.are_all) }
+    {
+        match &self.words {
+            Some(words) if self.are_all => Some(words),
+            _ => None,
+        }
+    }
+}
+
+/// The words of the tree, if it has some and there is memory.
+// Not inlined, so that a pattern without words costs no more than the call.
+#[inline(never)]
+fn words_of(alloc: Global, hir: &Hir) -> Option<Box<Words>>
+    ensures { IfSome result (λ words. AreWordsOfTree (tree_of hir.now) words.value) }
+{
+    let Ok(Some(words)) = Words::of(alloc, hir) else {
+        return None;
+    };
+    match Box::new(alloc, words) {
+        Ok(words) => Some(words),
+        Err(_) => None,
     }
 }

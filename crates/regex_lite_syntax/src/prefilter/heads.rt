@@ -7,7 +7,7 @@ ghost use Rattle.regex_lite_syntax.specs.Tree.Views.{tree_of};
 ghost use Rattle.regex_lite_syntax.specs.declared.prefilter.heads.HeadLen.TheVariants.{One};
 ghost use Rattle.regex_lite_syntax.specs.Prefilter.Heads.{AreHeadsOfTree, AreSecondOfTree};
 ghost use Rattle.regex_lite_syntax.specs.Prefilter.Heads.{IsCutOff, Reads, ReadsEach};
-ghost use Rattle.regex_lite_syntax.specs.Prefilter.Starts.{IsWider};
+ghost use Rattle.regex_lite_syntax.specs.Prefilter.Starts.{AreStartsOfTree, IsWider};
 
 use crate::hir::Hir;
 use crate::prefilter::starts::Starts;
@@ -41,8 +41,16 @@ impl Heads {
     pub(crate) fn of(hir: &Hir) -> Heads
         ensures { AreHeadsOfTree (tree_of hir.now) result }
     {
+        Heads::with_first(Starts::of(hir), hir)
+    }
+
+    /// The same, where the first characters are known.
+    pub(crate) fn with_first(first: Starts, hir: &Hir) -> Heads
+        requires { AreStartsOfTree (tree_of hir.now) first }
+        ensures { AreHeadsOfTree (tree_of hir.now) result }
+    {
         Heads {
-            first: Starts::of(hir),
+            first,
             second: Starts::second_of(hir),
         }
     }

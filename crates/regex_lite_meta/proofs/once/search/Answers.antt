@@ -9,8 +9,8 @@ use Rattle.regex_lite_meta.proofs.once.search.Goals as goal
 pub returns-then-start-haystack-clause-found : goal.returns-then-start-haystack-clause-found
 returns-then-start-haystack-clause-found c = grind (arith, common_steps)
 
-pub search_one-requires : goal.search_one-requires
-search_one-requires c = on_boundary _ _ c.requires c.if-start-haystack.false
+pub search_one-requires-clause-boundary : goal.search_one-requires-clause-boundary
+search_one-requires-clause-boundary c = on_boundary _ _ c.requires c.if-start-haystack.false
 
 pub returns : goal.returns
 returns c =

@@ -10,7 +10,8 @@ use Rattle.regex_lite_engine.proofs.nfa.write.RenumberingLemmas.{closed, start_i
 use Rattle.regex_lite_engine.proofs.count.ArrowCountLemmas.{arrows_pattern}
 use Rattle.regex_lite_engine.proofs.count.ReadingCountLemmas.{reading_few, reading_pattern}
 use Rattle.regex_lite_engine.proofs.count.KeptBackLemmas.{kept_back_pattern}
-use Rattle.regex_lite_engine.proofs.nfa.WayLemmas.{written_heads, none_at_end}
+use Rattle.regex_lite_engine.proofs.nfa.WayLemmas.{none_at_end, written_answers}
+use Rattle.regex_lite_engine.proofs.nfa.WayLemmas.{written_facts}
 use Rattle.regex_lite_engine.proofs.ArrowBoundLemmas.{arrows_few}
 use Rattle.regex_lite_engine.proofs.nfa.Graph.new.Goals as goal
 
@@ -67,9 +68,11 @@ invariant_of-result c =
     = ap places_of c.new-table.ensures ∙ written.1 in (
       start_inside tree c.requires c.new-table.result.places table_is c.in_ok-places.start
           written.0,
-      written_heads tree c.requires (places_of c.new-table.result) c.in_ok-places.start table_is
+      written_facts tree c.requires (places_of c.new-table.result) c.in_ok-places.start table_is
           written.0 c.of-filter.result c.of-filter.ensures,
       λ reads. none_at_end tree c.requires (places_of c.new-table.result) c.in_ok-places.start
           table_is written.0
           (sym c.of-counts.ensures.properties.nullable ∙ not-true _ reads),
+      written_answers tree c.requires (places_of c.new-table.result) c.in_ok-places.start table_is
+          written.0 c.of-filter.result c.of-filter.ensures,
     )

@@ -1,8 +1,8 @@
 use Rattle.regex_lite_engine.proofs.Common.{◌≡◌, ℕ, List, [], ◌∷◌, map, length, slice_get, Some}
 use Rattle.regex_lite_engine.proofs.Common.{sym, ap, ◌∙◌, subst, arith, length-append, length-map}
-use Rattle.regex_lite_engine.proofs.Common.{map-append, Tree, tree_of, Heads}
-use Rattle.regex_lite_syntax.specs.Prefilter.Heads.{AreHeadsOfTree}
-use Rattle.regex_lite_engine.specs.Search.Filters.{own_heads_of}
+use Rattle.regex_lite_engine.proofs.Common.{map-append, Tree, tree_of}
+use Rattle.regex_lite_syntax.specs.Prefilter.StartFacts.{AreFactsOfTree, StartFacts}
+use Rattle.regex_lite_engine.specs.Search.Filters.{own_facts_of}
 use Rattle.regex_lite_syntax.proofs.LookupLemmas.{mapped_there, told_more}
 use Rattle.regex_lite_engine.proofs.nfa.list.filters_of.Goals as goal
 
@@ -16,16 +16,16 @@ loop-hir-preserved c =
     let there = mapped_there tree_of hirs k hir c.loop-hir-test.true c.hir-item.is in
     let before = c.loop-hir.filters.items in
     let made = c.in_ok-filter_of.field-0 in
-    let heads = map own_heads_of before in
+    let heads = map own_facts_of before in
     let next : slice_get trees (length heads) ≡ Some (tree_of hir) =
-    ap (slice_get trees) (length-map before own_heads_of ∙ v.all) ∙ there in
+    ap (slice_get trees) (length-map before own_facts_of ∙ v.all) ∙ there in
     let pushed = c.in_ok-push.ensures.items in
-    let mapped = ap (map own_heads_of) pushed ∙ map-append own_heads_of before (made ∷ []) in
+    let mapped = ap (map own_facts_of) pushed ∙ map-append own_facts_of before (made ∷ []) in
     record {
       all = omega (arith, ap length pushed, length-append before (made ∷ []), v.all);
-      each = subst (λ (list : List Heads). (number : ℕ) (tree : Tree) (part : Heads)
+      each = subst (λ (list : List StartFacts). (number : ℕ) (tree : Tree) (part : StartFacts)
           → slice_get trees number ≡ Some tree → slice_get list number ≡ Some part
-          → AreHeadsOfTree tree part) (sym mapped)
-          (told_more AreHeadsOfTree trees heads (tree_of hir) (own_heads_of made) next
+          → AreFactsOfTree tree part) (sym mapped)
+          (told_more AreFactsOfTree trees heads (tree_of hir) (own_facts_of made) next
           (rw (← c.hir.ensures) c.in_ok-filter_of.ensures) v.each);
     }

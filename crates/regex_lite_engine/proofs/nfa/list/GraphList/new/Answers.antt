@@ -4,7 +4,7 @@ use Rattle.regex_lite_engine.proofs.Common.{patterns_table, length-map, range_wi
 use Rattle.std.specs.List.{filter}
 use Rattle.regex_lite_engine.specs.Search.Starts.{may_be_empty}
 use Rattle.regex_lite_engine.specs.Graph.Stored.{StoredTable}
-use Rattle.regex_lite_engine.specs.Search.Filters.{own_heads_of}
+use Rattle.regex_lite_engine.specs.Search.Filters.{own_facts_of}
 use Rattle.regex_lite_engine.proofs.nfa.list.TableLemmas.{closed, name, written, entered}
 use Rattle.regex_lite_engine.proofs.nfa.list.TableLemmas.{entries_inside, parted, entry_for_each}
 use Rattle.regex_lite_engine.proofs.nfa.list.TableLemmas.{few_entries}
@@ -73,7 +73,7 @@ invariant_of-result c =
           (places_of c.new-table.result) entries (written trees regular places table_is)
           (entered trees regular places table_is entries entries_are)
           (ap length entries_are ∙ entry_for_each trees 0)
-          (map own_heads_of c.in_ok-filters.filters.items) c.in_ok-filters.ensures,
+          (map own_facts_of c.in_ok-filters.filters.items) c.in_ok-filters.ensures,
       listed_reads trees regular (name trees regular places table_is)
           (places_of c.new-table.result) entries (written trees regular places table_is)
           (entered trees regular places table_is entries entries_are)

@@ -1,6 +1,7 @@
 use Rattle.regex_lite_engine.proofs.Common.{ℕ, [], ◌∷◌, None, Some, IfSome, Option, chars}
-use Rattle.regex_lite_engine.proofs.Common.{places_of, NeverBegins, AreDeadAt, PassesTo, Here, Text}
-use Rattle.regex_lite_engine.specs.Search.Filters.{heads_of}
+use Rattle.regex_lite_engine.proofs.Common.{places_of, AreDeadAt, PassesTo, Here, Text}
+use Rattle.regex_lite_syntax.specs.Prefilter.StartFacts.{NeverStarts}
+use Rattle.regex_lite_engine.specs.Search.Filters.{facts_of}
 use Rattle.regex_lite_engine.proofs.search.SkipLemmas.{passes_as}
 use Rattle.regex_lite_engine.proofs.search.OneStartLemmas.{one_dead}
 use Rattle.regex_lite_engine.proofs.search.one_pattern.OnePatternPatterns.skip.Goals as goal
@@ -17,7 +18,7 @@ returns c = λ p is.
     let one = c.args.self.now in
     let table = places_of one.table.now in
     let haystack = chars c.args.haystack.now in
-    skips_as (NeverBegins (heads_of one.filter) haystack)
+    skips_as (NeverStarts (facts_of one.filter) haystack)
     (AreDeadAt table haystack (one.entry ∷ [])) haystack p c.skip.result
-    (λ i never. one_dead table haystack one.entry i (one.heads haystack i never))
+    (λ i never. one_dead table haystack one.entry i (one.facts haystack i never))
     (c.skip.ensures p is)

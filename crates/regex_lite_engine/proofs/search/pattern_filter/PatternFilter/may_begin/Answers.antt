@@ -1,6 +1,6 @@
 use Rattle.regex_lite_engine.proofs.Common.{◌≡◌, false, sym, subst}
 use Rattle.regex_lite_syntax.specs.Prefilter.Starts.{may_begin}
-use Rattle.regex_lite_engine.specs.Search.Filters.{heads_of}
+use Rattle.regex_lite_engine.specs.Search.Filters.{facts_of}
 use Rattle.regex_lite_engine.specs.declared.search.pattern_filter.PatternFilter.{PatternFilter}
 use Rattle.regex_lite_engine.proofs.search.pattern_filter.PatternFilter.may_begin.Goals as goal
 
@@ -8,5 +8,5 @@ pub returns-in-Literal : goal.returns-in-Literal
 returns-in-Literal c = λ off.
     let here = c.args.here in
     subst
-    (λ (filter : PatternFilter). may_begin (heads_of filter).first here.before here.after ≡ false)
+    (λ (filter : PatternFilter). may_begin (facts_of filter).heads.first here.before here.after ≡ false)
     (sym c.in-Literal.is) (c.may_begin-in-Literal.ensures off here.before)

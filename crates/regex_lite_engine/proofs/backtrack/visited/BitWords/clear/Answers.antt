@@ -1,7 +1,7 @@
 use Rattle.regex_lite_engine.proofs.Common.{length, ap, ◌∙◌, arith, bits_of}
 use Rattle.regex_lite_engine.specs.Backtrack.Bits.{room_of}
 use Rattle.regex_lite_engine.proofs.backtrack.BitLemmas.{none_of_zeros}
-use Rattle.regex_lite_engine.proofs.backtrack.visited.Words.clear.Goals as goal
+use Rattle.regex_lite_engine.proofs.backtrack.visited.BitWords.clear.Goals as goal
 
 pub returns-in-Few-clause-none : goal.returns-in-Few-clause-none
 returns-in-Few-clause-none c = λ count.

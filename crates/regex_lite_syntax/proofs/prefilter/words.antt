@@ -1,0 +1,9 @@
+-- lemmas that several proofs here share
+pub mod SpellingLemmas
+pub mod StandLemmas
+pub mod NextLemmas
+pub mod PairLemmas
+pub mod LeapLemmas
+pub mod LinkLemmas
+pub mod WordListLemmas
+pub mod WordWalkLemmas

@@ -1,0 +1,14 @@
+use Rattle.regex_lite_syntax.proofs.Common.{◌-◌, ◌≤◌, length, NoneStands}
+use Rattle.regex_lite_syntax.specs.Prefilter.WordLists.{all_words}
+use Rattle.regex_lite_syntax.proofs.prefilter.words.leaps.Leaps.find.Given as goal
+
+-- no word stands before this offset
+abbrev pub invariant-leaps : goal.invariant-leaps
+invariant-leaps l = record {
+  order : l.from ≤ l.at;
+  inside : l.at ≤ length l.bytes;
+  none : NoneStands (all_words l.words) l.bytes l.from l.at;
+}
+
+abbrev pub decreases-leaps : goal.decreases-leaps
+decreases-leaps l = length l.bytes - l.at

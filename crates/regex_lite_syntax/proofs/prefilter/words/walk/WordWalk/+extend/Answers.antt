@@ -1,0 +1,86 @@
+use Rattle.regex_lite_syntax.proofs.Common.{◌+◌, ◌∙◌, ap, drop, false, subst, sym}
+use Rattle.regex_lite_syntax.proofs.Common.{drop_all, tree_of, Trees}
+use Rattle.regex_lite_syntax.specs.Prefilter.WordWalk.{GrowsBy}
+use Rattle.regex_lite_syntax.proofs.LeafLemmas.{tree_is-Char, tree_is-Repetition}
+use Rattle.regex_lite_syntax.proofs.TreeLemmas.{trees_more, trees_of}
+use Rattle.regex_lite_syntax.proofs.prefilter.words.WordWalkLemmas.{all_branches, begun}
+use Rattle.regex_lite_syntax.proofs.prefilter.words.WordWalkLemmas.{extends_character}
+use Rattle.regex_lite_syntax.proofs.prefilter.words.WordWalkLemmas.{extends_passes, first_branch}
+use Rattle.regex_lite_syntax.proofs.prefilter.words.WordWalkLemmas.{next_branch, part_read}
+use Rattle.regex_lite_syntax.proofs.prefilter.words.WordWalkLemmas.{ReadsBranches, ReadsParts}
+use Rattle.regex_lite_syntax.proofs.prefilter.words.walk.WordWalk.+extend.Goals as goal
+use Rattle.regex_lite_syntax.proofs.prefilter.words.walk.WordWalk.+extend.Goals.{
+  extend_by_branches-else-not-is_first-via-then-not-is_first+in_ok-begin_again+else-not-branch,
+  extend_by_branches-else-not-is_first-via-else-not-is_first,
+}
+
+pub extend-returns-in_ok-push_char-in-Char : goal.extend-returns-in_ok-push_char-in-Char
+extend-returns-in_ok-push_char-in-Char t c = λ may.
+    subst (λ tree. GrowsBy tree c.args.self.now c.push_char.new.self)
+    (sym (tree_is-Char c.in-Char.is))
+    (extends_character c.in-Char.c c.args.self.now c.push_char.new.self
+    c.in_ok-push_char-in-Char.ensures)
+
+pub extend-returns-then-may : goal.extend-returns-then-may
+extend-returns-then-may t c = λ may.
+    let r = c.in-Repetition in
+    let body = tree_of c.deref-in-Repetition.result.now in
+    subst (λ tree. GrowsBy tree c.args.self.now c.close-then-may.new.self)
+    (sym (tree_is-Repetition r.is c.deref-in-Repetition.ensures))
+    (subst (GrowsBy _ c.args.self.now) (sym c.close-then-may.ensures)
+    (extends_passes r.least r.most r.greedy body c.args.self.now c.extend.new.self
+    c.if-least-eq0.false (c.in_ok-may-in-Repetition.ensures c.if-may.true)))
+
+pub extend_by_branches-loop-branch-preserved : goal.extend_by_branches-loop-branch-preserved
+extend_by_branches-loop-branch-preserved t c =
+    let v = c.loop-branch.invariant in
+    let hirs = c.args.branches.now in
+    let k = c.loop-branch.branch-index in
+    let branch = c.branch-item.result in
+    let all = trees_of hirs in
+    let left = trees_of (drop (k + 1) hirs) in
+    let one = trees_more hirs k branch c.loop-branch-test.true c.branch-item.is in
+    let extends = c.in_ok-extend.ensures c.if-not-branch-2.false in
+    let before = c.args.self.now in
+    let now = c.loop-branch.self in
+    let reads = subst (λ (rest : Trees). ReadsBranches all rest before now c.loop-branch.is_first) one
+    v.reads in
+    record {
+      all_read = v.all_read;
+      stem = v.stem;
+      reads = subst (λ next. ReadsBranches all left before next false) (sym c.close-else-not-branch-2.ensures)
+          (elim c.else-not-is_first.branch [
+            | extend_by_branches-else-not-is_first-via-then-not-is_first+in_ok-begin_again+else-not-branch w ↦
+                next_branch all left (tree_of branch) before now c.extend.new.self v.all_read
+                (subst (ReadsBranches all _ before now) w.if-not-is_first.true reads)
+                (subst (λ walk. GrowsBy (tree_of branch) walk c.extend.new.self)
+                (w.self-is ∙ w.in_ok-begin_again.ensures w.if-not-branch.false
+                ∙ ap (begun now) (w.deref.ensures.value ∙ v.stem)) extends)
+            | extend_by_branches-else-not-is_first-via-else-not-is_first w ↦
+                first_branch all left (tree_of branch) before now c.extend.new.self
+                (subst (ReadsBranches all _ before now) w.if-not-is_first.false reads)
+                (subst (λ walk. GrowsBy (tree_of branch) walk c.extend.new.self)
+                w.self-is extends)
+          ]);
+    }
+
+pub extend_by_branches-returns : goal.extend_by_branches-returns
+extend_by_branches-returns t c = λ may.
+    let none_left = drop_all c.loop-branch.branch-index c.args.branches.now c.loop-branch-test.false in
+    all_branches (trees_of c.args.branches.now) c.args.self.now c.loop-branch.self
+    c.loop-branch.is_first
+    (subst (λ left. ReadsBranches (trees_of c.args.branches.now) left c.args.self.now
+    c.loop-branch.self c.loop-branch.is_first) (ap trees_of none_left)
+    c.loop-branch.invariant.reads)
+
+pub extend_by_parts-loop-part-preserved : goal.extend_by_parts-loop-part-preserved
+extend_by_parts-loop-part-preserved t c =
+    let hirs = c.args.parts.now in
+    let k = c.loop-part.part-index in
+    let part = c.part-item.result in
+    let one = trees_more hirs k part c.loop-part-test.true c.part-item.is in
+    part_read (trees_of hirs) (trees_of (drop (k + 1) hirs)) (tree_of part) c.args.self.now
+    c.loop-part.self c.extend.new.self
+    (subst (λ left. ReadsParts (trees_of hirs) left c.args.self.now c.loop-part.self) one
+    c.loop-part.invariant)
+    (c.in_ok-extend.ensures c.if-not-branch.false)

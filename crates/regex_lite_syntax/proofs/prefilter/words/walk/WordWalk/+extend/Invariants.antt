@@ -1,0 +1,16 @@
+use Rattle.regex_lite_syntax.proofs.Common.{◌≡◌, drop, map, tree_of, trees, true}
+use Rattle.regex_lite_syntax.proofs.prefilter.words.WordWalkLemmas.{ReadsBranches, ReadsParts}
+use Rattle.regex_lite_syntax.proofs.prefilter.words.walk.WordWalk.+extend.Given as goal
+
+abbrev pub invariant-extend_by_branches-loop-branch : goal.invariant-extend_by_branches-loop-branch
+invariant-extend_by_branches-loop-branch l = record {
+  all_read : l.fn.self.is_open ≡ true;
+  stem : l.stem.items ≡ l.fn.self.words.last;
+  reads : ReadsBranches (trees (map tree_of l.branches))
+      (trees (map tree_of (drop l.branch-index l.branches))) l.fn.self l.self l.is_first;
+}
+
+abbrev pub invariant-extend_by_parts-loop-part : goal.invariant-extend_by_parts-loop-part
+invariant-extend_by_parts-loop-part l =
+    ReadsParts (trees (map tree_of l.parts)) (trees (map tree_of (drop l.part-index l.parts)))
+    l.fn.self l.self

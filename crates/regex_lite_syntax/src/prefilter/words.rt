@@ -1,0 +1,198 @@
+//! Words of which one stands wherever a match begins, and searches for the next of them.
+ghost use Rattle.std.specs.Prelude.{◌≡◌, ◌↔◌, ◌<◌, ◌≤◌, ℕ, IfOk, IfSome, IsCharBoundary, IsTrue};
+ghost use Rattle.std.specs.Prelude.{length};
+ghost use Rattle.regex_lite_syntax.specs.Tree.Views.{tree_of};
+ghost use Rattle.regex_lite_syntax.specs.Prefilter.WholeWords.{IsItsWords, IsNextSpan};
+ghost use Rattle.regex_lite_syntax.specs.Prefilter.WordLists.{all_words};
+ghost use Rattle.regex_lite_syntax.specs.Prefilter.Words.{AnyStandsAt, AreSuited, AreWordsOfTree};
+ghost use Rattle.regex_lite_syntax.specs.Prefilter.Words.{IsLead};
+ghost use Rattle.regex_lite_syntax.specs.Prefilter.Words.{IsNextWord, NoneStands};
+
+mod frequency;
+mod leaps;
+pub mod letter;
+mod pair;
+mod spelling;
+mod standing;
+mod walk;
+mod word_list;
+
+use crate::hir::Hir;
+use leaps::Leaps;
+use pair::{Pair, rank_of};
+use spelling::is_its_words;
+use std::alloc::{AllocError, Global};
+use std::marker::Model;
+use walk::WordWalk;
+use word_list::WordList;
+
+/// More words aren't looked for.
+const MOST: usize = 10_000;
+
+/// As many bytes at most are compared with each byte of a haystack at once.
+const FEW: usize = 4;
+
+/// The rank of a letter that is rare, as capital letters are.
+const RARE: u8 = 4;
+
+/// How many letters a word has at least. One byte alone rules little out.
+const SHORTEST: usize = 2;
+
+/// Words in the order in which the pattern has them.
+#[derive(Drop)]
+pub struct Words {
+    list: WordList,
+    finder: WordSearch,
+}
+
+/// How the next word is found.
+#[derive(Drop)]
+enum WordSearch {
+    /// One word, by two of its letters.
+    Pair(Pair),
+    /// Several, by leaps.
+    Leaps(Leaps),
+}
+
+impl Model for Words {
+    ghost use Rattle.std.specs.Prelude.{List};
+    ghost use Rattle.regex_lite_syntax.specs.declared.prefilter.words.letter.Letter.{Letter};
+    ghost use Rattle.regex_lite_syntax.specs.Prefilter.Finders.{Finds};
+    ghost use Rattle.regex_lite_syntax.specs.Prefilter.WordLists.{all_words};
+    ghost use Rattle.regex_lite_syntax.specs.Prefilter.Words.{AreSuited};
+
+    ghost Value = { List (List Letter) };
+
+    ghost view = { λ words. all_words words.list };
+
+    ghost invariant = { λ words. AreSuited (all_words words.list)
+        × Finds (all_words words.list) words.finder };
+}
+
+impl Words {
+    /// Those of the tree, if each match begins with one of some words.
+    ///
+    /// # Errors
+    ///
+    /// If memory runs out.
+    pub(crate) fn of(alloc: Global, hir: &Hir) -> Result<Option<Words>, AllocError>
+        ensures { IfOk result (λ told. IfSome told (AreWordsOfTree (tree_of hir.now))) }
+    {
+        match WordWalk::of(alloc, hir)? {
+            None => Ok(None),
+            Some(list) => Words::of_list(alloc, list),
+        }
+    }
+
+    /// These words, if they can be looked for.
+    ///
+    /// # Errors
+    ///
+    /// If memory runs out.
+    fn of_list(alloc: Global, list: WordList) -> Result<Option<Words>, AllocError>
+        ensures { IfOk result (λ told. IfSome told (λ words. words ≡ all_words list)) }
+    {
+        if list.len() > MOST || !are_suited(&list) || begin_rarely(&list) {
+            return Ok(None);
+        }
+        let finder = if list.len() == 1 {
+            WordSearch::Pair(Pair::of(list.word(0)))
+        } else {
+            WordSearch::Leaps(Leaps::of(alloc, &list)?)
+        };
+        Ok(Some(Words { list, finder }))
+    }
+
+    /// The first offset from this one on at which a word stands, and the first word that stands
+    /// there. A character begins there.
+    ///
+    /// Condition: the offset is at most the length.
+    #[inline(always)]
+    pub fn find(&self, bytes: &[u8], from: usize) -> Option<(usize, usize)>
+        requires { from ≤ length bytes.now }
+        ensures next { IsNextWord self.now bytes.now from result }
+        ensures boundary { IfSome result (λ next. IsCharBoundary bytes.now next.0) }
+    {
+        match &self.finder {
+            WordSearch::Pair(pair) => {
+                let at = pair.find(self.list.word(0), bytes, from)?;
+                Some((at, 0))
+            }
+            WordSearch::Leaps(leaps) => leaps.find(&self.list, bytes, from),
+        }
+    }
+
+    /// Whether the tree is one of the words, the earlier preferred, and nothing else.
+    pub(crate) fn are_all_of(&self, hir: &Hir) -> bool
+        ensures { IsTrue result → IsItsWords (tree_of hir.now) self.now }
+    {
+        is_its_words(hir, &self.list)
+    }
+
+    /// Where the first word starts and ends that stands at the first offset from this one on at
+    /// which any does.
+    ///
+    /// Condition: the offset is at most the length.
+    #[inline(always)]
+    pub fn find_span(&self, bytes: &[u8], from: usize) -> Option<(usize, usize)>
+        requires { from ≤ length bytes.now }
+        ensures { IsNextSpan self.now bytes.now from result }
+    {
+        let (at, number) = self.find(bytes, from)?;
+        Some((at, at + self.list.word(number).len()))
+    }
+
+    /// The first offset from this one on at which a word stands, or the haystack's end.
+    ///
+    /// Condition: the offset is at most the length.
+    #[inline(always)]
+    pub fn next_offset(&self, haystack: &str, from: usize) -> usize
+        requires { from ≤ length haystack.now }
+        ensures low { from ≤ result }
+        ensures high { result ≤ length haystack.now }
+        ensures none { NoneStands self.now haystack.now from result }
+        ensures stops { result < length haystack.now → AnyStandsAt self.now haystack.now result }
+        ensures boundary { IsCharBoundary haystack.now result }
+    {
+        match self.find(haystack.as_bytes(), from) {
+            None => haystack.len(),
+            Some((at, _)) => at,
+        }
+    }
+}
+
+/// Whether each word has some letters, and begins with the first byte of a character.
+fn are_suited(list: &WordList) -> bool
+    ensures { IsTrue result → AreSuited (all_words list.now) }
+{
+    'words: for number in 0..list.len() {
+        let word = list.word(number);
+        if word.len() < SHORTEST || !is_lead(word[0].byte) || !is_lead(word[0].other) {
+            return false;
+        }
+    }
+    true
+}
+
+/// Whether several words begin with a few bytes that are rare. Then a search for these alone is
+/// faster: `GET|POST|PUT` took 1.18 times as much by leaps in lines of a log.
+fn begin_rarely(list: &WordList) -> bool
+    requires { AreSuited (all_words list.now) }
+{
+    if list.len() == 1 || list.len() > FEW {
+        return false;
+    }
+    'words: for number in 0..list.len() {
+        if rank_of(list.word(number)[0]) > RARE {
+            return false;
+        }
+    }
+    true
+}
+
+/// Whether a character begins with this byte.
+fn is_lead(byte: u8) -> bool
+    ensures { IsTrue result → IsLead byte }
+{
+    byte < 0x80 || byte >= 0xC0
+}

@@ -1,0 +1,159 @@
+//! A search for one word by its two rarest letters.
+ghost use Rattle.std.specs.Prelude.{◌≡◌, ◌<◌, ◌≤◌, ◌+◌, ◌∷◌, [], ℕ, MatchOption, false, length};
+ghost use Rattle.std.specs.Prelude.{slice_index};
+ghost use Rattle.regex_lite_syntax.specs.Prefilter.Words.{AnyStandsAt, IsLetter, NoneStands};
+
+use crate::prefilter::words::frequency::frequency;
+use crate::prefilter::words::letter::Letter;
+use crate::prefilter::words::standing::stands;
+
+/// How many offsets are asked about at a time.
+const BLOCK: usize = 32;
+
+/// Among how many letters of a word the two rarest are looked for.
+const LOOKED_AT: usize = 32;
+
+/// Where the two rarest letters of a word stand in it.
+#[derive(Clone, Copy)]
+pub(super) struct Pair {
+    first: usize,
+    second: usize,
+}
+
+impl Pair {
+    /// That of the word.
+    ///
+    /// Condition: it has a letter.
+    pub(super) fn of(word: &[Letter]) -> Pair
+        requires { 0 < length word.now }
+        ensures first { result.first < length word.now }
+        ensures second { result.second < length word.now }
+    {
+        let len = word.len().min(LOOKED_AT);
+        let (mut first, mut second) = (0, len - 1);
+        'letters: for k in 0..len {
+            let rank = rank_of(word[k]);
+            if rank < rank_of(word[first]) {
+                second = first;
+                first = k;
+            } else if k != first && rank < rank_of(word[second]) {
+                second = k;
+            }
+        }
+        Pair { first, second }
+    }
+
+    /// The first offset from this one on at which the word stands.
+    // Not inlined, since the loop of a search is so large that this one would lose its registers.
+    #[inline(never)]
+    pub(super) fn find(self, word: &[Letter], bytes: &[u8], from: usize) -> Option<usize>
+        requires from { from ≤ length bytes.now }
+        requires first { self.first < length word.now }
+        requires second { self.second < length word.now }
+        ensures { MatchOption result
+            ((at : ℕ) → from ≤ at → ¬ AnyStandsAt (word.now ∷ []) bytes.now at)
+            (λ at. (from ≤ at) × NoneStands (word.now ∷ []) bytes.now from at
+            × AnyStandsAt (word.now ∷ []) bytes.now at) }
+    {
+        if bytes.len() - from < word.len() {
+            return None;
+        }
+        let end = bytes.len() - word.len() + 1;
+        let mut at = from;
+        if end - at >= BLOCK {
+            'blocks: while end - at > BLOCK {
+                if self.may_stand(word, bytes, at) {
+                    let found = self.find_before(word, bytes, at, at + BLOCK);
+                    if found.is_some() {
+                        return found;
+                    }
+                }
+                at += BLOCK;
+            }
+            // The last block begins before the one that would be next, so that it is full.
+            if !self.may_stand(word, bytes, end - BLOCK) {
+                return None;
+            }
+        }
+        self.find_before(word, bytes, at, end)
+    }
+
+    /// Whether the word may stand at one of a block of offsets.
+    #[inline(always)]
+    fn may_stand(self, word: &[Letter], bytes: &[u8], at: usize) -> bool
+        requires room { at + 32 + length word.now ≤ length bytes.now + 1 }
+        requires first { self.first < length word.now }
+        requires second { self.second < length word.now }
+        ensures { result ≡ false → NoneStands (word.now ∷ []) bytes.now at (at + 32) }
+    {
+        let (first, second) = (at + self.first, at + self.second);
+        let firsts = &bytes[first..first + BLOCK];
+        let seconds = &bytes[second..second + BLOCK];
+        let (a, b) = (word[self.first], word[self.second]);
+        if a.is_exact() && b.is_exact() {
+            has_both(firsts, seconds, a.byte, b.byte)
+        } else {
+            has_both_letters(firsts, seconds, a, b)
+        }
+    }
+
+    /// The first offset from this one on, and before that one, at which the word stands.
+    fn find_before(self, word: &[Letter], bytes: &[u8], from: usize, end: usize) -> Option<usize>
+        requires order { from ≤ end }
+        requires room { end + length word.now ≤ length bytes.now + 1 }
+        requires first { self.first < length word.now }
+        requires second { self.second < length word.now }
+        ensures { MatchOption result (NoneStands (word.now ∷ []) bytes.now from end)
+            (λ at. (from ≤ at) × NoneStands (word.now ∷ []) bytes.now from at
+            × AnyStandsAt (word.now ∷ []) bytes.now at) }
+    {
+        let (a, b) = (word[self.first], word[self.second]);
+        let mut at = from;
+        'offsets: while at < end {
+            let may_stand = a.is(bytes[at + self.first]) && b.is(bytes[at + self.second]);
+            if may_stand && stands(word, bytes, at) {
+                return Some(at);
+            }
+            at += 1;
+        }
+        None
+    }
+}
+
+/// How often the letter occurs in texts.
+pub(super) fn rank_of(letter: Letter) -> u8 {
+    let rank = frequency(letter.byte);
+    if letter.is_exact() {
+        return rank;
+    }
+    rank.max(frequency(letter.other)) + 1
+}
+
+/// Whether one of these bytes is the first, and the other at the same place the second.
+#[inline(always)]
+fn has_both(firsts: &[u8], seconds: &[u8], first: u8, second: u8) -> bool
+    requires { length seconds.now ≡ length firsts.now }
+    ensures { result ≡ false → (k : ℕ) → k < length firsts.now
+        → slice_index firsts.now k ≡ first → ¬ (slice_index seconds.now k ≡ second) }
+{
+    let mut is_there = false;
+    'offsets: for k in 0..firsts.len() {
+        is_there |= (firsts[k] == first) & (seconds[k] == second);
+    }
+    is_there
+}
+
+/// The same for letters of any case.
+#[inline(always)]
+fn has_both_letters(firsts: &[u8], seconds: &[u8], first: Letter, second: Letter) -> bool
+    requires { length seconds.now ≡ length firsts.now }
+    ensures { result ≡ false → (k : ℕ) → k < length firsts.now
+        → IsLetter first (slice_index firsts.now k)
+        → ¬ IsLetter second (slice_index seconds.now k) }
+{
+    let mut is_there = false;
+    'offsets: for k in 0..firsts.len() {
+        is_there |= first.is(firsts[k]) & second.is(seconds[k]);
+    }
+    is_there
+}
