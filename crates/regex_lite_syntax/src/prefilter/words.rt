@@ -9,6 +9,7 @@ ghost use Rattle.regex_lite_syntax.specs.Prefilter.Words.{IsLead};
 ghost use Rattle.regex_lite_syntax.specs.Prefilter.Words.{IsNextWord, NoneStands};
 
 mod frequency;
+mod gain;
 mod leaps;
 pub mod letter;
 mod pair;
@@ -18,8 +19,9 @@ mod walk;
 mod word_list;
 
 use crate::hir::Hir;
-use leaps::Leaps;
-use pair::{Pair, rank_of};
+use gain::leaps_pay;
+use leaps::{Leaps, shortest};
+use pair::Pair;
 use spelling::is_its_words;
 use std::alloc::{AllocError, Global};
 use std::marker::Model;
@@ -28,12 +30,6 @@ use word_list::WordList;
 
 /// More words aren't looked for.
 const MOST: usize = 10_000;
-
-/// As many bytes at most are compared with each byte of a haystack at once.
-const FEW: usize = 4;
-
-/// The rank of a letter that is rare, as capital letters are.
-const RARE: u8 = 4;
 
 /// How many letters a word has at least. One byte alone rules little out.
 const SHORTEST: usize = 2;
@@ -84,7 +80,7 @@ impl Words {
         }
     }
 
-    /// These words, if they can be looked for.
+    /// These words, if they can be looked for and that pays.
     ///
     /// # Errors
     ///
@@ -92,14 +88,17 @@ impl Words {
     fn of_list(alloc: Global, list: WordList) -> Result<Option<Words>, AllocError>
         ensures { IfOk result (λ told. IfSome told (λ words. words ≡ all_words list)) }
     {
-        if list.len() > MOST || !are_suited(&list) || begin_rarely(&list) {
+        if list.len() > MOST || !are_suited(&list) {
             return Ok(None);
         }
-        let finder = if list.len() == 1 {
-            WordSearch::Pair(Pair::of(list.word(0)))
-        } else {
-            WordSearch::Leaps(Leaps::of(alloc, &list)?)
-        };
+        if list.len() == 1 {
+            let finder = WordSearch::Pair(Pair::of(list.word(0)));
+            return Ok(Some(Words { list, finder }));
+        }
+        if !leaps_pay(&list, shortest(&list)) {
+            return Ok(None);
+        }
+        let finder = WordSearch::Leaps(Leaps::of(alloc, &list)?);
         Ok(Some(Words { list, finder }))
     }
 
@@ -168,22 +167,6 @@ fn are_suited(list: &WordList) -> bool
     'words: for number in 0..list.len() {
         let word = list.word(number);
         if word.len() < SHORTEST || !is_lead(word[0].byte) || !is_lead(word[0].other) {
-            return false;
-        }
-    }
-    true
-}
-
-/// Whether several words begin with a few bytes that are rare. Then a search for these alone is
-/// faster: `GET|POST|PUT` took 1.18 times as much by leaps in lines of a log.
-fn begin_rarely(list: &WordList) -> bool
-    requires { AreSuited (all_words list.now) }
-{
-    if list.len() == 1 || list.len() > FEW {
-        return false;
-    }
-    'words: for number in 0..list.len() {
-        if rank_of(list.word(number)[0]) > RARE {
             return false;
         }
     }

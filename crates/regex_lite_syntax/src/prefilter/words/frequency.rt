@@ -14,7 +14,7 @@ pub(super) fn frequency(byte: u8) -> u8
         b'k' | b'A'..=b'Z' | b'_' | b'\'' | b'(' | b')' => 4,
         b'x' | b'j' | b'q' | b'z' => 3,
         0x80..=0xBF => 6,
-        0xC0..=0xFF => 9,
+        0xC0..=0xFF => 8,
         _ => 2,
     }
 }

@@ -119,7 +119,7 @@ impl Leaps {
 }
 
 /// The number of letters of the shortest word.
-fn shortest(words: &WordList) -> usize
+pub(super) fn shortest(words: &WordList) -> usize
     requires { AreSuited (all_words words.now) }
     ensures two { 2 ≤ result }
     ensures least { (number : ℕ) → number < length (all_words words.now)

@@ -121,7 +121,7 @@ impl Pair {
 }
 
 /// How often the letter occurs in texts.
-pub(super) fn rank_of(letter: Letter) -> u8 {
+fn rank_of(letter: Letter) -> u8 {
     let rank = frequency(letter.byte);
     if letter.is_exact() {
         return rank;
