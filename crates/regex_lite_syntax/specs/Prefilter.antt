@@ -10,6 +10,7 @@ pub mod Bytes
 pub mod Words
 pub mod WholeWords
 pub mod WordLists
+pub mod Spelling
 pub mod WordWalk
 pub mod Leaps
 pub mod Finders

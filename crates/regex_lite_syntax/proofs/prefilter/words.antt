@@ -6,4 +6,5 @@ pub mod PairLemmas
 pub mod LeapLemmas
 pub mod LinkLemmas
 pub mod WordListLemmas
+pub mod RowLemmas
 pub mod WordWalkLemmas

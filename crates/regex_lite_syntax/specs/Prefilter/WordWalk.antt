@@ -5,7 +5,7 @@ use Rattle.regex_lite_syntax.specs.Tree.{Tree}
 use Rattle.regex_lite_syntax.specs.Tree.Matches.{Matches}
 use Rattle.regex_lite_syntax.specs.declared.prefilter.words.letter.Letter.{Letter}
 use Rattle.regex_lite_syntax.specs.declared.prefilter.words.walk.WordWalk.{WordWalk}
-use Rattle.regex_lite_syntax.specs.Prefilter.Words.{IsLetter, StartsWith}
+use Rattle.regex_lite_syntax.specs.Prefilter.Words.{StartsWith}
 
 -- the bytes begin with the last word and, if it is all that was read, go on with those
 pub record HasRead (bytes rest : List ℕ) (walk : WordWalk) : Type 0 where
@@ -16,18 +16,6 @@ pub record HasRead (bytes rest : List ℕ) (walk : WordWalk) : Type 0 where
 abbrev pub StartsWithAny : List (List Letter) → List ℕ → Type 0
 StartsWithAny [] bytes = ⊥
 StartsWithAny (word ∷ words) bytes = StartsWith word bytes ⊎ StartsWithAny words bytes
-
--- where the last word was read before these bytes, it was also read behind a byte that is the
--- letter
-pub record ReadsLetter (letter : Letter) (before after : WordWalk) : Type 0 where
-  pub same : after.words.done ≡ before.words.done
-  pub reads : (bytes rest : List ℕ) (byte : ℕ) → IsLetter letter byte
-      → HasRead bytes (byte ∷ rest) before → HasRead bytes rest after
-
--- where the last word was read before these bytes, it was also read behind the first of them
-pub record ReadsBytes (read : List ℕ) (before after : WordWalk) : Type 0 where
-  pub same : after.words.done ≡ before.words.done
-  pub reads : (bytes rest : List ℕ) → HasRead bytes (read ++ rest) before → HasRead bytes rest after
 
 -- where the last word was read up to a position from which the tree matches, one of the words that
 -- were made stands there, or the last one was read up to the match's end

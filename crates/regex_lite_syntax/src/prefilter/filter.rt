@@ -3,13 +3,13 @@ ghost use Rattle.std.specs.Prelude.{◌≡◌, IfSome, IsTrue, Some, option_map}
 ghost use Rattle.regex_lite_syntax.specs.Tree.Views.{tree_of};
 ghost use Rattle.regex_lite_syntax.specs.Prefilter.Bytes.{IsPrefilterOf};
 ghost use Rattle.regex_lite_syntax.specs.Prefilter.StartFacts.{AreFactsOfTree};
-ghost use Rattle.regex_lite_syntax.specs.Prefilter.Words.{AreWordsOfTree};
+ghost use Rattle.regex_lite_syntax.specs.Prefilter.Spelling.{AreToldWords};
 
 use crate::hir::Hir;
 use crate::prefilter::Prefilter;
 use crate::prefilter::heads::Heads;
 use crate::prefilter::starts::Starts;
-use crate::prefilter::words::Words;
+use crate::prefilter::words::{Words, may_have_words};
 use std::alloc::Global;
 use std::marker::Model;
 
@@ -50,9 +50,8 @@ impl Filter {
     {
         let first = Starts::of(hir);
         // Where matches begin at the haystack's start, words would be looked for up to its end.
-        if first.any && !first.at_start {
-            if let Some(words) = words_of(alloc, hir) {
-                let are_all = words.are_all_of(hir);
+        if first.any && !first.at_start && may_have_words(hir) {
+            if let Some((words, are_all)) = words_of(alloc, hir) {
                 return Filter {
                     heads: Heads {
                         first,
@@ -116,14 +115,15 @@ impl Filter {
 /// The words of the tree, if it has some and there is memory.
 // Not inlined, so that a pattern without words costs no more than the call.
 #[inline(never)]
-fn words_of(alloc: Global, hir: &Hir) -> Option<Box<Words>>
-    ensures { IfSome result (λ words. AreWordsOfTree (tree_of hir.now) words.value) }
+fn words_of(alloc: Global, hir: &Hir) -> Option<(Box<Words>, bool)>
+    ensures { IfSome result
+        (λ told. AreToldWords (tree_of hir.now) told.0.value told.1) }
 {
-    let Ok(Some(words)) = Words::of(alloc, hir) else {
+    let Ok(Some((words, are_all))) = Words::of(alloc, hir) else {
         return None;
     };
     match Box::new(alloc, words) {
-        Ok(words) => Some(words),
+        Ok(words) => Some((words, are_all)),
         Err(_) => None,
     }
 }

@@ -2,9 +2,10 @@
 ghost use Rattle.std.specs.Prelude.{◌≡◌, ◌↔◌, ◌<◌, ◌≤◌, ℕ, IfOk, IfSome, IsCharBoundary, IsTrue};
 ghost use Rattle.std.specs.Prelude.{length};
 ghost use Rattle.regex_lite_syntax.specs.Tree.Views.{tree_of};
-ghost use Rattle.regex_lite_syntax.specs.Prefilter.WholeWords.{IsItsWords, IsNextSpan};
+ghost use Rattle.regex_lite_syntax.specs.Prefilter.Spelling.{AreToldWords};
+ghost use Rattle.regex_lite_syntax.specs.Prefilter.WholeWords.{IsNextSpan};
 ghost use Rattle.regex_lite_syntax.specs.Prefilter.WordLists.{all_words};
-ghost use Rattle.regex_lite_syntax.specs.Prefilter.Words.{AnyStandsAt, AreSuited, AreWordsOfTree};
+ghost use Rattle.regex_lite_syntax.specs.Prefilter.Words.{AnyStandsAt, AreSuited};
 ghost use Rattle.regex_lite_syntax.specs.Prefilter.Words.{IsLead};
 ghost use Rattle.regex_lite_syntax.specs.Prefilter.Words.{IsNextWord, NoneStands};
 
@@ -19,10 +20,10 @@ mod walk;
 mod word_list;
 
 use crate::hir::Hir;
-use gain::leaps_pay;
+use gain::{leaps_pay, may_pay};
 use leaps::{Leaps, shortest};
 use pair::Pair;
-use spelling::is_its_words;
+use spelling::{may_begin_word, read_words};
 use std::alloc::{AllocError, Global};
 use std::marker::Model;
 use walk::WordWalk;
@@ -66,17 +67,30 @@ impl Model for Words {
 }
 
 impl Words {
-    /// Those of the tree, if each match begins with one of some words.
+    /// Those of the tree, if each match begins with one of some words, and whether the tree is one of
+    /// them, the earlier preferred, and nothing else.
     ///
     /// # Errors
     ///
     /// If memory runs out.
-    pub(crate) fn of(alloc: Global, hir: &Hir) -> Result<Option<Words>, AllocError>
-        ensures { IfOk result (λ told. IfSome told (AreWordsOfTree (tree_of hir.now))) }
+    pub(crate) fn of(alloc: Global, hir: &Hir) -> Result<Option<(Words, bool)>, AllocError>
+        ensures { IfOk result (λ told. IfSome told
+            (λ told. AreToldWords (tree_of hir.now) told.0 told.1)) }
     {
-        match WordWalk::of(alloc, hir)? {
+        let mut list = WordList::new(alloc);
+        if read_words(&mut list, hir)? {
+            return match Words::of_list(alloc, list)? {
+                None => Ok(None),
+                Some(words) => Ok(Some((words, true))),
+            };
+        }
+        list.clear();
+        let Some(walked) = WordWalk::of(alloc, list, hir)? else {
+            return Ok(None);
+        };
+        match Words::of_list(alloc, walked)? {
             None => Ok(None),
-            Some(list) => Words::of_list(alloc, list),
+            Some(words) => Ok(Some((words, false))),
         }
     }
 
@@ -121,13 +135,6 @@ impl Words {
         }
     }
 
-    /// Whether the tree is one of the words, the earlier preferred, and nothing else.
-    pub(crate) fn are_all_of(&self, hir: &Hir) -> bool
-        ensures { IsTrue result → IsItsWords (tree_of hir.now) self.now }
-    {
-        is_its_words(hir, &self.list)
-    }
-
     /// Where the first word starts and ends that stands at the first offset from this one on at
     /// which any does.
     ///
@@ -158,6 +165,12 @@ impl Words {
             Some((at, _)) => at,
         }
     }
+}
+
+/// Whether words may be found in the tree for which a search pays. Asked first, since most patterns
+/// have none.
+pub(super) fn may_have_words(hir: &Hir) -> bool {
+    may_begin_word(hir) && may_pay(hir)
 }
 
 /// Whether each word has some letters, and begins with the first byte of a character.

@@ -1,89 +1,119 @@
--- How it is found out whether a tree is its words.
-use Rattle.regex_lite_syntax.proofs.Common.{◌≡◌, ℕ, zero, suc, ◌+◌, ◌<◌, List, [], ◌∷◌}
-use Rattle.regex_lite_syntax.proofs.Common.{length, drop, take, get_or, sym, ap, ◌∙◌, subst, inl}
-use Rattle.regex_lite_syntax.proofs.Common.{inr, arith, Trees, Tree, more, Letter}
-use Rattle.std.proofs.Common.{drop-cons}
-use Rattle.std.proofs.lemmas.List.{drop-drop, take-append-drop}
+-- How letters are added to a list of words, part by part and branch by branch.
+use Rattle.regex_lite_syntax.proofs.Common.{◌≡◌, ℕ, ◌+◌, ◌<◌, List, [], ◌∷◌, ◌++◌, length, take, get_or}
+use Rattle.regex_lite_syntax.proofs.Common.{map, sym, ap, ◌∙◌, subst, refl, append-nil, append_assoc}
+use Rattle.regex_lite_syntax.proofs.Common.{Tree, trees, tree_of, Letter, Hir}
+use Rattle.std.proofs.lemmas.List.{map_more, take_more}
+use Rattle.regex_lite_syntax.specs.Prefilter.Spelling.{AddsLetters, AddsBytes, AddsRow, AddsSpelled}
+use Rattle.regex_lite_syntax.specs.Prefilter.Spelling.{AddsWord}
 use Rattle.regex_lite_syntax.specs.Prefilter.WholeWords.{AreBytes, AreSpelled, AreWholeWords}
-use Rattle.regex_lite_syntax.specs.Prefilter.WholeWords.{HasCases, IsSpelled, IsWholeWord}
-use Rattle.regex_lite_syntax.specs.Prefilter.Words.{word_at}
+use Rattle.regex_lite_syntax.specs.Prefilter.WholeWords.{IsSpelled, IsWholeWord}
+use Rattle.regex_lite_syntax.specs.Prefilter.WordLists.{ListOfWords, all_words}
 
--- a byte and a letter more
-next_byte : (bytes : List ℕ) (letters : List Letter) (k : ℕ) (letter : Letter) → k < length bytes
-    → k < length letters → AreBytes (take k bytes) (take k letters)
-    → letter.byte ≡ get_or bytes k 0 → letter.other ≡ get_or bytes k 0
-    → letter ≡ get_or letters k letter
-    → AreBytes (take (suc k) bytes) (take (suc k) letters)
-next_byte [] letters k letter inside enough are own other was = absurd (omega (arith, inside))
-next_byte (b ∷ bytes) [] k letter inside enough are own other was = absurd (omega (arith, enough))
-next_byte (b ∷ bytes) (l ∷ letters) zero letter inside enough are own other was = (
-  ap (λ (x : Letter). x.byte) (sym was) ∙ own,
-  ap (λ (x : Letter). x.other) (sym was) ∙ other,
-  tt,
-)
-next_byte (b ∷ bytes) (l ∷ letters) (suc k) letter inside enough are own other was = (
-  are.0,
-  are.1,
-  next_byte bytes letters k letter (omega (arith, inside)) (omega (arith, enough)) are.2 own other
-      was,
-)
+abbrev with_last : ListOfWords → List Letter → ListOfWords
+with_last words last = record words { last = last }
 
-pub byte_more : (bytes : List ℕ) (letters : List Letter) (k : ℕ) (letter : Letter)
-    → k < length bytes → k < length letters → AreBytes (take k bytes) (take k letters)
-    → letter.byte ≡ get_or bytes k 0 → letter.other ≡ get_or bytes k 0
-    → letter ≡ get_or letters k letter
-    → AreBytes (take (k + 1) bytes) (take (k + 1) letters)
-byte_more bytes letters k letter inside enough are own other was =
-    let next : suc k ≡ k + 1 = omega arith in
-    subst (λ n. AreBytes (take n bytes) (take n letters)) next
-    (next_byte bytes letters k letter inside enough are own other was)
-
--- a letter with the same two bytes has the same cases
-pub same_cases : (set : ℕ → Type 0) (a b : Letter) → b.byte ≡ a.byte → b.other ≡ a.other
-    → HasCases set a → HasCases set b
-same_cases set a b own other cases = record {
-  ascii = omega (arith, own, cases.ascii);
-  other_ascii = omega (arith, other, cases.other_ascii);
-  has = λ c is. (elim (cases.has c is) [
-    | inl e ↦ inl (e ∙ sym own)
-    | inr e ↦ inr (e ∙ sym other)
-  ]);
-  no_others = λ c is. (elim is [
-    | inl e ↦ cases.no_others c (inl (e ∙ own))
-    | inr e ↦ cases.no_others c (inr (e ∙ other))
-  ]);
+-- no letters were added
+pub none_added : (are : List Letter → Type 0) (words : ListOfWords) → are []
+    → AddsLetters are words words
+none_added are words none = record {
+  letters = [];
+  added = sym (ap (with_last words) (append-nil words.last));
+  are = none;
 }
 
-pub first_letter : (letters : List Letter) (letter : Letter) → 0 < length letters
-    → letter ≡ get_or letters 0 letter → take 1 letters ≡ letter ∷ []
-first_letter [] letter some is = absurd (omega (arith, some))
-first_letter (l ∷ letters) letter some is = ap (λ x. x ∷ []) (sym is)
+-- some were added, and then others
+pub both_added : (first second both : List Letter → Type 0) (before now after : ListOfWords)
+    → ((front back : List Letter) → first front → second back → both (front ++ back))
+    → AddsLetters first before now → AddsLetters second now after
+    → AddsLetters both before after
+both_added first second both before now after join one other = record {
+  letters = one.letters ++ other.letters;
+  added = other.added ∙ ap (λ (words : ListOfWords). with_last words (words.last ++ other.letters)) one.added
+      ∙ ap (with_last before) (append_assoc before.last one.letters other.letters);
+  are = join one.letters other.letters one.are other.are;
+}
 
-pub same_first : (letters : List Letter) (a b : Letter) → 0 < length letters
-    → a ≡ get_or letters 0 a → b ≡ get_or letters 0 b → a ≡ b
-same_first [] a b some is was = absurd (omega (arith, some))
-same_first (l ∷ letters) a b some is was = is ∙ sym was
+-- a byte and a letter more
+pub byte_joined : (bytes : List ℕ) (front : List Letter) (byte : ℕ) (letter : Letter)
+    → letter.byte ≡ byte → letter.other ≡ byte → AreBytes bytes front
+    → AreBytes (bytes ++ byte ∷ []) (front ++ letter ∷ [])
+byte_joined [] [] byte letter own other are = (own, other, tt)
+byte_joined [] (l ∷ front) byte letter own other are = absurd are
+byte_joined (b ∷ bytes) [] byte letter own other are = absurd are
+byte_joined (b ∷ bytes) (l ∷ front) byte letter own other are =
+    (are.0, are.1, byte_joined bytes front byte letter own other are.2)
 
--- one part more of a row
-pub part_more : (part : Tree) (rest : Trees) (word : List Letter) (read more_read : ℕ)
-    → IsSpelled part (take more_read (drop read word))
-    → AreSpelled rest (drop (read + more_read) word)
-    → AreSpelled (more part rest) (drop read word)
-part_more part rest word read more_read is are = (
-  take more_read (drop read word),
-  drop more_read (drop read word),
-  sym (take-append-drop more_read (drop read word)),
-  is,
-  subst (AreSpelled rest) (sym (drop-drop more_read read word)) are,
+pub byte_more : (bytes : List ℕ) (k : ℕ) (letter : Letter) (before now after : ListOfWords)
+    → k < length bytes → letter.byte ≡ get_or bytes k 0 → letter.other ≡ get_or bytes k 0
+    → AddsBytes (take k bytes) before now
+    → after ≡ record now { last = now.last ++ letter ∷ [] }
+    → AddsBytes (take (k + 1) bytes) before after
+byte_more bytes k letter before now after inside own other adds is = record {
+  letters = adds.letters ++ letter ∷ [];
+  added = is ∙ ap (λ (words : ListOfWords). with_last words (words.last ++ letter ∷ [])) adds.added
+      ∙ ap (with_last before) (append_assoc before.last adds.letters (letter ∷ []));
+  are = subst (λ some. AreBytes some (adds.letters ++ letter ∷ []))
+      (sym (take_more bytes k 0 inside))
+      (byte_joined (take k bytes) adds.letters (get_or bytes k 0) letter own other adds.are);
+}
+
+-- a part more of a row
+part_joined : (parts : List Tree) (part : Tree) (front back : List Letter)
+    → AreSpelled (trees parts) front → IsSpelled part back
+    → AreSpelled (trees (parts ++ part ∷ [])) (front ++ back)
+part_joined [] part front back none is =
+    (back, [], ap (λ f. f ++ back) none ∙ sym (append-nil back), is, refl)
+part_joined (p ∷ parts) part front back (first, others, same, one, are) is = (
+  first,
+  others ++ back,
+  ap (λ f. f ++ back) same ∙ append_assoc first others back,
+  one,
+  part_joined parts part others back are is,
 )
 
--- one branch more
-pub branch_more : (branch : Tree) (rest : Trees) (words : List (List Letter)) (number : ℕ)
-    → number < length words → IsWholeWord branch (word_at words number)
-    → AreWholeWords rest (drop (number + 1) words)
-    → AreWholeWords (more branch rest) (drop number words)
-branch_more branch rest words number inside is are =
-    let next : suc number ≡ number + 1 = omega arith in
-    subst (AreWholeWords (more branch rest))
-    (sym (drop-cons words number [] inside
-    ∙ ap (λ n. word_at words number ∷ drop n words) next)) (is, are)
+pub part_more : (hirs : List Hir) (k : ℕ) (part : Hir) (before now after : ListOfWords)
+    → k < length hirs → part ≡ get_or hirs k part
+    → AddsRow (trees (map tree_of (take k hirs))) before now
+    → AddsSpelled (tree_of part) now after
+    → AddsRow (trees (map tree_of (take (k + 1) hirs))) before after
+part_more hirs k part before now after inside is row spelled =
+    subst (λ some. AddsRow (trees some) before after)
+    (ap (λ p. map tree_of (take k hirs) ++ tree_of p ∷ []) is ∙ sym (map_more tree_of hirs k part inside))
+    (both_added (AreSpelled (trees (map tree_of (take k hirs)))) (IsSpelled (tree_of part))
+    (AreSpelled (trees (map tree_of (take k hirs) ++ tree_of part ∷ []))) before now after
+    (λ front back. part_joined (map tree_of (take k hirs)) (tree_of part) front back) row spelled)
+
+-- a branch more
+branch_joined : (branches : List Tree) (branch : Tree) (words : List (List Letter))
+    (word : List Letter) → AreWholeWords (trees branches) words → IsWholeWord branch word
+    → AreWholeWords (trees (branches ++ branch ∷ [])) (words ++ word ∷ [])
+branch_joined [] branch [] word none is = (is, tt)
+branch_joined [] branch (w ∷ words) word none is = absurd none
+branch_joined (b ∷ branches) branch [] word are is = absurd are
+branch_joined (b ∷ branches) branch (w ∷ words) word (one, are) is =
+    (one, branch_joined branches branch words word are is)
+
+-- what is added to the last word of a list, which is without letters, is the last word then
+word_added : (branch : Tree) (now after : ListOfWords) → now.last ≡ []
+    → AddsWord branch now after
+    → (word : List Letter) × IsWholeWord branch word × (all_words after ≡ now.done ++ word ∷ [])
+word_added branch now after none adds = (
+  adds.letters,
+  adds.are,
+  ap all_words adds.added ∙ ap (λ last. now.done ++ (last ++ adds.letters) ∷ []) none,
+)
+
+pub next_branch : (hirs : List Hir) (k : ℕ) (branch : Hir) (before now after : ListOfWords)
+    → k < length hirs → branch ≡ get_or hirs k branch
+    → AreWholeWords (trees (map tree_of (take k hirs))) (all_words before)
+    → now ≡ record { done = before.done ++ before.last ∷ []; last = [] }
+    → AddsWord (tree_of branch) now after
+    → AreWholeWords (trees (map tree_of (take (k + 1) hirs))) (all_words after)
+next_branch hirs k branch before now after inside is are begun adds =
+    let (word, whole, same) = word_added (tree_of branch) now after
+    (ap (λ (words : ListOfWords). words.last) begun) adds in
+    subst (λ some. AreWholeWords (trees some) (all_words after))
+    (ap (λ b. map tree_of (take k hirs) ++ tree_of b ∷ []) is ∙ sym (map_more tree_of hirs k branch inside))
+    (subst (AreWholeWords (trees (map tree_of (take k hirs) ++ tree_of branch ∷ [])))
+    (sym (same ∙ ap (λ (words : ListOfWords). words.done ++ word ∷ []) begun))
+    (branch_joined (map tree_of (take k hirs)) (tree_of branch) (all_words before) word are whole))

@@ -1,40 +1,25 @@
 -- How the words of a tree grow, kind by kind of tree.
-use Rattle.regex_lite_syntax.proofs.Common.{◌≡◌, ℕ, zero, suc, ◌+◌, ◌<◌, ◌≤◌, ◌⊎◌, Bool, true, false}
-use Rattle.regex_lite_syntax.proofs.Common.{List, [], ◌∷◌, ◌++◌, length, drop, Some, Option, Tree}
+use Rattle.regex_lite_syntax.proofs.Common.{◌≡◌, ℕ, zero, suc, ◌≤◌, ◌⊎◌, Bool, true, false}
+use Rattle.regex_lite_syntax.proofs.Common.{List, [], ◌∷◌, ◌++◌, length, drop, Option, Tree}
 use Rattle.regex_lite_syntax.proofs.Common.{Trees, Matches, Chain, SomeBranch, Text, after, inl, inr}
 use Rattle.regex_lite_syntax.proofs.Common.{sym, refl, ap, ◌∙◌, subst, arith, append-nil, false≢true}
-use Rattle.regex_lite_syntax.proofs.Common.{IsTrue, in_ranges, look, class, repetition, concat, more}
-use Rattle.regex_lite_syntax.proofs.Common.{alternation, slice_get, append_assoc, ClassRange, Look}
-use Rattle.regex_lite_syntax.proofs.Common.{drop_more, slice_index}
-use Rattle.std.proofs.Common.{encode_utf8, encode_utf8_all}
-use Rattle.std.proofs.lemmas.List.{drop-drop, length-append}
-use Rattle.std.proofs.lemmas.Str.{encode_ascii}
-use Rattle.regex_lite_syntax.specs.Tree.{character, empty, none}
+use Rattle.regex_lite_syntax.proofs.Common.{look, repetition, concat, more}
+use Rattle.regex_lite_syntax.proofs.Common.{alternation, append_assoc, Look}
+use Rattle.regex_lite_syntax.proofs.Common.{trees}
+use Rattle.std.proofs.Common.{encode_utf8_all}
+use Rattle.regex_lite_syntax.specs.Tree.{empty, none}
 use Rattle.regex_lite_syntax.specs.Tree.Matches.{Passes}
 use Rattle.regex_lite_syntax.specs.declared.prefilter.words.letter.Letter.{Letter}
 use Rattle.regex_lite_syntax.specs.declared.prefilter.words.walk.WordWalk.{WordWalk}
 use Rattle.regex_lite_syntax.specs.Prefilter.WordLists.{all_words}
-use Rattle.regex_lite_syntax.specs.Prefilter.WordWalk.{GrowsBy, HasRead, ReadsLetter, ReadsBytes}
+use Rattle.regex_lite_syntax.specs.Prefilter.WordWalk.{GrowsBy, HasRead}
 use Rattle.regex_lite_syntax.specs.Prefilter.WordWalk.{StartsWithAny}
-use Rattle.regex_lite_syntax.specs.Prefilter.Words.{AnyStandsAt, IsLetter, StartsWith}
-use Rattle.regex_lite_syntax.proofs.OptionLemmas.{not_there, same_some}
-use Rattle.regex_lite_syntax.proofs.prefilter.words.StandLemmas.{starts_with_both}
+use Rattle.regex_lite_syntax.specs.Prefilter.Words.{AnyStandsAt, StartsWith}
+use Rattle.regex_lite_syntax.proofs.prefilter.words.RowLemmas.{ReadsLetters, reads_both}
 
 -- the walk, with a word that is no longer all that was read
 abbrev pub closed : WordWalk → WordWalk
 closed walk = record walk { is_open = false }
-
--- the bytes begin with a letter more
-pub letter_more : (last : List Letter) (letter : Letter) (bytes rest : List ℕ) (byte : ℕ)
-    → IsLetter letter byte → StartsWith last bytes → drop (length last) bytes ≡ byte ∷ rest
-    → StartsWith (last ++ letter ∷ []) bytes
-    × (drop (length (last ++ letter ∷ [])) bytes ≡ rest)
-letter_more last letter bytes rest byte is stands on = (
-  starts_with_both last (letter ∷ []) bytes stands
-      (subst (StartsWith (letter ∷ [])) (sym on) (is, tt)),
-  ap (λ n. drop n bytes) (length-append last (letter ∷ []))
-      ∙ sym (drop-drop 1 (length last) bytes) ∙ ap (drop 1) on,
-)
 
 -- what is no longer all that was read stands whatever was read since
 pub read_closed : (walk : WordWalk) (bytes rest others : List ℕ) → walk.is_open ≡ false
@@ -87,36 +72,24 @@ extends_look test walk = record {
       (subst (λ k. HasRead bytes (encode_utf8_all (drop k h)) walk) same read);
 }
 
--- the characters from a position on
-char_first : (i : ℕ) (h : Text) (c : ℕ) → slice_get h i ≡ Some c → drop i h ≡ c ∷ drop (suc i) h
-char_first i [] c there = absurd (not_there there)
-char_first zero (x ∷ h) c there = ap (λ z. z ∷ h) (same_some there)
-char_first (suc i) (x ∷ h) c there = char_first i h c there
-
-pub extends_character : (c : ℕ) (before after : WordWalk) → ReadsBytes (encode_utf8 c) before after
-    → GrowsBy (character c) before after
-extends_character c before walk all = record {
+-- what is a row of characters: their letters are read behind the last word
+pub extends_spelled : (tree : Tree) (letters : List Letter) (before after : WordWalk)
+    → before.is_open ≡ true
+    → after.words ≡ record before.words { last = before.words.last ++ letters }
+    → ((h : Text) (i j : ℕ) → Matches h tree i j
+    → ReadsLetters letters (encode_utf8_all (drop i h)) (encode_utf8_all (drop j h)))
+    → GrowsBy tree before after
+extends_spelled tree letters before after is_open added reads = record {
   made = [];
-  done = none_made before walk all.same;
-  reads = λ h bytes i j read (there, next). inr
-      (subst (λ k. HasRead bytes (encode_utf8_all (drop k h)) walk) (sym next)
-      (all.reads bytes (encode_utf8_all (drop (suc i) h))
-      (subst (λ rest. HasRead bytes (encode_utf8_all rest) before) (char_first i h c there) read)));
-}
-
-pub extends_class : (ranges : List ClassRange) (letter : Letter) (before after : WordWalk)
-    → ((c : ℕ) → IsTrue (in_ranges ranges c) → (c < 128) × IsLetter letter c)
-    → ReadsLetter letter before after → GrowsBy (class ranges) before after
-extends_class ranges letter before walk each all = record {
-  made = [];
-  done = none_made before walk all.same;
-  reads = λ h bytes i j read (c, there, member, next).
-      let own = each c member in
-      let rest = ap encode_utf8_all (char_first i h c there)
-      ∙ ap (λ b. b ++ encode_utf8_all (drop (suc i) h)) (encode_ascii c own.0) in
-      inr (subst (λ k. HasRead bytes (encode_utf8_all (drop k h)) walk) (sym next)
-      (all.reads bytes (encode_utf8_all (drop (suc i) h)) c own.1
-      (subst (λ left. HasRead bytes left before) rest read)));
+  done = none_made before after (ap (λ words. words.done) added);
+  reads = λ h bytes i j read matches. inr (
+      let both = reads_both before.words.last letters bytes (encode_utf8_all (drop i h))
+      (encode_utf8_all (drop j h)) (record { stands = read.stands; all = read.all is_open })
+      (reads h i j matches) in
+      record {
+        stands = subst (λ words. StartsWith words.last bytes) (sym added) both.stands;
+        all = λ _. ap (λ words. drop (length words.last) bytes) added ∙ both.all;
+      });
 }
 
 -- one pass at least
@@ -166,6 +139,27 @@ no_part all walk = record {
   made = [];
   done = none_made walk walk refl;
   reads = λ h bytes i j read chain. inr (i, read, chain);
+}
+
+-- the first parts of a row lead to a position from which the others do
+chain_split : (front back : List Tree) (h : Text) (i j : ℕ) → Chain h (trees (front ++ back)) i j
+    → (k : ℕ) × Chain h (trees front) i k × Chain h (trees back) k j
+chain_split [] back h i j chain = (i, refl, chain)
+chain_split (a ∷ front) back h i j (m, first, rest) =
+    let (k, some, others) = chain_split front back h m j rest in (k, (m, first, some), others)
+
+pub first_parts : (front back : List Tree) (before now : WordWalk)
+    → GrowsBy (concat (trees front)) before now
+    → ReadsParts (trees (front ++ back)) (trees back) before now
+first_parts front back before now extends = record {
+  made = extends.made;
+  done = extends.done;
+  reads = λ h bytes i j read chain.
+      let (k, some, others) = chain_split front back h i j chain in
+      elim (extends.reads h bytes i k read some) [
+        | inl any ↦ inl any
+        | inr on ↦ inr (k, on, others)
+      ];
 }
 
 pub part_read : (all left : Trees) (a : Tree) (before now next : WordWalk)
@@ -323,48 +317,3 @@ words_of_walk tree before walk no_words no_letters extends h i j matches =
       stands = subst (λ word. StartsWith word bytes) (sym no_letters) tt;
       all = λ is_open. ap (λ word. drop (length word) bytes) no_letters;
     }
-
--- a letter is pushed to the last word, which is all that was read
-pub pushed : (letter : Letter) (before after : WordWalk) → before.is_open ≡ true
-    → after.words
-    ≡ record { done = before.words.done; last = before.words.last ++ letter ∷ [] }
-    → ReadsLetter letter before after
-pushed letter before walk is_open is = record {
-  same = ap (λ words. words.done) is;
-  reads = λ bytes rest byte own read.
-      let more = letter_more before.words.last letter bytes rest byte own read.stands
-      (read.all is_open) in
-      record {
-        stands = subst (λ words. StartsWith words.last bytes) (sym is) more.0;
-        all = λ e. ap (λ words. drop (length words.last) bytes) is ∙ more.1;
-      };
-}
-
--- or it is not, since more was read
-pub not_pushed : (letter : Letter) (walk : WordWalk) → walk.is_open ≡ false → ReadsLetter letter walk walk
-not_pushed letter walk shut = record {
-  same = refl;
-  reads = λ bytes rest byte own read. read_closed walk bytes _ _ shut read;
-}
-
--- a byte more of what is read
-pub byte_read : (all : List ℕ) (k : ℕ) (letter : Letter) (before now next : WordWalk)
-    → k < length all → letter.byte ≡ slice_index all k
-    → ((bytes rest : List ℕ) → HasRead bytes (all ++ rest) before
-    → HasRead bytes (drop k all ++ rest) now)
-    → ReadsLetter letter now next → (bytes rest : List ℕ) → HasRead bytes (all ++ rest) before
-    → HasRead bytes (drop (k + 1) all ++ rest) next
-byte_read all k letter before now next inside own so_far reads bytes rest read =
-    reads.reads bytes (drop (k + 1) all ++ rest) (slice_index all k) (inl (sym own))
-    (subst (λ left. HasRead bytes (left ++ rest) now) (drop_more all k 0 inside)
-    (so_far bytes rest read))
-
--- an ASCII character is one letter
-pub ascii_read : (c : ℕ) (letter : Letter) (before after : WordWalk) → c < 128
-    → letter.byte ≡ c → ReadsLetter letter before after
-    → ReadsBytes (encode_utf8 c) before after
-ascii_read c letter before walk low own reads = record {
-  same = reads.same;
-  reads = λ bytes rest read. reads.reads bytes rest c (inl (sym own))
-      (subst (λ first. HasRead bytes (first ++ rest) before) (encode_ascii c low) read);
-}

@@ -1,4 +1,5 @@
 //! Whether a search by leaps gains on a search for the bytes with which words begin.
+use crate::hir::Hir;
 use crate::prefilter::words::frequency::frequency;
 use crate::prefilter::words::letter::Letter;
 use crate::prefilter::words::word_list::WordList;
@@ -12,10 +13,14 @@ const RULED_OUT: usize = 8;
 /// As many bytes at most are compared with each byte of a haystack at once.
 const FEW: usize = 2;
 
+/// Words of so many letters at most are short.
+const SHORT: usize = 3;
+
 /// The bytes that words have at one place.
 #[derive(Drop)]
 struct Column {
-    seen: [bool; 256],
+    /// A bit for each byte, which is set if it is there.
+    seen: [u32; 8],
     count: usize,
     share: usize,
 }
@@ -24,7 +29,7 @@ impl Column {
     /// One without bytes.
     fn new() -> Column {
         Column {
-            seen: [false; 256],
+            seen: [0; 8],
             count: 0,
             share: 0,
         }
@@ -38,8 +43,9 @@ impl Column {
 
     /// Adds the byte, if it isn't there yet.
     fn add_byte(&mut self, byte: u8) {
-        if !self.seen[byte as usize] {
-            self.seen[byte as usize] = true;
+        let (place, bit) = ((byte / 32) as usize, 1u32 << (byte % 32));
+        if self.seen[place] & bit == 0 {
+            self.seen[place] |= bit;
             self.count = self.count.saturating_add(1);
             self.share = self.share.saturating_add(share_of(byte));
         }
@@ -58,12 +64,80 @@ pub(super) fn leaps_pay(list: &WordList, reach: usize) -> bool {
             first.add(*one);
             second.add(*other);
         }
+        let are_few = first.count <= FEW && second.count <= FEW;
+        // More words would leave as many stops at least.
+        if !are_few && pays(first.share, reach) {
+            return true;
+        }
     }
-    let stops = if first.count <= FEW && second.count <= FEW {
-        first.share / RULED_OUT
-    } else {
-        first.share
+    first.count <= FEW && second.count <= FEW && pays(first.share / RULED_OUT, reach)
+}
+
+/// Whether leaps may pay for the words of a tree, whatever they are. They don't for branches of
+/// which one is short, if the bytes with which they begin are rare.
+pub(super) fn may_pay(hir: &Hir) -> bool {
+    let Hir::Alternation(branches) = hir else {
+        return true;
     };
+    let reach = shortest_row(branches);
+    if reach > SHORT {
+        return true;
+    }
+    let mut first = Column::new();
+    for branch in branches {
+        let Some(byte) = first_byte(branch) else {
+            return true;
+        };
+        first.add_byte(byte);
+        if pays(first.share, reach) {
+            return true;
+        }
+    }
+    false
+}
+
+/// How many characters the shortest of these branches has that is a short row of ASCII characters,
+/// or one more than are short.
+fn shortest_row(branches: &[Hir]) -> usize {
+    let mut least = SHORT + 1;
+    for branch in branches {
+        if let Hir::Concat(parts) = branch {
+            if parts.len() < least && are_ascii(parts) {
+                least = parts.len();
+            }
+        }
+    }
+    least
+}
+
+/// Whether each of these parts is an ASCII character.
+fn are_ascii(parts: &[Hir]) -> bool {
+    for part in parts {
+        if ascii_byte(part).is_none() {
+            return false;
+        }
+    }
+    true
+}
+
+/// The ASCII character with which the tree begins, if it is one or a row of them.
+fn first_byte(hir: &Hir) -> Option<u8> {
+    match hir {
+        Hir::Concat(parts) if !parts.is_empty() => ascii_byte(&parts[0]),
+        _ => ascii_byte(hir),
+    }
+}
+
+/// The ASCII character that the tree is.
+fn ascii_byte(hir: &Hir) -> Option<u8> {
+    match hir {
+        Hir::Char(c) if c.is_ascii() => Some(*c as u8),
+        _ => None,
+    }
+}
+
+/// Whether leaps of so many bytes at most cost no more than to stop so often in a thousand bytes.
+fn pays(stops: usize, reach: usize) -> bool {
     cost_of_leaps(reach) <= PASSED.saturating_add(stops.saturating_mul(3) / 2)
 }
 

@@ -31,13 +31,14 @@ impl Pair {
     {
         let len = word.len().min(LOOKED_AT);
         let (mut first, mut second) = (0, len - 1);
-        'letters: for k in 0..len {
+        let (mut lowest, mut next) = (rank_of(word[0]), rank_of(word[len - 1]));
+        'letters: for k in 1..len {
             let rank = rank_of(word[k]);
-            if rank < rank_of(word[first]) {
-                second = first;
-                first = k;
-            } else if k != first && rank < rank_of(word[second]) {
-                second = k;
+            if rank < lowest {
+                (second, next) = (first, lowest);
+                (first, lowest) = (k, rank);
+            } else if rank < next {
+                (second, next) = (k, rank);
             }
         }
         Pair { first, second }

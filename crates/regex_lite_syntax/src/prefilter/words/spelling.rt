@@ -1,127 +1,194 @@
-//! Whether a pattern is nothing but its words.
-ghost use Rattle.std.specs.Prelude.{◌≤◌, ◌<◌, IfSome, IsTrue, encode_utf8, length, map, take};
-ghost use Rattle.regex_lite_syntax.specs.Tree.{class, trees};
+//! Patterns that are nothing but words, and rows of characters.
+ghost use Rattle.std.specs.Prelude.{◌≡◌, ◌≤◌, [], IfOk, IfSome, IsTrue, encode_utf8, false};
+ghost use Rattle.std.specs.Prelude.{length, map, take, true};
+ghost use Rattle.regex_lite_syntax.specs.Ranges.{in_ranges};
+ghost use Rattle.regex_lite_syntax.specs.Tree.{trees};
 ghost use Rattle.regex_lite_syntax.specs.Tree.Views.{tree_of};
-ghost use Rattle.regex_lite_syntax.specs.Prefilter.WholeWords.{AreBytes, AreSpelled, AreWholeWords};
-ghost use Rattle.regex_lite_syntax.specs.Prefilter.WholeWords.{IsItsWords, IsSpelled, IsWholeWord};
+ghost use Rattle.regex_lite_syntax.specs.Prefilter.Spelling.{AddsBytes, AddsRow, AddsSpelled};
+ghost use Rattle.regex_lite_syntax.specs.Prefilter.Spelling.{AddsWord};
+ghost use Rattle.regex_lite_syntax.specs.Prefilter.WholeWords.{AreWholeWords, HasCases, IsItsWords};
 ghost use Rattle.regex_lite_syntax.specs.Prefilter.WordLists.{all_words};
 
 use crate::class::Class;
 use crate::hir::Hir;
 use crate::prefilter::words::letter::Letter;
-use crate::prefilter::words::walk::letter_of;
 use crate::prefilter::words::word_list::WordList;
+use std::alloc::AllocError;
 
-/// Whether the tree is one of these words, the earlier preferred, and nothing else.
-pub(super) fn is_its_words(hir: &Hir, list: &WordList) -> bool
-    ensures { IsTrue result → IsItsWords (tree_of hir.now) (all_words list.now) }
+/// A word of as many letters is long enough: of a row no more characters are read.
+pub(super) const LONGEST: usize = 255;
+
+/// Reads a tree that is one of some words, the earlier preferred, and nothing else. Returns whether
+/// it is: then the list has these words.
+///
+/// Condition: no letter was read.
+///
+/// # Errors
+///
+/// If memory runs out.
+pub(super) fn read_words(list: &mut WordList, hir: &Hir) -> Result<bool, AllocError>
+    requires done { list.old.done ≡ [] }
+    requires last { list.old.last ≡ [] }
+    ensures { IfOk result (λ are. are ≡ true → IsItsWords (tree_of hir.now) (all_words list.new)) }
 {
     match hir {
-        Hir::Alternation(branches) => are_whole_words(branches, list),
-        _ => list.len() == 1 && is_whole_word(hir, list.word(0)),
+        Hir::Alternation(branches) => read_branches(list, branches),
+        _ => read_word(list, hir),
     }
 }
 
-/// Whether each branch is the word with its number.
-fn are_whole_words(branches: &[Hir], list: &WordList) -> bool
-    ensures { IsTrue result
-        → AreWholeWords (trees (map tree_of branches.now)) (all_words list.now) }
-{
-    if branches.len() != list.len() {
-        return false;
+/// Whether the tree may begin with a letter of a word. If not, it has no words.
+pub(super) fn may_begin_word(hir: &Hir) -> bool {
+    match hir {
+        Hir::Empty | Hir::Look(_) | Hir::Char(_) => true,
+        Hir::Class(set) => letter_of(set).is_some(),
+        Hir::Repetition { least, body, .. } => *least > 0 && may_begin_word(body),
+        Hir::Capture { body, .. } => may_begin_word(body),
+        Hir::Concat(parts) => parts.is_empty() || may_begin_word(&parts[0]),
+        Hir::Alternation(branches) => branches.is_empty() || may_begin_word(&branches[0]),
     }
-    'branches: for number in 0..branches.len() {
-        if !is_whole_word(&branches[number], list.word(number)) {
-            return false;
+}
+
+/// Reads branches each of which is a word. Returns whether they are.
+///
+/// Condition: no letter was read.
+///
+/// # Errors
+///
+/// If memory runs out.
+fn read_branches(list: &mut WordList, branches: &[Hir]) -> Result<bool, AllocError>
+    requires done { list.old.done ≡ [] }
+    requires last { list.old.last ≡ [] }
+    ensures { IfOk result (λ are. are ≡ true
+        → AreWholeWords (trees (map tree_of branches.now)) (all_words list.new)) }
+{
+    list.reserve(branches.len())?;
+    if branches.is_empty() || !read_word(list, &branches[0])? {
+        return Ok(false);
+    }
+    'branches: for number in 1..branches.len() {
+        if !list.begin_word()? || !read_word(list, &branches[number])? {
+            return Ok(false);
         }
     }
-    true
+    Ok(true)
 }
 
-/// Whether the tree is the word, and nothing else.
-fn is_whole_word(hir: &Hir, word: &[Letter]) -> bool
-    ensures { IsTrue result → IsWholeWord (tree_of hir.now) word.now }
+/// Adds the letters of a tree that is a word and nothing else. Returns whether it is.
+///
+/// # Errors
+///
+/// If memory runs out.
+#[inline(always)]
+fn read_word(list: &mut WordList, hir: &Hir) -> Result<bool, AllocError>
+    ensures { IfOk result (λ is. is ≡ true → AddsWord (tree_of hir.now) list.old list.new) }
 {
     match hir {
-        Hir::Concat(parts) => are_spelled(parts, word),
-        _ => match spelled(hir, word) {
-            Some(read) => read == word.len(),
-            None => false,
-        },
+        Hir::Concat(parts) => Ok(read_row(list, parts)? == parts.len()),
+        _ => spell(list, hir),
     }
 }
 
-/// Whether the parts in a row are the word.
-fn are_spelled(parts: &[Hir], word: &[Letter]) -> bool
-    ensures { IsTrue result → AreSpelled (trees (map tree_of parts.now)) word.now }
+/// Adds the letters of the parts with which these begin that are characters, or letters in any
+/// case. Returns how many these are, as far as they are read.
+///
+/// # Errors
+///
+/// If memory runs out.
+pub(super) fn read_row(list: &mut WordList, parts: &[Hir]) -> Result<usize, AllocError>
+    ensures inside { IfOk result (λ read. read ≤ length parts.now) }
+    ensures row { IfOk result
+        (λ read. AddsRow (trees (map tree_of (take read parts.now))) list.old list.new) }
 {
-    let mut read = 0;
-    'parts: for k in 0..parts.len() {
-        match spelled(&parts[k], &word[read..]) {
-            Some(more) => read += more,
-            None => return false,
+    let most = parts.len().min(LONGEST);
+    'parts: for k in 0..most {
+        if !spell(list, &parts[k])? {
+            return Ok(k);
         }
     }
-    read == word.len()
+    Ok(most)
 }
 
-/// How many letters the tree is, with which these letters begin. None if it isn't a character or a
-/// letter in any case, or if they don't.
-fn spelled(hir: &Hir, letters: &[Letter]) -> Option<usize>
-    ensures inside { IfSome result (λ read. read ≤ length letters.now) }
-    ensures spelled { IfSome result
-        (λ read. IsSpelled (tree_of hir.now) (take read letters.now)) }
+/// Adds the letters of the tree, if it is a character, or a letter in any case. Returns whether it
+/// is.
+///
+/// # Errors
+///
+/// If memory runs out.
+#[inline(always)]
+pub(super) fn spell(list: &mut WordList, hir: &Hir) -> Result<bool, AllocError>
+    ensures spelled { IfOk result
+        (λ is. is ≡ true → AddsSpelled (tree_of hir.now) list.old list.new) }
+    ensures same { IfOk result (λ is. is ≡ false → list.new ≡ list.old) }
 {
     match hir {
-        Hir::Char(c) => spelled_char(*c, letters),
-        Hir::Class(set) => spelled_class(set, letters),
-        _ => None,
+        Hir::Char(c) if c.is_ascii() => {
+            list.push(Letter::exact(*c as u8))?;
+            Ok(true)
+        }
+        _ => spell_other(list, hir),
     }
 }
 
-/// The same of a character.
-fn spelled_char(c: char, letters: &[Letter]) -> Option<usize>
-    ensures inside { IfSome result (λ read. read ≤ length letters.now) }
-    ensures spelled { IfSome result (λ read. AreBytes (encode_utf8 c) (take read letters.now)) }
+/// The same of a tree that is no ASCII character.
+///
+/// # Errors
+///
+/// If memory runs out.
+// Not inlined, so that the loop over a row has the registers.
+#[inline(never)]
+fn spell_other(list: &mut WordList, hir: &Hir) -> Result<bool, AllocError>
+    ensures spelled { IfOk result
+        (λ is. is ≡ true → AddsSpelled (tree_of hir.now) list.old list.new) }
+    ensures same { IfOk result (λ is. is ≡ false → list.new ≡ list.old) }
 {
-    if c.is_ascii() {
-        return spelled_ascii(c as u8, letters);
+    if let Hir::Char(c) = hir {
+        push_bytes(list, *c)?;
+        return Ok(true);
     }
+    let Hir::Class(set) = hir else {
+        return Ok(false);
+    };
+    let Some(letter) = letter_of(set) else {
+        return Ok(false);
+    };
+    list.push(letter)?;
+    Ok(true)
+}
+
+/// Adds the bytes of a character.
+///
+/// # Errors
+///
+/// If memory runs out.
+// Not inlined, for the same reason.
+#[inline(never)]
+fn push_bytes(list: &mut WordList, c: char) -> Result<(), AllocError>
+    ensures { IfOk result (λ _. AddsBytes (encode_utf8 c) list.old list.new) }
+{
     let mut buffer = [0; 4];
     let text = c.encode_utf8(&mut buffer);
     let bytes = text.as_bytes();
-    if letters.len() < bytes.len() {
-        return None;
-    }
     'bytes: for k in 0..bytes.len() {
-        let letter = letters[k];
-        if letter.byte != bytes[k] || letter.other != bytes[k] {
-            return None;
-        }
+        list.push(Letter::exact(bytes[k]))?;
     }
-    Some(bytes.len())
+    Ok(())
 }
 
-/// The same of an ASCII character.
-fn spelled_ascii(byte: u8, letters: &[Letter]) -> Option<usize>
-    requires { byte < 128 }
-    ensures inside { IfSome result (λ read. read ≤ length letters.now) }
-    ensures spelled { IfSome result (λ read. AreBytes (encode_utf8 byte) (take read letters.now)) }
+/// The letter of two cases that the set consists of.
+fn letter_of(set: &Class) -> Option<Letter>
+    ensures { IfSome result (HasCases (λ c. IsTrue (in_ranges set.now c))) }
 {
-    if letters.is_empty() || letters[0].byte != byte || letters[0].other != byte {
+    let [upper, lower] = set.ranges() else {
+        return None;
+    };
+    if upper.start != upper.end || lower.start != lower.end || !lower.start.is_ascii() {
         return None;
     }
-    Some(1)
-}
-
-/// The same of a character of the set.
-fn spelled_class(set: &Class, letters: &[Letter]) -> Option<usize>
-    ensures inside { IfSome result (λ read. read ≤ length letters.now) }
-    ensures spelled { IfSome result (λ read. IsSpelled (class set.now) (take read letters.now)) }
-{
-    let letter = letter_of(set)?;
-    if letters.is_empty() || letters[0].byte != letter.byte || letters[0].other != letter.other {
+    let (byte, other) = (upper.start as u8, lower.start as u8);
+    let are_cases = byte.to_ascii_lowercase() == other && other % 32 == byte % 32;
+    if !upper.start.is_ascii() || !are_cases {
         return None;
     }
-    Some(1)
+    Some(Letter { byte, other })
 }

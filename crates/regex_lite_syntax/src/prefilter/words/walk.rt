@@ -1,23 +1,18 @@
 //! The words with which the matches of a tree begin, found by one walk over it.
-ghost use Rattle.std.specs.Prelude.{◌≡◌, ◌<◌, ◌++◌, ◌∷◌, [], ℕ, IfOk, IfSome, IsTrue, encode_utf8};
-ghost use Rattle.std.specs.Prelude.{false, map, true};
-ghost use Rattle.regex_lite_syntax.specs.Ranges.{in_ranges};
-ghost use Rattle.regex_lite_syntax.specs.Tree.{alternation, class, concat, trees};
+ghost use Rattle.std.specs.Prelude.{◌≡◌, ◌≤◌, ◌++◌, ◌∷◌, [], IfOk, IfSome, false, length, map};
+ghost use Rattle.std.specs.Prelude.{take, true};
+ghost use Rattle.regex_lite_syntax.specs.Tree.{alternation, concat, trees};
 ghost use Rattle.regex_lite_syntax.specs.Tree.Views.{tree_of};
-ghost use Rattle.regex_lite_syntax.specs.Prefilter.WholeWords.{HasCases};
 ghost use Rattle.regex_lite_syntax.specs.Prefilter.WordLists.{all_words};
-ghost use Rattle.regex_lite_syntax.specs.Prefilter.WordWalk.{GrowsBy, ReadsLetter, ReadsBytes};
+ghost use Rattle.regex_lite_syntax.specs.Prefilter.WordWalk.{GrowsBy};
 ghost use Rattle.regex_lite_syntax.specs.Prefilter.Words.{AreWordsOfTree};
 
-use crate::class::Class;
 use crate::hir::Hir;
 use crate::prefilter::words::SHORTEST;
 use crate::prefilter::words::letter::Letter;
+use crate::prefilter::words::spelling::{LONGEST, read_row, spell};
 use crate::prefilter::words::word_list::WordList;
 use std::alloc::{AllocError, Global};
-
-/// How many letters a word has at most.
-const LONGEST: usize = 255;
 
 /// What has as many letters rules out enough, so that what branches after it isn't looked at. Then
 /// a pattern has no more letters than this for each of its branches.
@@ -33,17 +28,25 @@ pub(crate) struct WordWalk {
 
 impl WordWalk {
     /// The words with which the matches of the tree begin. None if there are too many, or if one
-    /// would be too short.
+    /// would be too short. The list is that to which they are added.
+    ///
+    /// Condition: the list has no letters yet.
     ///
     /// # Errors
     ///
     /// If memory runs out.
-    pub(super) fn of(alloc: Global, hir: &Hir) -> Result<Option<WordList>, AllocError>
+    pub(super) fn of(
+        alloc: Global,
+        words: WordList,
+        hir: &Hir,
+    ) -> Result<Option<WordList>, AllocError>
+        requires done { words.done ≡ [] }
+        requires last { words.last ≡ [] }
         ensures { IfOk result (λ told. IfSome told
             (λ words. AreWordsOfTree (tree_of hir.now) (all_words words))) }
     {
         let mut walk = WordWalk {
-            words: WordList::new(alloc),
+            words,
             is_open: true,
         };
         if !walk.extend(alloc, hir)? || !walk.close() {
@@ -64,11 +67,7 @@ impl WordWalk {
     {
         match hir {
             Hir::Empty | Hir::Look(_) => Ok(true),
-            Hir::Char(c) => {
-                self.push_char(*c)?;
-                Ok(true)
-            }
-            Hir::Class(set) => self.extend_by_class(set),
+            Hir::Char(_) | Hir::Class(_) => self.extend_by_leaf(hir),
             Hir::Repetition { least, body, .. } => {
                 if *least == 0 {
                     return Ok(self.close());
@@ -92,11 +91,12 @@ impl WordWalk {
         ensures { IfOk result (λ may. may ≡ true
             → GrowsBy (concat (trees (map tree_of parts.now))) self.old self.new) }
     {
-        for part in parts {
+        let read = self.extend_by_row(parts)?;
+        'parts: for k in read..parts.len() {
             if !self.is_open {
                 return Ok(true);
             }
-            if !self.extend(alloc, part)? {
+            if !self.extend(alloc, &parts[k])? {
                 return Ok(false);
             }
         }
@@ -119,6 +119,7 @@ impl WordWalk {
         if self.words.last().len() >= LONG {
             return Ok(self.close());
         }
+        self.words.reserve(branches.len())?;
         let mut stem = Vec::new(alloc);
         stem.extend_from_slice(self.words.last())?;
         let mut is_first = true;
@@ -153,64 +154,54 @@ impl WordWalk {
             return Ok(false);
         }
         self.is_open = true;
-        'letters: for k in 0..stem.len() {
-            self.words.push(stem[k])?;
-        }
+        self.words.push_all(stem)?;
         Ok(true)
     }
 
-    /// Goes over a character.
+    /// Goes over a character, or a character of a set.
     ///
     /// # Errors
     ///
     /// If memory runs out.
-    fn push_char(&mut self, c: char) -> Result<(), AllocError>
-        ensures { IfOk result (λ _. ReadsBytes (encode_utf8 c) self.old self.new) }
-    {
-        if c.is_ascii() {
-            self.push(Letter::exact(c as u8))?;
-            return Ok(());
-        }
-        let mut buffer = [0; 4];
-        let text = c.encode_utf8(&mut buffer);
-        let bytes = text.as_bytes();
-        'bytes: for k in 0..bytes.len() {
-            self.push(Letter::exact(bytes[k]))?;
-        }
-        Ok(())
-    }
-
-    /// Goes over a character of the set.
-    ///
-    /// # Errors
-    ///
-    /// If memory runs out.
-    fn extend_by_class(&mut self, set: &Class) -> Result<bool, AllocError>
-        ensures { IfOk result (λ may. may ≡ true → GrowsBy (class set.now) self.old self.new) }
-    {
-        let Some(letter) = letter_of(set) else {
-            return Ok(self.close());
-        };
-        self.push(letter)?;
-        Ok(true)
-    }
-
-    /// Adds a letter to the last word, if that is all that was read.
-    ///
-    /// # Errors
-    ///
-    /// If memory runs out.
-    fn push(&mut self, letter: Letter) -> Result<(), AllocError>
-        ensures { IfOk result (λ _. ReadsLetter letter self.old self.new) }
+    fn extend_by_leaf(&mut self, hir: &Hir) -> Result<bool, AllocError>
+        ensures { IfOk result (λ may. may ≡ true → GrowsBy (tree_of hir.now) self.old self.new) }
     {
         if !self.is_open {
-            return Ok(());
+            return Ok(true);
         }
-        self.words.push(letter)?;
+        if !spell(&mut self.words, hir)? {
+            return Ok(self.close());
+        }
+        self.close_if_long();
+        Ok(true)
+    }
+
+    /// Goes over the parts with which these begin that are characters, or letters in any case.
+    /// Returns how many these are, as far as they are read.
+    ///
+    /// # Errors
+    ///
+    /// If memory runs out.
+    fn extend_by_row(&mut self, parts: &[Hir]) -> Result<usize, AllocError>
+        ensures inside { IfOk result (λ read. read ≤ length parts.now) }
+        ensures grown { IfOk result
+            (λ read. GrowsBy (concat (trees (map tree_of (take read parts.now)))) self.old self.new) }
+    {
+        if !self.is_open {
+            return Ok(0);
+        }
+        let read = read_row(&mut self.words, parts)?;
+        self.close_if_long();
+        Ok(read)
+    }
+
+    /// Adds no more letters to the last word, if it is long.
+    fn close_if_long(&mut self)
+        ensures { self.new.words ≡ self.old.words }
+    {
         if self.words.last().len() >= LONGEST {
             self.is_open = false;
         }
-        Ok(())
     }
 
     /// Adds no more letters to the last word. Returns whether it isn't too short.
@@ -220,22 +211,4 @@ impl WordWalk {
         self.is_open = false;
         self.words.last().len() >= SHORTEST
     }
-}
-
-/// The letter of two cases that the set consists of.
-pub(super) fn letter_of(set: &Class) -> Option<Letter>
-    ensures { IfSome result (HasCases (λ c. IsTrue (in_ranges set.now c))) }
-{
-    let [upper, lower] = set.ranges() else {
-        return None;
-    };
-    if upper.start != upper.end || lower.start != lower.end || !lower.start.is_ascii() {
-        return None;
-    }
-    let (byte, other) = (upper.start as u8, lower.start as u8);
-    let are_cases = byte.to_ascii_lowercase() == other && other % 32 == byte % 32;
-    if !upper.start.is_ascii() || !are_cases {
-        return None;
-    }
-    Some(Letter { byte, other })
 }

@@ -4,6 +4,7 @@ ghost use Rattle.std.specs.Prelude.{slice_index, take, true};
 ghost use Rattle.regex_lite_syntax.specs.Prefilter.WordLists.{all_words};
 ghost use Rattle.regex_lite_syntax.specs.Prefilter.Words.{word_at};
 
+use crate::prefilter::words::MOST;
 use crate::prefilter::words::letter::Letter;
 use std::alloc::{AllocError, Global};
 use std::marker::Model;
@@ -37,6 +38,9 @@ impl Model for WordList {
 
 /// Room for the letters of most words.
 const LETTERS: usize = 16;
+
+/// Room for each of many words.
+const LETTERS_EACH: usize = 6;
 
 /// With more letters no words are begun.
 const MOST_LETTERS: usize = 1 << 20;
@@ -90,6 +94,45 @@ impl WordList {
         }) }
     {
         add_letter(&mut self.letters, letter)?;
+        Ok(())
+    }
+
+    /// Adds letters to the last word.
+    ///
+    /// # Errors
+    ///
+    /// If memory runs out.
+    pub(super) fn push_all(&mut self, letters: &[Letter]) -> Result<(), AllocError>
+        ensures { IfOk result (λ _. self.new ≡ record self.old {
+          last = self.old.last ++ letters.now;
+        }) }
+    {
+        self.letters.extend_from_slice(letters)?;
+        Ok(())
+    }
+
+    /// Removes all words and letters: one word without letters is left.
+    pub(super) fn clear(&mut self)
+        ensures done { self.new.done ≡ [] }
+        ensures last { self.new.last ≡ [] }
+    {
+        self.letters.clear();
+        self.ends.clear();
+        self.last = 0;
+    }
+
+    /// Makes room for this number of words more, if they are as many as are looked for.
+    ///
+    /// # Errors
+    ///
+    /// If memory runs out.
+    pub(super) fn reserve(&mut self, words: usize) -> Result<(), AllocError>
+        ensures { self.new ≡ self.old }
+    {
+        if words <= MOST {
+            self.ends.reserve(words)?;
+            self.letters.reserve(words * LETTERS_EACH)?;
+        }
         Ok(())
     }
 
@@ -148,7 +191,7 @@ fn part(letters: &[Letter], from: usize, end: usize) -> &[Letter]
     &letters[from..end]
 }
 
-/// Adds a letter. For the first one room for some more is requested.
+/// Adds a letter. Where there is no room, some more is requested than for one.
 ///
 /// # Errors
 ///
@@ -157,7 +200,7 @@ fn add_letter(letters: &mut Vec<Letter>, letter: Letter) -> Result<(), AllocErro
     ensures added { IfOk result (λ _. letters.new.items ≡ letters.old.items ++ letter ∷ []) }
     ensures grown { length letters.old.items ≤ length letters.new.items }
 {
-    if letters.is_empty() {
+    if letters.len() == letters.capacity() {
         letters.reserve(LETTERS)?;
     }
     letters.push(letter)?;

@@ -1,11 +1,11 @@
-use Rattle.regex_lite_syntax.proofs.Common.{◌+◌, ◌∙◌, ap, drop, false, subst, sym}
+use Rattle.regex_lite_syntax.proofs.Common.{◌+◌, ◌∙◌, ap, drop, false, map, subst, sym, take, trees}
+use Rattle.std.proofs.lemmas.List.{map-append, take-append-drop}
 use Rattle.regex_lite_syntax.proofs.Common.{drop_all, tree_of, Trees}
 use Rattle.regex_lite_syntax.specs.Prefilter.WordWalk.{GrowsBy}
-use Rattle.regex_lite_syntax.proofs.LeafLemmas.{tree_is-Char, tree_is-Repetition}
+use Rattle.regex_lite_syntax.proofs.LeafLemmas.{tree_is-Repetition}
 use Rattle.regex_lite_syntax.proofs.TreeLemmas.{trees_more, trees_of}
 use Rattle.regex_lite_syntax.proofs.prefilter.words.WordWalkLemmas.{all_branches, begun}
-use Rattle.regex_lite_syntax.proofs.prefilter.words.WordWalkLemmas.{extends_character}
-use Rattle.regex_lite_syntax.proofs.prefilter.words.WordWalkLemmas.{extends_passes, first_branch}
+use Rattle.regex_lite_syntax.proofs.prefilter.words.WordWalkLemmas.{extends_passes, first_branch, first_parts}
 use Rattle.regex_lite_syntax.proofs.prefilter.words.WordWalkLemmas.{next_branch, part_read}
 use Rattle.regex_lite_syntax.proofs.prefilter.words.WordWalkLemmas.{ReadsBranches, ReadsParts}
 use Rattle.regex_lite_syntax.proofs.prefilter.words.walk.WordWalk.+extend.Goals as goal
@@ -14,19 +14,12 @@ use Rattle.regex_lite_syntax.proofs.prefilter.words.walk.WordWalk.+extend.Goals.
   extend_by_branches-else-not-is_first-via-else-not-is_first,
 }
 
-pub extend-returns-in_ok-push_char-in-Char : goal.extend-returns-in_ok-push_char-in-Char
-extend-returns-in_ok-push_char-in-Char t c = λ may.
-    subst (λ tree. GrowsBy tree c.args.self.now c.push_char.new.self)
-    (sym (tree_is-Char c.in-Char.is))
-    (extends_character c.in-Char.c c.args.self.now c.push_char.new.self
-    c.in_ok-push_char-in-Char.ensures)
-
 pub extend-returns-then-may : goal.extend-returns-then-may
 extend-returns-then-may t c = λ may.
     let r = c.in-Repetition in
-    let body = tree_of c.deref-in-Repetition.result.now in
+    let body = tree_of c.deref.result.now in
     subst (λ tree. GrowsBy tree c.args.self.now c.close-then-may.new.self)
-    (sym (tree_is-Repetition r.is c.deref-in-Repetition.ensures))
+    (sym (tree_is-Repetition r.is c.deref.ensures))
     (subst (GrowsBy _ c.args.self.now) (sym c.close-then-may.ensures)
     (extends_passes r.least r.most r.greedy body c.args.self.now c.extend.new.self
     c.if-least-eq0.false (c.in_ok-may-in-Repetition.ensures c.if-may.true)))
@@ -73,14 +66,25 @@ extend_by_branches-returns t c = λ may.
     c.loop-branch.self c.loop-branch.is_first) (ap trees_of none_left)
     c.loop-branch.invariant.reads)
 
-pub extend_by_parts-loop-part-preserved : goal.extend_by_parts-loop-part-preserved
-extend_by_parts-loop-part-preserved t c =
+pub extend_by_parts-parts-init : goal.extend_by_parts-parts-init
+extend_by_parts-parts-init t c =
     let hirs = c.args.parts.now in
-    let k = c.loop-part.part-index in
-    let part = c.part-item.result in
-    let one = trees_more hirs k part c.loop-part-test.true c.part-item.is in
+    let read = c.in_ok-read.read in
+    let front = map tree_of (take read hirs) in
+    let back = map tree_of (drop read hirs) in
+    subst (λ all. ReadsParts (trees all) (trees back) c.args.self.now c.extend_by_row.new.self)
+    (sym (map-append tree_of (take read hirs) (drop read hirs))
+    ∙ ap (map tree_of) (take-append-drop read hirs))
+    (first_parts front back c.args.self.now c.extend_by_row.new.self c.in_ok-read.ensures.grown)
+
+pub extend_by_parts-parts-preserved : goal.extend_by_parts-parts-preserved
+extend_by_parts-parts-preserved t c =
+    let hirs = c.args.parts.now in
+    let k = c.parts.k in
+    let part = c.index-parts-k.result in
+    let one = trees_more hirs k part c.parts-test.true c.index-parts-k.is in
     part_read (trees_of hirs) (trees_of (drop (k + 1) hirs)) (tree_of part) c.args.self.now
-    c.loop-part.self c.extend.new.self
-    (subst (λ left. ReadsParts (trees_of hirs) left c.args.self.now c.loop-part.self) one
-    c.loop-part.invariant)
+    c.parts.self c.extend.new.self
+    (subst (λ left. ReadsParts (trees_of hirs) left c.args.self.now c.parts.self) one
+    c.parts.invariant)
     (c.in_ok-extend.ensures c.if-not-branch.false)

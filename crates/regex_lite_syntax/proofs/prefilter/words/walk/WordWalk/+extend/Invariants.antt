@@ -10,7 +10,7 @@ invariant-extend_by_branches-loop-branch l = record {
       (trees (map tree_of (drop l.branch-index l.branches))) l.fn.self l.self l.is_first;
 }
 
-abbrev pub invariant-extend_by_parts-loop-part : goal.invariant-extend_by_parts-loop-part
-invariant-extend_by_parts-loop-part l =
-    ReadsParts (trees (map tree_of l.parts)) (trees (map tree_of (drop l.part-index l.parts)))
+abbrev pub invariant-extend_by_parts-parts : goal.invariant-extend_by_parts-parts
+invariant-extend_by_parts-parts l =
+    ReadsParts (trees (map tree_of l.parts)) (trees (map tree_of (drop l.k l.parts)))
     l.fn.self l.self

@@ -10,5 +10,5 @@ returns c =
     let tree = tree_of c.args.hir.now in
     subst (λ words. AreWordsOfTree tree (all_words words))
     (sym (ap (λ walk. walk.words) c.close.ensures))
-    (words_of_walk tree _ c.extend.new.self c.new.ensures.done c.new.ensures.last
+    (words_of_walk tree _ c.extend.new.self c.requires.done c.requires.last
     (c.in_ok-extend.ensures c.if-not-branch.false))
