@@ -16,7 +16,7 @@ from pathlib import Path
 from typing import IO, Any, Callable, Dict, List, Mapping, Sequence, Tuple
 
 TOP = Path(__file__).resolve().parent.parent.parent
-HOSTILE = {'pattern': '(?:a{500}){400}b', 'text': 'a' * 100_000, 'replacement': '', 'flags': ''}
+HOSTILE = {'pattern': '(?:a{500}){400}[bc]', 'text': 'a' * 100_000, 'replacement': '', 'flags': ''}
 GOOD = {'pattern': 'a', 'text': 'a', 'replacement': '', 'flags': ''}
 SHARE = 0.02  # of a processor that a search takes at least, however many others there are
 

@@ -72,7 +72,7 @@ class Answers(WithServer):
 
     def test_hostile_questions(self) -> None:
         begun = time.monotonic()
-        shown = self.ask('(?:a{500}){400}b', 'a' * 1_000_000)
+        shown = self.ask('(?:a{500}){400}[bc]', 'a' * 1_000_000)
         self.assertEqual(shown, {'refusal': 'the search takes more than 5 seconds'})
         self.assertLess(time.monotonic() - begun, 15)
         self.assertEqual(self.ask('a', 'a')['count'], 1)

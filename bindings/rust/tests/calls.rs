@@ -83,7 +83,7 @@ fn many_texts() -> Result<(), Error> {
 #[test]
 fn costs() -> Result<(), Error> {
     assert_eq!(Regex::new("a")?.places(), 4);
-    let regex = Regex::new("(?:a|b)*c")?;
+    let regex = Regex::new("(?:a|b)*[cd]")?;
     let text = "b".repeat(100);
     let (found, cost) = regex.find_counted(&text);
     assert_eq!(found, None);

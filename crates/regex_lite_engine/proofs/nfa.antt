@@ -1,4 +1,5 @@
 -- lemmas that proofs of other modules need too
 pub mod BoundaryLemmas
+pub mod ListWordLemmas
 pub mod WayLemmas
 pub mod WholeWordLemmas

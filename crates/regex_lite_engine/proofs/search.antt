@@ -6,9 +6,11 @@ pub mod FirstStartLemmas
 pub mod LaterStartLemmas
 pub mod ListSkipLemmas
 pub mod MarkLemmas
+pub mod NeededLemmas
 pub mod OfferLemmas
 pub mod RecordLemmas
 pub mod SkipLemmas
+pub mod WordSearchLemmas
 pub mod OutcomeLemmas
 pub mod ListOutcomeLemmas
 pub mod OneStartLemmas

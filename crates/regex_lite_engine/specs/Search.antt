@@ -18,6 +18,7 @@ pub mod Offers
 pub mod Standing
 pub mod Slots
 pub mod Starts
+pub mod NumberedWords
 pub mod Prefixes
 pub mod Filters
 pub mod OutcomeOfOne

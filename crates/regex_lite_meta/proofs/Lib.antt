@@ -1,5 +1,6 @@
 -- the definitions that most proofs cite
 pub mod Common
--- lemmas that two folders share
+-- lemmas that several folders share
 pub mod EndLemmas
+pub mod AnyLemmas
 pub mod OneLemmas

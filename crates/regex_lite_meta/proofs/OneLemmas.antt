@@ -11,6 +11,9 @@ use Rattle.regex_lite_engine.specs.Graph.Places.{Place}
 use Rattle.regex_lite_engine.specs.Search.NumberedOutcomes.{IsNumberedOutcome, match_told}
 use Rattle.regex_lite_engine.specs.Search.NumberedOutcomes.{numbered_at, numbered_told}
 use Rattle.regex_lite_engine.specs.Search.NumberedOutcomes.{with_origin_kept}
+use Rattle.regex_lite_meta.specs.Memories.{SearchesForOne, SearchesList}
+use Rattle.regex_lite_meta.specs.declared.list_searcher.Inner.TheVariants.{One}
+use Rattle.regex_lite_meta.specs.declared.pattern_searcher.PatternSearcher.{PatternSearcher}
 use Rattle.regex_lite_meta.proofs.EndLemmas.{ended, own_match}
 use Rattle.std.specs.Prelude.{IsTrue, is_some}
 use Rattle.regex_lite_syntax.specs.Tree.{Tree}
@@ -86,3 +89,16 @@ module _ (list : StoredList) (entry : ℕ) (entries : list.entries ≡ entry ∷
       subst (λ z. P (table_of_list list) z) (sym entries)
       (subst (λ z. P (table_of_list list) (z ∷ [])) (of_entry ∙ ap (λ z. slice_index z 0) entries)
       (subst (λ z. P z (first ∷ [])) of_table holds))
+
+-- what searches for the only pattern of a list searches the list
+pub still_one : (list : StoredList) (entry : ℕ) → list.entries ≡ entry ∷ []
+    → (table : List (Place ℕ)) → table ≡ table_of_list list → (own : ℕ)
+    → own ≡ slice_index list.entries 0 → (one : PatternSearcher) → SearchesForOne table own one
+    → SearchesList list (One one)
+still_one list entry alone table table_is own own_is one searches =
+    let same : own ≡ entry = own_is ∙ ap (λ entries. slice_index entries 0) alone in (
+      entry,
+      alone,
+      subst (λ t. SearchesForOne t entry one) table_is
+          (subst (λ n. SearchesForOne table n one) same searches),
+    )

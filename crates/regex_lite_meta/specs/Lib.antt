@@ -3,6 +3,8 @@
 pub mod Searching
 -- What the memory of a searcher is for. No public contract rests on it.
 pub mod Memories
+-- What searches for any match of a pattern promise one another. No public contract rests on it.
+pub mod AnyOfOne
 -- What is kept for searches that find slots. No public contract rests on it.
 pub mod Slots
 -- What the functions of the lazy automaton promise one another. No public contract rests on it.

@@ -1,11 +1,12 @@
 -- What the memory of a searcher is for.
 use Rattle.std.specs.Prelude.{◌≡◌, ◌∷◌, [], ℕ, List, IfSome, length, option_map}
 use Rattle.regex_lite_meta.specs.declared.list_searcher.Inner.{Inner}
-use Rattle.regex_lite_meta.specs.declared.list_searcher.Inner.TheVariants.{One, Several}
+use Rattle.regex_lite_meta.specs.declared.list_searcher.Inner.TheVariants.{One, Several, Words}
 use Rattle.regex_lite_meta.specs.declared.pattern_searcher.PatternSearcher.{PatternSearcher}
 use Rattle.regex_lite_meta.specs.declared.several_searcher.SeveralSearcher.{SeveralSearcher}
 use Rattle.regex_lite_engine.specs.Graph.Places.{Place}
 use Rattle.regex_lite_engine.specs.Graph.StoredList.{StoredList, table_of_list}
+use Rattle.regex_lite_engine.specs.Search.NumberedWords.{AreAnsweredBy}
 use Rattle.regex_lite_engine.specs.Search.Rows.{Row}
 use Rattle.regex_lite_meta.specs.LazyDfa.Remembering.{FindsSpansIn, FindsSpansInList}
 use Rattle.regex_lite_meta.specs.LazyDfa.Remembering.{IsRemembering}
@@ -33,10 +34,13 @@ pub record SearchesForSeveral (list : StoredList) (searcher : SeveralSearcher) :
 -- the slots of the last match that a searcher of a list has found
 abbrev pub row_of_list : Inner → Row
 row_of_list (One one) = one.memory.cache.best.row
+row_of_list (Words words) = []
 row_of_list (Several several) = row_of_several several
 
--- searches of the list go on in it: of one that has a single pattern, or of any
+-- searches of the list go on in it: of one that has a single pattern, of one whose patterns are
+-- nothing but their words, or of any
 abbrev pub SearchesList : StoredList → Inner → Type 0
 SearchesList list (One one) =
     (entry : ℕ) × (list.entries ≡ entry ∷ []) × SearchesForOne (table_of_list list) entry one
+SearchesList list (Words words) = AreAnsweredBy (table_of_list list) list.entries words.now
 SearchesList list (Several several) = SearchesForSeveral list several

@@ -1,6 +1,6 @@
 //! How a graph is searched: which search is taken, and the one that remembers its turns.
 //!
-//! [`search`] and [`search_shortest`] search a graph once, and [`search_list`],
+//! [`search`], [`search_any`] and [`search_shortest`] search a graph once, and [`search_list`],
 //! [`search_list_uncounted`] and [`search_list_any`] that of several patterns. A [`Searcher`]
 //! searches one graph again and again in the same memory, and a [`ListSearcher`] that of several
 //! patterns. [`search_each`] and [`search_each_uncounted`] say which of several patterns match, and
@@ -25,7 +25,9 @@ mod strategy;
 
 pub use list_matches::{search_each, search_each_uncounted};
 pub use list_searcher::ListSearcher;
-pub use once::{search, search_list, search_list_any, search_list_uncounted, search_shortest};
+pub use once::{
+    search, search_any, search_list, search_list_any, search_list_uncounted, search_shortest,
+};
 pub use searcher::Searcher;
 pub use set_searcher::SetSearcher;
 pub use slot_searcher::SlotSearcher;

@@ -12,6 +12,7 @@ use crate::pattern_searcher::PatternSearcher;
 use crate::several_searcher::SeveralSearcher;
 use crate::strategy::SpanSearch;
 use regex_lite_engine::nfa::list::GraphList;
+use regex_lite_syntax::prefilter::ListWords;
 use std::alloc::{AllocError, Global};
 use std::marker::Model;
 
@@ -27,6 +28,8 @@ pub struct ListSearcher<'g> {
 pub(crate) enum Inner<'g> {
     /// Of a pattern alone, which is searched for as that of a regex is.
     One(PatternSearcher),
+    /// Several patterns that are nothing but their words, without slots. No memory is needed.
+    Words(&'g ListWords),
     Several(SeveralSearcher<'g>),
 }
 
@@ -62,6 +65,12 @@ impl<'g> ListSearcher<'g> {
         ensures graph { IfOk result (λ searcher. searcher.graph ≡ graph.now) }
         ensures slots { IfOk result (λ searcher. length searcher.slots ≡ slots) }
     {
+        if slots == 0 {
+            if let Some(words) = graph.words() {
+                let inner = Inner::Words(words);
+                return Ok(ListSearcher { graph, inner });
+            }
+        }
         let inner = match graph.alone() {
             Some(pattern) => { Inner::One(PatternSearcher::new(alloc, &pattern, slots, bytes)?) }
             None => Inner::Several(SeveralSearcher::new(alloc, graph, slots, bytes)?),
@@ -110,6 +119,7 @@ impl<'g> ListSearcher<'g> {
                 let span = one.find(&mut pattern, haystack, start)?;
                 Some((0, span))
             }
+            Inner::Words(words) => words.find_span(haystack.as_bytes(), start),
             Inner::Several(several) => several.find(self.graph, haystack, start),
         }
     }
@@ -133,8 +143,9 @@ impl<'g> ListSearcher<'g> {
         match &mut self.inner {
             Inner::One(one) => {
                 let mut pattern = self.graph.pattern(0);
-                one.find_end(&mut pattern, haystack, start).is_some()
+                one.find_any(&mut pattern, haystack, start)
             }
+            Inner::Words(words) => words.find_span(haystack.as_bytes(), start).is_some(),
             Inner::Several(several) => several.find_end(self.graph, haystack, start).is_some(),
         }
     }
@@ -146,6 +157,7 @@ impl<'g> ListSearcher<'g> {
     {
         match &self.inner {
             Inner::One(one) => one.row(),
+            Inner::Words(_) => &[],
             Inner::Several(several) => several.row(),
         }
     }

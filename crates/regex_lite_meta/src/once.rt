@@ -6,6 +6,7 @@ ghost use Rattle.regex_lite_syntax.specs.Tree.Regular.{IsRegular};
 ghost use Rattle.regex_lite_engine.specs.Graph.Renumbered.{IsGraphOf};
 ghost use Rattle.regex_lite_engine.specs.Graph.SideBySide.{AreRegularPatterns};
 ghost use Rattle.regex_lite_engine.specs.Graph.StoredList.{IsGraphOfList};
+ghost use Rattle.regex_lite_engine.specs.Search.Answer.{HasMatchFrom};
 ghost use Rattle.regex_lite_engine.specs.Search.AnswerOfList.{AnyMatchesFrom};
 ghost use Rattle.regex_lite_engine.specs.Search.Offsets.{search_start};
 ghost use Rattle.regex_lite_engine.specs.Search.Outcomes.{IsOutcome, IsEndOutcome, HasCost};
@@ -13,7 +14,7 @@ ghost use Rattle.regex_lite_engine.specs.Search.Outcomes.{HasCostOfList, IsOutco
 
 use crate::lazy_dfa::single::list::{search_any_remembering, search_list_remembering};
 use crate::list_searcher::ListSearcher;
-use crate::one::{search_one, search_shortest_one};
+use crate::one::{search_any_one, search_one, search_shortest_one};
 use crate::strategy::{Searched, SpanSearch, Strategy, Wanted, choose};
 use regex_lite_engine::nfa::list::GraphList;
 use regex_lite_engine::search::outcome::Outcome;
@@ -50,6 +51,35 @@ pub fn search(
     }
     let mut pattern = graph.pattern();
     search_one(&mut pattern, alloc, haystack, start, slots)
+}
+
+/// Whether there is a match that starts at or after this offset, and what the search did. It stops
+/// at the first match that it comes to.
+///
+/// Condition: the start is above the haystack's length or on a character boundary.
+///
+/// # Errors
+///
+/// If memory runs out, which can happen only before the first step.
+pub fn search_any(
+    graph: &Graph,
+    alloc: Global,
+    haystack: &str,
+    start: usize,
+) -> Result<(bool, Steps), AllocError>
+    requires { (length haystack.now < start) ⊎ IsCharBoundary haystack.now start }
+    ensures found { IfOk result (λ told. (tree : Tree) → IsRegular tree
+        → IsGraphOf tree graph.now → (IsTrue told.0
+        ↔ HasMatchFrom tree (chars haystack.now) (search_start haystack.now start))) }
+    ensures cost { IfOk result (λ told. (tree : Tree) → IsGraphOf tree graph.now
+        → HasCost tree haystack.now start told.1) }
+    ensures entered { IfOk result (λ told. IsTrue told.0 → 0 < told.1.entered) }
+{
+    if start > haystack.len() {
+        return Ok((false, no_steps()));
+    }
+    let mut pattern = graph.pattern();
+    search_any_one(&mut pattern, alloc, haystack, start)
 }
 
 /// The least end of any match that starts at or after this offset, and what the search did. It
@@ -111,6 +141,11 @@ pub fn search_list(
     if let Some(mut pattern) = list.alone() {
         let (found, steps) = search_one(&mut pattern, alloc, haystack, start, slots)?;
         return Ok((first_of_list(found), steps));
+    }
+    if slots == 0 {
+        if let Some(told) = list.search_words(alloc, haystack, start) {
+            return Ok(told);
+        }
     }
     let searched = Searched::several(list);
     let left = haystack.len() - start;
@@ -188,8 +223,10 @@ pub fn search_list_any(
         return Ok((false, no_steps()));
     }
     if let Some(mut pattern) = list.alone() {
-        let (end, steps) = search_shortest_one(&mut pattern, alloc, haystack, start)?;
-        return Ok((end.is_some(), steps));
+        return search_any_one(&mut pattern, alloc, haystack, start);
+    }
+    if let Some((found, steps)) = list.search_words(alloc, haystack, start) {
+        return Ok((found.is_some(), steps));
     }
     let left = haystack.len() - start;
     match choose(&Searched::several(list), Wanted::Earliest, 0, left) {

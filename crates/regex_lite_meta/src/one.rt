@@ -4,6 +4,7 @@ ghost use Rattle.regex_lite_engine.specs.Graph.Stored.{places_of};
 ghost use Rattle.regex_lite_engine.specs.Search.Filters.{facts_of};
 ghost use Rattle.regex_lite_engine.specs.Search.OutcomeOfOne.{TellsEndOfOne, TellsOfOne};
 ghost use Rattle.regex_lite_engine.specs.Search.Starts.{DoWordsAnswer};
+ghost use Rattle.regex_lite_meta.specs.AnyOfOne.{TellsAnyOfOne};
 
 use crate::lazy_dfa::single::one::{search_remembering, search_shortest_remembering};
 use crate::strategy::{Searched, Strategy, Wanted, choose};
@@ -39,10 +40,33 @@ pub(crate) fn search_one(
     let left = haystack.len() - start;
     let searched = Searched::one(pattern.table, pattern.filter);
     match choose(&searched, Wanted::Match { start }, slots, left) {
-        Strategy::LazyDfa => search_remembering(pattern, alloc, haystack, start),
         Strategy::DepthFirst => pattern.search_depth_first(alloc, haystack, start, slots),
+        _ if pattern.is_hopeless(haystack, start, start) => Ok((None, no_steps())),
+        Strategy::LazyDfa => search_remembering(pattern, alloc, haystack, start),
         _ => pattern.search_in_step(alloc, haystack, start, slots),
     }
+}
+
+/// Whether there is a match that starts at or after this offset, and what the search did. Any
+/// match will do: the next of a pattern's words, if it is nothing but these.
+#[inline(always)]
+pub(crate) fn search_any_one(
+    pattern: &mut OnePattern<'_>,
+    alloc: Global,
+    haystack: &str,
+    start: usize,
+) -> Result<(bool, Steps), AllocError>
+    requires boundary { IsCharBoundary haystack.now start }
+    requires answers { DoWordsAnswer (places_of pattern.old.table.now) pattern.old.entry
+        (facts_of pattern.old.filter) }
+    ensures { IfOk result (TellsAnyOfOne (places_of pattern.old.table.now) pattern.old.entry
+        haystack.now start) }
+{
+    if let Some((found, steps)) = pattern.search_words(alloc, haystack, start) {
+        return Ok((found.is_some(), steps));
+    }
+    let (end, steps) = search_shortest_one(pattern, alloc, haystack, start)?;
+    Ok((end.is_some(), steps))
 }
 
 /// The least end of any match that starts at or after this offset, and what the search did. It
@@ -63,6 +87,9 @@ pub(crate) fn search_shortest_one(
     let left = haystack.len() - start;
     let searched = Searched::one(pattern.table, pattern.filter);
     if let Strategy::LazyDfa = choose(&searched, Wanted::Earliest, 0, left) {
+        if pattern.is_hopeless(haystack, start, start) {
+            return Ok((None, no_steps()));
+        }
         return search_shortest_remembering(pattern, alloc, haystack, start);
     }
     let Some(first) = pattern.first_start(haystack, start) else {

@@ -1,5 +1,6 @@
 //! Searches for one pattern, of a regex or alone in a list, one after another in the same memory.
-ghost use Rattle.std.specs.Prelude.{◌≡◌, ◌∷◌, [], IfOk, IfSome, IsCharBoundary, chars, length};
+ghost use Rattle.std.specs.Prelude.{◌≡◌, ◌∷◌, ◌↔◌, [], IfOk, IfSome, IsCharBoundary, IsTrue, chars};
+ghost use Rattle.std.specs.Prelude.{length};
 ghost use Rattle.regex_lite_meta.specs.LazyDfa.Remembering.{RemembersFor};
 ghost use Rattle.regex_lite_meta.specs.Memories.{SearchesForOne};
 ghost use Rattle.regex_lite_engine.specs.Graph.Stored.{places_of};
@@ -9,6 +10,7 @@ ghost use Rattle.regex_lite_engine.specs.Search.NumberedOutcomes.{IsNumberedOutc
 ghost use Rattle.regex_lite_engine.specs.Search.Offsets.{position_at};
 ghost use Rattle.regex_lite_engine.specs.Search.OutcomeOfOne.{ending_at};
 ghost use Rattle.regex_lite_engine.specs.Search.Starts.{DoWordsAnswer};
+ghost use Rattle.regex_lite_meta.specs.AnyOfOne.{HasMatchOfAny};
 
 use crate::lazy_dfa::automaton::LazyDfa;
 use crate::lazy_dfa::single::one::end_of;
@@ -114,6 +116,9 @@ impl PatternSearcher {
             ≡ length self.old.memory.cache.best.row }
     {
         if let Some(dfa) = &mut self.dfa {
+            if pattern.is_hopeless(haystack, start, start) {
+                return None;
+            }
             let cache = &mut self.memory.cache;
             restart(cache);
             return dfa.find_span(pattern, cache, haystack, start);
@@ -121,14 +126,44 @@ impl PatternSearcher {
         let Some(spans) = &mut self.spans else {
             return self.memory.find_from(pattern, haystack, start);
         };
+        if pattern.is_hopeless(haystack, start, start) {
+            return None;
+        }
         let span = spans.find(pattern, haystack, start)?;
         self.memory.find_known(pattern, haystack, span)
+    }
+
+    /// Whether there is a match that starts at or after this offset. The search is over at the
+    /// first match that it comes to, and needs no memory. What the row has then belongs to no
+    /// match.
+    pub(crate) fn find_any(
+        &mut self,
+        pattern: &mut OnePattern<'_>,
+        haystack: &str,
+        start: usize,
+    ) -> bool
+        requires boundary { IsCharBoundary haystack.now start }
+        requires searches { SearchesForOne (places_of pattern.old.table.now) pattern.old.entry
+            self.old }
+        requires answers { DoWordsAnswer (places_of pattern.old.table.now) pattern.old.entry
+            (facts_of pattern.old.filter) }
+        ensures found { IsTrue result ↔ HasMatchOfAny (places_of pattern.old.table.now)
+            (chars haystack.now) (pattern.old.entry ∷ []) (position_at haystack.now start) }
+        ensures searches { SearchesForOne (places_of pattern.old.table.now) pattern.old.entry
+            self.new }
+        ensures slots { length self.new.memory.cache.best.row
+            ≡ length self.old.memory.cache.best.row }
+    {
+        if let Some(words) = pattern.whole_words() {
+            return words.find_span(haystack.as_bytes(), start).is_some();
+        }
+        self.find_end(pattern, haystack, start).is_some()
     }
 
     /// The least end of any match that starts at or after this offset. The search is over at the
     /// first match that it comes to, and needs no memory. What the row has then belongs to no
     /// match.
-    pub(crate) fn find_end(
+    fn find_end(
         &mut self,
         pattern: &mut OnePattern<'_>,
         haystack: &str,

@@ -1,9 +1,12 @@
 //! Searches in one graph, one after another, in the same working memory.
-ghost use Rattle.std.specs.Prelude.{◌≡◌, ◌<◌, ◌⊎◌, IfOk, IsCharBoundary, length};
+ghost use Rattle.std.specs.Prelude.{◌≡◌, ◌<◌, ◌⊎◌, ◌↔◌, IfOk, IsCharBoundary, IsTrue, chars};
+ghost use Rattle.std.specs.Prelude.{length};
 ghost use Rattle.regex_lite_syntax.specs.Tree.{Tree};
 ghost use Rattle.regex_lite_syntax.specs.Tree.Regular.{IsRegular};
 ghost use Rattle.regex_lite_engine.specs.Graph.Renumbered.{IsGraphOf};
-ghost use Rattle.regex_lite_engine.specs.Search.Outcomes.{IsEndOutcome, IsSpanOutcome};
+ghost use Rattle.regex_lite_engine.specs.Search.Answer.{HasMatchFrom};
+ghost use Rattle.regex_lite_engine.specs.Search.Offsets.{search_start};
+ghost use Rattle.regex_lite_engine.specs.Search.Outcomes.{IsSpanOutcome};
 
 use crate::pattern_searcher::PatternSearcher;
 use regex_lite_engine::Graph;
@@ -74,23 +77,24 @@ impl<'g> Searcher<'g> {
         self.inner.find(&mut pattern, haystack, start)
     }
 
-    /// The least end of any match that starts at or after this offset. The search is over at the
+    /// Whether there is a match that starts at or after this offset. The search is over at the
     /// first match that it comes to, and needs no memory. What [`Searcher::slots`] has then belongs
     /// to no match.
     ///
     /// Condition: the start is above the haystack's length or on a character boundary.
-    pub fn search_shortest(&mut self, haystack: &str, start: usize) -> Option<usize>
+    pub fn search_any(&mut self, haystack: &str, start: usize) -> bool
         requires { (length haystack.now < start) ⊎ IsCharBoundary haystack.now start }
         ensures found { (tree : Tree) → IsRegular tree → IsGraphOf tree self.old.graph
-            → IsEndOutcome tree haystack.now start result }
+            → (IsTrue result
+            ↔ HasMatchFrom tree (chars haystack.now) (search_start haystack.now start)) }
         ensures graph { self.new.graph ≡ self.old.graph }
         ensures slots { length self.new.slots ≡ length self.old.slots }
     {
         if start > haystack.len() {
-            return None;
+            return false;
         }
         let mut pattern = self.graph.pattern();
-        self.inner.find_end(&mut pattern, haystack, start)
+        self.inner.find_any(&mut pattern, haystack, start)
     }
 
     /// The slots of the last match that was found, none of them marked before the first. Slots 2k

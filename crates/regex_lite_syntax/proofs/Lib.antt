@@ -4,6 +4,7 @@ pub mod Common
 pub mod CharacterLemmas
 pub mod CharacterSetLemmas
 pub mod ExitLemmas
+pub mod ForwardLemmas
 pub mod LeafLemmas
 pub mod LetterCaseLemmas
 pub mod ListLemmas

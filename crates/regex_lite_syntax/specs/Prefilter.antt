@@ -9,10 +9,14 @@ pub mod Bytes
 -- Words with which matches begin, and how they are found.
 pub mod Words
 pub mod WholeWords
+pub mod NumberedWords
 pub mod WordLists
 pub mod Spelling
 pub mod WordWalk
 pub mod Leaps
 pub mod Finders
+-- A word that each match has, and how it is found.
+pub mod Needed
+pub mod NeededWalk
 -- The characters and the words together.
 pub mod StartFacts

@@ -1,7 +1,7 @@
 -- A pattern has one tree at most, so that a search for its tree is a search for the pattern.
 use Rattle.regex_lite.proofs.Common.{◌≡◌, ℕ, Bool, ◌↔◌, List, is_some, IsTrue, Some, None, Option}
 use Rattle.regex_lite.proofs.Common.{chars, sym, ◌∙◌, subst, false≢true, IsTree, Text, Tree}
-use Rattle.regex_lite.proofs.Common.{HasMatchFrom, search_start, Expression, MatchesFrom}
+use Rattle.regex_lite.proofs.Common.{HasMatchFrom, search_start, Expression, MatchesFrom, OfTree}
 use Rattle.regex_lite_syntax.specs.declared.flags.Flags.{Flags}
 use Rattle.regex_lite_syntax.proofs.machine.WholeLemmas.{grammar_once}
 use Rattle.regex_lite.specs.Searches.{TellsEnd}
@@ -23,3 +23,15 @@ matches_told re haystack start None found is (tree, given, none) = (
 )
 matches_told re haystack start (Some at) found is (tree, given, (end, least, same)) =
     (λ yes_found. (tree, given, (least.start, end, least.is_match)), λ matches. is)
+
+-- whether its tree matches is whether the pattern does
+pub has_told : (re : Expression) (haystack : List ℕ) (start : ℕ) (found : Bool)
+    → OfTree re (λ tree. IsTrue found
+    ↔ HasMatchFrom tree (chars haystack) (search_start haystack start))
+    → IsTrue found ↔ MatchesFrom re haystack start
+has_told re haystack start found (tree, given, told) = (
+  λ yes_found. (tree, given, told.0 yes_found),
+  λ matches.
+      told.1 (subst (λ t. HasMatchFrom t (chars haystack) (search_start haystack start))
+      (one_tree re.flags (chars re.pattern) matches.0 tree matches.1 given) matches.2),
+)

@@ -10,7 +10,7 @@ use crate::string::regex::Regex;
 use crate::string::slots::{slots_with, whole_slots};
 use crate::string::source::Source;
 use regex_lite_engine::{Outcome, Steps};
-use regex_lite_meta::{search, search_shortest};
+use regex_lite_meta::{search, search_any, search_shortest};
 use regex_lite_syntax::Error;
 
 /// The number of places of the written-out pattern that a search tries is at most one more than its
@@ -34,8 +34,9 @@ impl Regex {
         ensures entered { IfOk result (λ told. IsTrue told.0 → 0 < told.1.entered) }
         ensures refused { IfErr result (λ error. error ≡ out_of_memory) }
     {
-        let (end, steps) = self.shortest_match_counted_at(haystack, start)?;
-        Ok((end.is_some(), steps))
+        let graph = &self.compiled.graph;
+        let told = search_any(graph, self.alloc, haystack, start)?;
+        Ok(told)
     }
 
     /// [`Regex::find_at`], and what the search cost.

@@ -61,7 +61,7 @@ impl<'r> Searcher<'r> {
         ensures regex { self.new.regex ≡ self.old.regex }
         ensures slots { length self.new.slots ≡ length self.old.slots }
     {
-        self.inner.search_shortest(haystack, 0).is_some()
+        self.inner.search_any(haystack, 0)
     }
 
     /// Those of the spare groups, or new ones with room for the slots that are kept.

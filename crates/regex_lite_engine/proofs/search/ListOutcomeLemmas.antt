@@ -20,6 +20,7 @@ use Rattle.regex_lite_engine.specs.Search.Outcomes.{HasCostOfList, IsOutcomeOfLi
 use Rattle.regex_lite_engine.specs.Search.Outcomes.{IsSpanOutcomeOfList}
 use Rattle.regex_lite_engine.proofs.laws.several.NumberedListLemmas.{any_numbered, any_of_numbers}
 use Rattle.regex_lite_engine.proofs.laws.several.NumberedListLemmas.{list_answer_of_numbers}
+use Rattle.regex_lite_engine.proofs.laws.answer.AnswerLemmas.{found_match}
 use Rattle.regex_lite_syntax.proofs.OptionLemmas.{same_some}
 use Rattle.regex_lite_engine.proofs.search.OneStartLemmas.{only_entry}
 use Rattle.regex_lite_engine.proofs.search.OutcomeLemmas.{start_inside}
@@ -174,3 +175,35 @@ module _ (trees : List Tree) (list : StoredList) (is : IsGraphOfList trees list)
                 subst (λ t. IsMatchFrom t (chars haystack) (position_at haystack start)
                     shortest.start end) (same_some (sym known ∙ there)) match,
               )
+
+-- what is found shows whether any pattern matches
+pub any_of_span : (trees : List Tree) → AreRegularPatterns trees → (haystack : List ℕ) (start : ℕ)
+    (slots : List (Option ℕ)) (span : Option (ℕ × (ℕ × ℕ)))
+    → IsSpanOutcomeOfList trees haystack start slots span
+    → IsTrue (is_some span) ↔ AnyMatchesFrom trees (chars haystack) (search_start haystack start)
+any_of_span trees regular haystack start slots None none = (λ found. cc, λ any. absurd (none any))
+any_of_span trees regular haystack start slots (Some told) (found, is, tells) = (
+  λ yes. (
+      let match = found_match is.tree (chars haystack)
+      (regular told.0 is.tree is.numbered) found.start found is.answer in (
+        told.0,
+        is.tree,
+        is.numbered,
+        (
+          found.start,
+          found.end,
+          record { from = is.from; inside = match.inside; matches = match.matches },
+        ),
+      )),
+  λ any. refl,
+)
+
+pub any_of_outcome : (trees : List Tree) → AreRegularPatterns trees → (haystack : List ℕ)
+    (start : ℕ) (outcome : Option (ℕ × Outcome)) → IsOutcomeOfList trees haystack start outcome
+    → IsTrue (is_some outcome)
+    ↔ AnyMatchesFrom trees (chars haystack) (search_start haystack start)
+any_of_outcome trees regular haystack start None none =
+    any_of_span trees regular haystack start [] None none
+any_of_outcome trees regular haystack start (Some (number, outcome)) some =
+    any_of_span trees regular haystack start outcome.slots.items
+    (Some (number, (outcome.start, outcome.end))) some

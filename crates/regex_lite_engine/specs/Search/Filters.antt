@@ -16,6 +16,7 @@ prefix_facts first second = record {
   heads = prefix_heads first second;
   words = None;
   are_all = false;
+  needed = None;
 }
 
 -- what a search's filter tells

@@ -6,6 +6,7 @@ ghost use Rattle.regex_lite_syntax.specs.declared.error.ErrorKind.TheVariants.{P
 ghost use Rattle.regex_lite_syntax.specs.Errors.{kind_of, out_of_memory};
 ghost use Rattle.regex_lite_syntax.specs.Tree.Regular.{IsRegular};
 ghost use Rattle.regex_lite_syntax.specs.Tree.Views.{tree_of};
+ghost use Rattle.regex_lite_syntax.specs.Prefilter.NumberedWords.{AreWordsOfTrees};
 ghost use Rattle.regex_lite_syntax.specs.Prefilter.StartFacts.{AreEachFactsOf, AreFactsOfTree};
 ghost use Rattle.regex_lite_engine.specs.Graph.PlaceCounts.{whole_places};
 ghost use Rattle.regex_lite_engine.specs.Graph.Renumbered.{arrows_of};
@@ -15,6 +16,7 @@ ghost use Rattle.regex_lite_engine.specs.Graph.Size.{Fits, IsDueToTree};
 ghost use Rattle.regex_lite_engine.specs.Graph.StoredList.{HasGroupsOfList, IsGraphOfList};
 ghost use Rattle.regex_lite_engine.specs.Graph.StoredList.{TellGroupsOf, table_of_list};
 ghost use Rattle.regex_lite_engine.specs.Search.Filters.{facts_of, own_facts_of};
+ghost use Rattle.regex_lite_engine.specs.Search.NumberedWords.{AreAnsweredBy};
 ghost use Rattle.regex_lite_engine.specs.Search.Starts.{AreAllAtEnd, AreListHeadsOf};
 ghost use Rattle.regex_lite_engine.specs.Search.Starts.{DoWordsAnswer};
 ghost use Rattle.regex_lite_engine.specs.Search.Starts.{may_be_empty, TellReading};
@@ -27,7 +29,7 @@ use crate::nfa::table::Table;
 use crate::nfa::write::write_all;
 use crate::search::one_pattern::OnePattern;
 use crate::search::own_filter::OwnFilter;
-use regex_lite_syntax::prefilter::ListHeads;
+use regex_lite_syntax::prefilter::{ListHeads, ListWords};
 use regex_lite_syntax::{Error, Hir};
 use std::alloc::{AllocError, Global};
 use std::marker::Model;
@@ -49,13 +51,16 @@ pub struct GraphList {
     heads: ListHeads,
     /// The numbers of those that may match without reading a character, in order.
     at_end: Vec<u32>,
+    /// The words of all patterns, if each is nothing but its words.
+    words: Option<Box<ListWords>>,
 }
 
 impl Model for GraphList {
-    ghost use Rattle.std.specs.Prelude.{◌<◌, ◌^◌, All, length, map};
+    ghost use Rattle.std.specs.Prelude.{◌<◌, ◌^◌, All, IfSome, length, map};
     ghost use Rattle.regex_lite_engine.specs.Graph.Stored.{places_of};
     ghost use Rattle.regex_lite_engine.specs.Graph.StoredList.{StoredList};
     ghost use Rattle.regex_lite_engine.specs.Search.Filters.{own_facts_of};
+    ghost use Rattle.regex_lite_engine.specs.Search.NumberedWords.{AreAnsweredBy};
     ghost use Rattle.regex_lite_engine.specs.Search.Starts.{AreAllAtEnd, AreFiltersOf};
     ghost use Rattle.regex_lite_engine.specs.Search.Starts.{AreListHeadsOf, AreReading};
 
@@ -75,7 +80,9 @@ impl Model for GraphList {
         × AreFiltersOf (places_of list.table) list.entries.items
         (map own_facts_of list.filters.items)
         × AreReading (places_of list.table) list.entries.items list.reads.items
-        × AreAllAtEnd (places_of list.table) list.entries.items list.at_end.items };
+        × AreAllAtEnd (places_of list.table) list.entries.items list.at_end.items
+        × IfSome list.words (λ words.
+        AreAnsweredBy (places_of list.table) list.entries.items words.value) };
 }
 
 impl GraphList {
@@ -123,6 +130,7 @@ impl GraphList {
         let reads = that_read(alloc, hirs)?;
         let heads = ListHeads::of(alloc, hirs)?;
         let at_end = that_may_be_empty(alloc, hirs)?;
+        let words = words_of(alloc, hirs);
         Ok(GraphList {
             table,
             entries,
@@ -131,6 +139,7 @@ impl GraphList {
             reads,
             heads,
             at_end,
+            words,
         })
     }
 
@@ -165,6 +174,19 @@ impl GraphList {
         ensures { AreAllAtEnd (table_of_list self.now) self.now.entries result.now }
     {
         &self.at_end
+    }
+
+    /// The words of several patterns, if each is nothing but its words. Then the next of them is
+    /// what a search finds.
+    #[inline(always)]
+    pub fn words(&self) -> Option<&ListWords>
+        ensures { IfSome result (λ words.
+            AreAnsweredBy (table_of_list self.now) self.now.entries words.now) }
+    {
+        match &self.words {
+            None => None,
+            Some(words) => Some(words),
+        }
     }
 
     /// The pattern with this number, which may start nowhere yet.
@@ -318,4 +340,21 @@ fn that_may_be_empty(alloc: Global, hirs: &[Measured]) -> Result<Vec<u32>, Alloc
         }
     }
     Ok(numbers)
+}
+
+/// The words of several trees, if each is nothing but its words and there is memory. A tree alone
+/// is searched for as that of a regex is.
+fn words_of(alloc: Global, hirs: &[Measured]) -> Option<Box<ListWords>>
+    ensures { IfSome result (λ words. AreWordsOfTrees (map tree_of hirs.now) words.value) }
+{
+    if hirs.len() < 2 {
+        return None;
+    }
+    let Ok(Some(words)) = ListWords::of(alloc, hirs) else {
+        return None;
+    };
+    match Box::new(alloc, words) {
+        Ok(words) => Some(words),
+        Err(_) => None,
+    }
 }

@@ -12,8 +12,9 @@ use crate::search::one_pattern::OnePattern;
 use crate::search::patterns::pass_over;
 
 impl<'g> OnePattern<'g> {
-    /// The first position from this offset on at which a match may begin. None if there is none. A
-    /// search from the haystack's end is begun there, since that is its only start.
+    /// The first position from this offset on at which a match may begin. None if there is none, or
+    /// if a word that each match needs stands no more. A search from the haystack's end is begun
+    /// there, since that is its only start.
     ///
     /// Condition: the offset is on a character boundary.
     // Inlined, since many searches end at their first start.
@@ -30,7 +31,28 @@ impl<'g> OnePattern<'g> {
         if here.after.is_none() {
             return Some(here);
         }
-        self.start_from(haystack, here)
+        let first = self.start_from(haystack, here)?;
+        if self.is_hopeless(haystack, start, first.at) {
+            return None;
+        }
+        Some(first)
+    }
+
+    /// Whether no match of a search from the first offset starts at the second one or later, since
+    /// a word that each match needs stands nowhere from there on. It is looked for where a search
+    /// is the first of its haystack: of those that follow from match to match, most find it soon.
+    ///
+    /// Condition: the second offset is on a character boundary.
+    #[inline(always)]
+    pub fn is_hopeless(&self, haystack: &str, start: usize, at: usize) -> bool
+        requires { IsCharBoundary haystack.now at }
+        ensures { IsTrue result → AreDeadFrom (places_of self.now.table.now) (chars haystack.now)
+            self.now.entry (position_at haystack.now at) }
+    {
+        match self.filter.needed() {
+            Some(needed) if start == 0 => needed.is_missing(haystack.as_bytes(), at),
+            _ => false,
+        }
     }
 
     /// The first such position after this one.

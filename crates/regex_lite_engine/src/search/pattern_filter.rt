@@ -1,5 +1,6 @@
 //! Where a match of one pattern can begin.
 ghost use Rattle.std.specs.Prelude.{◌≡◌, ℕ, IfSome, IsTrue, Some, false, chars, IsCharBoundary};
+ghost use Rattle.std.specs.Prelude.{option_map};
 ghost use Rattle.regex_lite_syntax.specs.Prefilter.StartFacts.{NeverStarts};
 ghost use Rattle.regex_lite_syntax.specs.Prefilter.Starts.{may_begin};
 ghost use Rattle.regex_lite_engine.specs.Search.Filters.{facts_of};
@@ -9,7 +10,7 @@ ghost use Rattle.regex_lite_engine.specs.Search.Starts.{PassesTo, SkipsTo};
 use crate::search::here::Here;
 use crate::search::prefix::Prefix;
 use crate::search::skip::next_start;
-use regex_lite_syntax::prefilter::{Filter, Words};
+use regex_lite_syntax::prefilter::{Filter, Needed, Words};
 
 /// What is known of the positions at which a match of a pattern can begin.
 #[derive(Clone, Copy)]
@@ -85,6 +86,17 @@ impl<'g> PatternFilter<'g> {
     {
         match self {
             PatternFilter::Whole(filter) => filter.whole_words(),
+            PatternFilter::Literal(_) => None,
+        }
+    }
+
+    /// A word that stands in each match, if one is known.
+    #[inline(always)]
+    pub(crate) fn needed(self) -> Option<&'g Needed>
+        ensures { option_map (λ needed. needed.now) result ≡ (facts_of self.entry).needed }
+    {
+        match self {
+            PatternFilter::Whole(filter) => filter.needed(),
             PatternFilter::Literal(_) => None,
         }
     }

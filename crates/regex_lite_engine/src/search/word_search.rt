@@ -1,10 +1,15 @@
-//! A search for a pattern that is nothing but its words.
-ghost use Rattle.std.specs.Prelude.{IfSome, IsCharBoundary};
+//! Searches for patterns that are nothing but their words.
+ghost use Rattle.std.specs.Prelude.{◌≡◌, ◌<◌, IfSome, IsCharBoundary, List, length};
+ghost use Rattle.regex_lite_syntax.specs.Tree.{Tree};
+ghost use Rattle.regex_lite_engine.specs.Graph.SideBySide.{AreRegularPatterns};
 ghost use Rattle.regex_lite_engine.specs.Graph.Stored.{places_of};
+ghost use Rattle.regex_lite_engine.specs.Graph.StoredList.{IsGraphOfList};
 ghost use Rattle.regex_lite_engine.specs.Search.Filters.{facts_of};
 ghost use Rattle.regex_lite_engine.specs.Search.OutcomeOfOne.{TellsOfOne};
+ghost use Rattle.regex_lite_engine.specs.Search.Outcomes.{HasCostOfList, IsOutcomeOfList};
 ghost use Rattle.regex_lite_engine.specs.Search.Starts.{DoWordsAnswer};
 
+use crate::nfa::list::GraphList;
 use crate::search::one_pattern::OnePattern;
 use crate::search::outcome::Outcome;
 use crate::steps::{Steps, no_steps};
@@ -29,17 +34,63 @@ impl<'g> OnePattern<'g> {
             haystack.now start 0) }
     {
         let words = self.whole_words()?;
-        let mut steps = no_steps();
         let Some((from, end)) = words.find_span(haystack.as_bytes(), start) else {
-            return Some((None, steps));
+            return Some((None, no_steps()));
         };
-        steps.count_try();
-        steps.count_entry();
         let outcome = Outcome {
             start: from,
             end,
             slots: Vec::new(alloc),
         };
-        Some((Some(outcome), steps))
+        Some((Some(outcome), steps_of_match()))
     }
+}
+
+impl GraphList {
+    /// The match that starts first at or after this offset, of the pattern with the lowest number
+    /// that matches there, without slots: that number, the most preferred match of the pattern, and
+    /// what the search did, which enters a place for the match. None if a pattern isn't its words.
+    ///
+    /// Condition: the start is on a character boundary.
+    pub fn search_words(
+        &self,
+        alloc: Global,
+        haystack: &str,
+        start: usize,
+    ) -> Option<(Option<(usize, Outcome)>, Steps)>
+        requires boundary { IsCharBoundary haystack.now start }
+        ensures found { IfSome result (λ told. (trees : List Tree) → AreRegularPatterns trees
+            → IsGraphOfList trees self.now → IsOutcomeOfList trees haystack.now start told.0) }
+        ensures slots { IfSome result (λ told. IfSome told.0
+            (λ found. length found.1.slots.items ≡ 0)) }
+        ensures cost { IfSome result (λ told. (trees : List Tree) → IsGraphOfList trees self.now
+            → HasCostOfList trees haystack.now start told.1) }
+        ensures entered { IfSome result (λ told. IfSome told.0 (λ _. 0 < told.1.entered)) }
+    {
+        let words = self.words()?;
+        // Each place is one of the graph.
+        let _entries = self.entries();
+        match words.find_span(haystack.as_bytes(), start) {
+            None => Some((None, no_steps())),
+            Some((number, (from, end))) => {
+                let outcome = Outcome {
+                    start: from,
+                    end,
+                    slots: Vec::new(alloc),
+                };
+                Some((Some((number, outcome)), steps_of_match()))
+            }
+        }
+    }
+}
+
+/// What a search by words does that finds a match: it enters a place.
+#[inline(always)]
+fn steps_of_match() -> Steps
+    ensures { result ≡ record { tried = 1; entered = 1; looked = 0 } }
+{
+    let mut steps = no_steps();
+    steps.count_try();
+    steps.count_entry();
+    steps
 }

@@ -1,5 +1,6 @@
 -- lemmas that several proofs here share
 pub mod SpellingLemmas
+pub mod GatheredLemmas
 pub mod StandLemmas
 pub mod NextLemmas
 pub mod PairLemmas
@@ -8,3 +9,4 @@ pub mod LinkLemmas
 pub mod WordListLemmas
 pub mod RowLemmas
 pub mod WordWalkLemmas
+pub mod NeededWalkLemmas

@@ -2,6 +2,7 @@
 ghost use Rattle.std.specs.Prelude.{◌≡◌, IfSome, IsTrue, Some, option_map};
 ghost use Rattle.regex_lite_syntax.specs.Tree.Views.{tree_of};
 ghost use Rattle.regex_lite_syntax.specs.Prefilter.Bytes.{IsPrefilterOf};
+ghost use Rattle.regex_lite_syntax.specs.Prefilter.Needed.{IsNeededBy};
 ghost use Rattle.regex_lite_syntax.specs.Prefilter.StartFacts.{AreFactsOfTree};
 ghost use Rattle.regex_lite_syntax.specs.Prefilter.Spelling.{AreToldWords};
 
@@ -9,7 +10,7 @@ use crate::hir::Hir;
 use crate::prefilter::Prefilter;
 use crate::prefilter::heads::Heads;
 use crate::prefilter::starts::Starts;
-use crate::prefilter::words::{Words, may_have_words};
+use crate::prefilter::words::{Needed, Words, may_have_words};
 use std::alloc::Global;
 use std::marker::Model;
 
@@ -25,6 +26,8 @@ pub struct Filter {
     words: Option<Box<Words>>,
     /// Whether the tree is nothing but one of its words.
     are_all: bool,
+    /// A word that stands in each match, if one is known and no words are.
+    needed: Option<Box<Needed>>,
 }
 
 impl Model for Filter {
@@ -38,6 +41,7 @@ impl Model for Filter {
       heads = filter.heads;
       words = option_map (λ words. words.value) filter.words;
       are_all = filter.are_all;
+      needed = option_map (λ needed. needed.value) filter.needed;
     } };
 
     ghost invariant = { λ filter. IfSome filter.prefilter (IsPrefilterOf filter.heads) };
@@ -60,6 +64,7 @@ impl Filter {
                     prefilter: None,
                     words: Some(words),
                     are_all,
+                    needed: None,
                 };
             }
         }
@@ -70,6 +75,7 @@ impl Filter {
             prefilter,
             words: None,
             are_all: false,
+            needed: needed_by(alloc, hir),
         }
     }
 
@@ -110,6 +116,26 @@ impl Filter {
             _ => None,
         }
     }
+
+    /// A word that stands in each match, if one is known.
+    #[inline(always)]
+    pub fn needed(&self) -> Option<&Needed>
+        ensures { option_map (λ needed. needed.now) result ≡ self.now.needed }
+    {
+        match &self.needed {
+            None => None,
+            Some(needed) => Some(needed),
+        }
+    }
+}
+
+/// A word that each match of the tree needs, if one is known and there is memory.
+// Not inlined, as the next one isn't.
+#[inline(never)]
+fn needed_by(alloc: Global, hir: &Hir) -> Option<Box<Needed>>
+    ensures { IfSome result (λ needed. IsNeededBy (tree_of hir.now) needed.value) }
+{
+    Box::new(alloc, Needed::of(hir)?).ok()
 }
 
 /// The words of the tree, if it has some and there is memory.

@@ -1,19 +1,23 @@
 //! Words of which one stands wherever a match begins, and searches for the next of them.
-ghost use Rattle.std.specs.Prelude.{◌≡◌, ◌↔◌, ◌<◌, ◌≤◌, ℕ, IfOk, IfSome, IsCharBoundary, IsTrue};
-ghost use Rattle.std.specs.Prelude.{length};
+ghost use Rattle.std.specs.Prelude.{◌≡◌, ◌↔◌, ◌<◌, ◌≤◌, ◌^◌, ℕ, IfOk, IfSome};
+ghost use Rattle.std.specs.Prelude.{IsCharBoundary, IsTrue, length};
 ghost use Rattle.regex_lite_syntax.specs.Tree.Views.{tree_of};
 ghost use Rattle.regex_lite_syntax.specs.Prefilter.Spelling.{AreToldWords};
 ghost use Rattle.regex_lite_syntax.specs.Prefilter.WholeWords.{IsNextSpan};
 ghost use Rattle.regex_lite_syntax.specs.Prefilter.WordLists.{all_words};
 ghost use Rattle.regex_lite_syntax.specs.Prefilter.Words.{AnyStandsAt, AreSuited};
 ghost use Rattle.regex_lite_syntax.specs.Prefilter.Words.{IsLead};
-ghost use Rattle.regex_lite_syntax.specs.Prefilter.Words.{IsNextWord, NoneStands};
+ghost use Rattle.regex_lite_syntax.specs.Prefilter.Words.{IsNextWord, NoneStands, word_at};
 
 mod frequency;
 mod gain;
 mod leaps;
 pub mod letter;
+pub mod list_words;
+mod needed;
+mod needed_walk;
 mod pair;
+mod short_word;
 mod spelling;
 mod standing;
 mod walk;
@@ -22,6 +26,7 @@ mod word_list;
 use crate::hir::Hir;
 use gain::{leaps_pay, may_pay};
 use leaps::{Leaps, shortest};
+pub use needed::Needed;
 use pair::Pair;
 use spelling::{may_begin_word, read_words};
 use std::alloc::{AllocError, Global};
@@ -67,8 +72,8 @@ impl Model for Words {
 }
 
 impl Words {
-    /// Those of the tree, if each match begins with one of some words, and whether the tree is one of
-    /// them, the earlier preferred, and nothing else.
+    /// Those of the tree, if each match begins with one of some words, and whether the tree is one
+    /// of them, the earlier preferred, and nothing else.
     ///
     /// # Errors
     ///
@@ -135,6 +140,16 @@ impl Words {
         }
     }
 
+    /// How many letters the word with this number has.
+    #[inline(always)]
+    fn len_of(&self, number: usize) -> usize
+        requires { number < length self.now }
+        ensures len { result ≡ length (word_at self.now number) }
+        ensures few { result < 2 ^ 63 }
+    {
+        self.list.word(number).len()
+    }
+
     /// Where the first word starts and ends that stands at the first offset from this one on at
     /// which any does.
     ///
@@ -145,7 +160,7 @@ impl Words {
         ensures { IsNextSpan self.now bytes.now from result }
     {
         let (at, number) = self.find(bytes, from)?;
-        Some((at, at + self.list.word(number).len()))
+        Some((at, at + self.len_of(number)))
     }
 
     /// The first offset from this one on at which a word stands, or the haystack's end.

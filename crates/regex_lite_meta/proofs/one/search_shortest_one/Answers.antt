@@ -1,4 +1,4 @@
-use Rattle.regex_lite_meta.proofs.Common.{◌^◌, ◌<◌, length, chars, arith, rules}
+use Rattle.regex_lite_meta.proofs.Common.{◌^◌, ◌<◌, length, chars, arith, refl, rules}
 use Rattle.regex_lite_meta.proofs.Common.{places_of, best_of, position_at, arrows_of}
 use Rattle.regex_lite_engine.proofs.search.FirstStartLemmas.{bounded_from, first_boundary}
 use Rattle.regex_lite_engine.proofs.search.FirstStartLemmas.{none_before_first, none_tried}
@@ -44,10 +44,24 @@ returns-in_default-first_start c =
     let one = c.args.pattern.now in
     let table = places_of one.table.now in
     let haystack = c.args.haystack.now in
-    let steps = c.no_steps.result in
-    let none = c.no_steps.ensures in record {
+    let steps = c.no_steps-in_default-first_start.result in
+    let none = c.no_steps-in_default-first_start.ensures in record {
       found = none_told table haystack one.entry c.args.start
           (c.first_start.ensures.none c.in_default-first_start.is);
+      cost = none_tried (length table) (arrows_of table) (chars haystack)
+          (position_at haystack c.args.start) steps.tried steps.entered steps.looked none.tried
+          none.entered none.looked;
+      entered = tt;
+    }
+
+pub returns-then-is_hopeless : goal.returns-then-is_hopeless
+returns-then-is_hopeless c =
+    let one = c.args.pattern.now in
+    let table = places_of one.table.now in
+    let haystack = c.args.haystack.now in
+    let steps = c.no_steps.result in
+    let none = c.no_steps.ensures in record {
+      found = none_told table haystack one.entry c.args.start (c.if-is_hopeless.ensures refl);
       cost = none_tried (length table) (arrows_of table) (chars haystack)
           (position_at haystack c.args.start) steps.tried steps.entered steps.looked none.tried
           none.entered none.looked;

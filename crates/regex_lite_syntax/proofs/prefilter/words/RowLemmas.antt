@@ -42,7 +42,7 @@ reads_bytes (byte ∷ bytes) (letter ∷ letters) rest (own, other, are) =
     record { stands = (inl (sym own), on.stands); all = on.all }
 
 -- the characters from a position on
-char_first : (i : ℕ) (h : Text) (c : ℕ) → slice_get h i ≡ Some c → drop i h ≡ c ∷ drop (suc i) h
+pub char_first : (i : ℕ) (h : Text) (c : ℕ) → slice_get h i ≡ Some c → drop i h ≡ c ∷ drop (suc i) h
 char_first i [] c there = absurd (not_there there)
 char_first zero (x ∷ h) c there = ap (λ z. z ∷ h) (same_some there)
 char_first (suc i) (x ∷ h) c there = char_first i h c there

@@ -53,9 +53,9 @@ impl Column {
 }
 
 /// Whether leaps over so many letters cost no more than a search for the bytes with which the
-/// words begin, and a look at each place where one stands. They do where these bytes are few or
-/// rare and the words short: by leaps `cat|dog` took 2.1 times as much in English text, `ab|cd`
-/// 7, and `GET|POST|PUT|HEAD|DELETE` 3.4 in prose.
+/// words begin, and a look at each place where one stands. They cost more where these bytes are
+/// few or rare and the words short: `cat|dog` took 2.1 times as much by leaps in English text,
+/// `ab|cd` 7 times, and `GET|POST|PUT|HEAD|DELETE` 3.4 times in prose.
 pub(super) fn leaps_pay(list: &WordList, reach: usize) -> bool {
     let mut first = Column::new();
     let mut second = Column::new();

@@ -44,6 +44,15 @@ impl Pair {
         Pair { first, second }
     }
 
+    /// The rarest letter of the word.
+    ///
+    /// Condition: it is the word for which this was made.
+    pub(super) fn rarest(self, word: &[Letter]) -> Letter
+        requires { self.first < length word.now }
+    {
+        word[self.first]
+    }
+
     /// The first offset from this one on at which the word stands.
     // Not inlined, since the loop of a search is so large that this one would lose its registers.
     #[inline(never)]
@@ -122,7 +131,7 @@ impl Pair {
 }
 
 /// How often the letter occurs in texts.
-fn rank_of(letter: Letter) -> u8 {
+pub(super) fn rank_of(letter: Letter) -> u8 {
     let rank = frequency(letter.byte);
     if letter.is_exact() {
         return rank;

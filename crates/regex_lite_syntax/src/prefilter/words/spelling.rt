@@ -176,7 +176,7 @@ fn push_bytes(list: &mut WordList, c: char) -> Result<(), AllocError>
 }
 
 /// The letter of two cases that the set consists of.
-fn letter_of(set: &Class) -> Option<Letter>
+pub(super) fn letter_of(set: &Class) -> Option<Letter>
     ensures { IfSome result (HasCases (λ c. IsTrue (in_ranges set.now c))) }
 {
     let [upper, lower] = set.ranges() else {

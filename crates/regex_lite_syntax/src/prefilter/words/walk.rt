@@ -185,7 +185,8 @@ impl WordWalk {
     fn extend_by_row(&mut self, parts: &[Hir]) -> Result<usize, AllocError>
         ensures inside { IfOk result (λ read. read ≤ length parts.now) }
         ensures grown { IfOk result
-            (λ read. GrowsBy (concat (trees (map tree_of (take read parts.now)))) self.old self.new) }
+            (λ read.
+            GrowsBy (concat (trees (map tree_of (take read parts.now)))) self.old self.new) }
     {
         if !self.is_open {
             return Ok(0);

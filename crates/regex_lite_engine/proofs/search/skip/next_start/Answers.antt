@@ -18,6 +18,6 @@ returns-in-Some-clause-passes c = λ p is.
     let known : c.args.filter.now.words ≡ Some words =
     sym c.words.ensures ∙ ap (option_map (λ w. w.now)) c.in-Some.is in
     skips_as (NoneStandsIn words (chars bytes)) _ bytes p c.next_by_words.result
-    (λ i none. inr (subst (λ o. MatchOption o ⊥ (λ w. NoneStandsIn w (chars bytes) i)) (sym known)
-    none))
+    (λ i none. inr (inl (subst (λ o. MatchOption o ⊥ (λ w. NoneStandsIn w (chars bytes) i)) (sym known)
+    none)))
     (c.next_by_words.ensures.passes p is)

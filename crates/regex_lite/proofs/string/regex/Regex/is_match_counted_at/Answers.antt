@@ -1,7 +1,14 @@
-use Rattle.regex_lite.proofs.string.OneTreeLemmas.{matches_told}
+use Rattle.regex_lite.proofs.Common.{sym, ap, subst, IsGraphOf}
+use Rattle.regex_lite.proofs.string.OneTreeLemmas.{has_told}
 use Rattle.regex_lite.proofs.string.regex.Regex.is_match_counted_at.Goals as goal
 
 pub returns-clause-found : goal.returns-clause-found
 returns-clause-found c =
-    matches_told c.args.self.now c.args.haystack.now c.args.start c.in_ok-end.end c.is_some.result
-    c.is_some.ensures c.in_ok-end.ensures.found
+    let built = c.self.invariant in
+    let graph = ap (λ compiled. compiled.graph) c.deref.ensures in
+    has_told c.args.self.now c.args.haystack.now c.args.start c.in_ok-told.told.0 (
+      built.tree,
+      rw (← c.self.view_is) built.given,
+      c.in_ok-told.ensures.found built.tree built.regular
+          (subst (IsGraphOf built.tree) (sym graph) built.graph),
+    )

@@ -8,6 +8,7 @@ use Rattle.regex_lite_engine.specs.Search.Filters.{own_facts_of}
 use Rattle.regex_lite_engine.proofs.nfa.list.TableLemmas.{closed, name, written, entered}
 use Rattle.regex_lite_engine.proofs.nfa.list.TableLemmas.{entries_inside, parted, entry_for_each}
 use Rattle.regex_lite_engine.proofs.nfa.list.TableLemmas.{few_entries}
+use Rattle.regex_lite_engine.proofs.nfa.ListWordLemmas.{told_of_words}
 use Rattle.regex_lite_engine.proofs.nfa.WayLemmas.{listed_ends, listed_filters, listed_heads}
 use Rattle.regex_lite_engine.proofs.nfa.WayLemmas.{listed_reads}
 use Rattle.regex_lite_engine.proofs.nfa.write.SeveralRowLemmas.{arrows_add_up}
@@ -86,6 +87,10 @@ invariant_of-result c =
           (c.in_ok-at_end.ensures
           ∙ ap (λ n. filter (may_be_empty trees) (range_with_len 0 n))
           (sym (length-map c.args.hirs.now tree_of))),
+      told_of_words trees regular (name trees regular places table_is)
+          (places_of c.new-table.result) entries (written trees regular places table_is)
+          (entered trees regular places table_is entries entries_are) (λ words. words.value)
+          c.words_of-words.result c.words_of-words.ensures,
     )
 
 pub returns-clause-ok : goal.returns-clause-ok

@@ -1,0 +1,25 @@
+use Rattle.std.proofs.lemmas.Result.{IfOk-weaker}
+use Rattle.regex_lite_engine.proofs.nfa.BoundaryLemmas.{on_boundary}
+use Rattle.regex_lite_engine.proofs.search.OutcomeLemmas.{cost_told}
+use Rattle.regex_lite_meta.proofs.AnyLemmas.{any_of_tree}
+use Rattle.regex_lite_meta.proofs.once.search_any.Goals as goal
+
+pub search_any_one-requires-clause-boundary : goal.search_any_one-requires-clause-boundary
+search_any_one-requires-clause-boundary c = on_boundary _ _ c.requires c.if-start-haystack.false
+
+pub returns : goal.returns
+returns c =
+    let graph = c.args.graph.now in
+    let haystack = c.args.haystack.now in
+    let start = c.args.start in
+    let inside = c.if-start-haystack.false in
+    let told = rw (c.pattern-pattern.ensures.table, c.pattern-pattern.ensures.entry) at
+    c.search_any_one.ensures in record {
+      found = IfOk-weaker c.search_any_one.result _ _
+          (λ told is tree regular of_tree.
+          any_of_tree tree regular graph of_tree haystack start inside told.0 is.found) told;
+      cost = IfOk-weaker c.search_any_one.result _ _
+          (λ told is tree of_tree. cost_told tree graph of_tree haystack start inside
+          told.1.tried told.1.entered told.1.looked is.cost) told;
+      entered = IfOk-weaker c.search_any_one.result _ _ (λ told is. is.entered) told;
+    }

@@ -1,0 +1,22 @@
+-- Whether a pattern, of a regex or alone in a list, has a match, and what the search for one did.
+use Rattle.std.specs.Prelude.{◌↔◌, ◌<◌, ◌∷◌, [], ℕ, Bool, List, IsTrue, chars}
+use Rattle.regex_lite_syntax.specs.Text.{Text}
+use Rattle.regex_lite_engine.specs.Graph.Places.{Place}
+use Rattle.regex_lite_engine.specs.Search.Bounds.{StepCounts}
+use Rattle.regex_lite_engine.specs.Search.NumberedList.{IsMatchOfAny}
+use Rattle.regex_lite_engine.specs.Search.Offsets.{position_at}
+use Rattle.regex_lite_engine.specs.Search.OutcomeOfOne.{IsWithinBounds}
+
+-- some match of the patterns that are entered there starts at position s or a later one
+abbrev pub HasMatchOfAny : List (Place ℕ) → Text → (entries : List ℕ) → (s : ℕ) → Type 0
+HasMatchOfAny table haystack entries s =
+    (i : ℕ) × (k : ℕ) × (way : List ℕ) × (q : ℕ) × (j : ℕ)
+    × IsMatchOfAny table haystack entries s i k way q j
+
+-- whether the pattern that is entered there has one that starts at or after the offset
+pub record TellsAnyOfOne (table : List (Place ℕ)) (entry : ℕ) (haystack : List ℕ) (start : ℕ)
+    (told : Bool × StepCounts) : Type 0 where
+  pub found : IsTrue told.0
+      ↔ HasMatchOfAny table (chars haystack) (entry ∷ []) (position_at haystack start)
+  pub cost : IsWithinBounds table haystack start told.1
+  pub entered : IsTrue told.0 → 0 < told.1.entered

@@ -1,0 +1,8 @@
+use Rattle.regex_lite_syntax.proofs.Common.{drop, map, tree_of, trees}
+use Rattle.regex_lite_syntax.proofs.prefilter.words.NeededWalkLemmas.{FindsParts}
+use Rattle.regex_lite_syntax.proofs.prefilter.words.needed_walk.NeededWalk.+visit.Given as goal
+
+abbrev pub invariant-visit_parts-loop-part : goal.invariant-visit_parts-loop-part
+invariant-visit_parts-loop-part l =
+    FindsParts (trees (map tree_of l.parts)) (trees (map tree_of (drop l.part-index l.parts)))
+    l.fn.self l.self

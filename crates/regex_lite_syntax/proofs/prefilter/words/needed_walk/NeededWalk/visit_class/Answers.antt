@@ -1,0 +1,16 @@
+use Rattle.regex_lite_syntax.proofs.Common.{inl, inr, arith}
+use Rattle.regex_lite_syntax.proofs.prefilter.words.NeededWalkLemmas.{finds_any, finds_class}
+use Rattle.regex_lite_syntax.proofs.prefilter.words.needed_walk.NeededWalk.visit_class.Goals as goal
+
+pub returns-in-Some : goal.returns-in-Some
+returns-in-Some c =
+    finds_class c.args.set.now c.in-Some.letter c.args.self.now c.push.new.self (λ ch has. (
+      elim (c.in-Some.ensures.has ch has) [
+        | inl e ↦ omega (arith, e, c.in-Some.ensures.ascii)
+        | inr e ↦ omega (arith, e, c.in-Some.ensures.other_ascii)
+      ],
+      c.in-Some.ensures.has ch has,
+    )) c.push.ensures
+
+pub returns-in-None : goal.returns-in-None
+returns-in-None c = finds_any _ c.args.self.now c.end_row.new.self c.end_row.ensures
