@@ -1,5 +1,6 @@
 -- lemmas that proofs of other modules need too
 pub mod BoundaryLemmas
+pub mod FirstWordLemmas
 pub mod ListWordLemmas
 pub mod WayLemmas
 pub mod WholeWordLemmas

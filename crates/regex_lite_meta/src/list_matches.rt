@@ -1,14 +1,15 @@
-//! Which of several patterns match: each is searched for by itself, in memory that is kept for the
-//! next.
+//! Which of several patterns match: by their words, if they are nothing but these, by one pass for
+//! all, or each is searched for by itself, in memory that is kept for the next.
 ghost use Rattle.std.specs.Prelude.{◌≡◌, ◌<◌, ◌⊎◌, List, ℕ, IfErr, IfOk};
 ghost use Rattle.std.specs.Prelude.{IsCharBoundary, chars, false, length};
 ghost use Rattle.std.specs.Prelude.{IsTrue, slice_index_or};
 ghost use Rattle.regex_lite_syntax.specs.Tree.{Tree};
 ghost use Rattle.regex_lite_engine.specs.Graph.SideBySide.{AreRegularPatterns, places_of_all};
 ghost use Rattle.regex_lite_engine.specs.Graph.SideBySide.{tries_of_all};
-ghost use Rattle.regex_lite_engine.specs.Graph.StoredList.{IsGraphOfList};
+ghost use Rattle.regex_lite_engine.specs.Graph.StoredList.{IsGraphOfList, table_of_list};
 ghost use Rattle.regex_lite_engine.specs.Search.AnswerOfList.{TellsWhich};
 ghost use Rattle.regex_lite_engine.specs.Search.Bounds.{IsBoundedBy};
+ghost use Rattle.regex_lite_engine.specs.Search.NumberedWords.{IsEachAnsweredBy};
 ghost use Rattle.regex_lite_engine.specs.Search.Offsets.{position_at, search_start};
 ghost use Rattle.regex_lite_engine.specs.Search.Outcomes.{HasCostOfList};
 ghost use Rattle.regex_lite_meta.specs.ListMatches.{AreKeptFor};
@@ -25,6 +26,7 @@ pub(crate) use pass::ListPass;
 use regex_lite_engine::Steps;
 use regex_lite_engine::nfa::list::GraphList;
 use regex_lite_engine::steps::no_steps;
+use regex_lite_syntax::prefilter::ListWords;
 pub(crate) use status::Status;
 use std::alloc::{AllocError, Global};
 
@@ -60,8 +62,8 @@ pub fn search_each(
     Ok((matched, steps))
 }
 
-/// [`search_each`] without what the searches did. Where it pays, the haystack is gone over once for
-/// all patterns.
+/// [`search_each`] without what the searches did. Patterns that are nothing but their words are
+/// searched for at once, and for others the haystack is gone over once, where that pays.
 ///
 /// Condition: the start is above the haystack's length or on a character boundary.
 ///
@@ -79,10 +81,57 @@ pub fn search_each_uncounted(
         → IsGraphOfList trees list.now → TellsWhich trees (chars haystack.now)
         (search_start haystack.now start) told.items) }
 {
-    if start > haystack.len() || !pays_in_one_pass(list) {
-        let (matched, _) = search_each(list, alloc, haystack, start)?;
-        return Ok(matched);
+    if start <= haystack.len() {
+        if let Some(words) = list.words() {
+            return search_words(list, words, alloc, haystack, start);
+        }
+        if pays_in_one_pass(list) {
+            return search_in_one_pass(list, alloc, haystack, start);
+        }
     }
+    let (matched, _) = search_each(list, alloc, haystack, start)?;
+    Ok(matched)
+}
+
+/// Tells by the words of the patterns which of them match.
+///
+/// # Errors
+///
+/// If memory runs out.
+fn search_words(
+    list: &GraphList,
+    words: &ListWords,
+    alloc: Global,
+    haystack: &str,
+    start: usize,
+) -> Result<Vec<bool>, AllocError>
+    requires boundary { IsCharBoundary haystack.now start }
+    requires each { IsEachAnsweredBy (table_of_list list.now) list.now.entries words.now }
+    ensures { IfOk result (λ told. (trees : List Tree) → AreRegularPatterns trees
+        → IsGraphOfList trees list.now → TellsWhich trees (chars haystack.now)
+        (search_start haystack.now start) told.items) }
+{
+    let mut matched = vec![in alloc; false; list.len()]?;
+    words.which_stand(haystack.as_bytes(), start, &mut matched);
+    Ok(matched)
+}
+
+/// Tells by a pass over the haystack for all patterns which of them match.
+///
+/// # Errors
+///
+/// If memory runs out.
+fn search_in_one_pass(
+    list: &GraphList,
+    alloc: Global,
+    haystack: &str,
+    start: usize,
+) -> Result<Vec<bool>, AllocError>
+    requires { IsCharBoundary haystack.now start }
+    ensures { IfOk result (λ told. (trees : List Tree) → AreRegularPatterns trees
+        → IsGraphOfList trees list.now → TellsWhich trees (chars haystack.now)
+        (search_start haystack.now start) told.items) }
+{
     let mut matched = vec![in alloc; false; list.len()]?;
     let mut pass = ListPass::new(alloc, list)?;
     let mut kept = Kept::new(alloc);

@@ -70,18 +70,23 @@ impl<'g> SetSearcher<'g> {
         ensures same { self.new ≡ self.old }
     {
         matched.fill(false);
+        if start > haystack.len() {
+            return;
+        }
+        if let Some(words) = self.graph.words() {
+            words.which_stand(haystack.as_bytes(), start, matched);
+            return;
+        }
         let Some(kept) = &mut self.kept else {
             return;
         };
-        if start <= haystack.len() {
-            // It is never refused, since all memory that it needs is there.
-            match &mut self.pass {
-                Some(pass) => {
-                    let _ = pass.search(self.graph, kept, haystack, start, matched);
-                }
-                None => {
-                    let _ = search_all(self.graph, kept, haystack, start, matched);
-                }
+        // It is never refused, since all memory that it needs is there.
+        match &mut self.pass {
+            Some(pass) => {
+                let _ = pass.search(self.graph, kept, haystack, start, matched);
+            }
+            None => {
+                let _ = search_all(self.graph, kept, haystack, start, matched);
             }
         }
     }

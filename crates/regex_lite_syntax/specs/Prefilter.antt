@@ -15,6 +15,7 @@ pub mod Spelling
 pub mod WordWalk
 pub mod Leaps
 pub mod Finders
+pub mod Marks
 -- A word that each match has, and how it is found.
 pub mod Needed
 pub mod NeededWalk

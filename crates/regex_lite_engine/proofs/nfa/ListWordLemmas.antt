@@ -13,16 +13,19 @@ use Rattle.regex_lite_engine.specs.Graph.SideBySide.{AreRegularPatterns}
 use Rattle.regex_lite_engine.specs.Search.NumberedList.{IsNumberedFoundOf}
 use Rattle.regex_lite_engine.specs.Search.NumberedOutcomes.{IsBestOutcomeOf, numbered_at}
 use Rattle.regex_lite_engine.specs.Search.NumberedOutcomes.{with_origin_kept}
-use Rattle.regex_lite_engine.specs.Search.NumberedWords.{AreAnsweredBy}
-use Rattle.regex_lite_engine.proofs.OffsetLemmas.{offset_grows, positions_order, rest_at}
+use Rattle.regex_lite_engine.specs.Search.NumberedWords.{AreAnsweredBy, HasMatchOfNumber}
+use Rattle.regex_lite_engine.specs.Search.NumberedWords.{IsEachAnsweredBy}
+use Rattle.regex_lite_engine.proofs.OffsetLemmas.{boundary_at, offset_grows, positions_order}
+use Rattle.regex_lite_engine.proofs.OffsetLemmas.{rest_at}
 use Rattle.regex_lite_engine.proofs.PositionLemmas.{position_is}
-use Rattle.regex_lite_engine.proofs.laws.several.NumberedListLemmas.{any_of_numbers}
+use Rattle.regex_lite_engine.proofs.laws.several.NumberedListLemmas.{any_numbered, any_of_numbers}
 use Rattle.regex_lite_engine.proofs.laws.several.PartLemmas.{InPattern, name_in_pattern}
 use Rattle.regex_lite_engine.proofs.laws.several.PartLemmas.{part_of_list, entry_of_part}
-use Rattle.regex_lite_engine.proofs.nfa.WholeWordLemmas.{words_answer}
+use Rattle.regex_lite_engine.proofs.nfa.WholeWordLemmas.{ends_there, words_answer}
+use Rattle.regex_lite_engine.proofs.nfa.FirstWordLemmas.{first_standing}
 use Rattle.regex_lite_syntax.specs.Prefilter.NumberedWords.{AreWordsOfTrees, HasItsWords}
 use Rattle.regex_lite_syntax.specs.Prefilter.NumberedWords.{IsNextOfPatterns, IsSpanOfPattern}
-use Rattle.regex_lite_syntax.specs.Prefilter.NumberedWords.{NumberedWords}
+use Rattle.regex_lite_syntax.specs.Prefilter.NumberedWords.{NumberedWords, PatternStandsFrom}
 use Rattle.regex_lite_syntax.specs.Prefilter.WholeWords.{IsNextSpan}
 use Rattle.regex_lite_syntax.specs.Prefilter.Words.{AnyStandsAt, IsFirstAt, NoneStands, StartsWith}
 use Rattle.regex_lite_syntax.specs.Prefilter.Words.{word_at}
@@ -98,6 +101,37 @@ module _ (trees : List Tree) (regular : AreRegularPatterns trees) (name : ℕ �
   none_found none i k way q j m =
       none (offset h i) (after i k way q j m)
       (any_of k (offset h i) (match_stands i k way q j m))
+
+  -- a pattern of which a word stands there matches there
+  stands_match : (number : ℕ) → PatternStandsFrom numbered bytes from number
+      → HasMatchOfNumber table h entries s number
+  stands_match number (at, low, boundary, (k, inside, owned, stands)) =
+      let (tree, there) = there_is trees number
+      (let below = of_trees.below k inside in omega (arith, below, owned)) in
+      let own : HasItsWords words numbered.owners number tree = has number tree there in
+      let place = own.no_others k inside owned in
+      let mine = k - own.begin in
+      let back : own.begin + mine ≡ k = omega (arith, place.0) in
+      let is : word_at words k ≡ word_at own.own mine =
+      ap (word_at words) (sym back) ∙ own.same mine (omega (arith, back, place.1)) in
+      let (first, first_is) = first_standing own.own bytes at mine (omega (arith, back, place.1))
+      (subst (λ word. StartsWith word (drop at bytes)) is stands) in
+      let (j, match) = ends_there tree (regular number tree there) own.own own.are bytes from utf8
+      edge at first low first_is boundary in
+      let (q, way, m) = any_numbered trees h table entries name written are regular s number
+      (position_at bytes at) j tree there match in
+      (position_at bytes at, way, q, j, m)
+
+  -- and one that matches has a word that stands there
+  match_of_number : (number : ℕ) → HasMatchOfNumber table h entries s number
+      → PatternStandsFrom numbered bytes from number
+  match_of_number number (i, way, q, j, m) =
+      let word = match_stands i number way q j m in (
+        offset h i,
+        after i number way q j m,
+        boundary_at bytes i (offset h i) utf8 (m.is_match.inside, refl),
+        (word.k, word.inside, word.owned, word.stands),
+      )
 
   module _ (told : ℕ × (ℕ × ℕ)) (later : from ≤ told.1.0)
       (none : NoneStands words bytes from told.1.0) (span : IsSpanOfPattern numbered bytes told)
@@ -235,12 +269,36 @@ words_of_list trees regular name table entries written are numbered of_trees byt
     list_answered trees regular name table entries written are numbered of_trees bytes from utf8
     edge told next
 
+-- and those patterns match of which a word stands
+pub each_word_of_list : (trees : List Tree) → AreRegularPatterns trees → (name : ℕ → Address)
+    (table : List (Place ℕ)) (entries : List ℕ) → IsRenumbered (side_by_side trees) name table
+    → AreEntries trees name table entries → length entries ≡ length trees
+    → (numbered : NumberedWords) → AreWordsOfTrees trees numbered
+    → IsEachAnsweredBy table entries numbered
+each_word_of_list trees regular name table entries written are all numbered of_trees = record {
+  patterns = record {
+    all = of_trees.all;
+    below = λ k inside. (
+        let below = of_trees.below k inside in omega (arith, below, all));
+  };
+  matches = λ bytes from number utf8 edge. (
+    stands_match trees regular name table entries written are numbered of_trees bytes from utf8
+        edge number,
+    match_of_number trees regular name table entries written are numbered of_trees bytes from utf8
+        edge number,
+  );
+}
+
 -- the same where they are known of the trees
 pub told_of_words : (trees : List Tree) → AreRegularPatterns trees → (name : ℕ → Address)
     (table : List (Place ℕ)) (entries : List ℕ) → IsRenumbered (side_by_side trees) name table
-    → AreEntries trees name table entries → {X : Type 0} (value : X → NumberedWords)
+    → AreEntries trees name table entries → length entries ≡ length trees
+    → {X : Type 0} (value : X → NumberedWords)
     (told : Option X) → IfSome told (λ words. AreWordsOfTrees trees (value words))
-    → IfSome told (λ words. AreAnsweredBy table entries (value words))
-told_of_words trees regular name table entries written are value None of_trees = tt
-told_of_words trees regular name table entries written are value (Some words) of_trees =
-    words_of_list trees regular name table entries written are (value words) of_trees
+    → IfSome told (λ words. AreAnsweredBy table entries (value words)
+    × IsEachAnsweredBy table entries (value words))
+told_of_words trees regular name table entries written are all value None of_trees = tt
+told_of_words trees regular name table entries written are all value (Some words) of_trees = (
+  words_of_list trees regular name table entries written are (value words) of_trees,
+  each_word_of_list trees regular name table entries written are all (value words) of_trees,
+)

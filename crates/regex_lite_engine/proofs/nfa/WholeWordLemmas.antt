@@ -47,6 +47,39 @@ same_head {X = X} x y xs ys e = ap first e
     first [] = x
     first (z ∷ zs) = z
 
+-- a tree that is its words matches where the first of them stands
+module _ (tree : Tree) (regular : IsRegular tree) (words : List (List Letter))
+    (are : IsItsWords tree words) (bytes : List ℕ) (from : ℕ) (utf8 : IsUtf8 bytes)
+    (edge : IsCharBoundary bytes from) (at number : ℕ) (later : from ≤ at)
+    (stands : IsFirstAt words bytes at number) (boundary : IsCharBoundary bytes at) where
+  abbrev pub there : ℕ
+  there = position_at bytes at
+
+  pub is_there : IsOffset (chars bytes) there at
+  is_there = position_is bytes at utf8 boundary
+
+  pub head_there : IsHead (chars bytes) (word_at words number) there
+      (preference_list (chars bytes) (whole tree) there)
+  head_there = whole_head (chars bytes) tree words are there number is_there.0
+      (subst (λ n. IsFirstAt words (encodes (chars bytes)) n number) is_there.1
+      (subst (λ all. IsFirstAt words all at number) (sym (encodes-chars bytes utf8)) stands))
+
+  pub match_there : IsMatchFrom tree (chars bytes) (position_at bytes from) there head_there.j
+  match_there =
+      let begin = position_is bytes from utf8 edge in
+      record {
+        from = positions_order (chars bytes) (position_at bytes from) there begin.0
+            (omega (arith, begin.1, is_there.1, later));
+        inside = is_there.0;
+        matches =
+            let all = all_ranked tree (chars bytes) there regular (words_loops tree words are) in
+            head_matches tree (chars bytes) there (preference_list (chars bytes) (whole tree) there)
+            head_there.rest regular all.0 all.1 (head_there.j, head_there.marks) head_there.first;
+      }
+
+  pub ends_there : (j : ℕ) × IsMatchFrom tree (chars bytes) (position_at bytes from) there j
+  ends_there = (head_there.j, match_there)
+
 module _ (tree : Tree) (regular : IsRegular tree) (words : List (List Letter))
     (begin : AreWordsOfTree tree words) (are : IsItsWords tree words)
     (table : List (Place ℕ)) (start : ℕ) (name : ℕ → Address) (Part : ℕ → Type 0)
@@ -87,20 +120,13 @@ module _ (tree : Tree) (regular : IsRegular tree) (words : List (List Letter))
     at = position_is bytes span.0 utf8 word.boundary
 
     head : IsHead h (word_at words word.number) i (preference_list h (whole tree) i)
-    head = whole_head h tree words are i word.number at.0
-        (subst (λ n. IsFirstAt words (encodes h) n word.number) at.1
-        (subst (λ all. IsFirstAt words all span.0 word.number) (sym same) word.stands))
+    head = head_there tree regular words are bytes from utf8 edge span.0 word.number later
+        word.stands word.boundary
 
     matched : IsMatchFrom tree h s i head.j
-    matched = record {
-      from = positions_order h s i (position_is bytes from utf8 edge).0
-          (omega (arith, here, at.1, later));
-      inside = at.0;
-      matches =
-          let all = all_ranked tree h i regular (words_loops tree words are) in
-          head_matches tree h i (preference_list h (whole tree) i) head.rest regular all.0
-          all.1 (head.j, head.marks) head.first;
-    }
+    unfolding head
+    matched = match_there tree regular words are bytes from utf8 edge span.0 word.number later
+        word.stands word.boundary
 
     by_answer : (answer : Option Found) → IsAnswer tree h s answer
         → IsNumberedOutcome table h start s (Some (span.0, span.1, []))

@@ -1,7 +1,10 @@
 -- Several patterns that are nothing but their words: what a search for them finds.
-use Rattle.std.specs.Prelude.{ℕ, [], List, Option, IsCharBoundary, IsUtf8, chars}
-use Rattle.regex_lite_syntax.specs.Prefilter.NumberedWords.{IsNextOfPatterns, NumberedWords}
+use Rattle.std.specs.Prelude.{◌↔◌, ℕ, [], List, Option, IsCharBoundary, IsUtf8, chars, length}
+use Rattle.regex_lite_syntax.specs.Text.{Text}
+use Rattle.regex_lite_syntax.specs.Prefilter.NumberedWords.{HavePatterns, IsNextOfPatterns}
+use Rattle.regex_lite_syntax.specs.Prefilter.NumberedWords.{NumberedWords, PatternStandsFrom}
 use Rattle.regex_lite_engine.specs.Graph.Places.{Place}
+use Rattle.regex_lite_engine.specs.Search.NumberedList.{IsMatchOfAny}
 use Rattle.regex_lite_engine.specs.Search.NumberedOutcomes.{IsBestOutcomeOf, numbered_at}
 use Rattle.regex_lite_engine.specs.Search.NumberedOutcomes.{with_origin_kept}
 use Rattle.regex_lite_engine.specs.Search.Offsets.{position_at}
@@ -14,3 +17,17 @@ AreAnsweredBy table entries words =
     → IsCharBoundary bytes from → IsNextOfPatterns words bytes from told
     → IsBestOutcomeOf table (chars bytes) entries (position_at bytes from)
     (with_origin_kept (numbered_at told []))
+
+-- the pattern with this number has a match from a position at or after s
+abbrev pub HasMatchOfNumber : List (Place ℕ) → Text → (entries : List ℕ) → (s number : ℕ) → Type 0
+HasMatchOfNumber table haystack entries s number =
+    (i : ℕ) × (way : List ℕ) × (q : ℕ) × (j : ℕ)
+    × IsMatchOfAny table haystack entries s i number way q j
+
+-- each word has a pattern, and wherever a search starts those patterns match of which a word stands
+pub record IsEachAnsweredBy (table : List (Place ℕ)) (entries : List ℕ) (words : NumberedWords)
+    : Type 0 where
+  pub patterns : HavePatterns words (length entries)
+  pub matches : (bytes : List ℕ) (from number : ℕ) → IsUtf8 bytes → IsCharBoundary bytes from
+      → PatternStandsFrom words bytes from number
+      ↔ HasMatchOfNumber table (chars bytes) entries (position_at bytes from) number

@@ -16,7 +16,7 @@ ghost use Rattle.regex_lite_engine.specs.Graph.Size.{Fits, IsDueToTree};
 ghost use Rattle.regex_lite_engine.specs.Graph.StoredList.{HasGroupsOfList, IsGraphOfList};
 ghost use Rattle.regex_lite_engine.specs.Graph.StoredList.{TellGroupsOf, table_of_list};
 ghost use Rattle.regex_lite_engine.specs.Search.Filters.{facts_of, own_facts_of};
-ghost use Rattle.regex_lite_engine.specs.Search.NumberedWords.{AreAnsweredBy};
+ghost use Rattle.regex_lite_engine.specs.Search.NumberedWords.{AreAnsweredBy, IsEachAnsweredBy};
 ghost use Rattle.regex_lite_engine.specs.Search.Starts.{AreAllAtEnd, AreListHeadsOf};
 ghost use Rattle.regex_lite_engine.specs.Search.Starts.{DoWordsAnswer};
 ghost use Rattle.regex_lite_engine.specs.Search.Starts.{may_be_empty, TellReading};
@@ -61,6 +61,7 @@ impl Model for GraphList {
     ghost use Rattle.regex_lite_engine.specs.Graph.StoredList.{StoredList};
     ghost use Rattle.regex_lite_engine.specs.Search.Filters.{own_facts_of};
     ghost use Rattle.regex_lite_engine.specs.Search.NumberedWords.{AreAnsweredBy};
+    ghost use Rattle.regex_lite_engine.specs.Search.NumberedWords.{IsEachAnsweredBy};
     ghost use Rattle.regex_lite_engine.specs.Search.Starts.{AreAllAtEnd, AreFiltersOf};
     ghost use Rattle.regex_lite_engine.specs.Search.Starts.{AreListHeadsOf, AreReading};
 
@@ -82,7 +83,8 @@ impl Model for GraphList {
         × AreReading (places_of list.table) list.entries.items list.reads.items
         × AreAllAtEnd (places_of list.table) list.entries.items list.at_end.items
         × IfSome list.words (λ words.
-        AreAnsweredBy (places_of list.table) list.entries.items words.value) };
+        AreAnsweredBy (places_of list.table) list.entries.items words.value
+        × IsEachAnsweredBy (places_of list.table) list.entries.items words.value) };
 }
 
 impl GraphList {
@@ -177,11 +179,13 @@ impl GraphList {
     }
 
     /// The words of several patterns, if each is nothing but its words. Then the next of them is
-    /// what a search finds.
+    /// what a search finds, and those patterns match of which a word stands.
     #[inline(always)]
     pub fn words(&self) -> Option<&ListWords>
-        ensures { IfSome result (λ words.
+        ensures next { IfSome result (λ words.
             AreAnsweredBy (table_of_list self.now) self.now.entries words.now) }
+        ensures each { IfSome result (λ words.
+            IsEachAnsweredBy (table_of_list self.now) self.now.entries words.now) }
     {
         match &self.words {
             None => None,

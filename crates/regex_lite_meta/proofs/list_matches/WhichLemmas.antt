@@ -9,7 +9,13 @@ use Rattle.regex_lite_engine.proofs.Common.{get_or-replicate, length-replicate}
 use Rattle.regex_lite_engine.specs.Graph.SideBySide.{AreRegularPatterns}
 use Rattle.regex_lite_engine.specs.Graph.StoredList.{IsGraphOfList}
 use Rattle.regex_lite_engine.specs.Search.AnswerOfList.{TellsWhich}
+use Rattle.regex_lite_engine.proofs.Common.{HasTree, IsMatchFrom, IsUtf8}
+use Rattle.regex_lite_engine.specs.Graph.Places.{Place}
+use Rattle.regex_lite_engine.specs.Search.NumberedWords.{HasMatchOfNumber, IsEachAnsweredBy}
+use Rattle.regex_lite_engine.proofs.laws.several.NumberedListLemmas.{any_numbered, any_of_numbers}
 use Rattle.regex_lite_engine.proofs.search.ListOutcomeLemmas.{one_told}
+use Rattle.regex_lite_syntax.specs.Prefilter.NumberedWords.{NumberedWords, TellsWhichStand}
+use Rattle.regex_lite_syntax.proofs.OptionLemmas.{same_some}
 use Rattle.regex_lite_meta.specs.ListPass.{IsToldFrom, PassKnowsAll, PassKnows}
 use Rattle.regex_lite_meta.specs.declared.list_matches.status.Status.TheVariants.{Open, Left}
 use Rattle.regex_lite_meta.proofs.list_matches.PassLemmas.{none_yet}
@@ -59,3 +65,44 @@ module _ (list : StoredList) (bytes : List ℕ) (start : ℕ) where
             (one_told trees list is bytes start low regular number tree there within from.best
             from.end);
       }
+
+  -- what is told of the words is told of the trees that are nothing but these
+  pub words_tell : IsUtf8 bytes → IsCharBoundary bytes start → (words : NumberedWords)
+      → IsEachAnsweredBy (table_of_list list) list.entries words → (matched : List Bool)
+      → length matched ≡ length list.entries → TellsWhichStand words bytes start matched
+      → (trees : List Tree) → AreRegularPatterns trees → IsGraphOfList trees list
+      → TellsWhich trees (chars bytes) (position_at bytes start) matched
+  words_tell utf8 edge words answers matched all told trees regular is = record {
+    all = all ∙ is.each_entry;
+    each = λ number tree there. (
+      λ yes. to_tree number tree there
+          ((answers.matches bytes start number utf8 edge).0 ((told number).0 yes)),
+      λ match. (told number).1
+          ((answers.matches bytes start number utf8 edge).1 (of_tree number tree there match)),
+    );
+  }
+    where
+      s : ℕ
+      s = position_at bytes start
+
+      table : List (Place ℕ)
+      table = table_of_list list
+
+      to_tree : (number : ℕ) (tree : Tree) → HasTree trees number tree
+          → HasMatchOfNumber table (chars bytes) list.entries s number
+          → HasMatchFrom tree (chars bytes) s
+      to_tree number tree there (i, way, q, j, m) =
+          let (other, known, match) = any_of_numbers trees (chars bytes) table list.entries is.name
+          is.written is.entries regular s i number way q j m in (
+            i,
+            j,
+            subst (λ t. IsMatchFrom t (chars bytes) s i j) (same_some (sym known ∙ there)) match,
+          )
+
+      of_tree : (number : ℕ) (tree : Tree) → HasTree trees number tree
+          → HasMatchFrom tree (chars bytes) s
+          → HasMatchOfNumber table (chars bytes) list.entries s number
+      of_tree number tree there (i, j, match) =
+          let (q, way, m) = any_numbered trees (chars bytes) table list.entries is.name is.written
+          is.entries regular s number i j tree there match in
+          (i, way, q, j, m)

@@ -6,6 +6,7 @@ pub mod NextLemmas
 pub mod PairLemmas
 pub mod LeapLemmas
 pub mod LinkLemmas
+pub mod MarkLemmas
 pub mod WordListLemmas
 pub mod RowLemmas
 pub mod WordWalkLemmas

@@ -4,7 +4,7 @@ use Rattle.std.specs.Prelude.{◌≡◌, ◌⊎◌, ◌≤◌, ◌<◌, ◌+◌,
 use Rattle.std.specs.Prelude.{bit_xor, length, slice_index, take}
 use Rattle.std.specs.List.{fold}
 use Rattle.regex_lite_syntax.specs.declared.prefilter.words.letter.Letter.{Letter}
-use Rattle.regex_lite_syntax.specs.Prefilter.Words.{StartsWith, word_at}
+use Rattle.regex_lite_syntax.specs.Prefilter.Words.{StartsWith, WordStandsAt, word_at}
 
 -- the key of a pair of bytes, which is the same for a letter in both cases
 unfoldable pub key_of : (first second : ℕ) → ℕ
@@ -58,3 +58,10 @@ pub record AreLinks (words : List (List Letter)) (hashed : ℕ) (first next : Li
   pub reached : (number : ℕ) (bytes : List ℕ) → number < length words
       → StartsWith (word_at words number) bytes
       → IsReached next number (slice_index first (bucket_of hashed (length first) bytes))
+
+-- each word that stands at the offset is reached from the link
+pub record LeadsToAllAt (words : List (List Letter)) (next bytes : List ℕ) (at link : ℕ) : Type 0
+  where
+    pub inside : link ≤ length words
+    pub reached : (number : ℕ) → number < length words → WordStandsAt words bytes number at
+        → IsReached next number link

@@ -1,11 +1,12 @@
 -- The words of several patterns of which each is nothing but its words.
-use Rattle.std.specs.Prelude.{◌≡◌, ◌+◌, ◌<◌, ◌≤◌, ℕ, List, Option, Some, IsCharBoundary}
-use Rattle.std.specs.Prelude.{MatchOption, length, slice_get, slice_index}
+use Rattle.std.specs.Prelude.{◌≡◌, ◌↔◌, ◌+◌, ◌<◌, ◌≤◌, ℕ, Bool, false, IsTrue, List, Option, Some}
+use Rattle.std.specs.Prelude.{IsCharBoundary, MatchOption, length, slice_get, slice_index}
+use Rattle.std.specs.Prelude.{slice_index_or}
 use Rattle.regex_lite_syntax.specs.Tree.{Tree}
 use Rattle.regex_lite_syntax.specs.declared.prefilter.words.letter.Letter.{Letter}
 use Rattle.regex_lite_syntax.specs.Prefilter.WholeWords.{IsItsWords}
 use Rattle.regex_lite_syntax.specs.Prefilter.Words.{AnyStandsAt, AreWordsOfTree, IsFirstAt}
-use Rattle.regex_lite_syntax.specs.Prefilter.Words.{NoneStands, word_at}
+use Rattle.regex_lite_syntax.specs.Prefilter.Words.{NoneStands, WordStandsAt, word_at}
 
 -- words, and beside each the number of the pattern whose word it is
 pub record NumberedWords : Type 0 where
@@ -59,3 +60,26 @@ IsNextOfPatterns numbered bytes from next = MatchOption next
     ((at : ℕ) → from ≤ at → ¬ AnyStandsAt numbered.words bytes at)
     (λ told. (from ≤ told.1.0) × NoneStands numbered.words bytes from told.1.0
     × IsSpanOfPattern numbered bytes told)
+
+-- each word has its pattern, one of so many
+pub record HavePatterns (numbered : NumberedWords) (patterns : ℕ) : Type 0 where
+  pub all : length numbered.owners ≡ length numbered.words
+  pub below : (k : ℕ) → k < length numbered.words → slice_index numbered.owners k < patterns
+
+-- a word of the pattern with this number stands at the offset
+abbrev pub PatternStandsAt : NumberedWords → (bytes : List ℕ) → (number at : ℕ) → Type 0
+PatternStandsAt numbered bytes number at =
+    (k : ℕ) × (k < length numbered.words) × (slice_index numbered.owners k ≡ number)
+    × WordStandsAt numbered.words bytes k at
+
+-- one does at an offset from this one on, at which a character begins
+abbrev pub PatternStandsFrom : NumberedWords → (bytes : List ℕ) → (from number : ℕ) → Type 0
+PatternStandsFrom numbered bytes from number =
+    (at : ℕ) × (from ≤ at) × IsCharBoundary bytes at × PatternStandsAt numbered bytes number at
+
+-- for each pattern, in the order of their numbers, whether one does
+abbrev pub TellsWhichStand : NumberedWords → (bytes : List ℕ) → (from : ℕ) → (told : List Bool)
+    → Type 0
+TellsWhichStand numbered bytes from told =
+    (number : ℕ) → IsTrue (slice_index_or told number false)
+    ↔ PatternStandsFrom numbered bytes from number

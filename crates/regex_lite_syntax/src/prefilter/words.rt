@@ -2,6 +2,7 @@
 ghost use Rattle.std.specs.Prelude.{◌≡◌, ◌↔◌, ◌<◌, ◌≤◌, ◌^◌, ℕ, IfOk, IfSome};
 ghost use Rattle.std.specs.Prelude.{IsCharBoundary, IsTrue, length};
 ghost use Rattle.regex_lite_syntax.specs.Tree.Views.{tree_of};
+ghost use Rattle.regex_lite_syntax.specs.Prefilter.NumberedWords.{HavePatterns, TellsWhichStand};
 ghost use Rattle.regex_lite_syntax.specs.Prefilter.Spelling.{AreToldWords};
 ghost use Rattle.regex_lite_syntax.specs.Prefilter.WholeWords.{IsNextSpan};
 ghost use Rattle.regex_lite_syntax.specs.Prefilter.WordLists.{all_words};
@@ -16,6 +17,7 @@ pub mod letter;
 pub mod list_words;
 mod needed;
 mod needed_walk;
+mod numbered;
 mod pair;
 mod short_word;
 mod spelling;
@@ -27,6 +29,7 @@ use crate::hir::Hir;
 use gain::{leaps_pay, may_pay};
 use leaps::{Leaps, shortest};
 pub use needed::Needed;
+use numbered::Numbered;
 use pair::Pair;
 use spelling::{may_begin_word, read_words};
 use std::alloc::{AllocError, Global};
@@ -161,6 +164,33 @@ impl Words {
     {
         let (at, number) = self.find(bytes, from)?;
         Some((at, at + self.len_of(number)))
+    }
+
+    /// Tells of each pattern, by its number, whether a word of it stands at this offset or after
+    /// it. The owners are the numbers of the words' patterns.
+    ///
+    /// Conditions: each word has an owner, of which there is room for the answer, and the offset
+    /// is at most the length.
+    fn which_stand(&self, owners: &[u32], bytes: &[u8], from: usize, told: &mut [bool])
+        requires from { from ≤ length bytes.now }
+        requires patterns { HavePatterns (record { words = self.now; owners = owners.now })
+            (length told.old) }
+        ensures told { TellsWhichStand (record { words = self.now; owners = owners.now })
+            bytes.now from told.new }
+        ensures length { length told.new ≡ length told.old }
+    {
+        told.fill(false);
+        let numbered = Numbered {
+            words: &self.list,
+            owners,
+        };
+        let left = match &self.finder {
+            WordSearch::Pair(_) => Some(from),
+            WordSearch::Leaps(leaps) => leaps.mark(&numbered, bytes, from, told),
+        };
+        if let Some(left) = left {
+            numbered.mark_each(bytes, left, told);
+        }
     }
 
     /// The first offset from this one on at which a word stands, or the haystack's end.

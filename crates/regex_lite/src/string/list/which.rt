@@ -27,8 +27,9 @@ impl RegexList {
 
     /// Which of the patterns match somewhere in the haystack.
     ///
-    /// The haystack is gone over once for 16 patterns or more: each is tried where it may start, up
-    /// to the first match that the search comes to. Where that doesn't pay, as for fewer patterns
+    /// Patterns that are all nothing but words are searched for at once, by these. Otherwise the
+    /// haystack is gone over once for 16 patterns or more: each is tried where it may start, up to
+    /// the first match that the search comes to. Where that doesn't pay, as for fewer patterns
     /// or for those that may start at most positions, each pattern is searched for by itself. The
     /// memory of one search is kept for the next. In a long haystack a pattern for which most
     /// characters take a turn is searched for as a [`Regex`](crate::Regex) by itself is, by turns

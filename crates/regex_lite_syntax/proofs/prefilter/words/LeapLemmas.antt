@@ -103,6 +103,15 @@ none_before words bytes reach leaps at p q leap are ends next is from low high a
     let same = ap (slice_index leaps) (ap₂ key_of one other) in
     omega (arith, near, same, is)
 
+-- none stands up to an offset, and none from there on
+pub none_on : (words : List (List Letter)) (bytes : List ℕ) (from at : ℕ)
+    → NoneStands words bytes from at → ((k : ℕ) → at ≤ k → ¬ AnyStandsAt words bytes k)
+    → (k : ℕ) → from ≤ k → ¬ AnyStandsAt words bytes k
+none_on words bytes from at front back k low stands = elim (cases_lt k at) [
+  | inl before ↦ front k low before stands
+  | inr after ↦ back k after stands
+]
+
 -- where fewer bytes are left than each word has letters, none stands
 pub at_end : (words : List (List Letter)) (bytes : List ℕ) (reach from at : ℕ)
     → ((number : ℕ) → number < length words → reach ≤ length (word_at words number))

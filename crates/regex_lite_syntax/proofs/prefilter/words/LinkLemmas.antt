@@ -3,8 +3,11 @@ use Rattle.regex_lite_syntax.proofs.Common.{◌≡◌, ℕ, zero, suc, ◌+◌, 
 use Rattle.regex_lite_syntax.proofs.Common.{length, slice_index, slice_set, sym, ap, ◌∙◌, subst}
 use Rattle.regex_lite_syntax.proofs.Common.{inl, inr, arith, cases_eq, get_or-set_other, Letter}
 use Rattle.regex_lite_syntax.proofs.Common.{get_or-set_same, IsReached, StartsWith, word_at}
-use Rattle.std.proofs.Common.{length-set}
-use Rattle.regex_lite_syntax.specs.Prefilter.Leaps.{bucket_of, here, further}
+use Rattle.std.proofs.Common.{length-set, slice_index_or}
+use Rattle.regex_lite_syntax.specs.Prefilter.Leaps.{AreLinks, LeadsToAllAt, bucket_of, here}
+use Rattle.regex_lite_syntax.specs.Prefilter.Leaps.{further}
+use Rattle.regex_lite_syntax.specs.Prefilter.Words.{WordStandsAt}
+use Rattle.std.proofs.lemmas.List.{get_or_default}
 
 -- no word is reached from 0
 pub from_some : (next : List ℕ) (number link : ℕ) → IsReached next number link → 0 < link
@@ -16,6 +19,32 @@ pub still_reached : (next : List ℕ) (number link : ℕ) → ¬ (link ≡ numbe
     → IsReached next number link → IsReached next number (slice_index next (link - 1))
 still_reached next number link apart (here is) = absurd (apart is)
 still_reached next number link apart (further some order on) = on
+
+-- the next link of a word
+pub next_link : (words : List (List Letter)) (hashed : ℕ) (first next : List ℕ)
+    → AreLinks words hashed first next → (link after : ℕ) → 0 < link → link ≤ length words
+    → after ≡ slice_index_or next (link - 1) after → after ≡ slice_index next (link - 1)
+next_link words hashed first next links link after some inside read =
+    let there : link - 1 < length next = omega (arith, links.numbers, inside, some) in
+    read ∙ get_or_default next (link - 1) after 0 there
+
+-- the words that stand at an offset are reached from the next link of one that doesn't
+pub leads_on : (words : List (List Letter)) (first next bytes : List ℕ) (at hashed : ℕ)
+    → AreLinks words hashed first next → (link : ℕ) → 0 < link
+    → LeadsToAllAt words next bytes at link → (after : ℕ)
+    → after ≡ slice_index_or next (link - 1) after
+    → ¬ WordStandsAt words bytes (link - 1) at → LeadsToAllAt words next bytes at after
+leads_on words first next bytes at hashed links link some leads after read never =
+    let is = next_link words hashed first next links link after some leads.inside read in
+    record {
+      inside = let most = links.next_inside (link - 1) in omega (arith, is, most);
+      reached = λ number below stands.
+          let apart : link ≡ number + 1 → ⊥ = λ same.
+          let here : number ≡ link - 1 = omega (arith, same) in
+          never (subst (λ n. WordStandsAt words bytes n at) here stands) in
+          subst (IsReached next number) (sym is)
+          (still_reached next number link apart (leads.reached number below stands));
+    }
 
 -- how many words are still to come from the link, at most
 abbrev pub to_come : (all link : ℕ) → ℕ

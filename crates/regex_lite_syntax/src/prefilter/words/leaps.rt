@@ -2,11 +2,15 @@
 ghost use Rattle.std.specs.Prelude.{◌≡◌, ◌<◌, ◌≤◌, ◌+◌, ◌^◌, ℕ, List, IfOk, MatchOption, length};
 ghost use Rattle.std.specs.Prelude.{slice_index};
 ghost use Rattle.regex_lite_syntax.specs.Prefilter.Finders.{AreLeapsOf};
-ghost use Rattle.regex_lite_syntax.specs.Prefilter.Leaps.{AreLeaps, AreLinks, NeverPasses};
+ghost use Rattle.regex_lite_syntax.specs.Prefilter.Leaps.{AreLeaps, AreLinks, LeadsToAllAt};
+ghost use Rattle.regex_lite_syntax.specs.Prefilter.Leaps.{NeverPasses};
 ghost use Rattle.regex_lite_syntax.specs.Prefilter.Leaps.{bucket_at, bucket_of, key_of, mixed};
 ghost use Rattle.regex_lite_syntax.specs.Prefilter.WordLists.{all_words};
 ghost use Rattle.regex_lite_syntax.specs.Prefilter.Words.{AnyStandsAt, AreSuited, IsFirstAt};
-ghost use Rattle.regex_lite_syntax.specs.Prefilter.Words.{IsNextWord, StartsWith, word_at};
+ghost use Rattle.regex_lite_syntax.specs.Prefilter.Words.{IsNextWord, NoneStands, StartsWith};
+ghost use Rattle.regex_lite_syntax.specs.Prefilter.Words.{word_at};
+
+mod marking;
 
 use crate::prefilter::words::letter::Letter;
 use crate::prefilter::words::standing::stands;
@@ -76,22 +80,53 @@ impl Leaps {
         requires leaps { AreLeapsOf (all_words words.now) self.now }
         ensures { IsNextWord (all_words words.now) bytes.now from result }
     {
+        let mut at = from;
+        'stops: while let Some(stop) = self.next_stop(bytes, at) {
+            if let Some(number) = self.first_at(words, bytes, stop) {
+                return Some((stop, number));
+            }
+            at = stop + 1;
+        }
+        None
+    }
+
+    /// The first offset from this one on that no leap passes: no word stands before it.
+    #[inline(always)]
+    fn next_stop(&self, bytes: &[u8], from: usize) -> Option<usize>
+        requires from { from ≤ length bytes.now }
+        requires leaps { (words : List (List Letter)) × AreLeapsOf words self.now }
+        ensures { (words : List (List Letter)) → AreLeapsOf words self.now
+            → MatchOption result ((at : ℕ) → from ≤ at → ¬ AnyStandsAt words bytes.now at)
+            (λ stop. (from ≤ stop) × NoneStands words bytes.now from stop
+            × (stop + self.now.reach ≤ length bytes.now)) }
+    {
         let reach = self.reach;
         let leaps: &[u8] = &self.leaps;
         let mut at = from;
         'leaps: while bytes.len() - at >= reach {
             let end = at + reach;
             let leap = leaps[key(bytes[end - 2], bytes[end - 1])] as usize;
-            if leap > 0 {
-                at += leap;
-                continue;
+            if leap == 0 {
+                return Some(at);
             }
-            if let Some(number) = self.first_at(words, bytes, at) {
-                return Some((at, number));
-            }
-            at += 1;
+            at += leap;
         }
         None
+    }
+
+    /// The link to the first of the words that may stand there.
+    #[inline(always)]
+    fn first_link(&self, bytes: &[u8], at: usize) -> usize
+        requires room { at + self.now.reach ≤ length bytes.now }
+        requires leaps { (words : List (List Letter)) × AreLeapsOf words self.now }
+        ensures { (words : List (List Letter)) → AreLeapsOf words self.now
+            → LeadsToAllAt words self.now.next.items bytes.now at result }
+    {
+        let mut hash = 0;
+        'bytes: for k in 0..self.hashed {
+            hash = mixed(hash, bytes[at + k]);
+        }
+        self.first[bucket(hash, self.first.len())] as usize
     }
 
     /// The first word that stands there.
@@ -102,17 +137,13 @@ impl Leaps {
         ensures { MatchOption result (¬ AnyStandsAt (all_words words.now) bytes.now at)
             (IsFirstAt (all_words words.now) bytes.now at) }
     {
-        let mut hash = 0;
-        'bytes: for k in 0..self.hashed {
-            hash = mixed(hash, bytes[at + k]);
-        }
-        let mut link = self.first[bucket(hash, self.first.len())];
+        let mut link = self.first_link(bytes, at);
         'words: while link > 0 {
-            let number = link as usize - 1;
+            let number = link - 1;
             if stands(words.word(number), bytes, at) {
                 return Some(number);
             }
-            link = self.next[number];
+            link = self.next[number] as usize;
         }
         None
     }

@@ -3,7 +3,8 @@ ghost use Rattle.std.specs.Prelude.{◌≡◌, ◌≤◌, ◌<◌, ◌++◌, IfO
 ghost use Rattle.std.specs.Prelude.{replicate};
 ghost use Rattle.regex_lite_syntax.specs.Prefilter.NumberedWords.{AreWordsOfTrees};
 ghost use Rattle.regex_lite_syntax.specs.Prefilter.NumberedWords.{IsNextOfPatterns};
-ghost use Rattle.regex_lite_syntax.specs.Prefilter.NumberedWords.{AreGatheredFrom};
+ghost use Rattle.regex_lite_syntax.specs.Prefilter.NumberedWords.{AreGatheredFrom, HavePatterns};
+ghost use Rattle.regex_lite_syntax.specs.Prefilter.NumberedWords.{TellsWhichStand};
 ghost use Rattle.regex_lite_syntax.specs.Prefilter.WordLists.{all_words};
 
 use crate::hir::as_hir::AsHir;
@@ -67,6 +68,20 @@ impl ListWords {
         let (at, number) = self.words.find(bytes, from)?;
         let owner = self.owners[number] as usize;
         Some((owner, (at, at + self.words.len_of(number))))
+    }
+
+    /// Tells of each pattern, by its number, whether a word of it stands at this offset or after
+    /// it.
+    ///
+    /// Conditions: there is room for as many answers as there are patterns, and the offset is at
+    /// most the length.
+    pub fn which_stand(&self, bytes: &[u8], from: usize, told: &mut [bool])
+        requires from { from ≤ length bytes.now }
+        requires patterns { HavePatterns self.now (length told.old) }
+        ensures told { TellsWhichStand self.now bytes.now from told.new }
+        ensures length { length told.new ≡ length told.old }
+    {
+        self.words.which_stand(&self.owners, bytes, from, told);
     }
 }
 

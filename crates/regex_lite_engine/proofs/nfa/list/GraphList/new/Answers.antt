@@ -89,7 +89,8 @@ invariant_of-result c =
           (sym (length-map c.args.hirs.now tree_of))),
       told_of_words trees regular (name trees regular places table_is)
           (places_of c.new-table.result) entries (written trees regular places table_is)
-          (entered trees regular places table_is entries entries_are) (λ words. words.value)
+          (entered trees regular places table_is entries entries_are)
+          (ap length entries_are ∙ entry_for_each trees 0) (λ words. words.value)
           c.words_of-words.result c.words_of-words.ensures,
     )
 

@@ -20,7 +20,7 @@ returns-in-None-clause-found c = λ trees regular is.
     subst (λ bs. IsNextOfPatterns words bs start None) c.as_bytes.ensures.value
     c.in-None.ensures in
     outcome_told trees c.args.self.now is bytes start c.requires.boundary.0 regular None
-    (c.in_ok-words.ensures bytes start None c.utf8.haystack c.requires.boundary next)
+    (c.in_ok-words.ensures.next bytes start None c.utf8.haystack c.requires.boundary next)
 
 pub returns-in-Some : goal.returns-in-Some
 returns-in-Some c =
@@ -35,7 +35,7 @@ returns-in-Some c =
     c.as_bytes.ensures.value c.in-Some.ensures in
     let answer : IsBestOutcomeOf table (chars bytes) list.entries s
     (with_origin_kept (numbered_at (Some told) [])) =
-    c.in_ok-words.ensures bytes start (Some told) c.utf8.haystack c.requires.boundary next in
+    c.in_ok-words.ensures.next bytes start (Some told) c.utf8.haystack c.requires.boundary next in
     let some : 0 < length list.entries =
     let within = slice_get_within list.entries answer.0 answer.2.entry answer.2.is_entry in
     omega (arith, within) in

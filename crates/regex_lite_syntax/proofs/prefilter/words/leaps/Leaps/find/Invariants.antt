@@ -3,12 +3,12 @@ use Rattle.regex_lite_syntax.specs.Prefilter.WordLists.{all_words}
 use Rattle.regex_lite_syntax.proofs.prefilter.words.leaps.Leaps.find.Given as goal
 
 -- no word stands before this offset
-abbrev pub invariant-leaps : goal.invariant-leaps
-invariant-leaps l = record {
+abbrev pub invariant-stops : goal.invariant-stops
+invariant-stops l = record {
   order : l.from ≤ l.at;
   inside : l.at ≤ length l.bytes;
   none : NoneStands (all_words l.words) l.bytes l.from l.at;
 }
 
-abbrev pub decreases-leaps : goal.decreases-leaps
-decreases-leaps l = length l.bytes - l.at
+abbrev pub decreases-stops : goal.decreases-stops
+decreases-stops l = length l.bytes - l.at

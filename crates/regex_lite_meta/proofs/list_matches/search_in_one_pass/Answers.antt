@@ -3,22 +3,22 @@ use Rattle.regex_lite_engine.proofs.Common.{subst}
 use Rattle.regex_lite_engine.proofs.Common.{arith, take-append_seam, search_start}
 use Rattle.regex_lite_engine.specs.Search.AnswerOfList.{TellsWhich}
 use Rattle.regex_lite_engine.proofs.search.ListOutcomeLemmas.{at_position}
-use Rattle.regex_lite_meta.proofs.list_matches.search_each_uncounted.Goals as goal
+use Rattle.regex_lite_meta.proofs.list_matches.search_in_one_pass.Goals as goal
 
 pub returns : goal.returns
 returns c = λ trees regular is.
     let haystack = c.args.haystack.now in
     let found = c.in_ok-search.ensures.found trees regular is in
     let told = c.search.new.matched in
-    let matched = c.in_ok-matched-2.matched in
+    let matched = c.in_ok-matched.matched in
     let all = found.all in
     let each = is.each_entry in
     let len : matched.len ≡ length told
-    = omega (arith, all, each, c.in_ok-matched-2.ensures.len, c.len.ensures.same, matched.ok) in
+    = omega (arith, all, each, c.in_ok-matched.ensures.len, c.len.ensures.same, matched.ok) in
     let same = ap (λ n. take n (told ++ drop (length told) matched.items)) len
     ∙ take-append_seam told (drop (length told) matched.items) in
     subst (λ list. TellsWhich trees (chars haystack) (search_start haystack c.args.start) list)
     (sym same)
     (at_position trees c.args.list.now is haystack c.args.start
-    (omega (arith, c.if-start-haystack.false))
+    c.requires.0
     (λ s. TellsWhich trees (chars haystack) s told) found)
