@@ -12,7 +12,6 @@ pub use Rattle.std.proofs.lemmas.List.{length-map, length-take-le, nil_from_leng
 pub use Rattle.std.proofs.lemmas.Option.{get_or_from_slice_get, slice_get_within}
 pub use Rattle.std.specs.Char.{len_utf8}
 pub use Rattle.regex_lite_syntax.specs.Text.{Text}
-pub use Rattle.regex_lite_engine.specs.Graph.NoLooks.{HasNoLooks}
 pub use Rattle.regex_lite_engine.specs.Graph.Renumbered.{arrows_of}
 pub use Rattle.regex_lite_engine.specs.Graph.Stored.{place_of, table_of, places_of}
 pub use Rattle.regex_lite_engine.specs.Graph.StoredList.{table_of_list}

@@ -7,7 +7,6 @@ pub mod IntervalLemmas
 pub mod KnownEndLemmas
 pub mod LeapLemmas
 pub mod LearnLemmas
-pub mod NoLookLemmas
 pub mod OnwardLemmas
 pub mod PartLemmas
 pub mod ReachLemmas

@@ -1,9 +1,8 @@
 -- The memory in which slots are searched for.
-use Rattle.std.specs.Prelude.{◌≡◌, ◌<◌, ℕ, List, false, Option, Some, None, IfSome, length}
-use Rattle.regex_lite_meta.specs.declared.slots.ShortSlots.{ShortSlots}
+use Rattle.std.specs.Prelude.{◌≡◌, ◌<◌, ℕ, List, Option, Some, None, IfSome, length}
 use Rattle.regex_lite_meta.specs.declared.slots.SlotCache.{SlotCache}
 use Rattle.regex_lite_engine.specs.Backtrack.Short.{SearchesShort}
-use Rattle.regex_lite_engine.specs.Graph.NoLooks.{HasNoLooks}
+use Rattle.regex_lite_engine.specs.declared.backtrack.short.ShortSearcher.{ShortSearcher}
 use Rattle.regex_lite_engine.specs.Graph.Places.{Place}
 use Rattle.regex_lite_engine.specs.Graph.StoredList.{StoredList, table_of_list}
 use Rattle.regex_lite_engine.specs.Pikevm.Searching.{IsBetween}
@@ -11,10 +10,10 @@ use Rattle.regex_lite_engine.specs.Search.Counting.{IsCountable}
 use Rattle.regex_lite_engine.specs.Search.Rows.{Row}
 
 -- short searches of the table for this many slots go on in it
-pub record FindsShortSlots (table : List (Place ℕ)) (slots : ℕ) (short : ShortSlots) : Type 0 where
-  pub searches : SearchesShort table short.searcher
-  pub width : length short.searcher.walk.stack.row ≡ slots
-  pub looks : short.has_looks ≡ false → HasNoLooks table
+pub record FindsShortSlots (table : List (Place ℕ)) (slots : ℕ) (short : ShortSearcher) : Type 0
+  where
+    pub searches : SearchesShort table short
+    pub width : length short.walk.stack.row ≡ slots
 
 -- searches of the table go on in it, for as many slots as its row has
 pub record FindsSlotsIn (table : List (Place ℕ)) (memory : SlotCache) : Type 0 where

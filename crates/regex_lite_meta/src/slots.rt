@@ -1,23 +1,21 @@
 //! Searches for the slots of matches: depth first where the span is known and little is left to
 //! search, and otherwise by ordered sets.
-ghost use Rattle.std.specs.Prelude.{◌≡◌, ◌<◌, ◌↔◌, [], ℕ, false, IfOk, IfSome, IsCharBoundary};
-ghost use Rattle.std.specs.Prelude.{Some, chars, length};
+ghost use Rattle.std.specs.Prelude.{◌≡◌, ◌+◌, ◌<◌, [], ℕ, IfOk, IfSome};
+ghost use Rattle.std.specs.Prelude.{IsCharBoundary, IsTrue, Some, chars, length, take};
 ghost use Rattle.regex_lite_meta.specs.Slots.{FindsShortSlots, FindsSlotsIn};
-ghost use Rattle.regex_lite_engine.specs.Backtrack.Short.{SearchesShort};
-ghost use Rattle.regex_lite_engine.specs.Graph.NoLooks.{HasNoLooks};
 ghost use Rattle.regex_lite_engine.specs.Graph.Stored.{places_of};
 ghost use Rattle.regex_lite_engine.specs.Search.NumberedOutcomes.{IsNumberedOutcome, best_at};
 ghost use Rattle.regex_lite_engine.specs.Search.Counting.{IsCountable};
 ghost use Rattle.regex_lite_engine.specs.Pikevm.Searching.{IsBetween};
-ghost use Rattle.regex_lite_engine.specs.Search.Offsets.{position_at};
+ghost use Rattle.regex_lite_engine.specs.Search.Offsets.{IsOffset, position_at};
 
 use regex_lite_engine::backtrack::short::ShortSearcher;
-use regex_lite_engine::nfa::place::Place;
 use regex_lite_engine::nfa::table::Table;
 use regex_lite_engine::pikevm::beginning::Origin;
 use regex_lite_engine::pikevm::best::{Best, span_of};
 use regex_lite_engine::pikevm::cache::{Cache, cache_for, restart};
 use regex_lite_engine::pikevm::run::advance;
+use regex_lite_engine::search::here::next_char;
 use regex_lite_engine::search::one_pattern::OnePattern;
 use std::alloc::{AllocError, Global};
 
@@ -25,16 +23,8 @@ use std::alloc::{AllocError, Global};
 #[derive(Drop)]
 pub(crate) struct SlotCache {
     pub cache: Cache<Origin>,
-    /// On the heap: most have none, and are moved about often.
-    short: Option<Box<ShortSlots>>,
-}
-
-/// Finds the slots of matches depth first.
-#[derive(Drop)]
-pub(crate) struct ShortSlots {
-    searcher: ShortSearcher,
-    /// Whether the table has looks, which see beyond a match's end.
-    has_looks: bool,
+    /// What finds them depth first. It is on the heap: most have none, and are moved about often.
+    short: Option<Box<ShortSearcher>>,
 }
 
 impl SlotCache {
@@ -47,7 +37,7 @@ impl SlotCache {
         ensures cache { result.cache ≡ cache }
     {
         let slots = cache.best.row().len();
-        let short = ShortSlots::for_table(alloc, table, slots, pairs);
+        let short = short_for(alloc, table, slots, pairs);
         SlotCache { cache, short }
     }
 
@@ -69,9 +59,8 @@ impl SlotCache {
         ensures width { length self.new.cache.best.row ≡ length self.old.cache.best.row }
     {
         if let Some(short) = &mut self.short {
-            let best = &mut self.cache.best;
-            if let Some(found) = short.find(pattern, haystack, span, best) {
-                return Some(found);
+            if find_short(short, pattern, haystack, span, &mut self.cache.best) {
+                return Some(span);
             }
         }
         self.find_from(pattern, haystack, span.0)
@@ -100,80 +89,65 @@ impl SlotCache {
     }
 }
 
-impl ShortSlots {
-    /// One for this table, whose matches have this number of slots, and for searches of at most
-    /// `pairs` pairs of a place and an offset. None if the table has too many places, or if memory
-    /// runs out.
-    fn for_table(
-        alloc: Global,
-        table: &Table,
-        slots: usize,
-        pairs: usize,
-    ) -> Option<Box<ShortSlots>>
-        ensures { IfSome result (λ boxed. FindsShortSlots (places_of table.now) slots boxed.value) }
-    {
-        let searcher = short_for(alloc, table, slots, pairs)?;
-        let short = ShortSlots {
-            searcher,
-            has_looks: has_looks(table),
-        };
-        Box::new(alloc, short).ok()
-    }
-
-    /// Sets the row to the slots of the match with this span, which it returns, if little is left
-    /// to search.
-    fn find(
-        &mut self,
-        pattern: &OnePattern<'_>,
-        haystack: &str,
-        span: (usize, usize),
-        best: &mut Best<Origin>,
-    ) -> Option<(usize, usize)>
-        requires finds { FindsShortSlots (places_of pattern.now.table.now) (length best.old.row)
-            self.old }
-        requires known { (s : ℕ) × IsNumberedOutcome (places_of pattern.now.table.now)
-            (chars haystack.now) pattern.now.entry s (best_at (Some span) []) }
-        ensures finds { FindsShortSlots (places_of pattern.now.table.now) (length best.new.row)
-            self.new }
-        ensures found { (s : ℕ) → IsNumberedOutcome (places_of pattern.now.table.now)
-            (chars haystack.now) pattern.now.entry s (best_at (Some span) [])
-            → IfSome result (λ told. IsNumberedOutcome (places_of pattern.now.table.now)
-            (chars haystack.now) pattern.now.entry s (best_at (Some told) best.new.row)) }
-        ensures same { best.new ≡ record best.old { row = best.new.row } }
-        ensures width { length best.new.row ≡ length best.old.row }
-    {
-        let (from, end) = span;
-        let last = if self.has_looks { haystack.len() } else { end };
-        if !self.searcher.suits(last.saturating_sub(from)) {
-            return None;
-        }
-        let found = self.searcher.search(pattern, &haystack[..last], from)?;
-        best.set_row(self.searcher.row());
-        Some(found)
-    }
-}
-
-/// What searches depth first, for at most `pairs` pairs of a place and an offset. None if the table
-/// has too many places, or if memory runs out.
-fn short_for(alloc: Global, table: &Table, slots: usize, pairs: usize) -> Option<ShortSearcher>
-    ensures searches { IfSome result (SearchesShort (places_of table.now)) }
-    ensures width { IfSome result (λ short. length short.walk.stack.row ≡ slots) }
+/// What searches depth first, for as many slots and for at most `pairs` pairs of a place and an
+/// offset. None if the table has too many places, or if memory runs out.
+fn short_for(alloc: Global, table: &Table, slots: usize, pairs: usize) -> Option<Box<ShortSearcher>>
+    ensures { IfSome result (λ boxed. FindsShortSlots (places_of table.now) slots boxed.value) }
 {
     match ShortSearcher::new(alloc, table, slots, pairs) {
-        Ok(made) => made,
-        Err(_) => None,
+        Ok(Some(short)) => Box::new(alloc, short).ok(),
+        _ => None,
     }
 }
 
-/// Whether the table has looks.
-pub(crate) fn has_looks(table: &Table) -> bool
-    ensures { (result ≡ false) ↔ HasNoLooks (places_of table.now) }
+/// Sets the row to the slots of the match with this span, and returns whether it did. It doesn't if
+/// too much is to be searched, or if a longer match ends where the search does.
+fn find_short(
+    short: &mut ShortSearcher,
+    pattern: &OnePattern<'_>,
+    haystack: &str,
+    span: (usize, usize),
+    best: &mut Best<Origin>,
+) -> bool
+    requires finds { FindsShortSlots (places_of pattern.now.table.now) (length best.old.row)
+        short.old }
+    requires known { (s : ℕ) × IsNumberedOutcome (places_of pattern.now.table.now)
+        (chars haystack.now) pattern.now.entry s (best_at (Some span) []) }
+    ensures finds { FindsShortSlots (places_of pattern.now.table.now) (length best.new.row)
+        short.new }
+    ensures found { IsTrue result → (s : ℕ)
+        → IsNumberedOutcome (places_of pattern.now.table.now) (chars haystack.now)
+        pattern.now.entry s (best_at (Some span) [])
+        → IsNumberedOutcome (places_of pattern.now.table.now) (chars haystack.now)
+        pattern.now.entry s (best_at (Some span) best.new.row) }
+    ensures same { best.new ≡ record best.old { row = best.new.row } }
+    ensures width { length best.new.row ≡ length best.old.row }
 {
-    let places = table.all();
-    for place in places {
-        if let Place::Look { .. } = place {
-            return true;
-        }
+    let (from, end) = span;
+    let seen = up_to_next(haystack, end);
+    if !short.suits(seen.len().saturating_sub(from)) {
+        return false;
     }
-    false
+    let Some((_, last)) = short.search(pattern, seen, from) else {
+        return false;
+    };
+    // A look may hold at the end of what is seen, and not in the haystack.
+    if last != end {
+        return false;
+    }
+    best.set_row(short.row());
+    true
+}
+
+/// The haystack up to the character after this offset, which is all that is seen from there and
+/// from offsets before it.
+fn up_to_next(haystack: &str, at: usize) -> &str
+    requires { IsCharBoundary haystack.now at }
+    ensures { (p : ℕ) → IsOffset (chars haystack.now) p at
+        → chars result.now ≡ take (p + 1) (chars haystack.now) }
+{
+    match next_char(haystack, at) {
+        None => haystack,
+        Some((_, past)) => &haystack[..past],
+    }
 }

@@ -13,7 +13,6 @@ mod credit;
 mod searched;
 mod wanted;
 
-use crate::slots::has_looks;
 pub(crate) use credit::{Credit, pays_in_one_pass};
 use searched::Beginning;
 pub(crate) use searched::Searched;
@@ -47,9 +46,10 @@ const MOST_PLACES_OF_LIST: usize = 1024;
 const MOST_PAIRS: usize = 262_144;
 
 /// In a long text the slots of a match between known offsets are searched for depth first if there
-/// are at most this number of pairs, whose bits lie in the value itself. With 32,768 all matches
-/// took 1.04 to 1.08 times as many, and 0.83 where they are whole sentences.
-const MOST_PAIRS_OF_SPAN: usize = 2048;
+/// are at most this number of pairs: some 200 bytes in a graph of 40 places. Their frames take at
+/// most 128 KB. With 2,048, whose bits lie in the value itself, dates took 0.95 of the instructions
+/// and whole lines of a log 2.1 times as many.
+const MOST_PAIRS_OF_SPAN: usize = 8192;
 
 /// A searcher that is kept for one text after another, and one for several patterns, searches for
 /// slots depth first up to this number of pairs: some 300 bytes in a graph of a hundred places, the
@@ -178,9 +178,9 @@ impl<'g> Searched<'g> {
 
     /// How the span of a match is found before its slots, where that pays: in long haystacks, by an
     /// automaton. For a list it takes 0.07 of the instructions for two word endings, and 0.81 to
-    /// 1.05 where each match is a character; where each is empty, up to 1.32. A list without looks
-    /// needs none, since a search for one pattern between known ends costs less than keeping the
-    /// slots of all: it takes 0.69 to 0.95, and up to 1.29 where looks may see beyond the end.
+    /// 1.05 where each match is a character; where each is empty, up to 1.32. A list needs none,
+    /// since a search for one pattern between known ends costs less than keeping the slots of all:
+    /// it takes 0.35 to 0.98.
     // Not inlined, so that the memory of a searcher without it is cleared once less.
     #[inline(never)]
     fn span_first(&self, wanted: Wanted, bytes: usize) -> Option<SpanSearch> {
@@ -197,7 +197,7 @@ impl<'g> Searched<'g> {
         if self.pays_for_spans() {
             return Some(SpanSearch::LazyDfa);
         }
-        if self.are_several() && wanted.is_each() && !has_looks(self.table) {
+        if self.are_several() && wanted.is_each() {
             return Some(SpanSearch::OrderedSets);
         }
         None
@@ -205,18 +205,12 @@ impl<'g> Searched<'g> {
 
     /// Whether an automaton pays that finds where matches start and end, if another search finds
     /// their slots. In a graph of few places the memory for both stays small. Where one of a few
-    /// bytes begins each match, it pays if slots are searched for up to the match's end: a URL with
-    /// three groups took 50 instructions a byte instead of 113. It doesn't if looks may see beyond
-    /// that: `\b(t\w+)\b` on sentences took 51 instead of 42.
+    /// bytes begins each match, it pays since slots are searched for up to the match's end: a URL
+    /// with three groups took 50 instructions a byte instead of 113, and `\b(the|and) (\w+)\b` 52
+    /// instead of 62. Where few match it costs its memory: `\b(q\w+)\b` took 3.0 instead of 2.1.
     fn pays_for_spans(&self) -> bool {
-        if self.table.places() > self.most_places() {
-            return false;
-        }
-        match self.beginning() {
-            Beginning::Often | Beginning::InRange | Beginning::Unread => true,
-            Beginning::Rarely => !has_looks(self.table),
-            Beginning::Indexed => false,
-        }
+        let is_small = self.table.places() <= self.most_places();
+        is_small && !matches!(self.beginning(), Beginning::Indexed)
     }
 
     /// Whether one search for a match goes depth first.
@@ -267,13 +261,9 @@ impl<'g> Searched<'g> {
     }
 
     /// Up to how many pairs the slots of a match whose span is known are searched for depth first.
-    /// With looks, such a search goes up to the haystack's end.
     fn most_pairs(&self, bytes: usize) -> usize {
         if self.are_several() || self.is_line_by_line(bytes) {
-            return MOST_PAIRS_OF_LINE;
-        }
-        if has_looks(self.table) {
-            0
+            MOST_PAIRS_OF_LINE
         } else {
             MOST_PAIRS_OF_SPAN
         }

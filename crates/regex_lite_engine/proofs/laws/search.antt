@@ -1,4 +1,5 @@
 -- the law of all searches, and answers over numbered places
+pub mod AlikeLemmas
 pub mod CutLemmas
 pub mod EachPlaceLemmas
 pub mod Explored

@@ -1,10 +1,10 @@
 //! Entering a place: where the way goes on, and what is deferred.
-ghost use Rattle.std.specs.Prelude.{◌≡◌, ◌+◌, ◌-◌, ◌≤◌, ◌++◌, None, Some, false};
-ghost use Rattle.std.specs.Prelude.{IsCharBoundary, MatchOption, chars, length, map};
-ghost use Rattle.std.specs.Char.{len_utf8};
+ghost use Rattle.std.specs.Prelude.{◌≡◌, ◌+◌, ◌-◌, ◌≤◌, ◌++◌, false};
+ghost use Rattle.std.specs.Prelude.{IsCharBoundary, chars, length, map};
 ghost use Rattle.regex_lite_syntax.specs.Ranges.{in_ranges};
 ghost use Rattle.regex_lite_syntax.specs.Sets.{just};
-ghost use Rattle.regex_lite_syntax.specs.Text.{after};
+ghost use Rattle.regex_lite_syntax.specs.Text.{after, before};
+ghost use Rattle.regex_lite_syntax.specs.Tree.Looks.{holds_between};
 ghost use Rattle.regex_lite_engine.specs.Backtrack.Entering.{Enters, IsReadOn};
 ghost use Rattle.regex_lite_engine.specs.Backtrack.Machine.{completes, explore, onto};
 ghost use Rattle.regex_lite_engine.specs.Graph.Places.{kept_back_with};
@@ -15,7 +15,8 @@ use crate::backtrack::frame::Frame;
 use crate::backtrack::stack::Stack;
 use crate::nfa::class::MappedClass;
 use crate::nfa::place::Place;
-use crate::search::here::{Here, byte_len, first_char};
+use crate::search::here::{Here, next_char};
+use regex_lite_syntax::Look;
 
 /// How a way goes on from a place.
 #[derive(Clone, Copy)]
@@ -44,8 +45,7 @@ pub fn enter(place: &Place, haystack: &str, at: usize, stack: &mut Stack) -> Onw
         Place::Char { c, to } => read_char(*c, *to, haystack, at),
         Place::Class { to, set } => read_class(set, *to, haystack, at),
         Place::Look { look, to } => {
-            let here = Here::at(haystack, at);
-            if look.holds(here.before, here.after) {
+            if holds_at(*look, haystack, at) {
                 Onward::To { place: *to, at }
             } else {
                 Onward::Back
@@ -62,6 +62,19 @@ pub fn enter(place: &Place, haystack: &str, at: usize, stack: &mut Stack) -> Onw
         Place::Branches(entries) => branch(entries, at, stack),
         Place::Match => Onward::Complete,
     }
+}
+
+/// Whether the look holds at this offset.
+// Not inlined, since what an inlined one needs is cleared at each place.
+#[inline(never)]
+fn holds_at(look: Look, haystack: &str, at: usize) -> bool
+    requires { IsCharBoundary haystack.now at }
+    ensures { result ≡ holds_between look
+        (before (chars haystack.now) (position_at haystack.now at))
+        (after (chars haystack.now) (position_at haystack.now at)) }
+{
+    let here = Here::at(haystack, at);
+    look.holds(here.before, here.after)
 }
 
 /// Goes on after the next character if it is this one.
@@ -93,21 +106,6 @@ fn read_class(set: &MappedClass, to: u32, haystack: &str, at: usize) -> Onward
             at: past,
         },
         _ => Onward::Back,
-    }
-}
-
-/// The next character, and the offset after it.
-#[inline(always)]
-fn next_char(haystack: &str, at: usize) -> Option<(char, usize)>
-    requires { IsCharBoundary haystack.now at }
-    ensures { MatchOption result
-        (after (chars haystack.now) (position_at haystack.now at) ≡ None)
-        (λ told. (after (chars haystack.now) (position_at haystack.now at) ≡ Some told.0)
-        × (told.1 ≡ at + len_utf8 told.0)) }
-{
-    match first_char(haystack, at) {
-        None => None,
-        Some(c) => Some((c, at + byte_len(c))),
     }
 }
 

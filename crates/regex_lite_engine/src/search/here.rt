@@ -1,8 +1,8 @@
 //! Where a search stands in the haystack.
-ghost use Rattle.std.specs.Prelude.{◌≡◌, ◌+◌, ◌^◌, ◌<◌, ℕ, IsSome};
+ghost use Rattle.std.specs.Prelude.{◌≡◌, ◌+◌, ◌^◌, ◌<◌, ℕ, IsSome, MatchOption, None, Some};
 ghost use Rattle.std.specs.Prelude.{IsCharBoundary, chars, drop, slice_get};
 ghost use Rattle.std.specs.Char.{len_utf8};
-ghost use Rattle.regex_lite_syntax.specs.Text.{before};
+ghost use Rattle.regex_lite_syntax.specs.Text.{after, before};
 ghost use Rattle.regex_lite_engine.specs.Search.Offsets.{position_at, IsOffset};
 
 /// An offset into the haystack, with the characters before and after it.
@@ -81,6 +81,23 @@ pub fn first_char(haystack: &str, at: usize) -> Option<char>
     ensures { result ≡ slice_get (chars (drop at haystack.now)) 0 }
 {
     haystack[at..].chars().next()
+}
+
+/// The next character, and the offset after it.
+///
+/// Condition: the offset is on a character boundary.
+#[inline(always)]
+pub fn next_char(haystack: &str, at: usize) -> Option<(char, usize)>
+    requires { IsCharBoundary haystack.now at }
+    ensures { MatchOption result
+        (after (chars haystack.now) (position_at haystack.now at) ≡ None)
+        (λ told. (after (chars haystack.now) (position_at haystack.now at) ≡ Some told.0)
+        × (told.1 ≡ at + len_utf8 told.0)) }
+{
+    match first_char(haystack, at) {
+        None => None,
+        Some(c) => Some((c, at + byte_len(c))),
+    }
 }
 
 /// The character that ends there.

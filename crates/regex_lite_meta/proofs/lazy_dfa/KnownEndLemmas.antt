@@ -1,32 +1,30 @@
--- Where a match ends is known, and its slots are searched for in the text up to there. If no arrow
--- requires a look, the search finds what it finds in the whole text.
-use Rattle.regex_lite_meta.proofs.Common.{◌≡◌, ℕ, ◌≤◌, Bool, true, false, ◌⊎◌, List, [], ◌∷◌}
-use Rattle.regex_lite_meta.proofs.Common.{length, take, drop, ◌==◌, slice_get, Some, None, IsUtf8}
-use Rattle.regex_lite_meta.proofs.Common.{Option, option_map, chars, IsCharBoundary, sym, refl, ap}
-use Rattle.regex_lite_meta.proofs.Common.{◌∙◌, subst, inl, inr, arith, cases_lt, length-take-le}
-use Rattle.regex_lite_meta.proofs.Common.{len_utf8, Text, HasNoLooks, Found, IsNumberedFound}
-use Rattle.regex_lite_meta.proofs.Common.{best_at, with_start_kept, offset}
-use Rattle.regex_lite_meta.proofs.Common.{IsOffset, position_at, Row}
-use Rattle.regex_lite_engine.specs.Graph.Places.{Place, with_arrows, step}
-use Rattle.std.proofs.Common.{unwrap_or, if◌then◌else◌, sum_by, slice_range}
+-- Where a match ends is known, and its slots are searched for in the text up to the character after
+-- that. If the search finds a match that ends there too, it is the match of the whole text.
+use Rattle.regex_lite_meta.proofs.Common.{◌≡◌, ℕ, suc, ◌≤◌, Bool, true, false, ◌⊎◌, List, [], ◌∷◌}
+use Rattle.regex_lite_meta.proofs.Common.{length, take, ◌==◌, Some, None, IsUtf8, Option, option_map}
+use Rattle.regex_lite_meta.proofs.Common.{chars, IsCharBoundary, sym, refl, ap, ◌∙◌, subst, inl, inr}
+use Rattle.regex_lite_meta.proofs.Common.{arith, cases_lt, length-take-le, take_all, len_utf8}
+use Rattle.regex_lite_meta.proofs.Common.{Text, Found}
+use Rattle.regex_lite_meta.proofs.Common.{IsNumberedFound, best_at, offset, IsOffset}
+use Rattle.regex_lite_meta.proofs.Common.{position_at, Row}
+use Rattle.regex_lite_engine.specs.Graph.Places.{Place, step}
+use Rattle.std.proofs.Common.{if◌then◌else◌, sum_by}
 use Rattle.regex_lite_engine.specs.Search.Offsets.{HasSlots}
-use Rattle.std.proofs.lemmas.List.{take-take, take_at}
-use Rattle.std.proofs.lemmas.Str.{IsUtf8-take}
+use Rattle.std.proofs.lemmas.List.{take-take}
 use Rattle.std.specs.Option.{option_or}
-use Rattle.regex_lite_engine.specs.Graph.NoLooks.{RequiresNoLook}
 use Rattle.regex_lite_engine.specs.Graph.Ways.{Leads}
 use Rattle.regex_lite_engine.specs.Search.Marks.{marked, mark_of, marks_along}
 use Rattle.regex_lite_engine.specs.Search.NumberedAnswer.{place_with, numbered_step, IsNumberedWay}
 use Rattle.regex_lite_engine.specs.Search.NumberedAnswer.{IsNumberedMatch}
-use Rattle.regex_lite_engine.specs.Search.NumberedOutcomes.{IsBestOutcome, IsNumberedOutcome}
+use Rattle.regex_lite_engine.specs.Search.NumberedOutcomes.{IsNumberedOutcome}
 use Rattle.regex_lite_engine.specs.Search.Preference.{IsPreferred}
-use Rattle.regex_lite_engine.proofs.OffsetLemmas.{boundary_at, offset_less}
+use Rattle.regex_lite_engine.proofs.OffsetLemmas.{boundary_at}
 use Rattle.regex_lite_syntax.proofs.OptionLemmas.{same_some}
-use Rattle.regex_lite_engine.proofs.PositionLemmas.{position_of, chars_cut}
+use Rattle.regex_lite_engine.proofs.PositionLemmas.{position_of, same_position}
 use Rattle.regex_lite_engine.proofs.laws.answer.OrderLemmas as order
 use Rattle.regex_lite_engine.proofs.laws.answer.ReachLemmas.{walk_inside}
-use Rattle.regex_lite_engine.proofs.laws.search.ShorterHaystackLemmas.{leads_onward, same_marks}
-use Rattle.regex_lite_engine.proofs.laws.search.ShorterHaystackLemmas.{way_in_whole, way_up_to}
+use Rattle.regex_lite_engine.proofs.laws.search.AlikeLemmas.{leads_onward, marks_alike, seen}
+use Rattle.regex_lite_engine.proofs.laws.search.AlikeLemmas.{seen_in_whole, way_alike, whole_in_seen}
 
 -- up to the end, offsets are the same
 same_offset : (haystack : Text) (end p : ℕ) → p ≤ end
@@ -47,17 +45,9 @@ later_or_here : (later here : Option ℕ) (p : ℕ) → option_or later here ≡
 later_or_here None here p e = inr e
 later_or_here (Some own) here p e = inl e
 
-module _ (table : List (Place ℕ)) (no_looks : HasNoLooks table) where
+module _ (table : List (Place ℕ)) where
   abbrev place : ℕ → Place ℕ
   place = place_with table
-
-  plain : (q : ℕ) → RequiresNoLook (place_with table q)
-  plain q = of_place (slice_get table q) refl
-    where
-      of_place : (o : Option (Place ℕ)) → slice_get table q ≡ o
-          → RequiresNoLook (unwrap_or o (with_arrows []))
-      of_place None e = tt
-      of_place (Some at) e = no_looks q at e
 
   -- a way marks nothing after its end
   marks_before : (haystack : Text) (ks : List ℕ) (n m : ℕ × ℕ) (slot p : ℕ)
@@ -72,7 +62,7 @@ module _ (table : List (Place ℕ)) (no_looks : HasNoLooks table) where
             (ap (λ o. marks_along haystack place o ks slot) (sym s) ∙ later)
         | inr here ↦
             let same = marked_at (mark_of (place n.0) k) n.1 slot p here in
-            let on = leads_onward place plain haystack 0 (k ∷ ks) n m (next, s, along) in
+            let on = leads_onward place haystack (k ∷ ks) n m (next, s, along) in
             omega (arith, same, on)
       ]
 
@@ -80,7 +70,7 @@ module _ (table : List (Place ℕ)) (no_looks : HasNoLooks table) where
   module _ (haystack : Text) (start s : ℕ) (span : Found)
       (known : IsNumberedFound table haystack start s span) where
     abbrev part : Text
-    part = take span.end haystack
+    part = seen haystack span.end
 
     abbrev begins : ℕ × ℕ
     begins = (start, span.start)
@@ -93,34 +83,34 @@ module _ (table : List (Place ℕ)) (no_looks : HasNoLooks table) where
         walk_inside haystack place known.way begins ends known.is_way.is_way.0 known.inside
 
     forward : span.start ≤ span.end
-    forward =
-        leads_onward place plain haystack span.end known.way begins ends known.is_way.is_way.0
+    forward = leads_onward place haystack known.way begins ends known.is_way.is_way.0
 
-    long : length part ≡ span.end
-    long = length-take-le span.end haystack inside
-
-    in_whole : (i q j : ℕ) (way : List ℕ) → IsNumberedWay table part start i way q j
-        → IsNumberedWay table haystack start i way q j
-    in_whole i q j way is = record {
-      is_way = way_in_whole place plain haystack span.end way (start, i) (q, j) is.is_way;
-      ends = is.ends;
-    }
+    part_has : (p : ℕ) → p ≤ span.end → p ≤ length part
+    part_has p low = elim (cases_lt (length haystack) (suc span.end)) [
+      | inl less ↦
+          subst (λ z. p ≤ length z) (sym (take_all (suc span.end) haystack (omega (arith, less))))
+          (omega (arith, low, inside))
+      | inr more ↦
+          let long = length-take-le (suc span.end) haystack more in omega (arith, low, long)
+    ]
 
     -- it lies in the part
     there : IsNumberedMatch table part start span.start span.start known.way known.last span.end
     there = record {
       from = omega arith;
-      inside = omega (arith, forward, long);
+      inside = part_has span.start forward;
       leads = record {
         is_way =
-            way_up_to place plain haystack span.end known.way begins ends (omega arith)
+            way_alike place haystack part span.end (whole_in_seen haystack span.end place)
+            (seen_in_whole haystack span.end place) known.way begins ends (omega arith)
             known.is_way.is_way;
         ends = known.is_way.ends;
       };
     }
 
-    -- what is found in the part from there on
-    module _ (found : Found) (is : IsNumberedFound table part start span.start found) where
+    -- what is found in the part from there on, if it ends where the match does
+    module _ (found : Found) (is : IsNumberedFound table part start span.start found)
+        (last : found.end ≡ span.end) where
       same_start : span.start ≡ found.start
       same_start =
           let from = is.from in
@@ -128,7 +118,13 @@ module _ (table : List (Place ℕ)) (no_looks : HasNoLooks table) where
           omega (arith, from, least)
 
       found_way : IsNumberedWay table haystack start found.start is.way is.last found.end
-      found_way = in_whole found.start is.last found.end is.way is.is_way
+      found_way = record {
+        is_way =
+            way_alike place part haystack span.end (seen_in_whole haystack span.end place)
+            (whole_in_seen haystack span.end place) is.way (start, found.start)
+            (is.last, found.end) (omega (arith, last)) is.is_way.is_way;
+        ends = is.is_way.ends;
+      }
 
       same_way : known.way ≡ is.way
       same_way =
@@ -143,8 +139,8 @@ module _ (table : List (Place ℕ)) (no_looks : HasNoLooks table) where
       found_marks : found.marks ≡ marks_along haystack place (Some (start, found.start)) is.way
       found_marks =
           is.marks
-          ∙ same_marks place plain haystack span.end is.way (start, found.start)
-          (is.last, found.end) is.is_way.is_way.0
+          ∙ marks_alike place part haystack span.end (seen_in_whole haystack span.end place) is.way
+          (start, found.start) (is.last, found.end) (omega (arith, last)) is.is_way.is_way.0
 
       found_in_whole : IsNumberedFound table haystack start s found
       found_in_whole = record {
@@ -161,13 +157,6 @@ module _ (table : List (Place ℕ)) (no_looks : HasNoLooks table) where
         marks = found_marks;
       }
 
-      found_before : found.end ≤ span.end
-      found_before =
-          let most =
-          walk_inside part place is.way (start, found.start) (is.last, found.end)
-          is.is_way.is_way.0 is.inside in
-          omega (arith, most, long)
-
       mark_kept : (slot : ℕ) (mark : Option ℕ) → found.marks slot ≡ mark
           → option_map (offset part) mark ≡ option_map (offset haystack) mark
       mark_kept slot None e = refl
@@ -175,87 +164,69 @@ module _ (table : List (Place ℕ)) (no_looks : HasNoLooks table) where
           let low =
           marks_before haystack is.way (start, found.start) (is.last, found.end) slot p
           found_way.is_way.0 (ap (λ marks. marks slot) (sym found_marks) ∙ e) in
-          ap Some (same_offset haystack span.end p (omega (arith, low, found_before)))
+          ap Some (same_offset haystack (suc span.end) p (omega (arith, low, last)))
 
       slots_kept : (row : Row) → HasSlots part row found.marks → HasSlots haystack row found.marks
       slots_kept row held k slot e = held k slot e ∙ mark_kept k (found.marks k) refl
 
-    -- the answer there is the answer in the whole text
-    whole_answer : (result : Option (ℕ × ℕ)) (row : Row)
-        → IsNumberedOutcome table part start span.start (best_at result row)
-        → IsBestOutcome table haystack start s (with_start_kept (best_at result row))
-    whole_answer None row none =
-        absurd (none span.start known.last span.end known.way there)
-    whole_answer (Some told) row (found, is, from, to, held) = (
+    -- the answer there is the answer in the whole text, if it ends where the match does
+    whole_answer : (offsets told : ℕ × ℕ) (row : Row) → offsets.0 ≡ offset haystack span.start
+        → offsets.1 ≡ offset haystack span.end → told.1 ≡ offsets.1
+        → IsNumberedOutcome table part start span.start (best_at (Some told) row)
+        → IsNumberedOutcome table haystack start s (best_at (Some offsets) row)
+    whole_answer offsets told row from to same (found, is, told_from, told_to, held) = (
       found,
-      found_in_whole found is,
-      from
-          ∙ same_offset haystack span.end found.start
-          (subst (λ i. i ≤ span.end) (same_start found is) forward),
-      to ∙ same_offset haystack span.end found.end (found_before found is),
-      slots_kept found is row held,
+      found_in_whole found is last,
+      from ∙ ap (offset haystack) (same_start found is last),
+      to ∙ ap (offset haystack) (sym last),
+      slots_kept found is last row held,
     )
+      where
+        last : found.end ≡ span.end
+        last =
+            same_position part found.end span.end
+            (walk_inside part place is.way (start, found.start) (is.last, found.end)
+            is.is_way.is_way.0 is.inside) (part_has span.end (omega arith))
+            (sym told_to ∙ same ∙ to
+            ∙ sym (same_offset haystack (suc span.end) span.end (omega arith)))
 
   -- the same of a match whose offsets are known
-  module _ (bytes : List ℕ) (utf8 : IsUtf8 bytes) (start s from end : ℕ)
-      (outcome : IsNumberedOutcome table (chars bytes) start s (best_at (Some (from, end)) []))
-    where
-      abbrev first : ℕ
-      first = outcome.0.start
+  module _ (bytes : List ℕ) (start s : ℕ) (span : ℕ × ℕ)
+      (outcome : IsNumberedOutcome table (chars bytes) start s (best_at (Some span) [])) where
+    abbrev first : ℕ
+    first = outcome.0.start
 
-      abbrev last : ℕ
-      last = outcome.0.end
+    abbrev last : ℕ
+    last = outcome.0.end
 
-      onward : first ≤ last
-      onward = forward (chars bytes) start s outcome.0 outcome.1
+    onward : first ≤ last
+    onward = forward (chars bytes) start s outcome.0 outcome.1
 
-      is_end : IsOffset (chars bytes) last end
-      is_end = (inside (chars bytes) start s outcome.0 outcome.1, outcome.3)
+    pub is_end : IsOffset (chars bytes) last span.1
+    is_end = (inside (chars bytes) start s outcome.0 outcome.1, outcome.3)
 
-      pub end_boundary : IsCharBoundary bytes end
-      end_boundary = boundary_at bytes last end utf8 is_end
-
-      pub from_before : from ≤ end
-      from_before = elim (cases_lt first last) [
-        | inl less ↦
-            let more = offset_less (chars bytes) first last less is_end.0 in
-            omega (arith, more, outcome.2, outcome.3)
-        | inr le ↦
-            let same : first ≡ last = omega (arith, le, onward) in
-            omega (arith, ap (offset (chars bytes)) same, outcome.2, outcome.3)
-      ]
-
-      -- the text up to the match's end
-      module _ (part : List ℕ) (cut : part ≡ slice_range bytes 0 end) where
-        is_part : part ≡ take end bytes
-        is_part = cut ∙ ap (λ n. take n bytes) (omega arith)
-
-        part_utf8 : IsUtf8 part
-        part_utf8 = subst IsUtf8 (sym is_part) (IsUtf8-take bytes end utf8 end_boundary)
-
-        part_chars : chars part ≡ take last (chars bytes)
-        part_chars =
-            ap chars is_part
-            ∙ sym (ap (take last) (chars_cut bytes end utf8 end_boundary)
-            ∙ take_at (chars (take end bytes)) (chars (drop end bytes)) last
-            (position_of bytes utf8 last end is_end))
-
-        is_from : IsOffset (chars part) first from
-        is_from =
-            subst (λ z. IsOffset z first from) (sym part_chars) (
-              (omega (arith, onward, length-take-le last (chars bytes) is_end.0)),
-              outcome.2 ∙ sym (same_offset (chars bytes) last first onward),
+    -- the text up to the character after the match's end
+    module _ (part : List ℕ) (utf8 : IsUtf8 part) (cut : chars part ≡ seen (chars bytes) last)
+      where
+        offset_in_part : (p : ℕ) → p ≤ last → IsOffset (chars part) p (offset (chars bytes) p)
+        offset_in_part p low =
+            subst (λ z. IsOffset z p (offset (chars bytes) p)) (sym cut) (
+              part_has (chars bytes) start s outcome.0 outcome.1 p low,
+              sym (same_offset (chars bytes) (suc last) p (omega (arith, low))),
             )
 
-        pub from_boundary : IsCharBoundary part from
-        from_boundary = boundary_at part first from part_utf8 is_from
+        is_from : IsOffset (chars part) first span.0
+        is_from = subst (IsOffset (chars part) first) (sym outcome.2) (offset_in_part first onward)
 
-        pub known_end : (result : Option (ℕ × ℕ)) (row : Row)
-            → IsNumberedOutcome table (chars part) start (position_at part from)
-            (best_at result row)
-            → IsBestOutcome table (chars bytes) start s (with_start_kept (best_at result row))
-        known_end result row found =
-            whole_answer (chars bytes) start s outcome.0 outcome.1 result row
-            (subst (λ z. IsNumberedOutcome table z start first (best_at result row)) part_chars
-            (subst (λ i. IsNumberedOutcome table (chars part) start i (best_at result row))
-            (position_of part part_utf8 first from is_from) found))
+        pub from_boundary : IsCharBoundary part span.0
+        from_boundary = boundary_at part first span.0 utf8 is_from
+
+        pub known_end : (told : ℕ × ℕ) (row : Row) → told.1 ≡ span.1
+            → IsNumberedOutcome table (chars part) start (position_at part span.0)
+            (best_at (Some told) row)
+            → IsNumberedOutcome table (chars bytes) start s (best_at (Some span) row)
+        known_end told row same given =
+            whole_answer (chars bytes) start s outcome.0 outcome.1 span told row outcome.2 outcome.3
+            same (subst (λ z. IsNumberedOutcome table z start first (best_at (Some told) row)) cut
+            (subst (λ i. IsNumberedOutcome table (chars part) start i (best_at (Some told) row))
+            (position_of part utf8 first span.0 is_from) given))

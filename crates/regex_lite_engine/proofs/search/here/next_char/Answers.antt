@@ -1,6 +1,6 @@
 use Rattle.regex_lite_engine.proofs.Common.{◌+◌, sym, ap, ◌∙◌, position_at}
 use Rattle.regex_lite_engine.proofs.PositionLemmas.{after_at, position_is}
-use Rattle.regex_lite_engine.proofs.backtrack.enter.next_char.Goals as goal
+use Rattle.regex_lite_engine.proofs.search.here.next_char.Goals as goal
 
 pub returns-in-None : goal.returns-in-None
 returns-in-None c =
