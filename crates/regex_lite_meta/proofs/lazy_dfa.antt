@@ -1,6 +1,7 @@
 -- lemmas that several proofs here share
 pub mod AheadLemmas
 pub mod AnewLemmas
+pub mod BeginLemmas
 pub mod BoundaryLemmas
 pub mod BuildLemmas
 pub mod IntervalLemmas

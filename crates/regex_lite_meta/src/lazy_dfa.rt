@@ -1,6 +1,7 @@
 //! A lazy automaton: it remembers the turns that searches have taken, so that later ones take them
 //! by a look-up.
 pub(crate) mod automaton;
+mod begin;
 pub(crate) mod boundaries;
 mod build;
 pub(crate) mod classes;
@@ -18,4 +19,5 @@ pub(crate) mod scan;
 pub(crate) mod single;
 pub(crate) mod spans;
 pub(crate) mod spot;
+pub(crate) mod start_states;
 pub(crate) mod state;

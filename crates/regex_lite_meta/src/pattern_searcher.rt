@@ -119,9 +119,8 @@ impl PatternSearcher {
             if pattern.is_hopeless(haystack, start, start) {
                 return None;
             }
-            let cache = &mut self.memory.cache;
-            restart(cache);
-            return dfa.find_span(pattern, cache, haystack, start);
+            pattern.may_start = true;
+            return dfa.find_span(pattern, &mut self.memory.cache, haystack, start);
         }
         let Some(spans) = &mut self.spans else {
             return self.memory.find_from(pattern, haystack, start);
@@ -129,6 +128,7 @@ impl PatternSearcher {
         if pattern.is_hopeless(haystack, start, start) {
             return None;
         }
+        pattern.may_start = true;
         let span = spans.find(pattern, haystack, start)?;
         self.memory.find_known(pattern, haystack, span)
     }
@@ -181,8 +181,8 @@ impl PatternSearcher {
     {
         let first = pattern.first_start(haystack, start)?;
         let cache = &mut self.memory.cache;
-        restart(cache);
         let Some(dfa) = &mut self.dfa else {
+            restart(cache);
             advance::<_, _, true>(cache, pattern, haystack, first, None);
             return cache.best.end();
         };

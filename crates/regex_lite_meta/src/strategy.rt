@@ -152,7 +152,9 @@ impl<'g> Searched<'g> {
     /// Whether a search without slots remembers its transitions. By measurement it doesn't pay
     /// where nothing reads a character: each match is empty then, and one transition finds it. Nor
     /// does it where the first character of a match is looked for anyway and nothing branches after
-    /// it, or where an index rules most patterns out at most positions.
+    /// it, or where an index rules most patterns out at most positions. But of many searches, most
+    /// touch no memory of ordered sets: where matches begin with a character of a range, all dates
+    /// in 16 KB of a log took 0.23 of what they took without it, and all digits 0.61.
     ///
     /// A search from a later offset is mostly one of many, from match to match, and soon over.
     /// Depth first it takes fewer instructions than by any transitions: loops of `find_at` over
@@ -169,6 +171,7 @@ impl<'g> Searched<'g> {
         }
         match self.beginning() {
             Beginning::Often => !(wanted.is_later() && self.goes_depth_first(wanted, bytes)),
+            Beginning::InRange if wanted.is_each() => bytes >= LONG_BETWEEN_MATCHES,
             Beginning::InRange | Beginning::Rarely => {
                 !wanted.is_later() && bytes >= LONG_BETWEEN_MATCHES && self.branches()
             }

@@ -12,6 +12,7 @@ use crate::lazy_dfa::classes::Classes;
 use crate::lazy_dfa::lookup::Lookup;
 use crate::lazy_dfa::room::{MOST_STATES, Room};
 use crate::lazy_dfa::run::Progress;
+use crate::lazy_dfa::start_states::StartStates;
 use crate::lazy_dfa::state::{Effect, Hit, Side, StoredState, StoredWay, Target};
 use crate::strategy::BYTES_FOR_ONE;
 use std::alloc::{AllocError, Global};
@@ -33,6 +34,8 @@ pub(crate) struct LazyDfa {
     used: usize,
     /// Where the numbers of states are looked up.
     pub(super) lookup: Lookup,
+    /// Where searches start.
+    pub(super) starts: StartStates,
     /// How many turns have found no room.
     pub(super) not_kept: usize,
     /// Over this number of bytes searches may go without it.
@@ -91,6 +94,7 @@ impl LazyDfa {
             ways,
             used: 0,
             lookup,
+            starts: StartStates::none(),
             not_kept: 0,
             spare,
             reach,

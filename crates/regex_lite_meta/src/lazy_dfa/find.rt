@@ -11,7 +11,7 @@ ghost use Rattle.regex_lite_engine.specs.Search.Bounds.{IsBoundedBy, characters_
 ghost use Rattle.regex_lite_engine.specs.Search.Standing.{IsHere};
 ghost use Rattle.regex_lite_engine.specs.Search.Counting.{CanCount};
 ghost use Rattle.regex_lite_engine.specs.Search.NumberedOutcomes.{IsFoundOf};
-ghost use Rattle.regex_lite_engine.specs.Pikevm.Searching.{IsFresh, IsBetween};
+ghost use Rattle.regex_lite_engine.specs.Pikevm.Searching.{IsBetween};
 ghost use Rattle.regex_lite_engine.specs.Pikevm.Turns.{best_of};
 
 use crate::lazy_dfa::automaton::LazyDfa;
@@ -29,37 +29,37 @@ impl LazyDfa {
     /// Where the most preferred match starts and ends, from the least start at or after this
     /// position, with the number of its pattern. With EARLIEST it is a match with the least end of
     /// all that start there or later, and its start and number say nothing.
-    // Not inlined, so that a search without an automaton costs no more than the test for it.
-    #[inline(never)]
-    pub(crate) fn find<P: Patterns, const EARLIEST: bool>(
+    // Inlined, since most searches are soon over.
+    #[inline(always)]
+    pub(crate) fn find<P: Patterns + Copy, const EARLIEST: bool>(
         &mut self,
-        patterns: &mut P,
+        patterns: &P,
         cache: &mut Cache<Origin>,
         haystack: &str,
         from: Here,
     ) -> Option<(Origin, usize)>
-        requires all { AreAllStarts (P.table patterns.old) (P.entries patterns.old)
-            (P.starts patterns.old) }
-        requires remembers { Remembers (P.table patterns.old) (P.entries patterns.old) self.old }
+        requires all { AreAllStarts (P.table patterns.now) (P.entries patterns.now)
+            (P.starts patterns.now) }
+        requires remembers { Remembers (P.table patterns.now) (P.entries patterns.now) self.old }
         requires none_pending { self.old.pending ≡ [] }
-        requires fresh { IsFresh (P.table patterns.old) cache.old }
+        requires between { IsBetween (P.table patterns.now) cache.old }
         requires on { (s : ℕ) × IsHere (chars haystack.now) s from
-            × CanCount (P.table patterns.old) (length (P.entries patterns.old))
+            × CanCount (P.table patterns.now) (length (P.entries patterns.now))
             (characters_left (chars haystack.now) s) }
         requires width { length cache.old.walk.memory.row ≡ 0 }
         ensures found { (s : ℕ) → IsHere (chars haystack.now) s from
-            → IsFoundOf EARLIEST (P.table patterns.old) (chars haystack.now)
-            (P.entries patterns.old) s (best_told result) }
-        ensures remembers { Remembers (P.table patterns.old) (P.entries patterns.old) self.new }
+            → IsFoundOf EARLIEST (P.table patterns.now) (chars haystack.now)
+            (P.entries patterns.now) s (best_told result) }
+        ensures remembers { Remembers (P.table patterns.now) (P.entries patterns.now) self.new }
         ensures none_pending { self.new.pending ≡ [] }
-        ensures between { IsBetween (P.table patterns.old) cache.new }
+        ensures between { IsBetween (P.table patterns.now) cache.new }
         ensures width { length cache.new.walk.memory.row ≡ 0 }
     {
-        let begun = Progress::begun(from);
-        match self.search_while_it_pays::<_, EARLIEST>(patterns, cache, haystack, begun, 0) {
+        match self.search::<_, EARLIEST>(patterns, cache, haystack, from) {
             Ok(found) => found,
             Err(at) => {
-                advance::<_, _, EARLIEST>(cache, patterns, haystack, at.here, None);
+                let mut own = *patterns;
+                advance::<_, _, EARLIEST>(cache, &mut own, haystack, at.here, None);
                 cache.best.found()
             }
         }

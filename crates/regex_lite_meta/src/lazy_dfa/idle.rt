@@ -165,7 +165,8 @@ impl LazyDfa {
         true
     }
 
-    /// Whether there is nothing to go on from and no match, a prefilter and no looks.
+    /// Whether there is nothing to go on from and no match, a prefilter and no looks, and a next
+    /// character.
     #[inline(always)]
     fn may_leap<P: Patterns>(&self, patterns: &P, at: &Standing) -> bool
         requires { at.now.state < length self.now.states }
@@ -174,7 +175,8 @@ impl LazyDfa {
         ensures empty { result ≡ true → (state : State)
             → slice_get self.now.states at.now.state ≡ Some state → state.ways ≡ [] }
     {
-        patterns.has_prefilter()
+        at.here.after.is_some()
+            && patterns.has_prefilter()
             && !self.has_looks()
             && at.best.is_none()
             && self.is_empty(at.state)

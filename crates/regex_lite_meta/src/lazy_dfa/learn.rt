@@ -186,6 +186,7 @@ impl LazyDfa {
             return None;
         }
         self.put_number(cell, y as u16);
+        self.put_start(y as u16);
         Some(y as u16)
     }
 
@@ -225,6 +226,18 @@ impl LazyDfa {
         ensures { self.new ≡ self.old }
     {
         self.lookup.put(cell, y);
+    }
+
+    /// Has the number of a state looked up as that of one in which searches start, if it is one.
+    #[tactic(auto, using(crate::proofs::lazy_dfa::StoredStateLemmas::length_states))]
+    fn put_start(&mut self, y: u16)
+        requires { y < length self.old.states }
+        ensures { self.new ≡ self.old }
+    {
+        let state = &self.states[y as usize];
+        if state.len == 0 && state.searching {
+            self.starts.put(state.before, y);
+        }
     }
 }
 

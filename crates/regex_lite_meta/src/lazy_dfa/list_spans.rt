@@ -10,10 +10,9 @@ ghost use Rattle.regex_lite_engine.specs.Search.Bounds.{characters_left};
 ghost use Rattle.regex_lite_engine.specs.Search.Counting.{CanCount};
 ghost use Rattle.regex_lite_engine.specs.Search.NumberedOutcomes.{IsFoundOf, best_kept};
 ghost use Rattle.regex_lite_engine.specs.Search.Offsets.{position_at};
-ghost use Rattle.regex_lite_engine.specs.Pikevm.Searching.{IsBetween, IsFresh};
+ghost use Rattle.regex_lite_engine.specs.Pikevm.Searching.{IsBetween};
 
 use crate::lazy_dfa::automaton::LazyDfa;
-use crate::lazy_dfa::run::Progress;
 use crate::strategy::SpanSearch;
 use regex_lite_engine::nfa::list::GraphList;
 use regex_lite_engine::pikevm::beginning::Origin;
@@ -88,7 +87,6 @@ impl<'g> ListSpanSearcher<'g> {
     {
         // Each has a number of 32 bits, since there are no more.
         let _entries = list.entries();
-        restart(&mut self.cache);
         if let Some(found) = find_remembering::<EARLIEST>(
             &mut self.dfa,
             list,
@@ -98,6 +96,7 @@ impl<'g> ListSpanSearcher<'g> {
         ) {
             return found;
         }
+        restart(&mut self.cache);
         let here = Here::at(haystack, start);
         advance::<_, _, EARLIEST>(&mut self.cache, &mut self.patterns, haystack, here, None);
         self.cache.best.found()
@@ -134,7 +133,7 @@ fn find_remembering<const EARLIEST: bool>(
     requires boundary { IsCharBoundary haystack.now start }
     requires remembers { IsRemembering (table_of_list list.now) list.now.entries
         (length cache.old.best.row) (option_map (λ dfa. dfa.value) dfa.old) }
-    requires fresh { IsFresh (table_of_list list.now) cache.old }
+    requires between { IsBetween (table_of_list list.now) cache.old }
     requires counts { CanCount (table_of_list list.now) (length list.now.entries)
         (characters_left (chars haystack.now) (position_at haystack.now start)) }
     ensures found { IfSome result (λ found. IsFoundOf EARLIEST (table_of_list list.now)
@@ -142,7 +141,6 @@ fn find_remembering<const EARLIEST: bool>(
         (best_told found)) }
     ensures remembers { IsRemembering (table_of_list list.now) list.now.entries
         (length cache.new.best.row) (option_map (λ dfa. dfa.value) dfa.new) }
-    ensures fresh { result ≡ None → IsFresh (table_of_list list.now) cache.new }
     ensures between { IsBetween (table_of_list list.now) cache.new }
     ensures without_slots { IfSome result (λ _. length cache.new.best.row ≡ 0) }
     ensures width { length cache.new.best.row ≡ length cache.old.best.row }
@@ -153,7 +151,6 @@ fn find_remembering<const EARLIEST: bool>(
     if let Some(found) = automaton.find_in_list::<EARLIEST>(list, cache, haystack, start) {
         return Some(found);
     }
-    restart(cache);
     *dfa = None;
     None
 }
@@ -171,7 +168,7 @@ impl LazyDfa {
     ) -> Option<Option<(Origin, usize)>>
         requires boundary { IsCharBoundary haystack.now start }
         requires remembers { RemembersFor (table_of_list list.now) list.now.entries self.old }
-        requires fresh { IsFresh (table_of_list list.now) cache.old }
+        requires between { IsBetween (table_of_list list.now) cache.old }
         requires counts { CanCount (table_of_list list.now) (length list.now.entries)
             (characters_left (chars haystack.now) (position_at haystack.now start)) }
         requires width { length cache.old.walk.memory.row ≡ 0 }
@@ -186,8 +183,7 @@ impl LazyDfa {
         let _entries = list.entries();
         let all = AllOfList { list };
         let from = Here::at(haystack, start);
-        let begun = Progress::begun(from);
-        let told = self.search_while_it_pays::<_, EARLIEST>(&all, cache, haystack, begun, 0);
+        let told = self.search::<_, EARLIEST>(&all, cache, haystack, from);
         let Ok(found) = told else {
             return None;
         };

@@ -13,7 +13,7 @@ ghost use Rattle.regex_lite_engine.specs.Graph.Places.{Place};
 ghost use Rattle.regex_lite_engine.specs.Search.Bounds.{characters_left};
 ghost use Rattle.regex_lite_engine.specs.Search.Offsets.{position_at};
 ghost use Rattle.regex_lite_engine.specs.Search.Counting.{CanCount};
-ghost use Rattle.regex_lite_engine.specs.Pikevm.Searching.{IsFresh, IsHit, TurnsAgain};
+ghost use Rattle.regex_lite_engine.specs.Pikevm.Searching.{IsHit, TurnsAgain};
 ghost use Rattle.regex_lite_engine.specs.Search.Starts.{AreAllStarts};
 ghost use Rattle.regex_lite_engine.specs.Search.Standing.{IsHere};
 ghost use Rattle.regex_lite_engine.specs.Pikevm.Turns.{EndsAt, best_of};
@@ -41,10 +41,13 @@ pub(crate) struct Progress {
 impl Progress {
     /// Where a search stands before its first turn.
     pub(crate) fn begun(here: Here) -> Progress
-        ensures { (table : List (Place ℕ)) (haystack : Text) (entries : List ℕ) (s : ℕ)
-            (automaton : Automaton) (cache : Cache Origin) → IsHere haystack s here
-            → IsFresh table cache → length cache.walk.memory.row ≡ 0
-            → Stands table haystack entries s automaton result cache }
+        ensures is { result ≡ record {
+          here = here;
+          state = None;
+          first = here.at;
+          until = 0;
+          anew = false;
+        } }
     {
         Progress {
             here,

@@ -73,10 +73,30 @@ impl LazyDfa {
             (chars haystack.now) self.now at.old at.new }
         ensures none { EARLIEST ≡ true → result ≡ false → at.new.best ≡ None }
     {
+        self.run::<P, EARLIEST>(patterns, haystack, at)
+            || self.scan_on::<P, EARLIEST>(patterns, haystack, at)
+    }
+
+    /// Like `scan`, from where `run` stopped.
+    // Not inlined, so that searches for which `run` is enough cost no more than that.
+    #[inline(never)]
+    pub(super) fn scan_on<P: Patterns, const EARLIEST: bool>(
+        &self,
+        patterns: &P,
+        haystack: &str,
+        at: &mut Standing,
+    ) -> bool
+        requires remembers { Remembers (P.table patterns.now) (P.entries patterns.now) self.now }
+        requires none { EARLIEST ≡ true → at.old.best ≡ None }
+        requires scanning { (low p : ℕ) × IsScanning (P.table patterns.now) (P.entries patterns.now)
+            (chars haystack.now) low p self.now at.old }
+        ensures over { result ≡ true → EndsWith (P.table patterns.now) (P.entries patterns.now)
+            (chars haystack.now) self.now EARLIEST at.old at.new.best }
+        ensures on { result ≡ false → GoesOn (P.table patterns.now) (P.entries patterns.now)
+            (chars haystack.now) self.now at.old at.new }
+        ensures none { EARLIEST ≡ true → result ≡ false → at.new.best ≡ None }
+    {
         'positions: loop {
-            if self.run::<P, EARLIEST>(patterns, haystack, at) {
-                return true;
-            }
             if self.leap_on::<P, EARLIEST>(patterns, haystack, at) {
                 return true;
             }
@@ -91,6 +111,9 @@ impl LazyDfa {
                 return true;
             }
             self.go_on(haystack, at, to, best);
+            if self.run::<P, EARLIEST>(patterns, haystack, at) {
+                return true;
+            }
         }
     }
 
@@ -106,7 +129,8 @@ impl LazyDfa {
             (chars haystack.now) self.now at.old at.new }
         ensures none { at.old.best ≡ None → at.new.best ≡ None }
     {
-        if at.best.is_some() || !self.is_empty(at.state) {
+        // At the haystack's end there is nothing to pass over.
+        if at.here.after.is_none() || at.best.is_some() || !self.is_empty(at.state) {
             return true;
         }
         self.skip_idle(patterns, haystack, at)
@@ -145,11 +169,13 @@ impl LazyDfa {
         ensures { IfSome result (λ x. IsEmptyState self.now x before) }
     {
         let side = self.side(before);
-        'states: for x in 0..self.states.len() {
-            let state = &self.states[x];
-            if state.len == 0 && state.searching && self.sees_alike(state.before, side) {
-                return Some(x as u16);
-            }
+        let x = self.starts.number(side);
+        if x as usize >= self.states.len() {
+            return None;
+        }
+        let state = &self.states[x as usize];
+        if state.len == 0 && state.searching && self.sees_alike(state.before, side) {
+            return Some(x);
         }
         None
     }

@@ -1,7 +1,7 @@
 //! Searches without slots that find where a match starts and ends, by remembered turns where that
 //! pays. A search between these finds its slots.
 ghost use Rattle.std.specs.Prelude.{◌≡◌, ◌∷◌, [], IfSome, IsCharBoundary, chars};
-ghost use Rattle.std.specs.Prelude.{length};
+ghost use Rattle.std.specs.Prelude.{length, true};
 ghost use Rattle.regex_lite_meta.specs.LazyDfa.Remembering.{FindsSpansIn, RemembersFor};
 ghost use Rattle.regex_lite_meta.specs.LazyDfa.Scanning.{span_told};
 ghost use Rattle.regex_lite_engine.specs.Graph.Stored.{places_of};
@@ -9,7 +9,7 @@ ghost use Rattle.regex_lite_engine.specs.Search.Counting.{IsCountable};
 ghost use Rattle.regex_lite_engine.specs.Search.Offsets.{position_at};
 ghost use Rattle.regex_lite_engine.specs.Search.NumberedOutcomes.{IsBestOutcomeOf, best_at};
 ghost use Rattle.regex_lite_engine.specs.Search.NumberedOutcomes.{IsNumberedOutcome};
-ghost use Rattle.regex_lite_engine.specs.Pikevm.Searching.{IsBetween, IsFresh};
+ghost use Rattle.regex_lite_engine.specs.Pikevm.Searching.{IsBetween};
 
 use crate::lazy_dfa::automaton::LazyDfa;
 use crate::strategy::SpanSearch;
@@ -52,6 +52,8 @@ impl SpanSearcher {
 
     /// Where the most preferred match from the least start at or after this offset starts and
     /// ends.
+    ///
+    /// Condition: the pattern may start anywhere.
     pub(crate) fn find(
         &mut self,
         pattern: &OnePattern<'_>,
@@ -59,15 +61,16 @@ impl SpanSearcher {
         start: usize,
     ) -> Option<(usize, usize)>
         requires boundary { IsCharBoundary haystack.now start }
+        requires all { pattern.now.may_start ≡ true }
         requires finds { FindsSpansIn (places_of pattern.now.table.now) pattern.now.entry self.old }
         ensures found { IsNumberedOutcome (places_of pattern.now.table.now) (chars haystack.now)
             pattern.now.entry (position_at haystack.now start) (best_at result []) }
         ensures finds { FindsSpansIn (places_of pattern.now.table.now) pattern.now.entry self.new }
     {
-        restart(&mut self.cache);
         if let Some(dfa) = &mut self.dfa {
             return dfa.find_span(pattern, &mut self.cache, haystack, start);
         }
+        restart(&mut self.cache);
         let mut own = *pattern;
         run::<_, _, false>(&mut self.cache, &mut own, haystack, start);
         span_of(self.cache.best.found())
@@ -77,6 +80,10 @@ impl SpanSearcher {
 impl LazyDfa {
     /// Where the most preferred match from the least start at or after this offset starts and
     /// ends, of a pattern whose turns this remembers.
+    ///
+    /// Condition: the pattern may start anywhere.
+    // Not inlined, so that a search without an automaton costs no more than the test for it.
+    #[inline(never)]
     pub(crate) fn find_span(
         &mut self,
         pattern: &OnePattern<'_>,
@@ -85,9 +92,10 @@ impl LazyDfa {
         start: usize,
     ) -> Option<(usize, usize)>
         requires boundary { IsCharBoundary haystack.now start }
+        requires all { pattern.now.may_start ≡ true }
         requires remembers { RemembersFor (places_of pattern.now.table.now) (pattern.now.entry ∷ [])
             self.old }
-        requires fresh { IsFresh (places_of pattern.now.table.now) cache.old }
+        requires between { IsBetween (places_of pattern.now.table.now) cache.old }
         requires countable { IsCountable (places_of pattern.now.table.now) }
         requires width { length cache.old.walk.memory.row ≡ 0 }
         ensures found { IsBestOutcomeOf (places_of pattern.now.table.now) (chars haystack.now)
@@ -97,8 +105,7 @@ impl LazyDfa {
         ensures between { IsBetween (places_of pattern.now.table.now) cache.new }
         ensures width { length cache.new.walk.memory.row ≡ 0 }
     {
-        let mut all = pattern.everywhere();
         let from = Here::at(haystack, start);
-        span_of(self.find::<_, false>(&mut all, cache, haystack, from))
+        span_of(self.find::<_, false>(pattern, cache, haystack, from))
     }
 }

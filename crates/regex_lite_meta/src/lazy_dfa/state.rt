@@ -3,8 +3,8 @@ ghost use Rattle.std.specs.Prelude.{◌≡◌, ◌<◌, IfSome, Option, Some, tr
 ghost use Rattle.regex_lite_meta.specs.LazyDfa.Automaton.{KeptOrigin};
 ghost use Rattle.regex_lite_meta.specs.LazyDfa.Stored.{hit_in, is_emptying, is_known, known_hit};
 ghost use Rattle.regex_lite_meta.specs.LazyDfa.Intervals.{side_of};
+ghost use Rattle.regex_lite_syntax.specs.Tree.Looks.{is_word};
 
-use regex_lite_syntax::Look;
 use std::mem::size_of;
 
 /// A place to go on from, whether the way to it began at the first start, and the number of its
@@ -176,10 +176,10 @@ impl Hit {
 #[derive(Clone, Copy)]
 pub(crate) struct Side {
     /// Whether there is none.
-    is_none: bool,
-    is_line_feed: bool,
-    is_carriage_return: bool,
-    is_word: bool,
+    pub is_none: bool,
+    pub is_line_feed: bool,
+    pub is_carriage_return: bool,
+    pub is_word: bool,
 }
 
 impl Side {
@@ -194,7 +194,7 @@ impl Side {
             is_none: false,
             is_line_feed: c == '\n',
             is_carriage_return: c == '\r',
-            is_word: !Look::WordEndHalf.holds(None, Some(c)),
+            is_word: is_word_char(c),
         }
     }
 
@@ -219,4 +219,11 @@ impl Side {
             && self.is_carriage_return == other.is_carriage_return
             && self.is_word == other.is_word
     }
+}
+
+/// Whether it is a character of a word.
+fn is_word_char(c: char) -> bool
+    ensures { result ≡ is_word (Some c) }
+{
+    c.is_ascii_alphanumeric() || c == '_'
 }

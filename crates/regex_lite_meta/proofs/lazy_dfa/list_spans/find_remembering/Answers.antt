@@ -1,10 +1,10 @@
-use Rattle.regex_lite_meta.proofs.Common.{sym, ◌∙◌, table_of_list}
+use Rattle.regex_lite_meta.proofs.Common.{sym, ◌∙◌}
 use Rattle.regex_lite_meta.proofs.lazy_dfa.list_spans.find_remembering.Goals as goal
 
 pub find_in_list-requires-clause-width : goal.find_in_list-requires-clause-width
 find_in_list-requires-clause-width g c =
     let before = rw c.in-Some.is at c.requires.remembers in
-    sym c.requires.fresh.between.best_width ∙ before.1
+    sym c.requires.between.best_width ∙ before.1
 
 pub returns-in-Some-find_in_list : goal.returns-in-Some-find_in_list
 returns-in-Some-find_in_list g c = record {
@@ -12,7 +12,6 @@ returns-in-Some-find_in_list g c = record {
   remembers =
       let told = c.find_in_list.ensures in
       (told.remembers, told.between.best_width ∙ told.width);
-  fresh = λ none. cc;
   between = c.find_in_list.ensures.between;
   without_slots = c.find_in_list.ensures.between.best_width ∙ c.find_in_list.ensures.width;
   width =
@@ -21,21 +20,8 @@ returns-in-Some-find_in_list g c = record {
       told.between.best_width ∙ told.width ∙ sym before.1;
 }
 
-pub returns-clause-fresh : goal.returns-clause-fresh
-returns-clause-fresh g c = λ _.
-    c.restart.ensures.fresh (table_of_list c.args.list.now)
-    c.in_default-find_in_list.ensures.between
-
-pub returns-clause-between : goal.returns-clause-between
-returns-clause-between g c =
-    (c.restart.ensures.fresh (table_of_list c.args.list.now)
-    c.in_default-find_in_list.ensures.between).between
-
 pub returns-clause-width : goal.returns-clause-width
 returns-clause-width g c =
     let told = c.find_in_list.ensures in
     let before = rw c.in-Some.is at c.requires.remembers in
-    c.restart.ensures.width ∙ (told.between.best_width ∙ told.width ∙ sym before.1)
-
-pub returns-in_default-clause-between : goal.returns-in_default-clause-between
-returns-in_default-clause-between g c = c.requires.fresh.between
+    told.between.best_width ∙ told.width ∙ sym before.1

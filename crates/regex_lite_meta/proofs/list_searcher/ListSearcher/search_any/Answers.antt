@@ -1,5 +1,5 @@
-use Rattle.std.specs.Prelude.{◌↔◌, IsTrue, is_some}
-use Rattle.regex_lite_meta.proofs.Common.{[], chars, places_of, position_at, sym, ap, ◌∙◌, subst}
+use Rattle.std.specs.Prelude.{◌↔◌, IsTrue}
+use Rattle.regex_lite_meta.proofs.Common.{[], chars, places_of, position_at, sym, ◌∙◌, subst}
 use Rattle.regex_lite_meta.proofs.Common.{best_told, table_of_list}
 use Rattle.regex_lite_engine.specs.Search.AnswerOfList.{AnyMatchesFrom}
 use Rattle.regex_lite_engine.specs.Search.NumberedWords.{AreAnsweredBy}

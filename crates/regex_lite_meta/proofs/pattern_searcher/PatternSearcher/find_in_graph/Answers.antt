@@ -4,11 +4,6 @@ use Rattle.regex_lite_meta.specs.Slots.{FindsShortSlots}
 use Rattle.regex_lite_engine.proofs.pikevm.EndLemmas.{one_best}
 use Rattle.regex_lite_meta.proofs.pattern_searcher.PatternSearcher.find_in_graph.Goals as goal
 
-pub find_span-requires-clause-fresh : goal.find_span-requires-clause-fresh
-find_span-requires-clause-fresh c =
-    c.restart.ensures.fresh (places_of c.args.pattern.now.table.now)
-    c.requires.searches.memory.between
-
 pub returns-in-Some : goal.returns-in-Some
 returns-in-Some c =
     let one = c.args.pattern.now in

@@ -13,13 +13,12 @@ find-requires-clause-on c =
     let short : length haystack < 2 ^ 63 = search rules in (
       s,
       c.at-from.ensures.here,
-      rw c.everywhere-all.ensures.table
-          (can_count (places_of c.args.pattern.now.table.now) haystack s c.utf8.haystack short
+      (can_count (places_of c.args.pattern.now.table.now) haystack s c.utf8.haystack short
           c.requires.countable 1 (omega arith)),
     )
 
 pub find-requires-clause-all : goal.find-requires-clause-all
-find-requires-clause-all c = all_everywhere c.everywhere-all.result c.everywhere-all.ensures.all
+find-requires-clause-all c = all_everywhere c.args.pattern.now c.requires.all
 
 pub returns-clause-found : goal.returns-clause-found
 returns-clause-found c =
@@ -30,5 +29,4 @@ returns-clause-found c =
     subst (λ span. IsBestOutcomeOf table haystack (one.entry ∷ []) s (span_told span))
     (sym c.span_of.ensures)
     (spanned table haystack (one.entry ∷ []) s c.find.result []
-    (rw (c.everywhere-all.ensures.table, c.everywhere-all.ensures.entry) at
-    (c.find.ensures.found s c.at-from.ensures.here)))
+    (c.find.ensures.found s c.at-from.ensures.here))

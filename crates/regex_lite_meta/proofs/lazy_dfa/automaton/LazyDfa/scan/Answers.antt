@@ -1,138 +1,15 @@
-use Rattle.regex_lite_meta.proofs.Common.{◌≡◌, ◌==◌, true, chars, ap, ◌∙◌, rules, Standing, not}
-use Rattle.regex_lite_engine.proofs.pikevm.ShortestLemmas.{not_true}
-use Rattle.regex_lite_meta.specs.LazyDfa.Scanning.{GoesOn}
-use Rattle.regex_lite_meta.proofs.lazy_dfa.OnwardLemmas.{state_there, stays_there, then_on}
-use Rattle.regex_lite_meta.proofs.lazy_dfa.OnwardLemmas.{then_turned}
-use Rattle.regex_lite_meta.proofs.lazy_dfa.ScanLemmas.{leads_on, scan_found}
-use Rattle.regex_lite_engine.proofs.pikevm.EndLemmas.{some_after}
-use Rattle.regex_lite_engine.proofs.search.here.HereLemmas.{less_left}
-use Rattle.regex_lite_meta.proofs.lazy_dfa.automaton.LazyDfa.scan.Given as given
+use Rattle.regex_lite_meta.proofs.lazy_dfa.OnwardLemmas.{then_on}
 use Rattle.regex_lite_meta.proofs.lazy_dfa.automaton.LazyDfa.scan.Goals as goal
-use Rattle.regex_lite_meta.proofs.lazy_dfa.automaton.LazyDfa.scan.Goals.{After-leap_on, After-skip}
 
-pub positions-init : goal.positions-init
-positions-init g c = record { none = c.requires.none; on = stays_there c.args.at.now }
-
-pub run-requires-clause-scanning : goal.run-requires-clause-scanning
-run-requires-clause-scanning g c =
+pub scan_on-requires-clause-scanning : goal.scan_on-requires-clause-scanning
+scan_on-requires-clause-scanning g c =
     let from = c.requires.scanning in
-    let v = c.positions.invariant.on from.0 from.1 from.2 in (from.0, v.0, v.2)
+    let r = c.run.ensures.on c.if-run.false from.0 from.1 from.2 in (from.0, r.0, r.2)
 
-pub returns-then-run-clause-over : goal.returns-then-run-clause-over
-returns-then-run-clause-over g c = λ _ low p from.
-    let v = c.positions.invariant.on low p from in
-    c.run.ensures.over c.if-run.true low v.0 v.2
+pub returns-else-run-clause-over : goal.returns-else-run-clause-over
+returns-else-run-clause-over g c = λ over low p from.
+    let r = c.run.ensures.on c.if-run.false low p from in c.scan_on.ensures.over over low r.0 r.2
 
-pub leap_on-requires-clause-scanning : goal.leap_on-requires-clause-scanning
-leap_on-requires-clause-scanning g c =
-    let from = c.requires.scanning in
-    let r = then_on c.positions.invariant.on (c.run.ensures.on c.if-run.false) from.0 from.1
-    from.2 in (from.0, r.0, r.2)
-
-pub leap_on-requires-clause-none : goal.leap_on-requires-clause-none
-leap_on-requires-clause-none g c = λ earliest. c.run.ensures.none earliest c.if-run.false
-
-pub returns-then-leap_on-clause-over : goal.returns-then-leap_on-clause-over
-returns-then-leap_on-clause-over g c = λ _ low p from.
-    let r = then_on c.positions.invariant.on (c.run.ensures.on c.if-run.false) low p from in
-    c.leap_on.ensures.over c.if-leap_on.true low r.0 r.2
-
-pub skip-requires : goal.skip-requires
-skip-requires g c =
-    let from = c.requires.scanning in
-    let r = then_on c.positions.invariant.on
-    (then_on (c.run.ensures.on c.if-run.false) (c.leap_on.ensures.on c.if-leap_on.false)) from.0
-    from.1 from.2 in
-    record { scanning = (from.0, r.0, r.2) }
-
--- by turns, and over positions at which no match can begin
-past : (g : given.Over) (c : After-skip g) →
-    GoesOn (g.P.Patterns.table c.args.patterns.now) (g.P.Patterns.entries c.args.patterns.now)
-    (chars c.args.haystack.now) c.args.self.now c.positions.at c.skip.new.at
-past g c =
-    then_on (c.run.ensures.on c.if-run.false)
-    (then_on (c.leap_on.ensures.on c.if-leap_on.false) c.skip.ensures.on)
-
-pub returns-then-not-skip-clause-on : goal.returns-then-not-skip-clause-on
-returns-then-not-skip-clause-on g c = λ _.
-    then_on c.positions.invariant.on
-    (past g (goal.at.returns-then-not-skip-clause-on g c).After-skip)
-
-pub returns-then-not-skip-clause-none : goal.returns-then-not-skip-clause-none
-returns-then-not-skip-clause-none g c = λ earliest _.
-    c.skip.ensures.none (c.leap_on.ensures.none earliest c.if-leap_on.false)
-
-pub step-requires-clause-state : goal.step-requires-clause-state
-step-requires-clause-state g c =
-    state_there
-    (then_on c.positions.invariant.on
-    (past g (goal.at.step-requires-clause-state g c).After-skip)) c.requires.scanning
-
-pub step-requires-clause-none : goal.step-requires-clause-none
-step-requires-clause-none g c = λ earliest.
-    c.skip.ensures.none (c.leap_on.ensures.none earliest c.if-leap_on.false)
-
-pub returns-in_default-clause-on : goal.returns-in_default-clause-on
-returns-in_default-clause-on g c = λ _.
-    then_on c.positions.invariant.on
-    (past g (goal.at.returns-in_default-clause-on g c).After-skip)
-
-pub returns-in_default-clause-none : goal.returns-in_default-clause-none
-returns-in_default-clause-none g c = λ earliest _.
-    c.skip.ensures.none (c.leap_on.ensures.none earliest c.if-leap_on.false)
-
-pub is_over-requires : goal.is_over-requires
-is_over-requires g c = c.in-Some.ensures.state
-
-pub returns-then-is_over-clause-over : goal.returns-then-is_over-clause-over
-returns-then-is_over-clause-over g c = λ _ low p from.
-    let on = then_on c.positions.invariant.on
-    (past g (goal.at.returns-then-is_over-clause-over g c).After-skip) low p from in
-    scan_found (g.P.Patterns.table c.args.patterns.now) (g.P.Patterns.entries c.args.patterns.now)
-    (chars c.args.haystack.now) low on.0 c.args.self.now c.skip.new.at c.in-Some.to
-    (not (g.row.EARLIEST == 0)) c.in-Some.best on.2
-    (λ earliest. c.skip.ensures.none (c.leap_on.ensures.none earliest c.if-leap_on.false))
-    (c.in-Some.ensures.led (chars c.args.haystack.now) low on.0 on.2)
-    (λ state is preferred. c.if-is_over.ensures.over state is (search rules) preferred)
-    (c.is_over.ensures.earliest (search rules))
-
-pub go_on-requires-clause-here : goal.go_on-requires-clause-here
-go_on-requires-clause-here g c =
-    let from = c.requires.scanning in
-    let on = then_on c.positions.invariant.on
-    (past g (goal.at.go_on-requires-clause-here g c).After-skip) from.0 from.1 from.2 in (
-      on.0,
-      on.2.is,
-      some_after c.skip.new.at.here.after c.is_over.result c.if-is_over.false
-          c.is_over.ensures.at_end,
-    )
-
-pub go_on-requires-clause-state : goal.go_on-requires-clause-state
-go_on-requires-clause-state g c = c.in-Some.ensures.state
-
-pub positions-smaller : goal.positions-smaller
-positions-smaller g c =
-    let from = c.requires.scanning in
-    let v = c.positions.invariant.on from.0 from.1 from.2 in
-    let on = past g (goal.at.positions-smaller g c).After-skip from.0 v.0 v.2 in
-    less_left c.args.haystack.now v.0 on.0 c.positions.at.here c.go_on.new.at.here
-    c.utf8.haystack v.2.is (c.go_on.ensures.here on.0 on.2.is) on.1
-
-pub positions-preserved : goal.positions-preserved
-positions-preserved g c =
-    let none = λ (earliest : not (g.row.EARLIEST == 0) ≡ true).
-    c.is_over.ensures.none_yet earliest (not_true c.is_over.result c.if-is_over.false) in
-    record {
-      none = λ earliest. ap (λ (z : Standing). z.best) c.go_on.ensures.same ∙ none earliest;
-      on =
-          then_turned
-          (then_on c.positions.invariant.on
-          (past g (goal.at.positions-preserved g c).After-skip))
-          (λ low p scanning.
-          leads_on (g.P.Patterns.table c.args.patterns.now) (g.P.Patterns.entries
-          c.args.patterns.now) (chars c.args.haystack.now) low p c.args.self.now c.skip.new.at
-          c.in-Some.to (not (g.row.EARLIEST == 0)) c.in-Some.best none
-          (c.in-Some.ensures.led (chars c.args.haystack.now) low p scanning))
-          (λ state at. c.is_over.ensures.none state at (search rules)) c.go_on.ensures.here
-          c.go_on.ensures.same c.go_on.ensures.first;
-    }
+pub returns-else-run-clause-on : goal.returns-else-run-clause-on
+returns-else-run-clause-on g c = λ on.
+    then_on (c.run.ensures.on c.if-run.false) (c.scan_on.ensures.on on)

@@ -31,18 +31,19 @@ advance-requires-clause-on g c =
           (can_count (table_of_list list) haystack s c.utf8.haystack short
           (c.requires.finds.goes_on c.requires.some).1 (length list.entries) few),
       rw (c.requires.finds.table, c.requires.finds.entries)
-          (begun _ _ _ s c.find_remembering.new.cache
-          (c.find_remembering.ensures.fresh c.in_default.is)),
+          (begun _ _ _ s c.restart.new.cache
+          (c.restart.ensures.fresh (table_of_list list) c.find_remembering.ensures.between)),
     )
 
 pub returns-clause-found : goal.returns-clause-found
 returns-clause-found g c =
     let haystack = c.args.haystack.now in
     let s = position_at haystack c.args.start in
-    let fresh = c.find_remembering.ensures.fresh c.in_default.is in
+    let fresh = c.restart.ensures.fresh (table_of_list c.args.list.now)
+    c.find_remembering.ensures.between in
     let stops = c.advance.ensures.stops s s c.at-here.ensures.here
     (rw (c.requires.finds.table, c.requires.finds.entries)
-    (begun _ _ _ s c.find_remembering.new.cache fresh)) in
+    (begun _ _ _ s c.restart.new.cache fresh)) in
     subst (IsFoundOf (not (g.row.EARLIEST == 0)) (table_of_list c.args.list.now) (chars haystack)
     c.args.list.now.entries s) c.found.ensures
     (rw (c.requires.finds.table, c.requires.finds.entries) at

@@ -6,10 +6,6 @@ use Rattle.regex_lite_engine.proofs.pikevm.EndLemmas.{one_best}
 use Rattle.regex_lite_engine.proofs.search.OutcomeLemmas.{can_count}
 use Rattle.regex_lite_meta.proofs.lazy_dfa.spans.SpanSearcher.find.Goals as goal
 
-pub find_span-requires-clause-fresh : goal.find_span-requires-clause-fresh
-find_span-requires-clause-fresh c =
-    c.restart.ensures.fresh (places_of c.args.pattern.now.table.now) c.requires.finds.between
-
 pub returns-in-Some-clause-found : goal.returns-in-Some-clause-found
 returns-in-Some-clause-found c =
     let one = c.args.pattern.now in

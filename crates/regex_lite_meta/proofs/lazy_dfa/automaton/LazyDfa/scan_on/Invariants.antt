@@ -1,6 +1,6 @@
 use Rattle.regex_lite_meta.proofs.Common.{◌≡◌, ◌-◌, ◌==◌, true, length, None, chars, not}
 use Rattle.regex_lite_meta.specs.LazyDfa.Scanning.{GoesOn}
-use Rattle.regex_lite_meta.proofs.lazy_dfa.automaton.LazyDfa.scan.Given as goal
+use Rattle.regex_lite_meta.proofs.lazy_dfa.automaton.LazyDfa.scan_on.Given as goal
 
 abbrev pub invariant-positions : goal.invariant-positions
 invariant-positions g l = record {

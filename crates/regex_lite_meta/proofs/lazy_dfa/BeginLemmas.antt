@@ -1,0 +1,96 @@
+-- A search that begins by remembered turns.
+use Rattle.regex_lite_meta.proofs.Common.{◌≡◌, ℕ, false, List, [], length, None}
+use Rattle.regex_lite_meta.proofs.Common.{sym, refl, subst, arith, Text, IsComing, IsScanning}
+use Rattle.regex_lite_meta.proofs.Common.{AreDeadAt, PassesTo, Cache, Here, Automaton, Suits}
+use Rattle.regex_lite_meta.proofs.Common.{threads_of, Stands, Standing}
+use Rattle.regex_lite_engine.specs.Graph.Places.{Place}
+use Rattle.regex_lite_engine.specs.Pikevm.Searching.{IsFresh}
+use Rattle.regex_lite_meta.specs.LazyDfa.Automaton.{IsEmptyState}
+use Rattle.regex_lite_meta.specs.LazyDfa.Scanning.{ComesTo, GoesOn}
+use Rattle.regex_lite_meta.specs.declared.lazy_dfa.run.Progress.{Progress}
+use Rattle.regex_lite_engine.proofs.pikevm.ComingLemmas.{jumped, none_coming}
+use Rattle.regex_lite_meta.proofs.lazy_dfa.AnewLemmas.{none_before}
+use Rattle.regex_lite_meta.proofs.lazy_dfa.RunLemmas.{begun_on, own_first, passed_over}
+use Rattle.regex_lite_meta.proofs.lazy_dfa.SpotLemmas.{since_on}
+
+module _ (table : List (Place ℕ)) (h : Text) (entries : List ℕ) (s : ℕ) where
+  abbrev pub begun_at : Here → Progress
+  begun_at here = record {
+    here = here;
+    state = None;
+    first = here.at;
+    until = 0;
+    anew = false;
+  }
+
+  module _ (here : Here) (passes : PassesTo (AreDeadAt table h entries) h s here) where
+    -- where it stands before its first turn, at a position before which no match begins
+    pub begun_there : {S : Type 0} (automaton : Automaton) (cache : Cache S)
+        → IsFresh table cache → length cache.walk.memory.row ≡ 0
+        → Stands table h entries s automaton (begun_at here) cache
+    begun_there automaton cache fresh width = record {
+      p = passes.q;
+      is = passes.is;
+      from = s;
+      begun = none_before table h entries s;
+      own_from = λ own. refl;
+      on = passed_over table h entries s s s cache here
+          (begun_on table h entries s cache fresh width) fresh.no_threads fresh.none passes;
+      first = omega arith;
+      own = own_first here.at cache.walk.memory.threads fresh.no_threads;
+      state = tt;
+    }
+
+    pub begun_as : {S : Type 0} (automaton : Automaton) (at : Progress) (cache : Cache S)
+        → at ≡ begun_at here → IsFresh table cache → length cache.walk.memory.row ≡ 0
+        → Stands table h entries s automaton at cache
+    begun_as automaton at cache same fresh width =
+        subst (λ (at : Progress). Stands table h entries s automaton at cache) (sym same)
+        (begun_there automaton cache fresh width)
+
+    -- remembered turns have come this far from there
+    pub begun_with : {S : Type 0} (automaton : Automaton) (at : Progress) (cache : Cache S)
+        → at ≡ begun_at here → IsFresh table cache
+        → length cache.walk.memory.row ≡ 0 → (stopped : Standing)
+        → ComesTo table entries h s passes.q here.at automaton stopped
+        → (stands : Stands table h entries s automaton at cache)
+        × ComesTo table entries h stands.from stands.p at.first automaton stopped
+    unfolding begun_there
+    begun_with automaton at cache same fresh width stopped comes =
+        subst (λ (at : Progress). (stands : Stands table h entries s automaton at cache)
+        × ComesTo table entries h stands.from stands.p at.first automaton stopped) (sym same)
+        (begun_there automaton cache fresh width, comes)
+
+    -- they begin in the state for what looks see before
+    pub starts_there : (automaton : Automaton) (x : ℕ) → IsEmptyState automaton x here.before
+        → IsScanning table entries h s passes.q automaton
+        (record { here = here; state = x; first = here.at; best = None })
+    starts_there automaton x empty = record {
+      state = empty.state;
+      is_state = empty.is_state;
+      is = passes.is;
+      later = passes.later;
+      own = λ e. refl;
+      suits = subst (λ b. Suits b None) (sym empty.searching) refl;
+      sees = λ looks. sym (empty.sees looks);
+      coming =
+          subst (λ ways.
+          IsComing table h entries s (length h) passes.q (threads_of here.at ways) None)
+          (sym empty.none)
+          (jumped table h entries s (length h) s passes.q [] refl passes.later passes.passed
+          (none_coming table h entries s (length h) [] refl));
+    }
+
+-- it has come further
+pub comes_on : {table : List (Place ℕ)} {entries : List ℕ} {h : Text} {automaton : Automaton}
+    {low p first : ℕ} {b c : Standing} → ComesTo table entries h low p first automaton b
+    → GoesOn table entries h automaton b c → ComesTo table entries h low p first automaton c
+comes_on {table} {entries} {h} {automaton} {low} {p} {first} {b} {c} comes on =
+    let r = on low comes.0 comes.2 in
+    let le = comes.1 in
+    let more = r.1 in (
+      r.0,
+      omega (arith, le, more),
+      r.2,
+      since_on table entries h low p comes.0 first b.first c.first le comes.3 r.3,
+    )

@@ -1,0 +1,108 @@
+use Rattle.regex_lite_meta.proofs.Common.{ℕ, chars, sym, ◌∙◌, slice_get_within}
+use Rattle.regex_lite_meta.proofs.Common.{Stands, PassesTo, AreDeadAt}
+use Rattle.regex_lite_meta.specs.LazyDfa.Scanning.{ComesTo}
+use Rattle.regex_lite_meta.proofs.lazy_dfa.AnewLemmas.{none_before}
+use Rattle.regex_lite_meta.proofs.lazy_dfa.BeginLemmas.{begun_with, comes_on}
+use Rattle.regex_lite_meta.proofs.lazy_dfa.automaton.LazyDfa.search_on.Given as given
+use Rattle.regex_lite_meta.proofs.lazy_dfa.automaton.LazyDfa.search_on.Goals as goal
+use Rattle.regex_lite_meta.proofs.lazy_dfa.automaton.LazyDfa.search_on.Goals.{After-begun-at}
+
+pub scan_on-requires-clause-scanning : goal.scan_on-requires-clause-scanning
+scan_on-requires-clause-scanning g c =
+    let on = c.requires.on in
+    let comes = c.requires.scanned on.0 on.1 in (on.0, comes.0, comes.2)
+
+pub returns-then-scan_on-clause-found : goal.returns-then-scan_on-clause-found
+returns-then-scan_on-clause-found g c = λ s passes.
+    let comes = c.requires.scanned s passes in
+    c.scan_on.ensures.over c.if-scan_on.true s comes.0 comes.2
+
+-- no match begins before the position, if the search begins at this one
+abbrev IsAfter : (g : given.Over) (c : After-begun-at g) (s : ℕ) → Type 0
+IsAfter g c s =
+    PassesTo (AreDeadAt (g.P.Patterns.table c.args.patterns.now) (chars c.args.haystack.now)
+    (g.P.Patterns.entries c.args.patterns.now)) (chars c.args.haystack.now) s c.args.here
+
+-- how far remembered turns have come
+comes : (g : given.Over) (c : After-begun-at g) (s : ℕ) (passes : IsAfter g c s)
+    → ComesTo (g.P.Patterns.table c.args.patterns.now) (g.P.Patterns.entries c.args.patterns.now)
+    (chars c.args.haystack.now) s passes.q c.args.here.at c.args.self.now c.scan_on.new.at
+comes g c s passes =
+    comes_on (c.requires.scanned s passes) (c.scan_on.ensures.on c.if-scan_on.false)
+
+-- the search stands at its beginning, and remembered turns have come so far from there
+begun : (g : given.Over) (c : After-begun-at g) (s : ℕ) (passes : IsAfter g c s)
+    → (stands : Stands (g.P.Patterns.table c.args.patterns.now) (chars c.args.haystack.now)
+    (g.P.Patterns.entries c.args.patterns.now) s c.args.self.now c.begun-at.result
+    c.restart.new.cache)
+    × ComesTo (g.P.Patterns.table c.args.patterns.now) (g.P.Patterns.entries c.args.patterns.now)
+    (chars c.args.haystack.now) stands.from stands.p c.begun-at.result.first c.args.self.now
+    c.scan_on.new.at
+begun g c s passes =
+    let table = g.P.Patterns.table c.args.patterns.now in
+    let fresh = c.restart.ensures.fresh table c.requires.between in
+    begun_with table (chars c.args.haystack.now) (g.P.Patterns.entries c.args.patterns.now) s
+    c.args.here passes c.args.self.now c.begun-at.result c.restart.new.cache
+    c.begun-at.ensures.is fresh
+    (sym fresh.between.best_width ∙ c.restart.ensures.width ∙ c.requires.between.best_width
+    ∙ c.requires.width) c.scan_on.new.at (comes g c s passes)
+
+pub resume-requires-clause-state : goal.resume-requires-clause-state
+resume-requires-clause-state g c =
+    let on = c.requires.on in
+    let to = comes g (goal.at.resume-requires-clause-state g c).After-begun-at on.0 on.1 in
+    slice_get_within c.args.self.now.states c.scan_on.new.at.state to.2.state to.2.is_state
+
+pub resume-requires-clause-stands : goal.resume-requires-clause-stands
+resume-requires-clause-stands g c =
+    let on = c.requires.on in
+    let both = begun g (goal.at.resume-requires-clause-stands g c).After-begun-at on.0 on.1 in
+    (on.0, both.0, both.1)
+
+pub begin_anew-requires-clause-stands : goal.begin_anew-requires-clause-stands
+begin_anew-requires-clause-stands g c =
+    let on = c.requires.on in
+    let at = (goal.at.begin_anew-requires-clause-stands g c).After-begun-at in
+    let both = begun g at on.0 on.1 in
+    let to = comes g at on.0 on.1 in (
+      on.0,
+      on.0,
+      to.0,
+      c.resume.ensures.stands on.0 both.0 both.1,
+      none_before (g.P.Patterns.table c.args.patterns.now) (chars c.args.haystack.now)
+          (g.P.Patterns.entries c.args.patterns.now) on.0,
+      to.2,
+    )
+
+pub search_while_it_pays-requires-clause-stands : goal.search_while_it_pays-requires-clause-stands
+search_while_it_pays-requires-clause-stands g c =
+    let on = c.requires.on in
+    let at = (goal.at.search_while_it_pays-requires-clause-stands g c).After-begun-at in
+    let both = begun g at on.0 on.1 in
+    let to = comes g at on.0 on.1 in (
+      on.0,
+      on.2,
+      c.begin_anew.ensures.stands on.0 on.0 to.0 (c.resume.ensures.stands on.0 both.0 both.1)
+          (none_before (g.P.Patterns.table c.args.patterns.now) (chars c.args.haystack.now)
+          (g.P.Patterns.entries c.args.patterns.now) on.0) to.2,
+    )
+
+pub returns-clause-found : goal.returns-clause-found
+returns-clause-found g c = λ s passes.
+    let at = (goal.at.returns-clause-found g c).After-begun-at in
+    let both = begun g at s passes in
+    let to = comes g at s passes in
+    c.search_while_it_pays.ensures.found s
+    (c.begin_anew.ensures.stands s s to.0 (c.resume.ensures.stands s both.0 both.1)
+    (none_before (g.P.Patterns.table c.args.patterns.now) (chars c.args.haystack.now)
+    (g.P.Patterns.entries c.args.patterns.now) s) to.2)
+
+pub returns-clause-stands : goal.returns-clause-stands
+returns-clause-stands g c = λ s passes.
+    let at = (goal.at.returns-clause-stands g c).After-begun-at in
+    let both = begun g at s passes in
+    let to = comes g at s passes in
+    c.search_while_it_pays.ensures.stands s
+    (c.begin_anew.ensures.stands s s to.0 (c.resume.ensures.stands s both.0 both.1)
+    (none_before (g.P.Patterns.table c.args.patterns.now) (chars c.args.haystack.now)
+    (g.P.Patterns.entries c.args.patterns.now) s) to.2)
