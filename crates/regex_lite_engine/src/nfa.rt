@@ -135,6 +135,7 @@ impl Graph {
             filter: self.filter(),
             reads: self.reads,
             may_start: false,
+            first: usize::MAX,
         }
     }
 

@@ -1,13 +1,19 @@
 -- The least end that a search of one pattern finds, which begins where a match may begin first.
 use Rattle.regex_lite_meta.proofs.Common.{◌≡◌, ℕ, List, [], ◌∷◌, Some, None, IsUtf8, chars, refl}
-use Rattle.regex_lite_meta.proofs.Common.{Option, option_map, sym, subst, Text}
+use Rattle.regex_lite_meta.proofs.Common.{Option, option_map, sym, subst, Text, arrows_of, length}
+use Rattle.regex_lite_meta.proofs.Common.{with_start_kept}
 use Rattle.regex_lite_meta.proofs.Common.{Best, IsNumberedEndOf, position_at, PassesTo, Here}
 use Rattle.regex_lite_engine.specs.Graph.Places.{Place}
-use Rattle.regex_lite_engine.specs.Search.NumberedAnswer.{IsNumberedMatch}
+use Rattle.regex_lite_engine.specs.declared.search.outcome.Outcome.{Outcome}
+use Rattle.regex_lite_engine.specs.Search.Bounds.{StepCounts}
+use Rattle.regex_lite_engine.specs.Search.NumberedAnswer.{IsNumberedMatch, NoneStartsBefore}
 use Rattle.regex_lite_engine.specs.Search.NumberedList.{IsMatchOfAny}
-use Rattle.regex_lite_engine.specs.Search.OutcomeOfOne.{ending_at}
+use Rattle.regex_lite_engine.specs.Search.NumberedOutcomes.{match_told}
+use Rattle.regex_lite_engine.specs.Search.OutcomeOfOne.{ending_at, IsWithinBounds, TellsEndOfOne}
+use Rattle.regex_lite_engine.specs.Search.OutcomeOfOne.{TellsOfOne}
 use Rattle.regex_lite_engine.specs.Search.Starts.{AreDeadFrom, IsDeadAt}
 use Rattle.regex_lite_engine.proofs.pikevm.ShortestLemmas.{one_end}
+use Rattle.regex_lite_engine.proofs.search.FirstStartLemmas.{answer_from, bounded_from, ends_from}
 use Rattle.regex_lite_engine.proofs.search.FirstStartLemmas.{none_before_first, none_from}
 use Rattle.regex_lite_engine.proofs.search.OneStartLemmas.{only_entry}
 use Rattle.regex_lite_engine.proofs.search.OutcomeLemmas.{IsNumberedEnd, end_from}
@@ -73,3 +79,38 @@ module _ (table : List (Place ℕ)) (bytes : List ℕ) (entry : ℕ) (start : �
   none_told dead =
       let s = position_at bytes start in
       end_of_one table (chars bytes) entry s None (none_from table (chars bytes) entry s dead)
+
+-- what is told of one pattern from a later offset, before which no match of it starts, holds from
+-- this one
+module _ (table : List (Place ℕ)) (haystack : List ℕ) (entry start first : ℕ) where
+  abbrev NoneBetween : Type 0
+  NoneBetween =
+      NoneStartsBefore table (chars haystack) entry (position_at haystack start)
+      (position_at haystack first)
+
+  cost_from : (steps : StepCounts) → NoneBetween → IsWithinBounds table haystack first steps
+      → IsWithinBounds table haystack start steps
+  cost_from steps before =
+      bounded_from (length table) (arrows_of table) (chars haystack) (position_at haystack start)
+      (position_at haystack first) steps.tried steps.entered steps.looked before.from
+
+  pub found_from_later : (width : ℕ) (told : Option Outcome × StepCounts) → NoneBetween
+      → TellsOfOne table entry haystack first width told
+      → TellsOfOne table entry haystack start width told
+  found_from_later width told before tells = record {
+    found = answer_from table (chars haystack) entry (position_at haystack start)
+        (position_at haystack first) before (with_start_kept (match_told told.0)) tells.found;
+    slots = tells.slots;
+    cost = cost_from told.1 before tells.cost;
+    entered = tells.entered;
+  }
+
+  pub end_from_later : (told : Option ℕ × StepCounts) → NoneBetween
+      → TellsEndOfOne table entry haystack first told
+      → TellsEndOfOne table entry haystack start told
+  end_from_later told before tells = record {
+    found = ends_from table (chars haystack) entry (position_at haystack start)
+        (position_at haystack first) before (ending_at told.0) tells.found;
+    cost = cost_from told.1 before tells.cost;
+    entered = tells.entered;
+  }

@@ -41,8 +41,13 @@ pub(crate) fn search_one(
     let searched = Searched::one(pattern.table, pattern.filter);
     match choose(&searched, Wanted::Match { start }, slots, left) {
         Strategy::DepthFirst => pattern.search_depth_first(alloc, haystack, start, slots),
-        _ if pattern.is_hopeless(haystack, start, start) => Ok((None, no_steps())),
-        Strategy::LazyDfa => search_remembering(pattern, alloc, haystack, start),
+        Strategy::LazyDfa => {
+            let Some(first) = pattern.search_start(haystack, start) else {
+                return Ok((None, no_steps()));
+            };
+            pattern.first = first;
+            search_remembering(pattern, alloc, haystack, first)
+        }
         _ => pattern.search_in_step(alloc, haystack, start, slots),
     }
 }
@@ -87,10 +92,11 @@ pub(crate) fn search_shortest_one(
     let left = haystack.len() - start;
     let searched = Searched::one(pattern.table, pattern.filter);
     if let Strategy::LazyDfa = choose(&searched, Wanted::Earliest, 0, left) {
-        if pattern.is_hopeless(haystack, start, start) {
+        let Some(first) = pattern.search_start(haystack, start) else {
             return Ok((None, no_steps()));
-        }
-        return search_shortest_remembering(pattern, alloc, haystack, start);
+        };
+        pattern.first = first;
+        return search_shortest_remembering(pattern, alloc, haystack, first);
     }
     let Some(first) = pattern.first_start(haystack, start) else {
         return Ok((None, no_steps()));

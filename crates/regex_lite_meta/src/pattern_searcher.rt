@@ -115,21 +115,19 @@ impl PatternSearcher {
         ensures slots { length self.new.memory.cache.best.row
             ≡ length self.old.memory.cache.best.row }
     {
+        if self.dfa.is_none() && self.spans.is_none() {
+            return self.memory.find_from(pattern, haystack, start);
+        }
+        let first = pattern.search_start(haystack, start)?;
+        pattern.first = first;
+        pattern.may_start = true;
         if let Some(dfa) = &mut self.dfa {
-            if pattern.is_hopeless(haystack, start, start) {
-                return None;
-            }
-            pattern.may_start = true;
-            return dfa.find_span(pattern, &mut self.memory.cache, haystack, start);
+            return dfa.find_span(pattern, &mut self.memory.cache, haystack, first);
         }
         let Some(spans) = &mut self.spans else {
-            return self.memory.find_from(pattern, haystack, start);
+            return self.memory.find_from(pattern, haystack, first);
         };
-        if pattern.is_hopeless(haystack, start, start) {
-            return None;
-        }
-        pattern.may_start = true;
-        let span = spans.find(pattern, haystack, start)?;
+        let span = spans.find(pattern, haystack, first)?;
         self.memory.find_known(pattern, haystack, span)
     }
 

@@ -83,6 +83,7 @@ impl SlotCache {
         ensures width { length self.new.cache.best.row ≡ length self.old.cache.best.row }
     {
         let first = pattern.first_start(haystack, start)?;
+        pattern.first = first.at;
         restart(&mut self.cache);
         advance::<_, _, false>(&mut self.cache, pattern, haystack, first, None);
         span_of(self.cache.best.found())

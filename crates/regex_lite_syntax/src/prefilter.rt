@@ -28,7 +28,7 @@ pub use heads::Heads;
 pub use list_heads::ListHeads;
 pub use starts::Starts;
 pub use words::list_words::ListWords;
-pub use words::{Needed, Words};
+pub use words::{Needed, Reach, Words};
 
 /// The bytes with which a match begins. If there is room for more, one of them is repeated.
 #[derive(Clone, Copy)]

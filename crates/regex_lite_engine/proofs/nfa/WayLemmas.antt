@@ -22,7 +22,7 @@ use Rattle.regex_lite_engine.specs.Search.Starts.{AreAllAtEnd, AreReading, TellR
 use Rattle.regex_lite_engine.specs.Search.Starts.{may_be_empty}
 use Rattle.regex_lite_syntax.specs.Prefilter.Heads.{AreSecondOfTree, AreHeadsOfTree}
 use Rattle.regex_lite_syntax.specs.Prefilter.ListHeads.{AreHeadsOfTrees}
-use Rattle.regex_lite_syntax.specs.Prefilter.Needed.{IsMissingFrom, IsNeededBy}
+use Rattle.regex_lite_syntax.specs.Prefilter.Needed.{IsNeededBy, IsOutOfReach, NeededWord}
 use Rattle.regex_lite_syntax.specs.Prefilter.StartFacts.{AreEachFactsOf, AreFactsOfTree}
 use Rattle.regex_lite_syntax.specs.Prefilter.StartFacts.{NeverStarts, NoneStandsIn, StartFacts}
 use Rattle.regex_lite_syntax.specs.Prefilter.Words.{AreWordsOfTree}
@@ -84,13 +84,13 @@ never_starts : (tree : Tree) (facts : StartFacts) → AreFactsOfTree tree facts 
     (i : ℕ) → NeverStarts facts haystack i → (j : ℕ) → Matches haystack tree i j → ⊥
 never_starts tree facts of_tree haystack i (inl never) j m =
     never_matches tree facts.heads of_tree.heads haystack i never j m
-never_starts tree facts of_tree haystack i (inr (inr missing)) j m =
-    by_needed facts.needed of_tree.needed missing
+never_starts tree facts of_tree haystack i (inr (inr out)) j m =
+    by_needed facts.needed of_tree.needed out
   where
-    by_needed : (o : Option (List Letter)) → IfSome o (IsNeededBy tree)
-        → MatchOption o ⊥ (λ word. IsMissingFrom word haystack i) → ⊥
-    by_needed None told missing = missing
-    by_needed (Some word) told missing = missing (told haystack i j m)
+    by_needed : (o : Option NeededWord) → IfSome o (IsNeededBy tree)
+        → MatchOption o ⊥ (λ needed. IsOutOfReach needed haystack i) → ⊥
+    by_needed None told out = out
+    by_needed (Some needed) told out = out (told haystack i j m)
 never_starts tree facts of_tree haystack i (inr (inl none)) j m =
     by_words facts.words of_tree.words none
   where

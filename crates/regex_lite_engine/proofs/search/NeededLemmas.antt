@@ -1,26 +1,106 @@
--- A word that each match needs and that stands no more.
-use Rattle.regex_lite_engine.proofs.Common.{◌≡◌, ℕ, ◌+◌, ◌≤◌, List, [], ◌∷◌, drop, IsUtf8}
-use Rattle.regex_lite_engine.proofs.Common.{chars, encodes-chars, sym, ap, ◌∙◌}
-use Rattle.regex_lite_engine.proofs.Common.{IsCharBoundary, offset, position_at, subst, arith}
-use Rattle.std.proofs.Common.{encode_utf8_all}
-use Rattle.std.proofs.lemmas.List.{drop-drop}
-use Rattle.regex_lite_syntax.specs.Prefilter.Needed.{IsMissingFrom, NeverStandsFrom}
-use Rattle.regex_lite_syntax.specs.Prefilter.Words.{StartsWith, word_at}
+-- Positions from which a word that each match needs isn't reached.
+use Rattle.regex_lite_engine.proofs.Common.{◌≡◌, ℕ, ◌+◌, ◌-◌, ◌<◌, ◌≤◌, List, [], ◌∷◌, drop, IsUtf8}
+use Rattle.regex_lite_engine.proofs.Common.{chars, encodes-chars, length, slice_index, sym, ap, ◌∙◌}
+use Rattle.regex_lite_engine.proofs.Common.{offset, subst, arith, cases_lt, inl, inr, true, Some}
+use Rattle.regex_lite_engine.proofs.Common.{None, Option, NeverBegins, Text}
+use Rattle.std.proofs.Common.{MatchOption, encode_utf8_all}
+use Rattle.std.proofs.Math.ListN.{drop_of_length-le}
+use Rattle.std.proofs.lemmas.List.{drop-drop, get_or-drop}
+use Rattle.regex_lite_syntax.specs.Prefilter.Needed.{IsNextReach, IsOutOfReach, NeededWord, Reaches}
+use Rattle.regex_lite_syntax.specs.Prefilter.StartFacts.{NeverStarts, StartFacts}
+use Rattle.regex_lite_syntax.specs.Prefilter.Starts.{begins_with}
+use Rattle.regex_lite_syntax.specs.Prefilter.Words.{AnyStandsAt, NoneStands, StartsWith, word_at}
+use Rattle.regex_lite_syntax.specs.declared.prefilter.words.needed.Reach.{Reach}
 use Rattle.regex_lite_syntax.specs.declared.prefilter.words.letter.Letter.{Letter}
-use Rattle.regex_lite_engine.proofs.OffsetLemmas.{offset_grows, rest_at}
-use Rattle.regex_lite_engine.proofs.PositionLemmas.{position_is}
+use Rattle.regex_lite_engine.proofs.OffsetLemmas.{rest_at}
 
--- it is missing from each position that isn't before this offset
-pub missing_from : (word : List Letter) (bs : List ℕ) (at : ℕ) → IsUtf8 bs → IsCharBoundary bs at
-    → NeverStandsFrom word bs at → (i : ℕ) → position_at bs at ≤ i → IsMissingFrom word (chars bs) i
-missing_from word bs at utf8 edge none i later there =
-    let k = there.0 in
-    let number = there.1.0 in
-    let start = position_is bs at utf8 edge in
-    let more = offset_grows (chars bs) (position_at bs at) i later in
-    let off = offset (chars bs) i in
-    let rest : encode_utf8_all (drop i (chars bs)) ≡ drop off bs
-    = sym (ap (drop off) (sym (encodes-chars bs utf8)) ∙ rest_at (chars bs) i) in
-    let same : drop k (encode_utf8_all (drop i (chars bs))) ≡ drop (off + k) bs
-    = ap (drop k) rest ∙ drop-drop k off bs in
-    none (off + k) (omega (arith, start.1, more)) (number, there.1.1, subst (StartsWith (word_at (word ∷ []) number)) same there.1.2)
+-- it isn't reached from a position if it isn't from its offset
+pub out_of_reach : (needed : NeededWord) (bs : List ℕ) → IsUtf8 bs → (i : ℕ)
+    → ¬ Reaches needed bs (offset (chars bs) i) → IsOutOfReach needed (chars bs) i
+out_of_reach needed bs utf8 i never (k, (low, (number, inside, stands), led)) =
+    never (off + k, (omega arith, (number, inside, subst (StartsWith word) same stands), leads))
+  where
+    off : ℕ
+    off = offset (chars bs) i
+
+    word : List Letter
+    word = word_at (needed.word ∷ []) number
+
+    rest : encode_utf8_all (drop i (chars bs)) ≡ drop off bs
+    rest = sym (ap (drop off) (sym (encodes-chars bs utf8)) ∙ rest_at (chars bs) i)
+
+    same : drop k (encode_utf8_all (drop i (chars bs))) ≡ drop (off + k) bs
+    same = ap (drop k) rest ∙ drop-drop k off bs
+
+    leads : (n : ℕ) → off ≤ n → n < off + k
+        → begins_with needed.lead (slice_index bs n) ≡ true
+    leads n from below =
+        let there : off + (n - off) ≡ n = omega (arith, from) in
+        let byte : slice_index (encode_utf8_all (drop i (chars bs))) (n - off) ≡ slice_index bs n
+        = ap (λ z. slice_index z (n - off)) rest ∙ get_or-drop off bs (n - off) 0
+        ∙ ap (slice_index bs) there in
+        sym (ap (begins_with needed.lead) byte) ∙ led (n - off) (omega arith)
+        (omega (arith, from, below))
+
+-- the first of these words stands no later than the bytes end
+pub stands_inside : (words : List (List Letter)) (bs : List ℕ) (from at : ℕ) → from ≤ length bs
+    → AnyStandsAt words bs at → NoneStands words bs from at → at ≤ length bs
+stands_inside words bs from at inside (number, small, stands) none =
+    elim (cases_lt (length bs) at) [
+      | inl past ↦
+          let same : drop at bs ≡ drop (length bs) bs
+          = drop_of_length-le bs (omega (arith, past))
+          ∙ sym (drop_of_length-le bs (omega arith)) in
+          absurd (none (length bs) inside past
+          (number, small, subst (StartsWith (word_at words number)) same stands))
+      | inr le ↦ le
+    ]
+
+-- where the word is reached next, it stands inside, and it is reached from nowhere before
+pub next_inside : (needed : NeededWord) (bs : List ℕ) (from : ℕ) (next : Option Reach)
+    → from ≤ length bs → IsNextReach needed bs from next → MatchOption next
+    ((k : ℕ) → from ≤ k → ¬ Reaches needed bs k)
+    (λ reach. (from ≤ reach.from) × (reach.from ≤ reach.word) × (reach.from ≤ length bs)
+    × ((k : ℕ) → from ≤ k → k < reach.from → ¬ Reaches needed bs k))
+next_inside needed bs from None inside none = none
+next_inside needed bs from (Some reach) inside (low, (order, there, led), first, none) =
+    let last = stands_inside (needed.word ∷ []) bs from reach.word inside there first in
+    (low, order, omega (arith, order, last), none)
+
+-- each position from p on whose offset lies between these is passed
+abbrev pub AllBetween : (Passed : ℕ → Type 0) → Text → (p low high : ℕ) → Type 0
+AllBetween Passed h p low high =
+    (i : ℕ) → p ≤ i → i < length h → low ≤ offset h i → offset h i < high → Passed i
+
+-- what a search has passed over by a word that each match needs
+module _ (facts : StartFacts) (needed : NeededWord) (known : facts.needed ≡ Some needed)
+    (bs : List ℕ) (utf8 : IsUtf8 bs) where
+  unreached : (i : ℕ) → ¬ Reaches needed bs (offset (chars bs) i) → NeverStarts facts (chars bs) i
+  unreached i never =
+      inr (inr (subst (λ o. MatchOption o ⊥ (λ needed. IsOutOfReach needed (chars bs) i))
+      (sym known) (out_of_reach needed bs utf8 i never)))
+
+  -- up to this offset, to the next from which it may be reached, and to where a match can begin
+  pub passed_on : (p low at from to : ℕ)
+      → AllBetween (NeverStarts facts (chars bs)) (chars bs) p low at
+      → ((k : ℕ) → at ≤ k → k < from → ¬ Reaches needed bs k)
+      → AllBetween (NeverBegins facts.heads (chars bs)) (chars bs) p from to
+      → AllBetween (NeverStarts facts (chars bs)) (chars bs) p low to
+  passed_on p low at from to before never begins i later inside above below =
+      elim (cases_lt (offset (chars bs) i) at) [
+        | inl lt ↦ before i later inside above lt
+        | inr ge ↦
+            elim (cases_lt (offset (chars bs) i) from) [
+              | inl lt ↦ unreached i (never (offset (chars bs) i) ge lt)
+              | inr ge ↦ inl (begins i later inside ge below)
+            ]
+      ]
+
+  -- and up to the end where it is reached no more
+  pub passed_all : (p low at : ℕ)
+      → AllBetween (NeverStarts facts (chars bs)) (chars bs) p low at
+      → ((k : ℕ) → at ≤ k → ¬ Reaches needed bs k)
+      → AllBetween (NeverStarts facts (chars bs)) (chars bs) p low (length bs)
+  passed_all p low at before never =
+      passed_on p low at (length bs) (length bs) before (λ k from below. never k from)
+      (λ i later inside above below. absurd (omega (arith, above, below)))

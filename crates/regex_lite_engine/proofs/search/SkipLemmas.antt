@@ -78,15 +78,14 @@ passes_where {h = h} {p} {q} {x} is js le each = record {
           omega (arith, equal)
     ]
 
--- none begins where a search stands, nor at the offsets that it passes
-pub passes_between : (heads : Heads) (bs : List ℕ) {p q : ℕ} {x y : Here} → IsUtf8 bs
-    → IsHere (chars bs) p x → IsHere (chars bs) q y → NeverBegins heads (chars bs) p
-    → x.at ≤ y.at → y.at ≤ length bs
-    → ((k : ℕ) → x.at ≤ k → k < y.at → IsPassed heads bs k)
-    → PassesTo (NeverBegins heads (chars bs)) (chars bs) p y
-passes_between heads bs {p} {q} {x} {y} utf8 is js not_here le most pass =
-    passes_where is js le (λ i low within from below. by_order i (cases_eq i p) low within
-    (pass (offset (chars bs) i) from below) (omega (arith, below, most)))
+-- none begins at a position that the bytes rule out. Where a search stands they don't tell: that is
+-- known otherwise
+pub never_from : (heads : Heads) (bs : List ℕ) {p from : ℕ} {x : Here} → IsUtf8 bs
+    → IsHere (chars bs) p x → (from ≤ x.at → NeverBegins heads (chars bs) p) → (i : ℕ) → p ≤ i
+    → i < length (chars bs) → from ≤ offset (chars bs) i → offset (chars bs) i < length bs
+    → IsPassed heads bs (offset (chars bs) i) → NeverBegins heads (chars bs) i
+never_from heads bs {p} {from} {x} utf8 is not_here i later inside low short off =
+    by_order i (cases_eq i p) later inside low off short
   where
     passed : (i : ℕ) → suc i < length (chars bs) → offset (chars bs) (suc i) < length bs
         → IsPassed heads bs (offset (chars bs) (suc i)) → NeverBegins heads (chars bs) (suc i)
@@ -98,12 +97,23 @@ passes_between heads bs {p} {q} {x} {y} utf8 is js not_here le most pass =
     passed i within short (inr cut) = cut_off_never heads bs (suc i) utf8 within cut
 
     by_order : (i : ℕ) → (i ≡ p) ⊎ (i ≡ p → ⊥) → p ≤ i → i < length (chars bs)
-        → IsPassed heads bs (offset (chars bs) i) → offset (chars bs) i < length bs
-        → NeverBegins heads (chars bs) i
-    by_order i (inl same) low within off short =
-        subst (NeverBegins heads (chars bs)) (sym same) not_here
-    by_order zero (inr apart) low within off short = absurd (apart (omega (arith, low)))
-    by_order (suc i) (inr apart) low within off short = passed i within short off
+        → from ≤ offset (chars bs) i → IsPassed heads bs (offset (chars bs) i)
+        → offset (chars bs) i < length bs → NeverBegins heads (chars bs) i
+    by_order i (inl same) later within low off short =
+        let there = is.bytes ∙ ap (offset (chars bs)) (sym same) in
+        subst (NeverBegins heads (chars bs)) (sym same) (not_here (omega (arith, there, low)))
+    by_order zero (inr apart) later within low off short = absurd (apart (omega (arith, later)))
+    by_order (suc i) (inr apart) later within low off short = passed i within short off
+
+-- none begins where a search stands, nor at the offsets that it passes
+pub passes_between : (heads : Heads) (bs : List ℕ) {p q : ℕ} {x y : Here} → IsUtf8 bs
+    → IsHere (chars bs) p x → IsHere (chars bs) q y → NeverBegins heads (chars bs) p
+    → x.at ≤ y.at → y.at ≤ length bs
+    → ((k : ℕ) → x.at ≤ k → k < y.at → IsPassed heads bs k)
+    → PassesTo (NeverBegins heads (chars bs)) (chars bs) p y
+passes_between heads bs {p} {q} {x} {y} utf8 is js not_here le most pass =
+    passes_where is js le (λ i low within from below. never_from heads bs utf8 is (λ le. not_here)
+    i low within from (omega (arith, below, most)) (pass (offset (chars bs) i) from below))
 
 pub passes_as : (Passed Other : ℕ → Type 0) (h : Text) (p : ℕ) (x : Here)
     → ((i : ℕ) → Passed i → Other i) → PassesTo Passed h p x → PassesTo Other h p x

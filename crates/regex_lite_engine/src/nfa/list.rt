@@ -209,6 +209,7 @@ impl GraphList {
             filter: self.filters[number].view(),
             reads: self.reads[number],
             may_start: false,
+            first: usize::MAX,
         }
     }
 

@@ -3,18 +3,18 @@ ghost use Rattle.std.specs.Prelude.{◌≡◌, ◌+◌, ◌<◌, ◌≤◌, ℕ,
 ghost use Rattle.std.specs.Prelude.{None, chars, length};
 ghost use Rattle.regex_lite_syntax.specs.Text.{Text};
 ghost use Rattle.regex_lite_engine.specs.Graph.Stored.{places_of};
+ghost use Rattle.regex_lite_engine.specs.Search.NumberedAnswer.{NoneStartsBefore};
 ghost use Rattle.regex_lite_engine.specs.Search.Offsets.{position_at};
 ghost use Rattle.regex_lite_engine.specs.Search.Standing.{IsHere};
 ghost use Rattle.regex_lite_engine.specs.Search.Starts.{AreDeadFrom, IsDeadAt, PassesTo};
 
 use crate::search::here::Here;
 use crate::search::one_pattern::OnePattern;
-use crate::search::patterns::pass_over;
+use crate::search::patterns::{Patterns, pass_over};
 
 impl<'g> OnePattern<'g> {
-    /// The first position from this offset on at which a match may begin. None if there is none, or
-    /// if a word that each match needs stands no more. A search from the haystack's end is begun
-    /// there, since that is its only start.
+    /// The first position from this offset on at which a match may begin. None if there is none. A
+    /// search from the haystack's end is begun there, since that is its only start.
     ///
     /// Condition: the offset is on a character boundary.
     // Inlined, since many searches end at their first start.
@@ -31,28 +31,29 @@ impl<'g> OnePattern<'g> {
         if here.after.is_none() {
             return Some(here);
         }
-        let first = self.start_from(haystack, here)?;
-        if self.is_hopeless(haystack, start, first.at) {
-            return None;
-        }
-        Some(first)
+        self.start_from(haystack, here)
     }
 
-    /// Whether no match of a search from the first offset starts at the second one or later, since
-    /// a word that each match needs stands nowhere from there on. It is looked for where a search
-    /// is the first of its haystack: of those that follow from match to match, most find it soon.
+    /// Where a search from this offset on begins that passes over positions by itself: at its
+    /// first start if a prefilter finds that, and else where it is. None if a prefilter finds none.
     ///
-    /// Condition: the second offset is on a character boundary.
+    /// Condition: the offset is on a character boundary.
+    // Inlined, so that a search without a prefilter costs no more than the test for it.
     #[inline(always)]
-    pub fn is_hopeless(&self, haystack: &str, start: usize, at: usize) -> bool
-        requires { IsCharBoundary haystack.now at }
-        ensures { IsTrue result → AreDeadFrom (places_of self.now.table.now) (chars haystack.now)
-            self.now.entry (position_at haystack.now at) }
+    pub fn search_start(&self, haystack: &str, start: usize) -> Option<usize>
+        requires { IsCharBoundary haystack.now start }
+        ensures boundary { IfSome result (IsCharBoundary haystack.now) }
+        ensures least { IfSome result (λ at. NoneStartsBefore (places_of self.now.table.now)
+            (chars haystack.now) self.now.entry (position_at haystack.now start)
+            (position_at haystack.now at)) }
+        ensures none { result ≡ None → AreDeadFrom (places_of self.now.table.now)
+            (chars haystack.now) self.now.entry (position_at haystack.now start) }
     {
-        match self.filter.needed() {
-            Some(needed) if start == 0 => needed.is_missing(haystack.as_bytes(), at),
-            _ => false,
+        if !self.has_prefilter() {
+            return Some(start);
         }
+        let first = self.first_start(haystack, start)?;
+        Some(first.at)
     }
 
     /// The first such position after this one.

@@ -1,6 +1,5 @@
 //! Where a match of one pattern can begin.
 ghost use Rattle.std.specs.Prelude.{◌≡◌, ℕ, IfSome, IsTrue, Some, false, chars, IsCharBoundary};
-ghost use Rattle.std.specs.Prelude.{option_map};
 ghost use Rattle.regex_lite_syntax.specs.Prefilter.StartFacts.{NeverStarts};
 ghost use Rattle.regex_lite_syntax.specs.Prefilter.Starts.{may_begin};
 ghost use Rattle.regex_lite_engine.specs.Search.Filters.{facts_of};
@@ -10,7 +9,7 @@ ghost use Rattle.regex_lite_engine.specs.Search.Starts.{PassesTo, SkipsTo};
 use crate::search::here::Here;
 use crate::search::prefix::Prefix;
 use crate::search::skip::next_start;
-use regex_lite_syntax::prefilter::{Filter, Needed, Words};
+use regex_lite_syntax::prefilter::{Filter, Words};
 
 /// What is known of the positions at which a match of a pattern can begin.
 #[derive(Clone, Copy)]
@@ -90,22 +89,13 @@ impl<'g> PatternFilter<'g> {
         }
     }
 
-    /// A word that stands in each match, if one is known.
-    #[inline(always)]
-    pub(crate) fn needed(self) -> Option<&'g Needed>
-        ensures { option_map (λ needed. needed.now) result ≡ (facts_of self.entry).needed }
-    {
-        match self {
-            PatternFilter::Whole(filter) => filter.needed(),
-            PatternFilter::Literal(_) => None,
-        }
-    }
-
     /// Whether the positions that are passed over are found many bytes at a time.
     pub(crate) fn has_prefilter(self) -> bool {
         match self {
             PatternFilter::Whole(filter) => {
-                filter.words().is_some() || filter.prefilter().is_some()
+                filter.words().is_some()
+                    || filter.prefilter().is_some()
+                    || filter.needed().is_some()
             }
             PatternFilter::Literal(_) => true,
         }

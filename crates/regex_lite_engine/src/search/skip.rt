@@ -1,17 +1,19 @@
 //! The positions at which no match can start, which a search passes over.
-ghost use Rattle.std.specs.Prelude.{◌≡◌, ◌≤◌, ◌<◌, ◌+◌, ◌⊎◌, ℕ, IfSome, IsTrue, MatchOption};
+ghost use Rattle.std.specs.Prelude.{◌≡◌, ◌≤◌, ◌<◌, ◌+◌, ◌⊎◌, ℕ, IfSome, IsTrue, MatchOption, Some};
 ghost use Rattle.std.specs.Prelude.{IsCharBoundary};
 ghost use Rattle.std.specs.Prelude.{false, true, chars, length, slice_index};
 ghost use Rattle.regex_lite_syntax.specs.Prefilter.Heads.{IsCutOff, IsPassed, NeverBegins};
 ghost use Rattle.regex_lite_syntax.specs.Prefilter.Bytes.{suits, IsPrefilterOf};
+ghost use Rattle.regex_lite_syntax.specs.Prefilter.Needed.{Reaches};
 ghost use Rattle.regex_lite_syntax.specs.Prefilter.StartFacts.{NeverStarts, NoneStandsIn};
 ghost use Rattle.regex_lite_syntax.specs.Prefilter.Words.{AnyStandsAt};
 ghost use Rattle.regex_lite_syntax.specs.Prefilter.Starts.{may_begin, stops_at};
+ghost use Rattle.regex_lite_engine.specs.Search.Offsets.{offset};
 ghost use Rattle.regex_lite_engine.specs.Search.Standing.{IsHere};
 ghost use Rattle.regex_lite_engine.specs.Search.Starts.{SkipsTo};
 
 use crate::search::here::Here;
-use regex_lite_syntax::prefilter::{Filter, Heads, Prefilter, Starts, Words};
+use regex_lite_syntax::prefilter::{Filter, Heads, Needed, Prefilter, Reach, Starts, Words};
 
 /// How many bytes a prefilter is asked about at a time.
 const BLOCK: usize = 32;
@@ -30,10 +32,95 @@ pub(super) fn next_start(filter: &Filter, haystack: &str, here: Here) -> Option<
     ensures passes { (p : ℕ) → IsHere (chars haystack.now) p here → IfSome result
         (SkipsTo (NeverStarts filter.now (chars haystack.now)) haystack.now p) }
 {
-    match filter.words() {
-        None => next_by_heads(filter, haystack, here),
-        Some(words) => next_by_words(words, haystack, here),
+    if let Some(words) = filter.words() {
+        return next_by_words(words, haystack, here);
     }
+    match filter.needed() {
+        None => next_by_heads(filter, haystack, here),
+        Some(needed) => next_by_needed(filter, needed, haystack, here),
+    }
+}
+
+/// The same by the first characters and by a word that each match needs.
+// Not inlined, so that a pattern without one costs no more than the test for it.
+#[inline(never)]
+fn next_by_needed(filter: &Filter, needed: &Needed, haystack: &str, here: Here) -> Option<usize>
+    requires here { (p : ℕ) × IsHere (chars haystack.now) p here }
+    requires needed { filter.now.needed ≡ Some needed.now }
+    ensures boundary { IfSome result (IsCharBoundary haystack.now) }
+    ensures passes { (p : ℕ) → IsHere (chars haystack.now) p here → IfSome result
+        (SkipsTo (NeverStarts filter.now (chars haystack.now)) haystack.now p) }
+{
+    let at = start_by_needed(filter, needed, haystack, here);
+    if at == here.at {
+        return None;
+    }
+    Some(at)
+}
+
+/// The first offset from this position on at which a match can begin, judging by the first
+/// characters and by a word that each match needs, or the end.
+fn start_by_needed(filter: &Filter, needed: &Needed, haystack: &str, here: Here) -> usize
+    requires here { (p : ℕ) × IsHere (chars haystack.now) p here }
+    requires needed { filter.now.needed ≡ Some needed.now }
+    ensures boundary { IsCharBoundary haystack.now result }
+    ensures passes { (p : ℕ) → IsHere (chars haystack.now) p here
+        → SkipsTo (NeverStarts filter.now (chars haystack.now)) haystack.now p result }
+{
+    let bytes = haystack.as_bytes();
+    let mut at = here.at;
+    'starts: loop {
+        let Some(reach) = next_reach(needed, bytes, at) else {
+            return bytes.len();
+        };
+        if reach.from == at && at > here.at {
+            return at;
+        }
+        let start = next_head(filter, haystack, here, reach.from);
+        if start <= reach.word {
+            return start;
+        }
+        at = start;
+    }
+}
+
+/// The first offset from this one on from which the word may be reached, and one up to which it
+/// is then. Behind a character that may stand before the word it isn't looked for: a search has
+/// come from there, and looked for it before. So a text is looked at once, and not once for each
+/// position.
+fn next_reach(needed: &Needed, bytes: &[u8], from: usize) -> Option<Reach>
+    requires { from ≤ length bytes.now }
+    ensures { MatchOption result
+        ((k : ℕ) → from ≤ k → ¬ Reaches needed.now bytes.now k)
+        (λ reach. (from ≤ reach.from) × (reach.from ≤ reach.word)
+        × (reach.from ≤ length bytes.now)
+        × ((k : ℕ) → from ≤ k → k < reach.from → ¬ Reaches needed.now bytes.now k)) }
+{
+    if from > 0 && needed.may_lead(bytes[from - 1]) {
+        return Some(Reach { from, word: from });
+    }
+    needed.next_reach(bytes, from)
+}
+
+/// The first offset from this one on at which a match can begin, judging by the first characters,
+/// or the end. The offset isn't before the position.
+fn next_head(filter: &Filter, haystack: &str, here: Here, from: usize) -> usize
+    requires here { (p : ℕ) × IsHere (chars haystack.now) p here }
+    requires later { here.at ≤ from }
+    requires inside { from ≤ length haystack.now }
+    ensures boundary { IsCharBoundary haystack.now result }
+    ensures low { from ≤ result }
+    ensures passed { (p : ℕ) → IsHere (chars haystack.now) p here → (i : ℕ) → p ≤ i
+        → i < length (chars haystack.now) → from ≤ offset (chars haystack.now) i
+        → offset (chars haystack.now) i < result
+        → NeverBegins filter.now.heads (chars haystack.now) i }
+{
+    let heads = filter.heads();
+    let bytes = haystack.as_bytes();
+    if from == here.at && can_begin(heads, bytes, here) {
+        return from;
+    }
+    next_offset(heads, filter.prefilter(), bytes, from)
 }
 
 /// The same by the words of which a match begins with one.

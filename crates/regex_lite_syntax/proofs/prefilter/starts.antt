@@ -1,2 +1,3 @@
 -- lemmas that several proofs here share
+pub mod ReadLemmas
 pub mod StartLemmas

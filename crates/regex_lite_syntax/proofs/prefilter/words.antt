@@ -10,4 +10,5 @@ pub mod MarkLemmas
 pub mod WordListLemmas
 pub mod RowLemmas
 pub mod WordWalkLemmas
+pub mod LeadLemmas
 pub mod NeededWalkLemmas

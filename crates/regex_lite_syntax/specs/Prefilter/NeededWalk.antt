@@ -1,25 +1,52 @@
 -- How one walk over a tree finds a word that each match has.
-use Rattle.std.specs.Prelude.{◌≡◌, ◌⊎◌, ℕ, List, [], ◌∷◌, ◌++◌, drop, encode_utf8_all, length}
+use Rattle.std.specs.Prelude.{◌≡◌, ◌⊎◌, ◌+◌, ◌≤◌, ◌<◌, ℕ, List, [], ◌∷◌, ◌++◌, drop, encode_utf8_all}
+use Rattle.std.specs.Prelude.{length, slice_index, true}
 use Rattle.regex_lite_syntax.specs.Text.{Text}
 use Rattle.regex_lite_syntax.specs.Tree.{Tree}
 use Rattle.regex_lite_syntax.specs.Tree.Matches.{Matches}
+use Rattle.regex_lite_syntax.specs.declared.prefilter.starts.Starts.{Starts}
 use Rattle.regex_lite_syntax.specs.declared.prefilter.words.letter.Letter.{Letter}
 use Rattle.regex_lite_syntax.specs.declared.prefilter.words.needed_walk.NeededWalk.{NeededWalk}
-use Rattle.regex_lite_syntax.specs.Prefilter.Needed.{StandsIn}
+use Rattle.regex_lite_syntax.specs.Prefilter.Needed.{NeededWord, Reaches}
+use Rattle.regex_lite_syntax.specs.Prefilter.Starts.{AreBetween, begins_with}
 use Rattle.regex_lite_syntax.specs.Prefilter.Words.{IsLetter, StartsWith}
 
--- the best word stands in the bytes of a match, and the row right before the rest of them. A word
--- without letters stands everywhere
+-- this word, with these characters before it
+abbrev pub as_needed : (word : List Letter) → (lead : Starts) → NeededWord
+as_needed word lead = record {
+  word = word;
+  lead = lead;
+}
+
+-- the first bytes, as many as that, are of these characters
+abbrev pub AreAmong : Starts → (bytes : List ℕ) → (count : ℕ) → Type 0
+AreAmong starts bytes count =
+    (k : ℕ) → k < count → begins_with starts (slice_index bytes k) ≡ true
+
+-- the best word stands in the bytes of a match, and the row right before the rest of them, each
+-- behind characters that may lead to it. A word without letters stands everywhere
 pub record HasFound (bytes rest : List ℕ) (walk : NeededWalk) : Type 0 where
-  pub best : StandsIn walk.best bytes
+  pub best : Reaches (as_needed walk.best walk.best_lead) bytes 0
   pub row_at : ℕ
   pub row : StartsWith walk.row (drop row_at bytes)
   pub behind : drop (length walk.row) (drop row_at bytes) ≡ rest
+  pub led : AreAmong walk.row_lead bytes row_at
+  pub read : AreAmong walk.read bytes (row_at + length walk.row)
 
 -- the row is ended, and may be the best word from now on
 pub record EndsRow (before after : NeededWalk) : Type 0 where
   pub row : after.row ≡ []
-  pub best : (after.best ≡ before.best) ⊎ (after.best ≡ before.row)
+  pub best : (as_needed after.best after.best_lead ≡ as_needed before.best before.best_lead)
+      ⊎ (as_needed after.best after.best_lead ≡ as_needed before.row before.row_lead)
+  pub read : after.read ≡ before.read
+  pub led : after.row_lead ≡ before.read
+
+-- what was found stays found behind any characters that are counted as read
+pub record Leaves (before after : NeededWalk) : Type 0 where
+  pub finds : (haystack : Text) (bytes : List ℕ) (i j : ℕ) → i ≤ j
+      → AreBetween after.read haystack i j
+      → HasFound bytes (encode_utf8_all (drop i haystack)) before
+      → HasFound bytes (encode_utf8_all (drop j haystack)) after
 
 -- what was found before a byte that is the letter is also found behind it
 pub record FindsLetter (letter : Letter) (before after : NeededWalk) : Type 0 where

@@ -6,18 +6,18 @@ use Rattle.regex_lite_syntax.specs.Tree.{Tree}
 use Rattle.regex_lite_syntax.specs.declared.prefilter.heads.Heads.{Heads}
 use Rattle.regex_lite_syntax.specs.declared.prefilter.words.letter.Letter.{Letter}
 use Rattle.regex_lite_syntax.specs.Prefilter.Heads.{AreHeadsOfTree, NeverBegins}
-use Rattle.regex_lite_syntax.specs.Prefilter.Needed.{IsMissingFrom, IsNeededBy}
+use Rattle.regex_lite_syntax.specs.Prefilter.Needed.{IsNeededBy, IsOutOfReach, NeededWord}
 use Rattle.regex_lite_syntax.specs.Prefilter.WholeWords.{IsItsWords}
 use Rattle.regex_lite_syntax.specs.Prefilter.Words.{AnyStandsAt, AreWordsOfTree}
 
 -- the two characters with which a match can begin, the words of which it begins with one, if there
--- are such words, whether it is nothing but one of them, and a word that stands in it, if one is
--- known
+-- are such words, whether it is nothing but one of them, and a word that stands in it with what may
+-- stand before that, if one is known
 pub record StartFacts : Type 0 where
   pub heads : Heads
   pub words : Option (List (List Letter))
   pub are_all : Bool
-  pub needed : Option (List Letter)
+  pub needed : Option NeededWord
 
 -- this is so of the matches of the tree
 pub record AreFactsOfTree (tree : Tree) (facts : StartFacts) : Type 0 where
@@ -31,12 +31,12 @@ abbrev pub NoneStandsIn : List (List Letter) → Text → ℕ → Type 0
 NoneStandsIn words haystack i = ¬ AnyStandsAt words (encode_utf8_all (drop i haystack)) 0
 
 -- none can begin at the position, judging by its first two characters, or since no word stands
--- there, or since what each match needs doesn't stand there or later
+-- there, or since what each match needs isn't reached from there
 abbrev pub NeverStarts : StartFacts → Text → ℕ → Type 0
 NeverStarts facts haystack i =
     NeverBegins facts.heads haystack i
     ⊎ MatchOption facts.words ⊥ (λ words. NoneStandsIn words haystack i)
-    ⊎ MatchOption facts.needed ⊥ (λ word. IsMissingFrom word haystack i)
+    ⊎ MatchOption facts.needed ⊥ (λ needed. IsOutOfReach needed haystack i)
 
 -- of each tree of a list this is known
 pub record AreEachFactsOf (trees : List Tree) (list : List StartFacts) : Type 0 where

@@ -1,10 +1,11 @@
 -- Where a match can begin, by the characters beside a position.
-use Rattle.std.specs.Prelude.{◌≡◌, ◌⊎◌, ℕ, Bool, true, false, ◌&&◌, ◌||◌, Option, Some, None}
-use Rattle.std.specs.Prelude.{is_none, IsTrue, if◌then◌else◌, nat_lt, slice_index_or, List}
+use Rattle.std.specs.Prelude.{◌≡◌, ◌⊎◌, ◌≤◌, ◌<◌, ℕ, Bool, true, false, ◌&&◌, ◌||◌, Option, Some}
+use Rattle.std.specs.Prelude.{None, is_none, IsTrue, if◌then◌else◌, nat_lt, slice_get}
+use Rattle.std.specs.Prelude.{slice_index_or, List}
 use Rattle.std.specs.List.{list_any}
 use Rattle.regex_lite_syntax.specs.Text.{Text, before, after}
 use Rattle.regex_lite_syntax.specs.Sets.{Set}
-use Rattle.regex_lite_syntax.specs.Tree.{Tree}
+use Rattle.regex_lite_syntax.specs.Tree.{Tree, Trees, more, none}
 use Rattle.regex_lite_syntax.specs.Tree.Matches.{Matches}
 use Rattle.regex_lite_syntax.specs.declared.prefilter.starts.Starts.{Starts}
 
@@ -59,3 +60,18 @@ pub record IsUnion (before other after : Starts) : Type 0 where
 pub record IsUnionOf (parts : List Starts) (starts : Starts) : Type 0 where
   pub with : (c : ℕ) → begins_with starts c ≡ list_any (λ part. begins_with part c) parts
   pub at_start : starts.at_start ≡ list_any (λ part. part.at_start) parts
+
+-- the characters between the positions are of these
+abbrev pub AreBetween : Starts → Text → (i j : ℕ) → Type 0
+AreBetween starts haystack i j =
+    (k c : ℕ) → i ≤ k → k < j → slice_get haystack k ≡ Some c → begins_with starts c ≡ true
+
+-- so are those that a match of the tree reads
+abbrev pub ReadsAmong : Tree → Starts → Type 0
+ReadsAmong tree starts =
+    (haystack : Text) (i j : ℕ) → Matches haystack tree i j → AreBetween starts haystack i j
+
+-- and those that a match of any of these trees reads
+abbrev pub EachReadsAmong : Trees → Starts → Type 0
+EachReadsAmong none starts = Unit {0}
+EachReadsAmong (more tree trees) starts = ReadsAmong tree starts × EachReadsAmong trees starts

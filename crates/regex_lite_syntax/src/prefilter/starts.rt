@@ -9,6 +9,8 @@ ghost use Rattle.regex_lite_syntax.specs.Prefilter.Starts.{begins_with, may_begi
 ghost use Rattle.regex_lite_syntax.specs.Prefilter.Starts.{IsWider, IsUnion, IsUnionOf, HasAll};
 ghost use Rattle.regex_lite_syntax.specs.Prefilter.Starts.{BeginsOrPasses, AreStartsOfTree};
 
+mod reading;
+
 use crate::class::{Class, ClassRange};
 use crate::hir::Hir;
 use crate::hir::look::Look;
@@ -54,7 +56,7 @@ impl Starts {
     }
 
     /// A match can begin anywhere.
-    fn everywhere() -> Starts
+    pub(crate) fn everywhere() -> Starts
         ensures { (c : ℕ) → begins_with result c ≡ true }
     {
         Starts {
@@ -135,7 +137,7 @@ impl Starts {
     }
 
     /// Adds the characters of the set.
-    fn add_class(&mut self, set: &Class)
+    pub(crate) fn add_class(&mut self, set: &Class)
         ensures grown { IsWider self.old self.new }
         ensures added { HasAll self.new (in_ranges set.now) }
     {
@@ -165,7 +167,7 @@ impl Starts {
     }
 
     /// Adds the character.
-    fn add_char(&mut self, c: char)
+    pub(crate) fn add_char(&mut self, c: char)
         ensures grown { IsWider self.old self.new }
         ensures added { HasAll self.new (just c) }
     {

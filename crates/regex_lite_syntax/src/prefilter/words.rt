@@ -28,7 +28,7 @@ mod word_list;
 use crate::hir::Hir;
 use gain::{leaps_pay, may_pay};
 use leaps::{Leaps, shortest};
-pub use needed::Needed;
+pub use needed::{Needed, Reach};
 use numbered::Numbered;
 use pair::Pair;
 use spelling::{may_begin_word, read_words};

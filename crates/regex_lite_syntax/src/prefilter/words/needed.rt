@@ -1,93 +1,106 @@
-//! A word that each match of a pattern has.
-ghost use Rattle.std.specs.Prelude.{◌≤◌, IfSome, IsTrue, length};
+//! A word that each match of a pattern has, and what stands before it.
+ghost use Rattle.std.specs.Prelude.{◌≡◌, ◌≤◌, ◌<◌, ◌-◌, ℕ, IfSome, false, length, slice_index, true};
 ghost use Rattle.regex_lite_syntax.specs.Tree.Views.{tree_of};
-ghost use Rattle.regex_lite_syntax.specs.Prefilter.Needed.{IsNeededBy, IsNextOf, NeverStandsFrom};
+ghost use Rattle.regex_lite_syntax.specs.Prefilter.Needed.{IsNeededBy, IsNextReach};
+ghost use Rattle.regex_lite_syntax.specs.Prefilter.Starts.{begins_with};
 
 use crate::hir::Hir;
-use crate::prefilter::words::letter::Letter;
+use crate::prefilter::starts::Starts;
 use crate::prefilter::words::needed_walk::NeededWalk;
 use crate::prefilter::words::pair::Pair;
 use crate::prefilter::words::short_word::ShortWord;
 use std::marker::Model;
 
-/// Among how many bytes a letter is near.
-const NEAR: usize = 32;
-
-/// A word that stands in each match. Where it stands no more, none begins.
+/// A word that stands in each match, and the characters that may stand before it there. A match
+/// begins only where such characters lead to the word.
 #[derive(Drop)]
 pub struct Needed {
     word: ShortWord,
     pair: Pair,
+    lead: Starts,
+}
+
+/// Where a word is reached.
+#[derive(Clone, Copy)]
+pub struct Reach {
+    /// The first offset from which it is.
+    pub from: usize,
+    /// Where it stands.
+    pub word: usize,
 }
 
 impl Model for Needed {
-    ghost use Rattle.std.specs.Prelude.{◌<◌, List, length};
-    ghost use Rattle.regex_lite_syntax.specs.declared.prefilter.words.letter.Letter.{Letter};
+    ghost use Rattle.std.specs.Prelude.{◌<◌, length};
+    ghost use Rattle.regex_lite_syntax.specs.Prefilter.Needed.{NeededWord};
 
-    ghost Value = { List Letter };
+    ghost Value = { NeededWord };
 
-    ghost view = { λ needed. needed.word };
+    ghost view = { λ needed. record {
+      word = needed.word;
+      lead = needed.lead;
+    } };
 
     ghost invariant = { λ needed. (needed.pair.first < length needed.word)
         × (needed.pair.second < length needed.word) };
 }
 
 impl Needed {
-    /// One of the tree, if one is known that is rare enough.
+    /// One of the tree, if one is known that is rare enough. None if it is what matches begin with,
+    /// since their first characters tell as much.
     pub(crate) fn of(hir: &Hir) -> Option<Needed>
         ensures { IfSome result (IsNeededBy (tree_of hir.now)) }
     {
-        let word = NeededWalk::of(hir)?;
+        let (word, lead) = NeededWalk::of(hir)?;
+        if !lead.any {
+            return None;
+        }
         let pair = Pair::of(word.letters());
-        Some(Needed { word, pair })
+        Some(Needed { word, pair, lead })
     }
 
-    /// Whether the word stands neither at this offset nor later. It isn't looked for where its
-    /// rarest letter is near, since then the word mostly is: the answer is no.
+    /// The first offset from this one on from which the word is reached, and where it stands then.
     ///
     /// Condition: the offset is at most the length.
-    pub fn is_missing(&self, bytes: &[u8], from: usize) -> bool
+    // Not inlined, as the search for words isn't.
+    #[inline(never)]
+    pub fn next_reach(&self, bytes: &[u8], from: usize) -> Option<Reach>
         requires { from ≤ length bytes.now }
-        ensures { IsTrue result → NeverStandsFrom self.now bytes.now from }
+        ensures { IsNextReach self.now bytes.now from result }
     {
-        let word = self.word.letters();
-        if is_near(self.pair.rarest(word), &bytes[from..]) {
-            return false;
-        }
-        self.find(bytes, from).is_none()
+        let Some(word) = self.pair.find(self.word.letters(), bytes, from) else {
+            return None;
+        };
+        let from = self.lead_start(bytes, from, word);
+        Some(Reach { from, word })
     }
 
-    /// The first offset from this one on at which the word stands.
-    ///
-    /// Condition: the offset is at most the length.
-    fn find(&self, bytes: &[u8], from: usize) -> Option<usize>
-        requires { from ≤ length bytes.now }
-        ensures { IsNextOf self.now bytes.now from result }
+    /// Where the characters begin that may stand before the word, if it stands at the second
+    /// offset and they go back to the first one at most.
+    fn lead_start(&self, bytes: &[u8], from: usize, word: usize) -> usize
+        requires order { from ≤ word }
+        requires inside { word ≤ length bytes.now }
+        ensures low { from ≤ result }
+        ensures high { result ≤ word }
+        ensures led { (k : ℕ) → result ≤ k → k < word
+            → begins_with self.now.lead (slice_index bytes.now k) ≡ true }
+        ensures stops { from < result
+            → begins_with self.now.lead (slice_index bytes.now (result - 1)) ≡ false }
     {
-        self.pair.find(self.word.letters(), bytes, from)
-    }
-}
-
-/// Whether one of the first bytes is the letter.
-fn is_near(letter: Letter, bytes: &[u8]) -> bool {
-    if bytes.len() >= NEAR {
-        return has_letter(&bytes[..NEAR], letter);
-    }
-    for byte in bytes {
-        if letter.is(*byte) {
-            return true;
+        let mut at = word;
+        'lead: while at > from {
+            if !self.may_lead(bytes[at - 1]) {
+                return at;
+            }
+            at -= 1;
         }
+        at
     }
-    false
-}
 
-/// Whether one of these bytes is the letter.
-// Without a branch for each, so that the compiler takes many at once.
-#[inline(always)]
-fn has_letter(bytes: &[u8], letter: Letter) -> bool {
-    let mut is_there = false;
-    for byte in bytes {
-        is_there |= (*byte == letter.byte) | (*byte == letter.other);
+    /// Whether the byte may be one of a character between a match's start and the word.
+    #[inline(always)]
+    pub fn may_lead(&self, byte: u8) -> bool
+        ensures { result ≡ begins_with self.now.lead byte }
+    {
+        self.lead.begins_in(byte as usize)
     }
-    is_there
 }

@@ -1,13 +1,15 @@
 //! A word that each match of a tree has, found by one walk over it.
-ghost use Rattle.std.specs.Prelude.{◌<◌, IfSome, encode_utf8, length, map};
+ghost use Rattle.std.specs.Prelude.{◌≡◌, ◌<◌, ℕ, IfSome, encode_utf8, length, map, true};
 ghost use Rattle.regex_lite_syntax.specs.Tree.{class, concat, trees};
 ghost use Rattle.regex_lite_syntax.specs.Tree.Views.{tree_of};
 ghost use Rattle.regex_lite_syntax.specs.Prefilter.Needed.{IsNeededBy};
 ghost use Rattle.regex_lite_syntax.specs.Prefilter.NeededWalk.{EndsRow, FindsBytes, FindsLetter};
-ghost use Rattle.regex_lite_syntax.specs.Prefilter.NeededWalk.{FindsPast};
+ghost use Rattle.regex_lite_syntax.specs.Prefilter.NeededWalk.{FindsPast, Leaves, as_needed};
+ghost use Rattle.regex_lite_syntax.specs.Prefilter.Starts.{ReadsAmong, begins_with};
 
 use crate::class::Class;
 use crate::hir::Hir;
+use crate::prefilter::starts::Starts;
 use crate::prefilter::words::letter::Letter;
 use crate::prefilter::words::pair::rank_of;
 use crate::prefilter::words::short_word::ShortWord;
@@ -32,13 +34,21 @@ pub(crate) struct NeededWalk {
     row_rank: u8,
     /// How many letters more are looked at.
     left: usize,
+    /// The characters that may stand before the best word.
+    best_lead: Starts,
+    /// Those that may stand before the row.
+    row_lead: Starts,
+    /// Those that these parts can read.
+    read: Starts,
 }
 
 impl NeededWalk {
-    /// A word that each match of the tree has. None if none is known that is rare enough.
-    pub(super) fn of(hir: &Hir) -> Option<ShortWord>
-        ensures some { IfSome result (λ word. 0 < length word) }
-        ensures needed { IfSome result (IsNeededBy (tree_of hir.now)) }
+    /// A word that each match of the tree has, and the characters that may stand before it. None
+    /// if none is known that is rare enough.
+    pub(super) fn of(hir: &Hir) -> Option<(ShortWord, Starts)>
+        ensures some { IfSome result (λ told. 0 < length told.0) }
+        ensures needed { IfSome result
+            (λ told. IsNeededBy (tree_of hir.now) (as_needed told.0 told.1)) }
     {
         let mut walk = NeededWalk {
             best: ShortWord::new(),
@@ -46,6 +56,9 @@ impl NeededWalk {
             row: ShortWord::new(),
             row_rank: u8::MAX,
             left: LOOKED_AT,
+            best_lead: Starts::nowhere(),
+            row_lead: Starts::nowhere(),
+            read: Starts::nowhere(),
         };
         walk.visit(hir);
         walk.end_row();
@@ -53,8 +66,12 @@ impl NeededWalk {
         if len == 0 || (len == 1 && walk.best_rank > COMMON) {
             return None;
         }
-        let NeededWalk { best, .. } = walk;
-        Some(best)
+        let NeededWalk {
+            best,
+            best_lead,
+            ..
+        } = walk;
+        Some((best, best_lead))
     }
 
     /// Goes over the tree.
@@ -70,11 +87,11 @@ impl NeededWalk {
                 if *least > 0 {
                     self.visit(body);
                 }
-                self.end_row();
+                self.leave(body);
             }
             Hir::Capture { body, .. } => self.visit(body),
             Hir::Concat(parts) => self.visit_parts(parts),
-            Hir::Alternation(_) => self.end_row(),
+            Hir::Alternation(_) => self.leave(hir),
         }
     }
 
@@ -85,7 +102,7 @@ impl NeededWalk {
     {
         for part in parts {
             if self.left == 0 {
-                self.end_row();
+                self.leave_rest();
                 return;
             }
             self.visit(part);
@@ -98,8 +115,29 @@ impl NeededWalk {
     {
         match letter_of(set) {
             Some(letter) => self.push(letter),
-            None => self.end_row(),
+            None => {
+                self.read.add_class(set);
+                self.end_row();
+            }
         }
+    }
+
+    /// Goes over whatever the tree reads.
+    fn leave(&mut self, hir: &Hir)
+        ensures reads { ReadsAmong (tree_of hir.now) self.new.read }
+        ensures left { Leaves self.old self.new }
+    {
+        self.read.add_all(hir);
+        self.end_row();
+    }
+
+    /// Goes over any characters.
+    fn leave_rest(&mut self)
+        ensures all { (c : ℕ) → begins_with self.new.read c ≡ true }
+        ensures left { Leaves self.old self.new }
+    {
+        self.read.set_to(&Starts::everywhere());
+        self.end_row();
     }
 
     /// Goes over a character.
@@ -126,6 +164,8 @@ impl NeededWalk {
             self.end_row();
         }
         self.row.push(letter);
+        self.read.add_char(letter.byte as char);
+        self.read.add_char(letter.other as char);
         self.row_rank = self.row_rank.min(rank_of(letter));
         self.left = self.left.saturating_sub(1);
     }
@@ -139,7 +179,9 @@ impl NeededWalk {
         if self.row_rank < self.best_rank || (self.row_rank == self.best_rank && is_longer) {
             std::mem::swap(&mut self.best, &mut self.row);
             self.best_rank = self.row_rank;
+            std::mem::swap(&mut self.best_lead, &mut self.row_lead);
         }
+        self.row_lead.set_to(&self.read);
         self.row.clear();
         self.row_rank = u8::MAX;
     }

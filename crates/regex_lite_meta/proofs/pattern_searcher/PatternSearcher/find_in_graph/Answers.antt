@@ -1,7 +1,9 @@
-use Rattle.regex_lite_meta.proofs.Common.{IfSome, chars, sym, ◌∙◌, subst}
+use Rattle.regex_lite_meta.proofs.Common.{IfSome, None, best_at, chars, refl, sym, ◌∙◌, subst}
 use Rattle.regex_lite_meta.proofs.Common.{nil_from_length, places_of, position_at, span_told}
+use Rattle.regex_lite_meta.proofs.Common.{with_start_kept}
 use Rattle.regex_lite_meta.specs.Slots.{FindsShortSlots}
 use Rattle.regex_lite_engine.proofs.pikevm.EndLemmas.{one_best}
+use Rattle.regex_lite_engine.proofs.search.FirstStartLemmas.{answer_from, none_from}
 use Rattle.regex_lite_meta.proofs.pattern_searcher.PatternSearcher.find_in_graph.Goals as goal
 
 pub returns-in-Some : goal.returns-in-Some
@@ -10,11 +12,13 @@ returns-in-Some c =
     let table = places_of one.table.now in
     let haystack = c.args.haystack.now in
     let told = c.find_span.ensures in
+    let m = position_at haystack c.in_ok-first.first in
     let width = told.between.best_width ∙ told.width in
     let before = rw c.in-Some.is at c.requires.searches.dfa in record {
       found = rw (nil_from_length c.find_span.new.cache.best.row width)
-          (one_best table (chars haystack) one.entry (position_at haystack c.args.start)
-          (span_told c.find_span.result) told.found);
+          (answer_from table (chars haystack) one.entry (position_at haystack c.args.start) m
+          c.in_ok-first.ensures.least (span_told c.find_span.result)
+          (one_best table (chars haystack) one.entry m (span_told c.find_span.result) told.found));
       searches = record {
         memory = record {
           between = told.between;
@@ -32,16 +36,33 @@ returns-in-Some c =
 
 pub returns-in_err-span-clause-found : goal.returns-in_err-span-clause-found
 returns-in_err-span-clause-found c =
-    rw c.from_residual.ensures c.in_err-span.ensures.found
+    let one = c.args.pattern.now in
+    let haystack = c.args.haystack.now in
+    rw c.from_residual-in_err-span.ensures
+    (answer_from (places_of one.table.now) (chars haystack) one.entry
+    (position_at haystack c.args.start) (position_at haystack c.in_ok-first.first)
+    c.in_ok-first.ensures.least None c.in_err-span.ensures.found)
+
+pub returns-in_err-first-clause-found : goal.returns-in_err-first-clause-found
+returns-in_err-first-clause-found c =
+    let one = c.args.pattern.now in
+    rw c.from_residual.ensures
+    (none_from (places_of one.table.now) (chars c.args.haystack.now) one.entry
+    (position_at c.args.haystack.now c.args.start) (c.in_err-first.ensures.none refl))
 
 pub find_known-requires-clause-known : goal.find_known-requires-clause-known
 find_known-requires-clause-known c =
-    (position_at c.args.haystack.now c.args.start, c.in_ok-span.ensures.found)
+    (position_at c.args.haystack.now c.in_ok-first.first, c.in_ok-span.ensures.found)
 
 pub returns : goal.returns
 returns c =
-    let s = position_at c.args.haystack.now c.args.start in record {
-      found = c.find_known.ensures.found s c.in_ok-span.ensures.found;
+    let one = c.args.pattern.now in
+    let haystack = c.args.haystack.now in
+    let m = position_at haystack c.in_ok-first.first in record {
+      found = answer_from (places_of one.table.now) (chars haystack) one.entry
+          (position_at haystack c.args.start) m c.in_ok-first.ensures.least
+          (with_start_kept (best_at c.find_known.result c.find_known.new.self.cache.best.row))
+          (c.find_known.ensures.found m c.in_ok-span.ensures.found);
       searches = record {
         memory = c.find_known.ensures.finds;
         dfa = rw c.find_known.ensures.width c.requires.searches.dfa;

@@ -108,8 +108,8 @@ impl<'w> Numbered<'w> {
         ensures length { length marks.new ≡ length marks.old }
         ensures here { WordStandsAt (all_words self.now.words.now) bytes.now number at
             → IsMarked marks.new (slice_index self.now.owners.now number) }
-        ensures adds { AddsMarks (numbered_words self.now) bytes.now (λ offset. offset ≡ at) marks.old
-            marks.new }
+        ensures adds { AddsMarks (numbered_words self.now) bytes.now (λ offset. offset ≡ at)
+            marks.old marks.new }
     {
         let owner = self.owners[number] as usize;
         if marks[owner] {

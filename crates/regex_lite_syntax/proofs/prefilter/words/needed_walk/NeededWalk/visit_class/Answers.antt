@@ -1,5 +1,7 @@
-use Rattle.regex_lite_syntax.proofs.Common.{inl, inr, arith}
-use Rattle.regex_lite_syntax.proofs.prefilter.words.NeededWalkLemmas.{finds_any, finds_class}
+use Rattle.regex_lite_syntax.proofs.Common.{inl, inr, arith, class, refl, subst, sym}
+use Rattle.regex_lite_syntax.specs.Prefilter.Starts.{ReadsAmong}
+use Rattle.regex_lite_syntax.proofs.prefilter.starts.ReadLemmas.{reads_class}
+use Rattle.regex_lite_syntax.proofs.prefilter.words.NeededWalkLemmas.{finds_any, finds_class, leaves}
 use Rattle.regex_lite_syntax.proofs.prefilter.words.needed_walk.NeededWalk.visit_class.Goals as goal
 
 pub returns-in-Some : goal.returns-in-Some
@@ -13,4 +15,10 @@ returns-in-Some c =
     )) c.push.ensures
 
 pub returns-in-None : goal.returns-in-None
-returns-in-None c = finds_any _ c.args.self.now c.end_row.new.self c.end_row.ensures
+returns-in-None c =
+    let ends = c.end_row.ensures in
+    finds_any (class c.args.set.now) c.args.self.now c.end_row.new.self
+    (subst (ReadsAmong (class c.args.set.now)) (sym ends.read)
+    (reads_class c.args.set.now c.add_class.new.self c.add_class.ensures.added))
+    (leaves c.args.self.now _ c.end_row.new.self
+    (record { same = refl; wider = c.add_class.ensures.grown.with }) ends)
