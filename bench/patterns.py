@@ -112,4 +112,5 @@ FAMILIES: list[tuple[str, Callable[[int], str], tuple[int, int, int]]] = [
     ('(?i)[a-z] in a row', lambda count: '(?i)' + '[a-z]' * count, BY_TEN),
     ('[^a] in a row', lambda count: '[^a]' * count, BY_TEN),
     ('word in a row', lambda count: r'\w' * count, BY_TEN),
+    ('operators nested', lambda count: '(?:[a-z]' * count + ')+' * count, by_four(1)),
 ]

@@ -7,6 +7,7 @@ pub mod ExploreLemmas
 pub mod LeadsLemmas
 pub mod LeftLemmas
 pub mod NumberedLemmas
+pub mod PairMapLemmas
 pub mod PairLemmas
 pub mod RoomLemmas
 pub mod RunLemmas

@@ -1,5 +1,6 @@
 -- What the functions of the depth-first search promise one another.
 pub mod Bits
+pub mod PairMaps
 pub mod DepthFirst
 pub mod Machine
 pub mod Entering

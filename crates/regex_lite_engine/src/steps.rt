@@ -1,5 +1,5 @@
 //! What a search does, counted.
-ghost use Rattle.std.specs.Prelude.{◌≡◌, ◌+◌, ◌-◌, ◌<◌, ◌^◌, min};
+ghost use Rattle.std.specs.Prelude.{◌≡◌, ◌+◌, ◌-◌, ◌<◌, ◌^◌, min, if◌then◌else◌};
 
 use std::marker::Model;
 
@@ -50,6 +50,18 @@ impl Steps {
         ensures { self.new ≡ record self.old { tried = self.old.tried + 1 } }
     {
         self.tried += 1;
+    }
+
+    /// The search visits a place, which counts with COUNTED alone.
+    #[inline(always)]
+    pub(crate) fn count_try_if<const COUNTED: bool>(&mut self)
+        requires { self.old.tried + 1 < 2 ^ 128 }
+        ensures { self.new
+            ≡ if COUNTED then record self.old { tried = self.old.tried + 1 } else self.old }
+    {
+        if COUNTED {
+            self.count_try();
+        }
     }
 
     /// It enters the place.

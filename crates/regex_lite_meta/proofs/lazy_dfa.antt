@@ -12,6 +12,7 @@ pub mod OnwardLemmas
 pub mod PartLemmas
 pub mod ReachLemmas
 pub mod RememberedLemmas
+pub mod RestartLemmas
 pub mod ResumeLemmas
 pub mod RunLemmas
 pub mod ScanLemmas

@@ -1,13 +1,13 @@
 -- What a pass over a haystack for all patterns of a list knows of each of them.
-use Rattle.std.specs.Prelude.{◌≡◌, ◌+◌, ◌<◌, ◌∷◌, [], ℕ, Bool, List, IsCharBoundary, chars, is_some}
-use Rattle.std.specs.Prelude.{length, slice_index, slice_index_or, Option, Some, None}
+use Rattle.std.specs.Prelude.{◌≡◌, ◌+◌, ◌<◌, ◌↔◌, ◌∷◌, [], ℕ, Bool, List, IsCharBoundary, IsTrue}
+use Rattle.std.specs.Prelude.{chars, length, slice_index, slice_index_or, Option, Some, None}
 use Rattle.regex_lite_engine.specs.declared.search.here.Here.{Here}
 use Rattle.regex_lite_engine.specs.Graph.Places.{Place}
 use Rattle.regex_lite_engine.specs.Graph.StoredList.{StoredList, table_of_list}
 use Rattle.regex_lite_engine.specs.Search.NumberedAnswer.{NoneStartsBefore}
-use Rattle.regex_lite_engine.specs.Search.NumberedOutcomes.{Best, IsNumberedEndOf}
 use Rattle.regex_lite_engine.specs.Search.Offsets.{position_at}
 use Rattle.regex_lite_engine.specs.Search.Standing.{IsHere}
+use Rattle.regex_lite_meta.specs.AnyOfOne.{HasMatchOfAny}
 use Rattle.regex_lite_meta.specs.declared.list_matches.pass.ListPass.{ListPass}
 use Rattle.regex_lite_meta.specs.declared.list_matches.status.Status.{Status}
 use Rattle.regex_lite_meta.specs.declared.list_matches.status.Status.TheVariants.{Known, Open}
@@ -17,11 +17,9 @@ use Rattle.regex_lite_meta.specs.declared.list_matches.status.Rest.TheVariants a
 
 -- of the pattern that is entered there
 module _ (table : List (Place ℕ)) (bytes : List ℕ) (entry : ℕ) where
-  -- it is told whether it matches from position s on
-  pub record IsToldFrom (s : ℕ) (told : Bool) : Type 0 where
-    pub best : Best
-    pub is : told ≡ is_some best
-    pub end : IsNumberedEndOf table (chars bytes) (entry ∷ []) s best
+  -- it is told whether it has a match that starts at position s or a later one
+  abbrev pub IsToldFrom : (s : ℕ) → (told : Bool) → Type 0
+  IsToldFrom s told = IsTrue told ↔ HasMatchOfAny table (chars bytes) (entry ∷ []) s
 
   -- no match of it from position s on starts before the offset
   pub record StartsNoSooner (s at : ℕ) : Type 0 where

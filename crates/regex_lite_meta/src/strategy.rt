@@ -46,15 +46,15 @@ const MOST_PLACES_OF_LIST: usize = 1024;
 const MOST_PAIRS: usize = 262_144;
 
 /// In a long text the slots of a match between known offsets are searched for depth first if there
-/// are at most this number of pairs: some 200 bytes in a graph of 40 places. Their frames take at
-/// most 128 KB. With 2,048, whose bits lie in the value itself, dates took 0.95 of the instructions
-/// and whole lines of a log 2.1 times as many.
+/// are at most this number of pairs: some 200 bytes in a graph of 40 places. The stamps take 8 KB,
+/// and the frames at most 128. With 2,048 pairs whole lines of a log took 2.1 times as many
+/// instructions.
 const MOST_PAIRS_OF_SPAN: usize = 8192;
 
 /// A searcher that is kept for one text after another, and one for several patterns, searches for
 /// slots depth first up to this number of pairs: some 300 bytes in a graph of a hundred places, the
-/// lines of a log. It keeps 4 KB of bits, and mostly touches little of the memory for frames. With
-/// 2,048, lines of 150 bytes took 2.7 times as many, and those of a log for a list 3.4 times.
+/// lines of a log. It keeps 32 KB of stamps, and mostly touches little of the memory for frames.
+/// With 2,048, lines of 150 bytes took 2.7 times as many, and those of a log for a list 3.4 times.
 pub(crate) const MOST_PAIRS_OF_LINE: usize = 32_768;
 
 /// One search goes over this number of positions before it gets an automaton. A match near the

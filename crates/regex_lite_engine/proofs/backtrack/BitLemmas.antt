@@ -1,20 +1,18 @@
 -- Bits in words of 64.
 use Rattle.regex_lite_engine.proofs.Common.{◌≡◌, ℕ, ◌-◌, ◌*◌, ◌^◌, ◌<◌, Bool, true, false, ◌↔◌}
-use Rattle.regex_lite_engine.proofs.Common.{List, [], ◌∷◌, ◌++◌, length, set, replicate, IsTrue}
+use Rattle.regex_lite_engine.proofs.Common.{List, [], ◌∷◌, ◌++◌, length, replicate}
 use Rattle.regex_lite_engine.proofs.Common.{◌==◌, slice_index, slice_index_or, slice_set, sym, refl}
 use Rattle.regex_lite_engine.proofs.Common.{ap, ◌∙◌, subst, inl, inr, arith, length-set, cases_eq}
 use Rattle.regex_lite_engine.proofs.Common.{cases_lt, nat_tests, get_or-replicate, get_or-set_other}
 use Rattle.regex_lite_engine.proofs.Common.{get_or-set_same, get_or_past, length-replicate}
-use Rattle.regex_lite_engine.proofs.Common.{length-map-range_with_len, bits_of, Pairs, pair_number}
-use Rattle.regex_lite_engine.proofs.Common.{was_entered, get_or-map-range_with_len}
+use Rattle.regex_lite_engine.proofs.Common.{length-map-range_with_len, bits_of}
+use Rattle.regex_lite_engine.proofs.Common.{get_or-map-range_with_len}
 use Rattle.std.proofs.Common.{◌/◌, ◌%◌, bit_and, bit_or}
 use Rattle.std.proofs.lemmas.Nat.Bits.{bit_at-lt, shr_and_one}
 use Rattle.std.specs.Int.{bit_at}
 use Rattle.regex_lite_syntax.specs.AsciiMaps.{bit_of_words}
 use Rattle.std.proofs.lemmas.List.{get_or_append_left, get_or-append_right}
 use Rattle.std.proofs.lemmas.List.FromFn.{fill_by_all}
-use Rattle.regex_lite_engine.specs.declared.backtrack.visited.Visited.TheInside.{Inside}
-use Rattle.regex_lite_engine.specs.Backtrack.Bits.{words_of}
 use Rattle.regex_lite_syntax.proofs.WordBitLemmas.{zero_at, zero_bit, words_with, set_bit}
 use Rattle.regex_lite_syntax.proofs.WordBitLemmas.{other_bit}
 
@@ -42,6 +40,17 @@ none_of_zeros n count =
         get_or-replicate count k false false lt
         ∙ sym (zero_bit n k)
 
+-- zeros after them count as what is missing there
+pub zeros_after : (words : List ℕ) (n i : ℕ)
+    → slice_index (words ++ replicate n 0) i ≡ slice_index words i
+zeros_after words n i = elim (cases_lt i (length words)) [
+  | inl lt ↦ get_or_append_left words (replicate n 0) 0 i lt
+  | inr le ↦
+      get_or-append_right words (replicate n 0) (length words) i 0 refl le
+      ∙ zero_at n (i - length words)
+      ∙ sym (get_or_past words i 0 le)
+]
+
 -- words of zeros after them change no bit
 pub bits_before_zeros : (words : List ℕ) (n count : ℕ)
     → bits_of (words ++ replicate n 0) count ≡ bits_of words count
@@ -49,20 +58,11 @@ bits_before_zeros words n count =
     sym (fill_by_all (is_set (words ++ replicate n 0)) (bits_of words count) count false
     (length_of_bits words count) at_each)
   where
-    same_word : (i : ℕ) → slice_index (words ++ replicate n 0) i ≡ slice_index words i
-    same_word i = elim (cases_lt i (length words)) [
-      | inl lt ↦ get_or_append_left words (replicate n 0) 0 i lt
-      | inr le ↦
-          get_or-append_right words (replicate n 0) (length words) i 0 refl le
-          ∙ zero_at n (i - length words)
-          ∙ sym (get_or_past words i 0 le)
-    ]
-
     at_each : (k : ℕ) → k < count
         → slice_index_or (bits_of words count) k false ≡ is_set (words ++ replicate n 0) k
     at_each k lt =
         bit_of_bits words count k lt
-        ∙ sym (ap (λ word. bit_at word (k % 64) == 1) (same_word (k / 64)))
+        ∙ sym (ap (λ word. bit_at word (k % 64) == 1) (zeros_after words n (k / 64)))
 
 -- what `1 << k % 64` sets in a word
 pub set_by_mask : (words : List ℕ) (count k : ℕ) → k < 64 * length words → k < count
@@ -124,54 +124,3 @@ module _ (word count k : ℕ) (inside : k < 64) (lt : k < count) where
       (bit_or (slice_index (word ∷ []) w) (1 * 2 ^ (k % 64) % 2 ^ 64))) count
       ≡ slice_set (bits_of (word ∷ []) count) k true) first
       (set_by_mask (word ∷ []) count k (omega (arith, inside)) lt))
-
--- the pairs that the fields stand for, with the bits of these words
-abbrev pub pairs_of : Inside → List ℕ → Pairs
-pairs_of v words =
-    record {
-      entered = bits_of words v.count;
-      places = v.places;
-      first = v.first;
-      room = v.room;
-    }
-
--- what the fields say of one pair
-module _ (v : Inside) {pairs : Pairs} (same : pairs_of v (words_of v.words) ≡ pairs)
-    (place at : ℕ) where
-  abbrev k : ℕ
-  k = pair_number v.places v.first place at
-
-  pub number_inside : pair_number pairs.places pairs.first place at < length pairs.entered
-      → pair_number v.places v.first place at < v.count
-  number_inside =
-      subst (λ p. pair_number p.places p.first place at < length p.entered → k < v.count) same
-      (subst (λ n. k < n) (length_of_bits (words_of v.words) v.count))
-
-  module _ (words : List ℕ) (is : words_of v.words ≡ words) where
-    of_words : pairs_of v words ≡ pairs
-    of_words = ap (pairs_of v) (sym is) ∙ same
-
-    pub found_in_pairs : (fresh : Bool)
-        → IsTrue fresh
-        ↔ (slice_index_or (bits_of words v.count) (pair_number v.places v.first place at) false
-        ≡ false)
-        → IsTrue fresh ↔ (was_entered pairs place at ≡ false)
-    found_in_pairs fresh found =
-        subst (λ p. IsTrue fresh ↔ (was_entered p place at ≡ false)) of_words found
-
-    pub set_in_pairs : (words' : List ℕ)
-        → bits_of words' v.count
-        ≡ slice_set (bits_of words v.count) (pair_number v.places v.first place at) true
-        → pairs_of v words' ≡ record pairs {
-          entered = slice_set pairs.entered (pair_number pairs.places pairs.first place at) true;
-        }
-    set_in_pairs words' set = ap with_bits set ∙ ap entering of_words
-      where
-        with_bits : List Bool → Pairs
-        with_bits bits =
-            record { entered = bits; places = v.places; first = v.first; room = v.room }
-
-        entering : Pairs → Pairs
-        entering p = record p {
-          entered = slice_set p.entered (pair_number p.places p.first place at) true;
-        }

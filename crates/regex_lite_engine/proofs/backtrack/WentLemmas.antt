@@ -1,6 +1,6 @@
 -- A frame was taken off: the memory still suffices, and the counts stay within what is left.
 use Rattle.regex_lite_engine.proofs.Common.{◌≡◌, ℕ, ◌+◌, ◌≤◌, Bool, true, false, List, ◌∷◌, length}
-use Rattle.regex_lite_engine.proofs.Common.{set, if◌then◌else◌, slice_get, Some, None, IsUtf8}
+use Rattle.regex_lite_engine.proofs.Common.{set, if◌then◌else◌, slice_get, Option, Some, None, IsUtf8}
 use Rattle.regex_lite_engine.proofs.Common.{chars, sym, refl, ap, ◌∙◌, subst, arith, length-set}
 use Rattle.regex_lite_engine.proofs.Common.{set-get_or, Pairs, pair_number, was_entered, Held}
 use Rattle.regex_lite_engine.proofs.Common.{kept_back_with, arrow_count, place_of, LeadsBelow}
@@ -143,6 +143,48 @@ module _ (table : List (Place ℕ)) (haystack : List ℕ) (walk : Walk) (q at : 
           entered_tried = omega (arith, entered_tried);
           looked_entered = omega (arith, looked_entered);
         }
+
+-- a walk that goes the same way and counts less
+module _ (table : List (Place ℕ)) (haystack : List ℕ) (before walk : Walk)
+    (steps : StepCounts) where
+  abbrev counting_less : Walk
+  counting_less = record walk { steps = steps }
+
+  walks_counting_less : (end : Option ℕ) → WalksTo table haystack before walk end
+      → WalksTo table haystack before counting_less end
+  walks_counting_less None walks = walks
+  walks_counting_less (Some at) walks = walks
+
+  pub went_counting_less : (end : Option ℕ) → steps.tried ≤ walk.steps.tried
+      → steps.entered ≤ walk.steps.entered → steps.entered ≤ steps.tried
+      → steps.looked ≤ steps.entered → Went table haystack before walk end
+      → Went table haystack before counting_less end
+  went_counting_less end tried entered entered_tried looked_entered went = record {
+    on = record {
+      walks = walks_counting_less end went.on.walks;
+      kept = record {
+        places = went.on.kept.places;
+        first = went.on.kept.first;
+        row = went.on.kept.row;
+        room = went.on.kept.room;
+        pairs = went.on.kept.pairs;
+      };
+      spent = omega (arith, tried, went.on.spent);
+      spent_entries = omega (arith, entered, went.on.spent_entries);
+    };
+    fit = λ e. let fit = went.fit e in record {
+      all = fit.all;
+      below = fit.below;
+      stack_room = fit.stack_room;
+      few_tries = omega (arith, tried, fit.few_tries);
+      few_entries = omega (arith, entered, fit.few_entries);
+      entered_tried = entered_tried;
+      looked_entered = looked_entered;
+    };
+    less = λ e. went.less e;
+    entered_tried = entered_tried;
+    looked_entered = looked_entered;
+  }
 
 -- a walk by its parts
 pub same_walk : (pairs pairs' : Pairs) (held : Held) (steps steps' : StepCounts) → pairs ≡ pairs'

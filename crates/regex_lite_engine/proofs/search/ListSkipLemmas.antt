@@ -8,9 +8,25 @@ use Rattle.std.proofs.Common.{◌||◌}
 use Rattle.regex_lite_syntax.specs.Prefilter.Rows.{start_row, has}
 use Rattle.regex_lite_engine.specs.Graph.Places.{Place}
 use Rattle.regex_lite_engine.proofs.search.FirstByteLemmas.{ascii_there, begins_later, first_byte}
-use Rattle.regex_lite_engine.proofs.search.FirstByteLemmas.{inside, next_at}
+use Rattle.regex_lite_engine.proofs.Common.{None, Option, Text, after, is_some, IsTrue}
+use Rattle.regex_lite_engine.proofs.OffsetLemmas.{offset_less}
+use Rattle.regex_lite_engine.proofs.search.FirstByteLemmas.{inside, next_at, whole}
 use Rattle.regex_lite_syntax.proofs.LookupLemmas.{there_is}
 use Rattle.regex_lite_engine.proofs.search.SkipLemmas.{passes_where}
+
+before_character : (h : Text) (p : ℕ) (o : Option ℕ) → o ≡ after h p → IsTrue (is_some o)
+    → p < length h
+before_character h p None is some = cc
+before_character h p (Some c) is some = slice_get_within h p c (sym is)
+
+-- a search that stands before a character isn't at the end
+pub before_end : (bs : List ℕ) (p : ℕ) (x : Here) → IsUtf8 bs → IsHere (chars bs) p x
+    → IsTrue (is_some x.after) → x.at < length bs
+before_end bs p x u is some =
+    let within = before_character (chars bs) p x.after is.ahead some in
+    let less = offset_less (chars bs) p (length (chars bs)) within (omega arith) in
+    let at = is.bytes in
+    omega (arith, at, less, whole bs u)
 
 module _ (table : List (Place ℕ)) (entries : List ℕ) (heads : ListHeads)
     (w : AreListHeadsOf table entries heads) (bs : List ℕ) (u : IsUtf8 bs) where
@@ -60,6 +76,19 @@ module _ (table : List (Place ℕ)) (entries : List ℕ) (heads : ListHeads)
           (omega (arith, later, more))
           (subst (λ k. slice_index bs k < 128) (sym later) second_in)
           ∙ ap (λ k. Some (slice_index bs k)) later
+
+  -- nor where a search stands between two characters
+  pub dead_here : (p : ℕ) (x : Here) → IsHere (chars bs) p x → IsTrue (is_some x.before)
+      → IsTrue (is_some x.after) → IsPassedByAll heads bs x.at → AreDeadAt table (chars bs) entries p
+  dead_here zero x is behind ahead passed = absurd (no_character (ap is_some is.behind) behind)
+    where
+      no_character : is_some x.before ≡ false → IsTrue (is_some x.before) → ⊥
+      no_character none some = let never : IsTrue false = subst IsTrue none some in cc
+  dead_here (suc i) x is behind ahead passed =
+      let within = before_character (chars bs) (suc i) x.after is.ahead ahead in
+      let short = before_end bs (suc i) x u is ahead in
+      dead_later i within (subst (λ at. at < length bs) is.bytes short)
+      (subst (IsPassedByAll heads bs) is.bytes passed)
 
   pub passes_to : {p q : ℕ} {x y : Here} → IsHere (chars bs) p x → IsHere (chars bs) q y
       → x.at ≤ y.at → y.at ≤ length bs

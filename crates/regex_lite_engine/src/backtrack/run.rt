@@ -1,5 +1,5 @@
 //! A whole search, start by start.
-ghost use Rattle.std.specs.Prelude.{◌≡◌, ◌<◌, IfSome, chars, length};
+ghost use Rattle.std.specs.Prelude.{◌≡◌, ◌<◌, IfSome, chars, length, true};
 ghost use Rattle.regex_lite_engine.specs.Backtrack.Searching.{IsFresh};
 ghost use Rattle.regex_lite_engine.specs.Graph.Renumbered.{arrows_of};
 ghost use Rattle.regex_lite_engine.specs.Graph.Stored.{places_of};
@@ -14,8 +14,9 @@ use crate::search::here::Here;
 use crate::search::one_pattern::OnePattern;
 
 /// Goes from start to start, up to the first from which a way leads to a match. Returns where the
-/// match starts and where it ends; its slots are those of the walk.
-pub fn run(
+/// match starts and where it ends; its slots are those of the walk. With COUNTED it counts its
+/// steps.
+pub fn run<const COUNTED: bool>(
     walk: &mut Walk,
     pattern: &OnePattern<'_>,
     haystack: &str,
@@ -33,14 +34,19 @@ pub fn run(
         (position_at haystack.now first.at) walk.new.steps.tried walk.new.steps.entered
         walk.new.steps.looked }
     ensures counts { StaysCounted walk.old.steps walk.new.steps }
-    ensures entry { IfSome result (λ _. 0 < walk.new.steps.entered) }
+    ensures entry { COUNTED ≡ true → IfSome result (λ _. 0 < walk.new.steps.entered) }
     ensures width { length walk.new.stack.row ≡ length walk.old.stack.row }
     ensures room { walk.new.stack.room ≡ walk.old.stack.room }
     ensures pairs { walk.new.visited.room ≡ walk.old.visited.room }
 {
     let mut here = first;
     'starts: loop {
-        if let Some(end) = walk.explore(pattern.table, pattern.entry, haystack, here.at) {
+        if let Some(end) = walk.explore::<COUNTED>(
+            pattern.table,
+            pattern.entry,
+            haystack,
+            here.at,
+        ) {
             return Some((here.at, end));
         }
         let Some(next) = pattern.start_after(haystack, here) else {

@@ -40,7 +40,7 @@ impl<'g> OnePattern<'g> {
             return Ok((None, no_steps()));
         };
         let mut walk = walk_for(self.table, alloc, haystack, first.at, slots)?;
-        let found = run(&mut walk, self, haystack, first);
+        let found = run::<true>(&mut walk, self, haystack, first);
         let Walk { stack, steps, .. } = walk;
         Ok((outcome_of(found, stack), steps))
     }

@@ -92,7 +92,7 @@ impl ShortSearcher {
         ensures offsets { self.new.offsets ≡ self.old.offsets }
     {
         self.restart(pattern.table, haystack, start);
-        run(&mut self.walk, pattern, haystack, Here::at(haystack, start))
+        run::<false>(&mut self.walk, pattern, haystack, Here::at(haystack, start))
     }
 
     /// Makes the memory ready for a search from this offset.

@@ -2,7 +2,9 @@
 ghost use Rattle.std.specs.Prelude.{◌≡◌, ◌+◌, ◌-◌, ◌*◌, ◌≤◌, ◌<◌, ◌↔◌, ◌++◌, ℕ};
 ghost use Rattle.std.specs.Prelude.{IfOk, IsTrue, false, true, length, replicate};
 ghost use Rattle.std.specs.Prelude.{slice_index_or, slice_set, vec_capacity};
-ghost use Rattle.regex_lite_engine.specs.Backtrack.Bits.{bits_of, room_of, words_of};
+ghost use Rattle.regex_lite_engine.specs.Backtrack.Bits.{bits_of};
+ghost use Rattle.regex_lite_engine.specs.Backtrack.PairMaps.{entered_of, room_of, HasEach};
+ghost use Rattle.regex_lite_engine.specs.Backtrack.PairMaps.{NoneLater};
 ghost use Rattle.regex_lite_engine.specs.Backtrack.Machine.{pair_number, was_entered};
 
 use crate::bits;
@@ -15,18 +17,23 @@ const FEW: usize = 32;
 /// How many words are added when a search goes past the last one.
 const BLOCK: usize = 16;
 
-/// A bit for each pair, in words of 64.
+/// What is kept of the pairs.
 #[derive(Drop)]
-enum BitWords {
+enum PairMap {
+    /// A bit for each, in words of 64.
     Few([u64; FEW]),
-    /// As many as a search has reached. There is capacity for all; those after the last count as 0.
+    /// The same, in as many words as a search has reached. There is capacity for all; those after
+    /// the last count as 0.
     Many(Vec<u64>),
+    /// A byte for each: the generation in which it was entered last. A search is a generation, so
+    /// that next to nothing is cleared between two.
+    Stamps { stamps: Vec<u8>, generation: u8 },
 }
 
 /// Which pairs were entered. It is never cleared: entering a pair again cannot help a search.
 #[derive(Drop)]
 pub struct Visited {
-    words: BitWords,
+    map: PairMap,
     /// The number of pairs.
     count: usize,
     /// There is memory for this number of pairs.
@@ -36,54 +43,67 @@ pub struct Visited {
     first: usize,
 }
 
-impl BitWords {
-    /// Words for this number of pairs, each 0.
+impl PairMap {
+    /// A bit for each of this number of pairs, none of which is entered.
     // Inlined, since the few words would otherwise be copied.
     #[inline(always)]
-    fn for_pairs(alloc: Global, count: usize) -> Result<BitWords, AllocError>
-        ensures none { IfOk result (λ words. bits_of (words_of words) count
-            ≡ replicate count false) }
-        ensures room { IfOk result (λ words. count ≤ 64 * room_of words) }
+    fn bits(alloc: Global, count: usize) -> Result<PairMap, AllocError>
+        ensures none { IfOk result (λ map. entered_of map count ≡ replicate count false) }
+        ensures each { IfOk result (λ map. HasEach map count) }
+        ensures none_later { IfOk result NoneLater }
+        ensures room { IfOk result (λ map. count ≤ room_of map) }
     {
         if count <= 64 * FEW {
-            return Ok(BitWords::Few([0; FEW]));
+            return Ok(PairMap::Few([0; FEW]));
         }
         let words = Vec::with_capacity(alloc, count.div_ceil(64))?;
-        Ok(BitWords::Many(words))
+        Ok(PairMap::Many(words))
     }
 
-    /// Makes all words 0. Their memory is kept.
-    fn clear(&mut self)
-        ensures none { (count : ℕ) → bits_of (words_of self.new) count ≡ replicate count false }
+    /// Makes it ready for another search of this number of pairs, none of which is entered. The
+    /// memory is kept.
+    fn restart(&mut self, count: usize)
+        requires room { count ≤ room_of self.old }
+        requires none_later { NoneLater self.old }
+        ensures none { entered_of self.new count ≡ replicate count false }
+        ensures each { HasEach self.new count }
+        ensures none_later { NoneLater self.new }
         ensures room { room_of self.old ≤ room_of self.new }
     {
         match self {
-            BitWords::Few(words) => words.fill(0),
-            BitWords::Many(words) => words.clear(),
+            PairMap::Few(words) => words.fill(0),
+            PairMap::Many(words) => words.clear(),
+            PairMap::Stamps { stamps, generation } => {
+                begin_generation(stamps, generation);
+                fill_to(stamps, count, 0);
+            }
         }
     }
 }
 
 impl Model for Visited {
-    ghost use Rattle.std.specs.Prelude.{◌*◌, ◌≤◌};
-    ghost use Rattle.regex_lite_engine.specs.Backtrack.Bits.{bits_of, room_of, words_of};
+    ghost use Rattle.std.specs.Prelude.{◌≤◌};
+    ghost use Rattle.regex_lite_engine.specs.Backtrack.PairMaps.{entered_of, room_of, HasEach};
+    ghost use Rattle.regex_lite_engine.specs.Backtrack.PairMaps.{NoneLater};
     ghost use Rattle.regex_lite_engine.specs.Backtrack.Machine.{Pairs};
 
     ghost Value = { Pairs };
 
     ghost view = { λ visited. record {
-      entered = bits_of (words_of visited.words) visited.count;
+      entered = entered_of visited.map visited.count;
       places = visited.places;
       first = visited.first;
       room = visited.room;
     } };
 
     ghost invariant = { λ visited. (visited.count ≤ visited.room)
-        × (visited.room ≤ 64 * room_of visited.words) };
+        × (visited.room ≤ room_of visited.map) × HasEach visited.map visited.count
+        × NoneLater visited.map };
 }
 
 impl Visited {
-    /// No pair entered yet, for this number of places and the offsets from `first` to `last`.
+    /// No pair entered yet, for one search, of this number of places and the offsets from `first`
+    /// to `last`.
     pub fn none(
         alloc: Global,
         places: usize,
@@ -99,7 +119,7 @@ impl Visited {
         let columns = (last - first).checked_add(1).ok_or(AllocError)?;
         let count = places.checked_mul(columns).ok_or(AllocError)?;
         Ok(Visited {
-            words: BitWords::for_pairs(alloc, count)?,
+            map: PairMap::bits(alloc, count)?,
             count,
             room: count,
             places,
@@ -107,12 +127,15 @@ impl Visited {
         })
     }
 
-    /// Memory for this number of pairs, of which none is there yet.
+    /// Memory for search after search of at most this number of pairs. None is there yet.
     pub fn with_room(alloc: Global, pairs: usize) -> Result<Visited, AllocError>
         ensures { IfOk result (λ visited. visited.room ≡ pairs) }
     {
         Ok(Visited {
-            words: BitWords::for_pairs(alloc, pairs)?,
+            map: PairMap::Stamps {
+                stamps: Vec::with_capacity(alloc, pairs)?,
+                generation: 0,
+            },
             count: 0,
             room: pairs,
             places: 0,
@@ -133,13 +156,14 @@ impl Visited {
         ensures first { self.new.first ≡ first }
         ensures room { self.new.room ≡ self.old.room }
     {
-        self.words.clear();
-        self.count = places * (last - first + 1);
         self.places = places;
         self.first = first;
+        self.count = places * (last - first + 1);
+        self.map.restart(self.count);
     }
 
     /// Adds the pair, and returns whether it is new.
+    #[inline(always)]
     pub fn insert(&mut self, place: u32, at: usize) -> bool
         requires first { self.old.first ≤ at }
         requires inside { pair_number self.old.places self.old.first place at
@@ -151,9 +175,10 @@ impl Visited {
         } }
     {
         let pair = (at - self.first) * self.places + place as usize;
-        match &mut self.words {
-            BitWords::Few(words) => set_bit(words, pair),
-            BitWords::Many(words) => set_bit_beyond(words, pair),
+        match &mut self.map {
+            PairMap::Few(words) => set_bit(words, pair),
+            PairMap::Many(words) => set_bit_beyond(words, pair),
+            PairMap::Stamps { stamps, generation } => stamp(stamps, pair, *generation),
         }
     }
 }
@@ -180,19 +205,46 @@ fn set_bit_beyond(words: &mut Vec<u64>, k: usize) -> bool
     ensures capacity { vec_capacity words.old ≤ vec_capacity words.new }
 {
     if words.len() <= k / 64 {
-        fill_to(words, (k / 64 + BLOCK).min(words.capacity()));
+        fill_to(words, (k / 64 + BLOCK).min(words.capacity()), 0);
     }
     set_bit(words, k)
 }
 
-/// Extends the words with zeros to length `end`, if they are shorter. There is capacity for them.
-fn fill_to(words: &mut Vec<u64>, end: usize)
-    requires { end ≤ vec_capacity words.old }
-    ensures items { words.new.items
-        ≡ words.old.items ++ replicate (end - length words.old.items) 0 }
-    ensures capacity { vec_capacity words.old ≤ vec_capacity words.new }
+/// Extends the items with blank ones up to this number, if they are fewer. There is capacity for
+/// them.
+fn fill_to<T: Copy>(items: &mut Vec<T>, end: usize, blank: T)
+    requires { end ≤ vec_capacity items.old }
+    ensures items { items.new.items
+        ≡ items.old.items ++ replicate (end - length items.old.items) blank }
+    ensures capacity { vec_capacity items.old ≤ vec_capacity items.new }
 {
-    if words.len() < end {
-        let _ = words.resize(end, 0);
+    if items.len() < end {
+        let _ = items.resize(end, blank);
     }
+}
+
+/// Sets the stamp of a pair to the generation, and returns whether it was another.
+#[inline(always)]
+fn stamp(stamps: &mut Vec<u8>, pair: usize, generation: u8) -> bool
+    requires { pair < length stamps.old.items }
+    ensures fresh { IsTrue result ↔ ¬ (slice_index_or stamps.old.items pair 0 ≡ generation) }
+    ensures set { stamps.new.items ≡ slice_set stamps.old.items pair generation }
+    ensures capacity { vec_capacity stamps.old ≤ vec_capacity stamps.new }
+{
+    let fresh = stamps[pair] != generation;
+    stamps[pair] = generation;
+    fresh
+}
+
+/// Begins a generation that no pair has been entered in.
+fn begin_generation(stamps: &mut Vec<u8>, generation: &mut u8)
+    requires { (k : ℕ) → slice_index_or stamps.old.items k 0 ≤ generation.old }
+    ensures later { (k : ℕ) → slice_index_or stamps.new.items k 0 < generation.new }
+    ensures capacity { vec_capacity stamps.old ≤ vec_capacity stamps.new }
+{
+    if *generation == u8::MAX {
+        stamps.clear();
+        *generation = 0;
+    }
+    *generation += 1;
 }

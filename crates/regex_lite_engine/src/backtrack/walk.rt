@@ -1,6 +1,6 @@
 //! The walk from one start: it follows a way to its end, then resumes the most recently deferred
 //! one.
-ghost use Rattle.std.specs.Prelude.{◌≡◌, ◌<◌, ◌+◌, [], ◌∷◌, IfSome, length, true};
+ghost use Rattle.std.specs.Prelude.{◌≡◌, ◌<◌, ◌+◌, [], ◌∷◌, IfSome, length, true, false};
 ghost use Rattle.regex_lite_engine.specs.Backtrack.Machine.{completes, end_at, explore, onto};
 ghost use Rattle.regex_lite_engine.specs.Backtrack.Room.{HasRoom, TakesFrame};
 ghost use Rattle.regex_lite_engine.specs.Graph.Stored.{places_of};
@@ -25,9 +25,9 @@ impl Walk {
     ghost use Rattle.regex_lite_engine.specs.Backtrack.Searching.{Explores, SlotsBelow, Unwinds};
 
     /// Follows the ways from the start at this offset, the most preferred first. Returns where the
-    /// first of them that is a match ends.
+    /// first of them that is a match ends. With COUNTED it counts its steps.
     #[inline(always)]
-    pub fn explore(
+    pub fn explore<const COUNTED: bool>(
         &mut self,
         table: &Table,
         entry: u32,
@@ -40,11 +40,11 @@ impl Walk {
         ensures explored { Explores (places_of table.now) haystack.now entry start
             self.old self.new result }
         ensures counts { StaysCounted self.old.steps self.new.steps }
-        ensures entry { IfSome result (λ _. 0 < self.new.steps.entered) }
+        ensures entry { COUNTED ≡ true → IfSome result (λ _. 0 < self.new.steps.entered) }
     {
         let (mut place, mut at) = (entry, start);
         'ways: loop {
-            match self.come_to(table, haystack, place, at) {
+            match self.come_to::<COUNTED>(table, haystack, place, at) {
                 Onward::To {
                     place: to,
                     at: past,
@@ -55,24 +55,31 @@ impl Walk {
         }
     }
 
-    /// Visits a place, and enters it if it is new at this offset.
+    /// Visits a place, and enters it if it is new at this offset. With COUNTED this is counted.
     #[inline(always)]
-    fn come_to(&mut self, table: &Table, haystack: &str, place: u32, at: usize) -> Onward
+    fn come_to<const COUNTED: bool>(
+        &mut self,
+        table: &Table,
+        haystack: &str,
+        place: u32,
+        at: usize,
+    ) -> Onward
         requires { HasRoom (places_of table.now) haystack.now self.old
             (explore place at ∷ self.old.stack.frames) }
         ensures taken { TakesFrame (places_of table.now) haystack.now self.old
             (explore place at ∷ self.old.stack.frames) self.new
             (onto result self.new.stack.frames) (end_at at result) }
-        ensures tries { self.new.steps.tried ≡ self.old.steps.tried + 1 }
+        ensures tries { COUNTED ≡ true → self.new.steps.tried ≡ self.old.steps.tried + 1 }
+        ensures uncounted { COUNTED ≡ false → self.new.steps ≡ self.old.steps }
         ensures counts { StaysCounted self.old.steps self.new.steps }
-        ensures entry { completes result ≡ true → 0 < self.new.steps.entered }
+        ensures entry { COUNTED ≡ true → completes result ≡ true
+            → 0 < self.new.steps.entered }
     {
-        self.steps.count_try();
+        self.steps.count_try_if::<COUNTED>();
         if !self.visited.insert(place, at) {
             return Onward::Back;
         }
-        self.steps.count_entry();
-        let found = table.look(place, &mut self.steps);
+        let found = table.look_on_entry::<COUNTED>(place, &mut self.steps);
         enter(found, haystack, at, &mut self.stack)
     }
 

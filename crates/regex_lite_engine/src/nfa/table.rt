@@ -1,5 +1,5 @@
 //! Numbered places in a table: what the graph of one pattern and that of several have in common.
-ghost use Rattle.std.specs.Prelude.{◌≡◌, ◌+◌, ◌^◌, ◌<◌, length, map};
+ghost use Rattle.std.specs.Prelude.{◌≡◌, ◌+◌, ◌^◌, ◌<◌, if◌then◌else◌, length, map};
 ghost use Rattle.std.specs.Prelude.{slice_get, sum_by, Some};
 ghost use Rattle.regex_lite_engine.specs.Graph.Places.{kept_back_of, kept_back_with, reading_of};
 ghost use Rattle.regex_lite_engine.specs.Graph.Renumbered.{arrows_of};
@@ -72,6 +72,25 @@ impl Table {
         ensures counted { steps.new ≡ record steps.old { looked = steps.old.looked + 1 } }
     {
         steps.count_look();
+        &self.places[place as usize]
+    }
+
+    /// What stands at a place that a search enters. Both are counted, but with COUNTED alone.
+    #[inline(always)]
+    pub(crate) fn look_on_entry<const COUNTED: bool>(&self, place: u32, steps: &mut Steps) -> &Place
+        requires inside { place < length self.now.places }
+        requires room { (steps.old.entered + 1 < 2 ^ 128) × (steps.old.looked + 1 < 2 ^ 128) }
+        ensures found { slice_get self.now.places place ≡ Some result.now }
+        ensures inside { LeadsBelow (length self.now.places) (place_of result.now) }
+        ensures counted { steps.new ≡ if COUNTED then record steps.old {
+          entered = steps.old.entered + 1;
+          looked = steps.old.looked + 1;
+        } else steps.old }
+    {
+        if COUNTED {
+            steps.count_entry();
+            steps.count_look();
+        }
         &self.places[place as usize]
     }
 

@@ -57,6 +57,8 @@ impl<'g> OnePattern<'g> {
     }
 
     /// The first such position after this one.
+    // Inlined, since a depth-first search passes here at each start.
+    #[inline(always)]
     pub(crate) fn start_after(&self, haystack: &str, here: Here) -> Option<Here>
         requires { (p : ℕ) × IsHere (chars haystack.now) p here }
         ensures first { (p : ℕ) → IsHere (chars haystack.now) p here → IfSome result (PassesTo

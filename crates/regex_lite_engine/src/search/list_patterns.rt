@@ -70,9 +70,19 @@ impl<'g> Patterns for ListPatterns<'g> {
         false
     }
 
+    // Inlined, so that a position at which no pattern may start costs no call.
+    #[inline(always)]
     fn come_to(&mut self, haystack: &str, here: Here) {
         // Each has a number of 32 bits, since there are no more.
         let _entries = self.list.entries();
+        // At the haystack's start the pairs don't cover all patterns, and its end has no byte.
+        if here.before.is_some()
+            && here.after.is_some()
+            && !self.list.heads().may_begin_at(haystack.as_bytes(), here.at)
+        {
+            self.numbers.clear();
+            return;
+        }
         list_starts(self.list, haystack, here, &mut self.numbers);
     }
 
@@ -90,6 +100,8 @@ impl<'g> Patterns for ListPatterns<'g> {
 }
 
 /// Lists the patterns that may start here, in the order of their numbers.
+// Not inlined, so that the loop of a search keeps its registers.
+#[inline(never)]
 fn list_starts(list: &GraphList, haystack: &str, here: Here, numbers: &mut Vec<u32>)
     requires here { (p : ℕ) × IsHere (chars haystack.now) p here }
     requires room { length list.now.entries ≤ vec_capacity numbers.old }

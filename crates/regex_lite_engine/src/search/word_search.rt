@@ -1,10 +1,15 @@
 //! Searches for patterns that are nothing but their words.
-ghost use Rattle.std.specs.Prelude.{◌≡◌, ◌<◌, IfSome, IsCharBoundary, List, length};
+ghost use Rattle.std.specs.Prelude.{◌≡◌, ◌+◌, ◌<◌, ◌∷◌, [], ℕ, IfSome, IsCharBoundary, List};
+ghost use Rattle.std.specs.Prelude.{chars, length};
 ghost use Rattle.regex_lite_syntax.specs.Tree.{Tree};
+ghost use Rattle.regex_lite_engine.specs.Graph.Parts.{IsOwnPart, row_of};
+ghost use Rattle.regex_lite_engine.specs.Graph.Renumbered.{arrows_of};
 ghost use Rattle.regex_lite_engine.specs.Graph.SideBySide.{AreRegularPatterns};
 ghost use Rattle.regex_lite_engine.specs.Graph.Stored.{places_of};
 ghost use Rattle.regex_lite_engine.specs.Graph.StoredList.{IsGraphOfList};
+ghost use Rattle.regex_lite_engine.specs.Search.Bounds.{IsBoundedBy};
 ghost use Rattle.regex_lite_engine.specs.Search.Filters.{facts_of};
+ghost use Rattle.regex_lite_engine.specs.Search.Offsets.{position_at};
 ghost use Rattle.regex_lite_engine.specs.Search.OutcomeOfOne.{TellsOfOne};
 ghost use Rattle.regex_lite_engine.specs.Search.Outcomes.{HasCostOfList, IsOutcomeOfList};
 ghost use Rattle.regex_lite_engine.specs.Search.Starts.{DoWordsAnswer};
@@ -30,8 +35,13 @@ impl<'g> OnePattern<'g> {
         requires boundary { IsCharBoundary haystack.now start }
         requires answers { DoWordsAnswer (places_of self.now.table.now) self.now.entry
             (facts_of self.now.filter) }
-        ensures { IfSome result (TellsOfOne (places_of self.now.table.now) self.now.entry
+        ensures told { IfSome result (TellsOfOne (places_of self.now.table.now) self.now.entry
             haystack.now start 0) }
+        ensures own { IfSome result (λ told. (low len : ℕ)
+            → IsOwnPart (places_of self.now.table.now) (self.now.entry ∷ []) low len
+            → IsBoundedBy len (arrows_of (row_of (places_of self.now.table.now) low len) + 1)
+            (chars haystack.now) (position_at haystack.now start) told.1.tried told.1.entered
+            told.1.looked) }
     {
         let words = self.whole_words()?;
         let Some((from, end)) = words.find_span(haystack.as_bytes(), start) else {

@@ -64,7 +64,7 @@ module _ (table : List (Place ℕ)) (h : Text) (entries : List ℕ) (s : ℕ) wh
     -- they begin in the state for what looks see before
     pub starts_there : (automaton : Automaton) (x : ℕ) → IsEmptyState automaton x here.before
         → IsScanning table entries h s passes.q automaton
-        (record { here = here; state = x; first = here.at; best = None })
+        (record { here = here; state = x; first = here.at; idle_at = here.at; best = None })
     starts_there automaton x empty = record {
       state = empty.state;
       is_state = empty.is_state;
@@ -92,5 +92,5 @@ comes_on {table} {entries} {h} {automaton} {low} {p} {first} {b} {c} comes on =
       r.0,
       omega (arith, le, more),
       r.2,
-      since_on table entries h low p comes.0 first b.first c.first le comes.3 r.3,
+      since_on table entries h low p comes.0 first b.idle_at c.idle_at le comes.3 r.3,
     )

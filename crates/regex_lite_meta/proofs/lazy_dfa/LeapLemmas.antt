@@ -23,14 +23,24 @@ module _ (table : List (Place ℕ)) (entries : List ℕ) (h : Text) (low p : ℕ
 
   -- without looks it is in the same state there
   pub leapt : automaton.intervals.looks ≡ false → (q : ℕ) × (p ≤ q)
-      × IsScanning table entries h low q automaton (record at { here = next; first = next.at })
-      × IsSince table entries h low p at.first next.at
+      × IsScanning table entries h low q automaton (record at {
+        here = next;
+        first = next.at;
+        idle_at = next.at;
+      })
+      × IsSince table entries h low p at.idle_at next.at
   leapt no_looks = (
     passes.q,
     passes.later,
     subst
         (λ best. IsScanning table entries h low passes.q automaton
-        (record { here = next; state = at.state; first = next.at; best = best })) (sym none)
+        (record {
+          here = next;
+          state = at.state;
+          first = next.at;
+          idle_at = next.at;
+          best = best;
+        })) (sym none)
         (skipped table entries h low p automaton at scanning next passes idle (ap best_told none)
         at.state scanning.state scanning.is_state idle
         (still_searching scanning.state.searching (best_told at.best) scanning.suits

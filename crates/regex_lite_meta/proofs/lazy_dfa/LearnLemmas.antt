@@ -1,5 +1,6 @@
 -- A turn that is remembered when it has been taken.
 use Rattle.regex_lite_meta.proofs.Common.{◌≡◌, ℕ, zero, suc, ◌<◌, ◌≤◌, Bool, true, false, List, []}
+use Rattle.regex_lite_meta.proofs.Common.{◌==◌, nat_tests, not}
 use Rattle.regex_lite_meta.proofs.Common.{◌∷◌, ◌++◌, length, slice_get, slice_set, Some, None}
 use Rattle.regex_lite_meta.proofs.Common.{Option, sym, refl, ap, ◌∙◌, subst, inl, inr, arith}
 use Rattle.regex_lite_meta.proofs.Common.{length-map, AreAlike, Thread, best_of, Best, Cache, Here}
@@ -11,11 +12,13 @@ use Rattle.regex_lite_meta.specs.LazyDfa.Automaton.{hit_of, way_of}
 use Rattle.std.proofs.lemmas.Bool.{cases_eq}
 use Rattle.regex_lite_engine.specs.Pikevm.Machine.{thread_at}
 use Rattle.regex_lite_engine.specs.Pikevm.Room.{ThreadsBelow}
-use Rattle.regex_lite_meta.specs.LazyDfa.Learning.{HasTurned}
+use Rattle.regex_lite_meta.specs.LazyDfa.Learning.{HasTurned, IsFirstAfterTurn}
 use Rattle.regex_lite_engine.specs.Pikevm.Searching.{IsHit}
 use Rattle.regex_lite_meta.proofs.lazy_dfa.AlikeLemmas.{same_side_of}
-use Rattle.regex_lite_meta.proofs.lazy_dfa.RememberedLemmas.{remembered, set_other, set_there}
+use Rattle.regex_lite_meta.proofs.lazy_dfa.RememberedLemmas.{IsNextStart, remembered, set_other}
+use Rattle.regex_lite_meta.proofs.lazy_dfa.RememberedLemmas.{set_there}
 use Rattle.regex_lite_meta.proofs.lazy_dfa.RememberedLemmas.{still_remembers}
+use Rattle.regex_lite_meta.proofs.lazy_dfa.RestartLemmas.{none_before}
 use Rattle.regex_lite_syntax.proofs.OptionLemmas.{not_there, same_some}
 
 -- what is pending is none of it
@@ -118,12 +121,39 @@ still_in automaton x class z from at y first before cache is_in = elim (cases_eq
       }
 ]
 
+eq_there : (a b : ℕ) → (a == b) ≡ true → a ≡ b
+eq_there a b e = grind (arith, nat_tests)
+
+-- whether the first start after a turn is another one
+pub next_start : {table : List (Place ℕ)} {entries : List ℕ} {S : Type 0} {automaton : Automaton}
+    {x first next : ℕ} {here : Here} {hit : Bool} {now : Cache S}
+    → (turned : HasTurned table entries automaton x first here hit now)
+    → IsFirstAfterTurn first here.at (best_of now.best) next
+    → IsNextStart (not (next == first)) first here.at next (best_of turned.before.best)
+    (best_of now.best) turned.before.walk.memory.threads
+next_start {first} {next} {here} {hit} {now} turned after = by_test (next == first) refl after
+  where
+    by_test : (same : Bool) → (next == first) ≡ same
+        → IsFirstAfterTurn first here.at (best_of now.best) next
+        → IsNextStart (not same) first here.at next (best_of turned.before.best)
+        (best_of now.best) turned.before.walk.memory.threads
+    by_test true e after = eq_there next first e
+    by_test false e (inl kept) = absurd (other next first e kept)
+      where
+        other : (a b : ℕ) → (a == b) ≡ false → a ≡ b → ⊥
+        other a b e f = grind (arith, nat_tests)
+    by_test false e (inr (own, none)) =
+        let free = none_before hit (best_of turned.before.best) (best_of now.best) turned.is_hit
+        none in (own, free, none, turned.earlier free)
+
 module _ (table : List (Place ℕ)) (entries : List ℕ) {S : Type 0} (old new : Automaton)
     (same : new.intervals ≡ old.intervals) (remembers : Remembers table entries new) (x first : ℕ)
     (here : Here) (hit : Bool) (now : Cache S)
     (turned : HasTurned table entries old x first here hit now) (class : ℕ)
-    (is_class : class_of new.intervals.boundaries here.after ≡ class) (to : State)
-    (ways : to.ways ≡ ways_of first now.walk.memory.threads)
+    (is_class : class_of new.intervals.boundaries here.after ≡ class) (to : State) (next : ℕ)
+    (is_next : IsNextStart to.restarts first here.at next (best_of turned.before.best)
+    (best_of now.best) turned.before.walk.memory.threads)
+    (ways : to.ways ≡ ways_of next now.walk.memory.threads)
     (is_hit : to.hit ≡ hit_of first hit (best_of now.best))
     (searching : to.searching ≡ searching_after to.hit turned.is_in.state.searching)
     (before : new.intervals.looks ≡ true → to.before ≡ side_of here.after) where
@@ -140,6 +170,6 @@ module _ (table : List (Place ℕ)) (entries : List ℕ) {S : Type 0} (old new :
       remembered table entries new.intervals turned.before now here hit first
       turned.starts turned.told turned.is_in.state class to turned.again alike
       (λ there sees h p is. turned.suffice h p there is) turned.tells turned.is_first
-      turned.is_in.ways turned.is_in.suits ways is_hit searching
+      turned.is_in.ways turned.is_in.suits next is_next ways is_hit searching
       (λ looks there seen. same_side_of new.intervals.boundaries there.after here.after
       (seen ∙ sym is_class) (remembers.intervals.sides looks) ∙ sym (before looks))

@@ -1,22 +1,22 @@
 -- A search that goes on by remembered turns, from where it stands to where it stands then.
 use Rattle.regex_lite_meta.proofs.Common.{◌≡◌, ℕ, ◌+◌, ◌^◌, ◌<◌, ◌≤◌, List, [], length}
 use Rattle.regex_lite_meta.proofs.Common.{slice_get, Some, None, IsUtf8, Option, chars}
-use Rattle.regex_lite_meta.proofs.Common.{IsCharBoundary, sym, refl, ap, ◌∙◌, subst, inl}
+use Rattle.regex_lite_meta.proofs.Common.{IsCharBoundary, sym, refl, ap, ◌∙◌, subst, inl, ◌⊎◌}
 use Rattle.regex_lite_meta.proofs.Common.{arith, slice_get_within, Text, IsBestOutcomeOf}
 use Rattle.regex_lite_meta.proofs.Common.{Bool, IsFoundOf, true, ◌*◌, classes_in}
 use Rattle.regex_lite_meta.proofs.Common.{position_at, IsHere, Origin, Automaton, best_told}
 use Rattle.regex_lite_meta.proofs.Common.{IsSince, IsScanning, Standing}
 use Rattle.regex_lite_engine.specs.Graph.Places.{Place}
-use Rattle.regex_lite_meta.specs.LazyDfa.Automaton.{KeptOrigin, State}
+use Rattle.regex_lite_meta.specs.LazyDfa.Automaton.{KeptOrigin, State, first_left}
 use Rattle.regex_lite_meta.specs.LazyDfa.Scanning.{GoesOn, LedTo}
-use Rattle.regex_lite_meta.specs.LazyDfa.Stored.{is_emptying, known_hit}
+use Rattle.regex_lite_meta.specs.LazyDfa.Stored.{is_emptying, is_restarting, known_hit}
 use Rattle.regex_lite_meta.specs.declared.lazy_dfa.spot.Spot.{Spot}
 use Rattle.regex_lite_meta.specs.declared.lazy_dfa.state.Target.{Target}
 use Rattle.regex_lite_meta.specs.LazyDfa.Spots.{EndsScan, IsTaken, IsTurn, IsTurned}
 use Rattle.regex_lite_meta.specs.LazyDfa.Targets.{IsRowOf}
 use Rattle.std.proofs.lemmas.Str.{len_utf8_bounds}
 use Rattle.regex_lite_syntax.proofs.OptionLemmas.{same_some}
-use Rattle.regex_lite_meta.proofs.lazy_dfa.ScanLemmas.{IsFirstAfter, scanned_on}
+use Rattle.regex_lite_meta.proofs.lazy_dfa.ScanLemmas.{first_and_idle, scanned_on}
 use Rattle.regex_lite_meta.proofs.lazy_dfa.SpotLemmas.{IsSpotAt, since_led, since_on, spot_edge}
 use Rattle.regex_lite_meta.proofs.lazy_dfa.SpotLemmas.{spot_completed, spot_of, spot_on, spot_over}
 use Rattle.regex_lite_meta.proofs.lazy_dfa.SpotLemmas.{spot_since, standing_there}
@@ -27,7 +27,7 @@ abbrev pub GoesToSpot : List (Place ℕ) → List ℕ → Text → Automaton →
 GoesToSpot table entries h automaton from spot told = (low p : ℕ)
     → IsScanning table entries h low p automaton from
     → (q : ℕ) × (p ≤ q) × IsSpotAt table entries h low q automaton spot told
-    × IsSince table entries h low p from.first told.first
+    × IsSince table entries h low p from.idle_at told.idle_at
 
 module _ {table : List (Place ℕ)} {entries : List ℕ} {h : Text} {automaton : Automaton} where
   pub stays_there : (at : Standing) → GoesOn table entries h automaton at at
@@ -43,7 +43,7 @@ module _ {table : List (Place ℕ)} {entries : List ℕ} {h : Text} {automaton :
         r.0,
         omega (arith, le, more),
         r.2,
-        since_on table entries h low p v.0 a.first b.first c.first le v.3 r.3,
+        since_on table entries h low p v.0 a.idle_at b.idle_at c.idle_at le v.3 r.3,
       )
 
   -- the turn from there is taken
@@ -56,20 +56,23 @@ module _ {table : List (Place ℕ)} {entries : List ℕ} {h : Text} {automaton :
       → ((p : ℕ) → IsHere h p b.here → IsHere h (p + 1) next.here)
       → next ≡ record next { state = to; best = best }
       → ((state : State) → slice_get automaton.states to ≡ Some state
-      → IsFirstAfter state.ways next.here.at b.first next.first)
+      → ((state.ways ≡ []) × (next.first ≡ next.here.at) × (next.idle_at ≡ next.here.at))
+      ⊎ ((state.ways ≡ [] → ⊥) × (next.first ≡ first_left state.restarts b.first b.here.at)
+      × (next.idle_at ≡ b.idle_at)))
       → GoesOn table entries h automaton a next
   then_turned {b = b} {next = next} {to = to} {best = best} there led none here same first =
       then_on there (λ low p scanning.
       let state = led low p scanning in
       let is = here p scanning.is in
-      let told = first state.state state.is_state in (
+      let told = first_and_idle state.state b.here.at next.here.at b.first next.first b.idle_at
+      next.idle_at (first state.state state.is_state) in (
         p + 1,
         omega arith,
         subst (IsScanning table entries h low (p + 1) automaton) (sym same)
             (scanned_on table entries h low p automaton b scanning to best state next.here
-            next.first is told),
-        since_led table entries h low p automaton b to best state next.here next.first is
-            (none state.state state.is_state) told,
+            next.first next.idle_at is told.0),
+        since_led table entries h low p automaton b to best state next.here next.idle_at is
+            (none state.state state.is_state) told.1,
       ))
 
   -- the state there is one of the automaton
@@ -97,6 +100,12 @@ module _ {table : List (Place ℕ)} {entries : List ℕ} {h : Text} {automaton :
       (x : ℕ) × IsRowOf automaton spot.row x
   row_at_spot there from = let is = (there from.0 from.1 from.2).2 in (is.x, is.row)
 
+-- to look up what is beside it changes no match
+pub none_settled : {automaton : Automaton} {row : ℕ} (told at : Standing)
+    → ((x : ℕ) → IsRowOf automaton row x → at ≡ record told { here = at.here; state = x })
+    → (x : ℕ) × IsRowOf automaton row x → told.best ≡ None → at.best ≡ None
+none_settled told at same (x, is) none = ap (λ (s : Standing). s.best) (same x is) ∙ none
+
 -- the state to which a turn leads
 module _ {table : List (Place ℕ)} {entries : List ℕ} {automaton : Automaton} {bs : List ℕ}
     {at x end : ℕ} {target : Target} (leads : IsTurn table entries automaton bs at x target end)
@@ -113,8 +122,10 @@ module _ {table : List (Place ℕ)} {entries : List ℕ} {automaton : Automaton}
     pub turn_effect : (hit : Option KeptOrigin) → known_hit target.effect ≡ Some hit
         → (state : State) → slice_get automaton.states target.state ≡ Some state
         → (state.ways ≡ [] → ⊥) × (state.hit ≡ hit)
+        × (state.restarts ≡ is_restarting target.effect)
     turn_effect hit told state is =
-        subst (λ (s : State). (s.ways ≡ [] → ⊥) × (s.hit ≡ hit)) (same_some (sym leads.is_to ∙ is))
+        subst (λ (s : State). (s.ways ≡ [] → ⊥) × (s.hit ≡ hit)
+        × (s.restarts ≡ is_restarting target.effect)) (same_some (sym leads.is_to ∙ is))
         (leads.effect hit told)
 
     pub turn_emptied : is_emptying target.effect ≡ true → (state : State)
@@ -154,8 +165,8 @@ module _ {table : List (Place ℕ)} {entries : List ℕ} {automaton : Automaton}
           subst (IsScanning table entries (chars bs) low v.0 automaton) (sym e)
               (standing_there table entries bs u fits low v.0 automaton spot told v.2 at.here
               here),
-          subst (IsSince table entries (chars bs) low p from.first)
-              (sym (ap (λ (s : Standing). s.first) e)) v.3,
+          subst (IsSince table entries (chars bs) low p from.idle_at)
+              (sym (ap (λ (s : Standing). s.idle_at) e)) v.3,
         )
 
     -- a turn is taken
@@ -171,7 +182,7 @@ module _ {table : List (Place ℕ)} {entries : List ℕ} {automaton : Automaton}
           omega (arith, le),
           spot_on table entries bs u fits low v.0 automaton spot told v.2 own.target own.end
               own.turn after on own.taken,
-          since_on table entries (chars bs) low p v.0 from.first told.first after.first le v.3
+          since_on table entries (chars bs) low p v.0 from.idle_at told.idle_at after.idle_at le v.3
               (spot_since table entries bs u fits low v.0 automaton spot told v.2 own.target
               own.end own.turn after on own.taken),
         )

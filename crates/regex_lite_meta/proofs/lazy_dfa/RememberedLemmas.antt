@@ -10,7 +10,9 @@ use Rattle.regex_lite_meta.proofs.Common.{Remembers, Extends, Intervals, class_o
 use Rattle.regex_lite_meta.proofs.Common.{IfSome, IsFirstStart}
 use Rattle.regex_lite_engine.specs.Graph.Places.{Place}
 use Rattle.regex_lite_meta.specs.LazyDfa.Automaton.{ReadsAtMost, State, Sees, began, hit_of}
-use Rattle.regex_lite_meta.specs.LazyDfa.Automaton.{origin_of, told_if}
+use Rattle.regex_lite_meta.specs.LazyDfa.Automaton.{first_left, origin_of, told_if}
+use Rattle.regex_lite_meta.specs.LazyDfa.Learning.{NoneBegan}
+use Rattle.regex_lite_meta.proofs.lazy_dfa.RestartLemmas.{coming_forgotten, none_again, own_retold}
 use Rattle.std.proofs.lemmas.Bool.{cases_eq}
 use Rattle.regex_lite_engine.specs.Pikevm.Again.{retold, all_retold, best_again}
 use Rattle.regex_lite_engine.specs.Search.Beginnings.{Told, TellsStart, IsTold}
@@ -61,6 +63,14 @@ same_found : (b : Bool) {x y : Best} → Suits b y → Suits b x → x ≡ None 
 same_found true sy sx e = sy
 same_found false sy sx e = absurd (sx e)
 
+-- the first start after a turn at the offset is that of before, or the offset, if no thread began
+-- there before the turn, and there is no match
+abbrev pub IsNextStart : (restarts : Bool) → (first at next : ℕ) → (before now : Best) → List Thread
+    → Type 0
+IsNextStart false first at next before now threads = next ≡ first
+IsNextStart true first at next before now threads =
+    (next ≡ at) × (before ≡ None) × (now ≡ None) × NoneBegan at threads
+
 module _ (table : List (Place ℕ)) (entries : List ℕ) (intervals : Intervals) {S : Type 0}
     (cache cache' : Cache S) (here : Here) (hit : Bool) (first : ℕ) (starts : List Start)
     (told : ℕ → Told)
@@ -74,7 +84,10 @@ module _ (table : List (Place ℕ)) (entries : List ℕ) (intervals : Intervals)
     (is_first : IsFirstStart first here.at cache.walk.memory.threads)
     (ways : ways_of first cache.walk.memory.threads ≡ x.ways)
     (suits : Suits x.searching (best_of cache.best))
-    (next_ways : y.ways ≡ ways_of first cache'.walk.memory.threads)
+    (next : ℕ)
+    (is_next : IsNextStart y.restarts first here.at next (best_of cache.best)
+    (best_of cache'.best) cache.walk.memory.threads)
+    (next_ways : y.ways ≡ ways_of next cache'.walk.memory.threads)
     (next_hit : y.hit ≡ hit_of first hit (best_of cache'.best)) where
   leads_there : (there : Here) → Sees intervals x.before class there → (i : ℕ)
       → (ways_of first cache.walk.memory.threads ≡ [] → i ≡ there.at) → (best : Best)
@@ -99,17 +112,74 @@ module _ (table : List (Place ℕ)) (entries : List ℕ) (intervals : Intervals)
       (subst (λ z. IsComing table h entries low high p z best)
       (sym (told_anew first i cache.walk.memory.threads)) coming)))
 
+  restarts_there : NoneBegan here.at cache.walk.memory.threads → best_of cache'.best ≡ None
+      → (there : Here) → Sees intervals x.before class there → (i : ℕ) → (best : Best)
+      → Suits x.searching best → (h : Text) (p low high : ℕ) → IsHere h p there → low ≤ p
+      → p ≤ high
+      → IsComing table h entries low high p
+      (threads_of i (ways_of first cache.walk.memory.threads)) best →
+      IsComing table h entries low high (p + 1)
+      (threads_of there.at (ways_of here.at cache'.walk.memory.threads))
+      (best_left (hit_of first hit (best_of cache'.best)) i there.at best)
+  restarts_there none_began none there sees i best suits' h p low high is from to coming =
+      subst (λ z. IsComing table h entries low high (p + 1)
+      (threads_of there.at (ways_of here.at cache'.walk.memory.threads)) z)
+      (none_again (tell here.at there.at) first i there.at hit (best_of cache'.best) best none)
+      (subst (λ z. IsComing table h entries low high (p + 1) z
+      (best_again (tell here.at there.at) there.at hit (best_of cache'.best) best))
+      (told_anew here.at there.at cache'.walk.memory.threads)
+      (again (tell here.at there.at) there best
+      (λ number. own_retold here.at there.at number (told number) (tells number))
+      (same_found x.searching suits suits') (same_found x.searching suits' suits) h entries p low
+      high (alike there sees) is from to (suffice there sees h p is)
+      (coming_forgotten table entries h p first i here.at there.at low high
+      cache.walk.memory.threads best none_began coming)))
+
+  -- whatever is the first start then
+  leads_to : (there : Here) → Sees intervals x.before class there → (i : ℕ)
+      → (ways_of first cache.walk.memory.threads ≡ [] → i ≡ there.at) → (best : Best)
+      → Suits x.searching best →
+      (h : Text) (p low high : ℕ) → IsHere h p there → low ≤ p → p ≤ high
+      → IsComing table h entries low high p
+      (threads_of i (ways_of first cache.walk.memory.threads)) best →
+      IsComing table h entries low high (p + 1)
+      (threads_of (first_left y.restarts i there.at)
+      (ways_of next cache'.walk.memory.threads))
+      (best_left (hit_of first hit (best_of cache'.best)) i there.at best)
+  leads_to there sees i own best suits' h p low high is from to coming =
+      by_restart y.restarts is_next
+    where
+      by_restart : (restarts : Bool)
+          → IsNextStart restarts first here.at next (best_of cache.best) (best_of cache'.best)
+          cache.walk.memory.threads →
+          IsComing table h entries low high (p + 1)
+          (threads_of (first_left restarts i there.at)
+          (ways_of next cache'.walk.memory.threads))
+          (best_left (hit_of first hit (best_of cache'.best)) i there.at best)
+      by_restart false same =
+          subst (λ z. IsComing table h entries low high (p + 1)
+          (threads_of i (ways_of z cache'.walk.memory.threads))
+          (best_left (hit_of first hit (best_of cache'.best)) i there.at best)) (sym same)
+          (leads_there there sees i own best suits' h p low high is from to coming)
+      by_restart true (same, free, none, none_began) =
+          subst (λ z. IsComing table h entries low high (p + 1)
+          (threads_of there.at (ways_of z cache'.walk.memory.threads))
+          (best_left (hit_of first hit (best_of cache'.best)) i there.at best)) (sym same)
+          (restarts_there none_began none there sees i best suits' h p low high is from to coming)
+
   pub remembered : y.searching ≡ searching_after y.hit x.searching
       → (intervals.looks ≡ true → (there : Here) → class_of intervals.boundaries there.after ≡ class
       → side_of there.after ≡ y.before) →
       LeadsOn table entries intervals x class y
   remembered searching before = record {
     on = λ there sees i own best suits' h p low high is from to coming.
-        subst (λ hit. IsComing table h entries low high (p + 1) (threads_of i y.ways)
+        subst (λ hit. IsComing table h entries low high (p + 1)
+        (threads_of (first_left y.restarts i there.at) y.ways)
         (best_left hit i there.at best)) (sym next_hit)
-        (subst (λ ws. IsComing table h entries low high (p + 1) (threads_of i ws)
+        (subst (λ ws. IsComing table h entries low high (p + 1)
+        (threads_of (first_left y.restarts i there.at) ws)
         (best_left (hit_of first hit (best_of cache'.best)) i there.at best)) (sym next_ways)
-        (leads_there there sees i (λ e. own (sym ways ∙ e)) best suits' h p low high is from to
+        (leads_to there sees i (λ e. own (sym ways ∙ e)) best suits' h p low high is from to
         (subst (λ ws. IsComing table h entries low high p (threads_of i ws) best)
         (sym ways) coming)));
     searching = searching;

@@ -8,7 +8,7 @@ use Rattle.regex_lite_meta.proofs.Common.{threads_of, best_left, searching_after
 use Rattle.regex_lite_meta.proofs.Common.{best_kept, class_of, side_of, best_told, IsIdleAt}
 use Rattle.regex_lite_meta.proofs.Common.{IsScanning, Standing, IsFoundOf}
 use Rattle.regex_lite_engine.specs.Graph.Places.{Place}
-use Rattle.regex_lite_meta.specs.LazyDfa.Automaton.{KeptOrigin, State}
+use Rattle.regex_lite_meta.specs.LazyDfa.Automaton.{KeptOrigin, State, first_left}
 use Rattle.regex_lite_meta.specs.LazyDfa.Scanning.{EndsOrLeads, LedTo}
 use Rattle.std.proofs.Common.{is_some}
 use Rattle.regex_lite_syntax.specs.Text.{before}
@@ -30,10 +30,26 @@ same_threads : (i j : ℕ) (ways : List Way) → (ways ≡ []) ⊎ (j ≡ i)
 same_threads i j ways (inl e) = ap (threads_of i) e ∙ sym (ap (threads_of j) e)
 same_threads i j ways (inr e) = ap (λ z. threads_of z ways) (sym e)
 
--- the first start after a turn to these ways
-abbrev pub IsFirstAfter : List Way → (at before first : ℕ) → Type 0
-IsFirstAfter ways at before first =
-    ((ways ≡ []) × (first ≡ at)) ⊎ ((ways ≡ [] → ⊥) × (first ≡ before))
+-- the first start after a turn from the last offset to this state and this offset
+abbrev pub IsFirstAfter : State → (last at : ℕ) → (before first : ℕ) → Type 0
+IsFirstAfter state last at before first =
+    ((state.ways ≡ []) × (first ≡ at))
+    ⊎ ((state.ways ≡ [] → ⊥) × (first ≡ first_left state.restarts before last))
+
+-- the last offset with nothing to go on from after that
+abbrev pub IsIdleAfter : State → (at : ℕ) → (before idle : ℕ) → Type 0
+IsIdleAfter state at before idle = ((state.ways ≡ []) × (idle ≡ at)) ⊎ (idle ≡ before)
+
+-- both, as they are told
+pub first_and_idle : (state : State) (last at before first before_idle idle : ℕ)
+    → ((state.ways ≡ []) × (first ≡ at) × (idle ≡ at))
+    ⊎ ((state.ways ≡ [] → ⊥) × (first ≡ first_left state.restarts before last)
+    × (idle ≡ before_idle))
+    → IsFirstAfter state last at before first × IsIdleAfter state at before_idle idle
+first_and_idle state last at before first before_idle idle (inl (none, own, same)) =
+    (inl (none, own), inl (none, same))
+first_and_idle state last at before first before_idle idle (inr (some, own, same)) =
+    (inr (some, own), inr same)
 
 -- the character before the next position
 pub next_before : (h : Text) (p : ℕ) (here next : Here) → IsHere h p here → IsHere h (p + 1) next
@@ -66,11 +82,13 @@ module _ (table : List (Place ℕ)) (entries : List ℕ) (h : Text) (low p : ℕ
 
     coming_next : (best : Best) → Suits scanning.state.searching best →
         IsComing table h entries low (length h) p (threads_of at.first scanning.state.ways) best →
-        IsComing table h entries low (length h) (p + 1) (threads_of at.first turn.to.ways)
+        IsComing table h entries low (length h) (p + 1)
+        (threads_of (first_left turn.to.restarts at.first at.here.at) turn.to.ways)
         (best_left hit at.first at.here.at best)
     coming_next best suits coming =
         subst (λ z. IsComing table h entries low (length h) (p + 1)
-        (threads_of at.first turn.to.ways) (best_left z at.first at.here.at best)) turn.is_hit
+        (threads_of (first_left turn.to.restarts at.first at.here.at) turn.to.ways)
+        (best_left z at.first at.here.at best)) turn.is_hit
         (leads_here.on at.here (record { ahead = turn.is_class; behind = scanning.sees }) at.first
         scanning.own best suits h p low (length h) scanning.is scanning.later scanning.is.inside
         coming)
@@ -91,7 +109,8 @@ module _ (table : List (Place ℕ)) (entries : List ℕ) (h : Text) (low p : ℕ
       sees = λ looks. leads_here.before looks at.here turn.is_class;
       coming =
           subst
-          (IsComing table h entries low (length h) (p + 1) (threads_of at.first turn.to.ways))
+          (IsComing table h entries low (length h) (p + 1)
+          (threads_of (first_left turn.to.restarts at.first at.here.at) turn.to.ways))
           (sym left) (coming_next (best_told at.best) scanning.suits scanning.coming);
     }
 
@@ -101,7 +120,8 @@ module _ (table : List (Place ℕ)) (entries : List ℕ) (h : Text) (low p : ℕ
         IsNumberedEndOf table h entries low (best_left hit at.first at.here.at None)
     end_led none over =
         shortest_known table h entries low p at.here.at (threads_of at.first scanning.state.ways)
-        (threads_of at.first turn.to.ways) None (best_left hit at.first at.here.at None)
+        (threads_of (first_left turn.to.restarts at.first at.here.at) turn.to.ways) None
+        (best_left hit at.first at.here.at None)
         scanning.later scanning.is.inside refl scanning.is.bytes (ends hit) over before
         (coming_next None (subst (λ b. Suits scanning.state.searching (best_told b)) none
         scanning.suits) before)
@@ -145,11 +165,11 @@ module _ (table : List (Place ℕ)) (entries : List ℕ) (h : Text) (low p : ℕ
 
   module _ (y : ℕ) (best : Option (Origin × ℕ))
       (to : LedTo table entries h low p automaton at y best) where
-    pub scanned_on : (next : Here) (first : ℕ) → IsHere h (p + 1) next
-        → IsFirstAfter to.state.ways next.at at.first first →
+    pub scanned_on : (next : Here) (first idle : ℕ) → IsHere h (p + 1) next
+        → IsFirstAfter to.state at.here.at next.at at.first first →
         IsScanning table entries h low (p + 1) automaton
-        (record { here = next; state = y; first = first; best = best })
-    scanned_on next first is told = let later = scanning.later in record {
+        (record { here = next; state = y; first = first; idle_at = idle; best = best })
+    scanned_on next first idle is told = let later = scanning.later in record {
       state = to.state;
       is_state = to.is_state;
       is = is;
@@ -159,30 +179,39 @@ module _ (table : List (Place ℕ)) (entries : List ℕ) (h : Text) (low p : ℕ
       sees = λ looks. ap side_of (next_before h p at.here next scanning.is is) ∙ to.sees looks;
       coming =
           subst (λ z. IsComing table h entries low (length h) (p + 1) z (best_told best))
-          (same_threads at.first first to.state.ways (firsts told)) to.coming;
+          (same_threads (first_left to.state.restarts at.first at.here.at) first to.state.ways
+          (firsts told)) to.coming;
     }
       where
-        own : IsFirstAfter to.state.ways next.at at.first first
+        own : IsFirstAfter to.state at.here.at next.at at.first first
             → to.state.ways ≡ [] → first ≡ next.at
         own (inl (none, e)) empty = e
         own (inr (some, e)) empty = absurd (some empty)
 
-        firsts : IsFirstAfter to.state.ways next.at at.first first
-            → (to.state.ways ≡ []) ⊎ (first ≡ at.first)
+        firsts : IsFirstAfter to.state at.here.at next.at at.first first
+            → (to.state.ways ≡ [])
+            ⊎ (first ≡ first_left to.state.restarts at.first at.here.at)
         firsts (inl (none, e)) = inl none
         firsts (inr (some, e)) = inr e
 
     pub scan_over : ((at.here.after ≡ None) ⊎ ((best_told best ≡ None → ⊥) × (to.state.ways ≡ [])))
         → IsBestOutcomeOf table h entries low (best_told best)
     scan_over over =
-        ended_all table h entries low p (threads_of at.first to.state.ways) (best_told best)
+        ended_all table h entries low p
+        (threads_of (first_left to.state.restarts at.first at.here.at) to.state.ways)
+        (best_told best)
         scanning.later scanning.is.inside (at_end (over_at h p at.here scanning.is over)) to.coming
       where
         at_end : ((p ≡ length h) ⊎ ((best_told best ≡ None → ⊥) × (to.state.ways ≡ [])))
             → (p ≡ length h)
-            ⊎ ((best_told best ≡ None → ⊥) × (length (threads_of at.first to.state.ways) ≡ 0))
+            ⊎ ((best_told best ≡ None → ⊥) × (length (threads_of
+            (first_left to.state.restarts at.first at.here.at) to.state.ways) ≡ 0))
         at_end (inl e) = inl e
-        at_end (inr (some, e)) = inr (some, ap (λ ways. length (threads_of at.first ways)) e)
+        at_end (inr (some, e)) = inr (
+          some,
+          ap (λ ways. length (threads_of (first_left to.state.restarts at.first at.here.at) ways))
+              e,
+        )
 
   -- positions are passed over at which no match can begin
   module _ (here : Here) (passes : PassesTo (AreDeadAt table h entries) h p here)
@@ -201,7 +230,7 @@ module _ (table : List (Place ℕ)) (entries : List ℕ) (h : Text) (low p : ℕ
         → state.ways ≡ [] → state.searching ≡ true
         → (automaton.intervals.looks ≡ true → state.before ≡ side_of here.before) →
         IsScanning table entries h low passes.q automaton
-        (record { here = here; state = x; first = here.at; best = None })
+        (record { here = here; state = x; first = here.at; idle_at = here.at; best = None })
     skipped x state x_at empty searching sees =
         let later = scanning.later in let more = passes.later in record {
           state = state;
@@ -226,7 +255,8 @@ pub end_none : (table : List (Place ℕ)) (entries : List ℕ) (h : Text) (low p
     at.here.after ≡ None → IsNumberedEndOf table h entries low None
 end_none table entries h low p automaton at scanning none y to last =
     shortest_known table h entries low p at.here.at (threads_of at.first scanning.state.ways)
-    (threads_of at.first to.state.ways) None None scanning.later scanning.is.inside refl
+    (threads_of (first_left to.state.restarts at.first at.here.at) to.state.ways) None None
+    scanning.later scanning.is.inside refl
     scanning.is.bytes (inl refl)
     (over_at {Q = None ≡ None → ⊥} h p at.here scanning.is (inl last))
     (subst (λ b. IsComing table h entries low (length h) p (threads_of at.first scanning.state.ways)

@@ -9,7 +9,7 @@ use Rattle.regex_lite_meta.proofs.Common.{threads_of, best_left, class_of, class
 use Rattle.regex_lite_meta.proofs.Common.{best_told, slice_get_within, ◌*◌}
 use Rattle.regex_lite_meta.proofs.Common.{IsSince, IsScanning, Standing}
 use Rattle.regex_lite_engine.specs.Graph.Places.{Place}
-use Rattle.regex_lite_meta.specs.LazyDfa.Automaton.{KeptOrigin, State}
+use Rattle.regex_lite_meta.specs.LazyDfa.Automaton.{KeptOrigin, State, first_left}
 use Rattle.regex_lite_meta.specs.LazyDfa.Scanning.{LedTo}
 use Rattle.regex_lite_meta.specs.declared.lazy_dfa.spot.Spot.{Spot}
 use Rattle.regex_lite_meta.specs.declared.lazy_dfa.state.Target.{Target}
@@ -17,7 +17,8 @@ use Rattle.regex_lite_meta.specs.LazyDfa.Spots.{EndsScan, IsTaken, IsTurn, Takes
 use Rattle.regex_lite_meta.specs.LazyDfa.Spots.{TakesToNothing}
 use Rattle.regex_lite_meta.specs.LazyDfa.Targets.{IsRowOf}
 use Rattle.regex_lite_engine.proofs.PositionLemmas.{position_of, after_at}
-use Rattle.regex_lite_meta.proofs.lazy_dfa.ScanLemmas.{IsFirstAfter, TurnsTo, completed, led_step}
+use Rattle.regex_lite_meta.proofs.lazy_dfa.ScanLemmas.{IsFirstAfter, IsIdleAfter, TurnsTo}
+use Rattle.regex_lite_meta.proofs.lazy_dfa.ScanLemmas.{completed, first_and_idle, led_step}
 use Rattle.regex_lite_meta.proofs.lazy_dfa.ScanLemmas.{scan_over, scanned_on}
 use Rattle.regex_lite_syntax.proofs.OptionLemmas.{not_there, same_some}
 use Rattle.regex_lite_engine.proofs.OffsetLemmas.{boundary_at}
@@ -34,6 +35,7 @@ pub record IsSpotAt (table : List (Place ℕ)) (entries : List ℕ) (haystack : 
     here = here;
     state = x;
     first = told.first;
+    idle_at = told.idle_at;
     best = told.best;
   })
 
@@ -68,11 +70,11 @@ module _ (table : List (Place ℕ)) (entries : List ℕ) (h : Text) (low : ℕ) 
   -- after a turn
   pub since_led : (q : ℕ) (automaton : Automaton) (at : Standing) (to : ℕ)
       (best : Option (Origin × ℕ)) → (led : LedTo table entries h low q automaton at to best)
-      → (next : Here) (first : ℕ) → IsHere h (q + 1) next → (led.state.ways ≡ [] → best ≡ None)
-      → IsFirstAfter led.state.ways next.at at.first first
-      → IsSince table entries h low q at.first first
-  since_led q automaton at to best led next first is over (inr (some, e)) = inl e
-  since_led q automaton at to best led next first is over (inl (none, e)) = inr (
+      → (next : Here) (idle : ℕ) → IsHere h (q + 1) next → (led.state.ways ≡ [] → best ≡ None)
+      → IsIdleAfter led.state next.at at.idle_at idle
+      → IsSince table entries h low q at.idle_at idle
+  since_led q automaton at to best led next idle is over (inr e) = inl e
+  since_led q automaton at to best led next idle is over (inl (none, e)) = inr (
     next,
     sym e,
     record {
@@ -82,7 +84,8 @@ module _ (table : List (Place ℕ)) (entries : List ℕ) (h : Text) (low : ℕ) 
       coming = subst (λ b. IsComing table h entries low (length h) (q + 1) [] (best_told b))
           (over none)
           (subst (λ ways. IsComing table h entries low (length h) (q + 1)
-          (threads_of at.first ways) (best_told best)) none led.coming);
+          (threads_of (first_left led.state.restarts at.first at.here.at) ways) (best_told best))
+          none led.coming);
     },
   )
 
@@ -99,7 +102,13 @@ module _ (table : List (Place ℕ)) (entries : List ℕ) (bs : List ℕ) (u : Is
     -- the characters beside it are read
     pub standing_there : (x : Here) → IsHere (chars bs) (position_at bs spot.at) x
         → IsScanning table entries (chars bs) low p automaton
-        (record { here = x; state = is.x; first = told.first; best = told.best })
+        (record {
+          here = x;
+          state = is.x;
+          first = told.first;
+          idle_at = told.idle_at;
+          best = told.best;
+        })
     standing_there x there =
         let js = subst (λ z. IsHere (chars bs) z x) (position_of bs u p spot.at own_offset) there in
         let own = is.scanning in
@@ -120,7 +129,13 @@ module _ (table : List (Place ℕ)) (entries : List ℕ) (bs : List ℕ) (u : Is
       next_character = leads.ahead.character
 
       abbrev from : Standing
-      from = record { here = is.here; state = is.x; first = told.first; best = told.best }
+      from = record {
+        here = is.here;
+        state = is.x;
+        first = told.first;
+        idle_at = told.idle_at;
+        best = told.best;
+      }
 
       after_is : is.here.after ≡ Some next_character
       after_is =
@@ -175,24 +190,48 @@ module _ (table : List (Place ℕ)) (entries : List ℕ) (bs : List ℕ) (u : Is
         same : leads.to ≡ led.state
         same = same_some (sym leads.is_to ∙ led.is_state)
 
-        first_is : IsFirstAfter led.state.ways next.at told.first after.first
-        first_is =
-            subst (λ (s : State). IsFirstAfter s.ways on.at told.first after.first) same
-            (by_ways taken.first)
+        -- what is told of both, without the match
+        told_firsts : ((leads.to.ways ≡ []) × (after.first ≡ on.at) × (after.idle_at ≡ on.at))
+            ⊎ ((leads.to.ways ≡ [] → ⊥)
+            × (after.first ≡ first_left leads.to.restarts told.first is.here.at)
+            × (after.idle_at ≡ told.idle_at))
+        told_firsts = by_ways taken.first
           where
-            by_ways : ((leads.to.ways ≡ []) × (after.first ≡ on.at) × (after.best ≡ None))
-                ⊎ ((leads.to.ways ≡ [] → ⊥) × (after.first ≡ told.first))
-                → IsFirstAfter leads.to.ways on.at told.first after.first
-            by_ways (inl (none, e, free)) = inl (none, e)
-            by_ways (inr (some, e)) = inr (some, e)
+            by_ways : ((leads.to.ways ≡ []) × (after.first ≡ on.at) × (after.idle_at ≡ on.at)
+                × (after.best ≡ None))
+                ⊎ ((leads.to.ways ≡ [] → ⊥)
+                × (after.first ≡ first_left leads.to.restarts told.first spot.at)
+                × (after.idle_at ≡ told.idle_at)) →
+                ((leads.to.ways ≡ []) × (after.first ≡ on.at) × (after.idle_at ≡ on.at))
+                ⊎ ((leads.to.ways ≡ [] → ⊥)
+                × (after.first ≡ first_left leads.to.restarts told.first is.here.at)
+                × (after.idle_at ≡ told.idle_at))
+            by_ways (inl (none, e, f, free)) = inl (none, e, f)
+            by_ways (inr (some, e, f)) = inr (
+              some,
+              e ∙ ap (first_left leads.to.restarts told.first) (sym is.at),
+              f,
+            )
+
+        after_is_told : IsFirstAfter led.state is.here.at next.at told.first after.first
+            × IsIdleAfter led.state next.at told.idle_at after.idle_at
+        after_is_told =
+            subst (λ (s : State). IsFirstAfter s is.here.at on.at told.first after.first
+            × IsIdleAfter s on.at told.idle_at after.idle_at) same
+            (first_and_idle leads.to is.here.at on.at told.first after.first told.idle_at
+            after.idle_at told_firsts)
 
         free : led.state.ways ≡ [] → after.best ≡ None
         free none = by_ways taken.first
           where
-            by_ways : ((leads.to.ways ≡ []) × (after.first ≡ on.at) × (after.best ≡ None))
-                ⊎ ((leads.to.ways ≡ [] → ⊥) × (after.first ≡ told.first)) → after.best ≡ None
-            by_ways (inl (e, at, free)) = free
-            by_ways (inr (some, e)) = absurd (some (ap (λ (s : State). s.ways) same ∙ none))
+            by_ways : ((leads.to.ways ≡ []) × (after.first ≡ on.at) × (after.idle_at ≡ on.at)
+                × (after.best ≡ None))
+                ⊎ ((leads.to.ways ≡ [] → ⊥)
+                × (after.first ≡ first_left leads.to.restarts told.first spot.at)
+                × (after.idle_at ≡ told.idle_at)) → after.best ≡ None
+            by_ways (inl (e, at, f, free)) = free
+            by_ways (inr (some, e, f)) =
+                absurd (some (ap (λ (s : State). s.ways) same ∙ none))
 
         pub spot_on : IsSpotAt table entries (chars bs) low (p + 1) automaton on after
         spot_on = record {
@@ -202,13 +241,13 @@ module _ (table : List (Place ℕ)) (entries : List ℕ) (bs : List ℕ) (u : Is
           row = subst (λ row. IsRowOf automaton row target.state) (sym taken.is_to) leads.row;
           scanning =
               scanned_on table entries (chars bs) low p automaton from is.scanning
-              target.state after.best led next after.first next_is first_is;
+              target.state after.best led next after.first after.idle_at next_is after_is_told.0;
         }
 
-        pub spot_since : IsSince table entries (chars bs) low p told.first after.first
+        pub spot_since : IsSince table entries (chars bs) low p told.idle_at after.idle_at
         spot_since =
             since_led table entries (chars bs) low p automaton from target.state after.best led next
-            after.first next_is free first_is
+            after.idle_at next_is free after_is_told.1
 
       -- the turn completes a match where the least end is asked for
       pub spot_completed : told.best ≡ None → (leads.to.hit ≡ None → ⊥) → (origin : Origin)
@@ -258,6 +297,7 @@ to_nothing at row end state before after there (Some (Some on)) e f none free
       first = inl (
         none,
         ap (λ (s : Standing). s.first) same ∙ sym there_at,
+        ap (λ (s : Standing). s.idle_at) same ∙ sym there_at,
         ap (λ (s : Standing). s.best) same ∙ no_match,
       );
     }

@@ -18,6 +18,7 @@ use Rattle.regex_lite_engine.specs.Pikevm.Searching.{IsHit, TurnsAgain}
 use Rattle.regex_lite_engine.specs.Pikevm.Turns.{EndsAt}
 use Rattle.regex_lite_engine.specs.Search.Starts.{AreAllStarts}
 use Rattle.regex_lite_meta.proofs.lazy_dfa.AnewLemmas.{found_from}
+use Rattle.regex_lite_meta.proofs.lazy_dfa.RestartLemmas.{none_began}
 use Rattle.regex_lite_meta.proofs.lazy_dfa.ResumeLemmas.{coming_less}
 use Rattle.regex_lite_meta.proofs.lazy_dfa.RunLemmas.{at_later, bounded_on, bounded_own}
 use Rattle.regex_lite_meta.proofs.lazy_dfa.RunLemmas.{maybe_in_empty, own_first, passed_over}
@@ -31,7 +32,13 @@ module _ {table : List (Place ℕ)} {h : Text} {entries : List ℕ} {s : ℕ} {a
   scanning_there : {x : ℕ} → at.state ≡ Some x → (best : Option (Origin × ℕ))
       → best_of cache.best ≡ best_told best → IsScanning table entries h stands.from stands.p
       automaton
-      (record { here = at.here; state = x; first = at.first; best = best })
+      (record {
+        here = at.here;
+        state = x;
+        first = at.first;
+        idle_at = at.first;
+        best = best;
+      })
   scanning_there {x} known best same = record {
     state = is_in.state;
     is_state = is_in.is_state;
@@ -74,7 +81,13 @@ module _ {table : List (Place ℕ)} {h : Text} {entries : List ℕ} {s : ℕ} {a
   pub scans_there : {x : ℕ} → at.state ≡ Some x → (best : Option (Origin × ℕ))
       → best_of cache.best ≡ best_kept best cache.best.row → IsScanning table entries h stands.from
       stands.p automaton
-      (record { here = at.here; state = x; first = at.first; best = best })
+      (record {
+        here = at.here;
+        state = x;
+        first = at.first;
+        idle_at = at.first;
+        best = best;
+      })
   scans_there known best same = scanning_there known best (told_there best same)
 
   pub bounded_there : (now : Cache S) → now ≡ cache →
@@ -181,5 +194,8 @@ module _ {table : List (Place ℕ)} {h : Text} {entries : List ℕ} {s : ℕ} {a
           is_hit = is_hit;
           tells = λ number. record { start_told = refl; number_told = refl };
           is_first = stands.own;
+          earlier = λ none.
+              none_began table entries h stands.p at.here stands.is stands.from (length h)
+              cache.walk.memory.threads (best_of cache.best) none stands.on.coming;
           suffice = λ h p there is. starts_at all h p;
         }

@@ -42,6 +42,7 @@ states_same (s ∷ states) used ways more classes targets within fits =
       searching = s.searching;
       before = s.before;
       hit = (state_in ways [] s).hit;
+      restarts = s.restarts;
       next = map number_of (take classes targets);
     } ∷ states_in (ways ++ more) classes (drop classes targets) states)
     (part_same s.from s.len ways more (omega (arith, own, fits)))
@@ -230,6 +231,7 @@ module _ (intervals : Intervals) (reach : Option ℕ) (states : List StoredState
 pub added_is : (old new : Automaton) (state : State)
     → new ≡ record old { states = old.states ++ state ∷ []; pending = [] } →
     IsState new (length old.states) state.ways state.searching state.before state.hit
+    state.restarts
 added_is old new state e = record {
   state = state;
   is =
@@ -239,6 +241,7 @@ added_is old new state e = record {
   searching = refl;
   before = refl;
   hit = refl;
+  restarts = refl;
 }
 
 pub added_extends : (old new : Automaton) (state : State)
@@ -269,12 +272,13 @@ added_extends old new state e own none = record {
 
 -- a state with ways is one still when states are added
 pub has_ways_still : (states more : List StoredState) (y : ℕ) (hit : Option KeptOrigin)
-    → HasWays states y hit → HasWays (states ++ more) y hit
-has_ways_still states more y hit own = record {
+    (restarts : Bool) → HasWays states y hit restarts → HasWays (states ++ more) y hit restarts
+has_ways_still states more y hit restarts own = record {
   state = own.state;
   is_state = still_there states more y own.state own.is_state;
   some = own.some;
   same = own.same;
+  first = own.first;
 }
 
 -- nor does a state without ways get any
@@ -301,7 +305,7 @@ agree_added states more targets n classes blank free none full agree =
       within = λ told.
           let inside = own.within told in
           let m = length-append states more in omega (arith, inside, m);
-      effect = λ hit told. has_ways_still states more _ hit (own.effect hit told);
+      effect = λ hit told. has_ways_still states more _ hit _ (own.effect hit told);
       empties = λ told. no_ways_still states more _ (own.empties told);
     })
     (All-replicate (Agrees (states ++ more) classes) n blank (record {
@@ -352,14 +356,15 @@ extends_pending old new pending extends = record {
 
 -- and a state is the same
 pub is_state_pending : (automaton : Automaton) (pending all : List Way) (y : ℕ)
-    (searching : Bool) (before : Side) (hit : Option KeptOrigin)
-    → IsState automaton y all searching before hit
-    → IsState (record automaton { pending = pending }) y all searching before hit
-is_state_pending automaton pending all y searching before hit is = record {
+    (searching : Bool) (before : Side) (hit : Option KeptOrigin) (restarts : Bool)
+    → IsState automaton y all searching before hit restarts
+    → IsState (record automaton { pending = pending }) y all searching before hit restarts
+is_state_pending automaton pending all y searching before hit restarts is = record {
   state = is.state;
   is = is.is;
   ways = is.ways;
   searching = is.searching;
   before = is.before;
   hit = is.hit;
+  restarts = is.restarts;
 }

@@ -1,5 +1,6 @@
 -- The automaton that stored states, targets and ways stand for, and what is known of each state.
 use Rattle.regex_lite_meta.proofs.Common.{◌≡◌, ℕ, zero, suc, ◌+◌, ◌*◌, ◌<◌, ◌≤◌, List, [], ◌∷◌, map}
+use Rattle.regex_lite_meta.proofs.Common.{Bool}
 use Rattle.regex_lite_meta.proofs.Common.{length, take, drop, slice_get, slice_index}
 use Rattle.regex_lite_meta.proofs.Common.{slice_index_or, Some, None, Option, sym, refl, ap, ◌∙◌, subst}
 use Rattle.regex_lite_meta.proofs.Common.{arith, suc-mul, length-map, length-take-le}
@@ -8,7 +9,7 @@ use Rattle.regex_lite_meta.proofs.Common.{Automaton, unknown, LeadsOn, Remembers
 use Rattle.regex_lite_meta.proofs.Common.{class_of, classes_in, number_of, way_in, hit_in, state_in}
 use Rattle.regex_lite_meta.proofs.Common.{StoredState, StoredWay, Target}
 use Rattle.regex_lite_meta.specs.LazyDfa.Stored.{Agrees, AllAgree, HasNoWays, HasWays, LieWithin}
-use Rattle.regex_lite_meta.specs.LazyDfa.Stored.{number_if, states_in}
+use Rattle.regex_lite_meta.specs.LazyDfa.Stored.{is_restarting, number_if, states_in}
 use Rattle.regex_lite_meta.specs.LazyDfa.Targets.{IsRowOf, IsTargetOf}
 use Rattle.regex_lite_engine.specs.Graph.Places.{Place}
 use Rattle.regex_lite_meta.specs.LazyDfa.Automaton.{KeptOrigin, State}
@@ -132,10 +133,10 @@ module _ (states : List StoredState) (used : ℕ) (ways : List StoredWay) (class
 
   -- a stored state with ways is one with ways
   pub has_ways : LieWithin used states → used ≤ length ways → (y : ℕ) → (hit : Option KeptOrigin)
-      → HasWays states y hit →
+      → (restarts : Bool) → HasWays states y hit restarts →
       (to : State) × (slice_get (states_in ways classes targets states) y ≡ Some to)
-      × (to.ways ≡ [] → ⊥) × (to.hit ≡ hit)
-  has_ways within fits y hit own_ways =
+      × (to.ways ≡ [] → ⊥) × (to.hit ≡ hit) × (to.restarts ≡ restarts)
+  has_ways within fits y hit restarts own_ways =
       let s = own_ways.state in
       let at = state_at states ways classes targets y s
       (slice_get_within states y s own_ways.is_state) in
@@ -148,6 +149,7 @@ module _ (states : List StoredState) (used : ℕ) (ways : List StoredWay) (class
             let zero = len_by_empty y s _ within fits at none in
             let len = ap (λ (z : StoredState). z.len) own in omega (arith, zero, len, some),
         ap (λ (z : StoredState). (state_in ways [] z).hit) own ∙ own_ways.same,
+        ap (λ (z : StoredState). z.restarts) own ∙ own_ways.first,
       )
 
   -- and one without ways is one without
@@ -295,10 +297,11 @@ module _ (intervals : Intervals) (reach : Option ℕ) (states : List StoredState
           };
           effect = λ hit told. subst
               (λ (z : Automaton). (to : State) × (slice_get z.states target.state ≡ Some to)
-              × (to.ways ≡ [] → ⊥) × (to.hit ≡ hit))
+              × (to.ways ≡ [] → ⊥) × (to.hit ≡ hit)
+              × (to.restarts ≡ is_restarting target.effect))
               view
               (has_ways states used ways (classes_in intervals) targets within fits target.state
-              hit (own.effect hit told));
+              hit (is_restarting target.effect) (own.effect hit told));
           emptied = λ told. subst
               (λ (z : Automaton). (to : State) × (slice_get z.states target.state ≡ Some to)
               × (to.ways ≡ []) × (to.hit ≡ None))

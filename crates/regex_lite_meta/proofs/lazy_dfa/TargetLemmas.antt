@@ -5,7 +5,7 @@ use Rattle.regex_lite_meta.proofs.Common.{Automaton, LeadsOn, Remembers, Target,
 use Rattle.regex_lite_meta.specs.LazyDfa.Automaton.{KeptOrigin, State}
 use Rattle.regex_lite_meta.specs.LazyDfa.Intervals.{IsAhead}
 use Rattle.regex_lite_meta.specs.LazyDfa.Spots.{IsTurn}
-use Rattle.regex_lite_meta.specs.LazyDfa.Stored.{is_known, known_hit, number_if}
+use Rattle.regex_lite_meta.specs.LazyDfa.Stored.{is_known, is_restarting, known_hit, number_if}
 use Rattle.regex_lite_meta.specs.LazyDfa.Targets.{IsTargetOf}
 use Rattle.regex_lite_meta.specs.declared.lazy_dfa.state.Effect as code
 use Rattle.regex_lite_meta.specs.declared.lazy_dfa.state.Effect.TheVariants as effect
@@ -19,6 +19,7 @@ pub known_by_hit : (e : code.Effect) (hit : Option KeptOrigin) → known_hit e �
 known_by_hit effect.Plain hit told = refl
 known_by_hit effect.Completes hit told = refl
 known_by_hit effect.Empties hit told = absurd (not_there told)
+known_by_hit effect.Restarts hit told = refl
 known_by_hit effect.ByState hit told = absurd (not_there told)
 known_by_hit effect.Unknown hit told = absurd (not_there told)
 
@@ -51,6 +52,7 @@ turn_of table entries automaton remembers bytes at x class end inside few target
           let same = same_some (sym own.1 ∙ led.1) in (
             λ none. own.2 (subst (λ (s : State). s.ways ≡ []) (sym same) none),
             subst (λ (s : State). s.hit ≡ hit) same own.3,
+            subst (λ (s : State). s.restarts ≡ is_restarting target.effect) same own.4,
           );
       emptied = λ told.
           let own = is.emptied told in

@@ -15,11 +15,11 @@ use Rattle.regex_lite_engine.specs.Pikevm.Walking.{BestHolds}
 use Rattle.regex_lite_engine.proofs.OffsetLemmas.{boundary_at}
 use Rattle.regex_lite_engine.proofs.PositionLemmas.{position_of}
 use Rattle.regex_lite_engine.proofs.pikevm.WalkLemmas.{none_held}
-use Rattle.regex_lite_engine.proofs.search.FirstStartLemmas.{ends_from}
 use Rattle.regex_lite_engine.proofs.search.OneStartLemmas.{only_entry}
 use Rattle.regex_lite_syntax.proofs.OptionLemmas.{not_there}
 use Rattle.regex_lite_meta.proofs.Common.{Here}
 use Rattle.regex_lite_meta.specs.ListPass.{IsToldFrom, StartsNoSooner, PassKnows}
+use Rattle.regex_lite_meta.proofs.list_matches.ToldLemmas.{by_least_end, from_later}
 use Rattle.regex_lite_meta.specs.declared.list_matches.status.Status.{Status}
 use Rattle.regex_lite_meta.specs.declared.list_matches.status.Status.TheVariants.{Known, Open}
 use Rattle.regex_lite_meta.specs.declared.list_matches.status.Status.TheVariants.{Left}
@@ -167,11 +167,7 @@ module _ (table : List (Place ℕ)) (bytes : List ℕ) (utf8 : IsUtf8 bytes) (en
   -- what is known from a later position on, before which no match starts, is known from here
   pub told_on : (s p : ℕ) (told : Bool) → NoneStartsBefore table (chars bytes) entry s p
       → IsToldFrom table bytes entry p told → IsToldFrom table bytes entry s told
-  told_on s p told before after = record {
-    best = after.best;
-    is = after.is;
-    end = ends_from table (chars bytes) entry s p before after.best after.end;
-  }
+  told_on s p told before after = from_later table (chars bytes) entry s p told before after
 
   sooner_on : (s p at : ℕ) → NoneStartsBefore table (chars bytes) entry s p
       → StartsNoSooner table bytes entry p at → StartsNoSooner table bytes entry s at
@@ -209,13 +205,9 @@ module _ (table : List (Place ℕ)) (bytes : List ℕ) (utf8 : IsUtf8 bytes) (en
   pub none_at_all : (s : ℕ)
       → NoneStartsBefore table (chars bytes) entry s (length (chars bytes) + 1)
       → IsToldFrom table bytes entry s false
-  none_at_all s none = record {
-    best = None;
-    is = refl;
-    end = λ i k way q j is.
-        let (first, same) = only_entry entry k is.entry is.is_entry in
-        let own = subst (λ e. IsNumberedMatch table (chars bytes) e s i way q j) (sym same)
-        is.is_match in
-        let late = none.least i q j way own in
-        omega (arith, late, own.inside);
-  }
+  none_at_all s none = by_least_end table (chars bytes) entry s None (λ i k way q j is.
+      let (first, same) = only_entry entry k is.entry is.is_entry in
+      let own = subst (λ e. IsNumberedMatch table (chars bytes) e s i way q j) (sym same)
+      is.is_match in
+      let late = none.least i q j way own in
+      omega (arith, late, own.inside))

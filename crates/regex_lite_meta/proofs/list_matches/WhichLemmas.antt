@@ -1,10 +1,11 @@
 -- Which patterns match, by what is known of the pattern that is entered at each place.
 use Rattle.regex_lite_engine.proofs.Common.{◌≡◌, ℕ, ◌<◌, ◌≤◌, ◌↔◌, Bool, false, List, length}
 use Rattle.regex_lite_engine.proofs.Common.{replicate}
-use Rattle.regex_lite_engine.proofs.Common.{Some, None, option_map, is_some, IsTrue, chars}
+use Rattle.regex_lite_engine.proofs.Common.{◌∷◌, [], Some, IsTrue, chars, slice_get, slice_get-get_or}
 use Rattle.regex_lite_engine.proofs.Common.{IsCharBoundary, slice_index, slice_index_or, sym, refl}
 use Rattle.regex_lite_engine.proofs.Common.{◌∙◌, subst, arith, slice_get_within, table_of_list}
-use Rattle.regex_lite_engine.proofs.Common.{StoredList, Tree, HasMatchFrom, Best, position_at}
+use Rattle.regex_lite_engine.proofs.Common.{StoredList, Tree, HasMatchFrom, position_at}
+use Rattle.regex_lite_engine.proofs.Common.{IsNumberedMatch}
 use Rattle.regex_lite_engine.proofs.Common.{get_or-replicate, length-replicate}
 use Rattle.regex_lite_engine.specs.Graph.SideBySide.{AreRegularPatterns}
 use Rattle.regex_lite_engine.specs.Graph.StoredList.{IsGraphOfList}
@@ -13,17 +14,80 @@ use Rattle.regex_lite_engine.proofs.Common.{HasTree, IsMatchFrom, IsUtf8}
 use Rattle.regex_lite_engine.specs.Graph.Places.{Place}
 use Rattle.regex_lite_engine.specs.Search.NumberedWords.{HasMatchOfNumber, IsEachAnsweredBy}
 use Rattle.regex_lite_engine.proofs.laws.several.NumberedListLemmas.{any_numbered, any_of_numbers}
-use Rattle.regex_lite_engine.proofs.search.ListOutcomeLemmas.{one_told}
+use Rattle.regex_lite_engine.proofs.search.OneStartLemmas.{only_entry}
 use Rattle.regex_lite_syntax.specs.Prefilter.NumberedWords.{NumberedWords, TellsWhichStand}
 use Rattle.regex_lite_syntax.proofs.OptionLemmas.{same_some}
+use Rattle.regex_lite_meta.specs.AnyOfOne.{HasMatchOfAny}
 use Rattle.regex_lite_meta.specs.ListPass.{IsToldFrom, PassKnowsAll, PassKnows}
 use Rattle.regex_lite_meta.specs.declared.list_matches.status.Status.TheVariants.{Open, Left}
 use Rattle.regex_lite_meta.proofs.list_matches.PassLemmas.{none_yet}
 
--- there is a match where it has an end
-pub ends_where_found : (best : Best) → is_some (option_map (λ z. z.1) best) ≡ is_some best
-ends_where_found None = refl
-ends_where_found (Some best) = refl
+module _ (list : StoredList) (bytes : List ℕ) (s : ℕ) (trees : List Tree)
+    (regular : AreRegularPatterns trees) (is : IsGraphOfList trees list) (number : ℕ) (tree : Tree)
+    (there : HasTree trees number tree) where
+  abbrev table : List (Place ℕ)
+  table = table_of_list list
+
+  abbrev entry : ℕ
+  entry = slice_index list.entries number
+
+  to_tree : HasMatchOfNumber table (chars bytes) list.entries s number
+      → HasMatchFrom tree (chars bytes) s
+  to_tree (i, way, q, j, m) =
+      let (other, known, match) = any_of_numbers trees (chars bytes) table list.entries is.name
+      is.written is.entries regular s i number way q j m in (
+        i,
+        j,
+        subst (λ t. IsMatchFrom t (chars bytes) s i j) (same_some (sym known ∙ there)) match,
+      )
+
+  of_tree : HasMatchFrom tree (chars bytes) s
+      → HasMatchOfNumber table (chars bytes) list.entries s number
+  of_tree (i, j, match) =
+      let (q, way, m) = any_numbered trees (chars bytes) table list.entries is.name is.written
+      is.entries regular s number i j tree there match in
+      (i, way, q, j, m)
+
+  -- what is told of the pattern that is entered there is told of its tree
+  pub told_of_tree : (told : Bool) → number < length list.entries
+      → IsToldFrom table bytes entry s told → IsTrue told ↔ HasMatchFrom tree (chars bytes) s
+  told_of_tree told within both =
+      (λ yes. to_tree (numbered (both.0 yes)), λ match. both.1 (alone (of_tree match)))
+    where
+      own : slice_get list.entries number ≡ Some entry
+      own = slice_get-get_or list.entries number 0 within
+
+      numbered : HasMatchOfAny table (chars bytes) (entry ∷ []) s
+          → HasMatchOfNumber table (chars bytes) list.entries s number
+      numbered (i, k, way, q, j, m) =
+          let (first, same) = only_entry entry k m.entry m.is_entry in (
+            i,
+            way,
+            q,
+            j,
+            record {
+              entry = entry;
+              is_entry = own;
+              is_match = subst (λ z. IsNumberedMatch table (chars bytes) z s i way q j) (sym same)
+                  m.is_match;
+            },
+          )
+
+      alone : HasMatchOfNumber table (chars bytes) list.entries s number
+          → HasMatchOfAny table (chars bytes) (entry ∷ []) s
+      alone (i, way, q, j, m) = (
+        i,
+        0,
+        way,
+        q,
+        j,
+        record {
+          entry = entry;
+          is_entry = refl;
+          is_match = subst (λ z. IsNumberedMatch table (chars bytes) z s i way q j)
+              (same_some (sym m.is_entry ∙ own)) m.is_match;
+        },
+      )
 
 module _ (list : StoredList) (bytes : List ℕ) (start : ℕ) where
   -- before a pass all patterns are open
@@ -59,11 +123,8 @@ module _ (list : StoredList) (bytes : List ℕ) (start : ℕ) where
         each = λ number tree there.
             let within : number < length list.entries
             = omega (arith, slice_get_within trees number tree there, each) in
-            let from = told number within in
-            subst (λ told. IsTrue told ↔ HasMatchFrom tree (chars bytes) (position_at bytes start))
-            (ends_where_found from.best ∙ sym from.is)
-            (one_told trees list is bytes start low regular number tree there within from.best
-            from.end);
+            told_of_tree list bytes (position_at bytes start) trees regular is number tree there
+            (slice_index_or matched number false) within (told number within);
       }
 
   -- what is told of the words is told of the trees that are nothing but these
@@ -75,34 +136,13 @@ module _ (list : StoredList) (bytes : List ℕ) (start : ℕ) where
   words_tell utf8 edge words answers matched all told trees regular is = record {
     all = all ∙ is.each_entry;
     each = λ number tree there. (
-      λ yes. to_tree number tree there
+      λ yes. to_tree list bytes s trees regular is number tree there
           ((answers.matches bytes start number utf8 edge).0 ((told number).0 yes)),
       λ match. (told number).1
-          ((answers.matches bytes start number utf8 edge).1 (of_tree number tree there match)),
+          ((answers.matches bytes start number utf8 edge).1
+          (of_tree list bytes s trees regular is number tree there match)),
     );
   }
     where
       s : ℕ
       s = position_at bytes start
-
-      table : List (Place ℕ)
-      table = table_of_list list
-
-      to_tree : (number : ℕ) (tree : Tree) → HasTree trees number tree
-          → HasMatchOfNumber table (chars bytes) list.entries s number
-          → HasMatchFrom tree (chars bytes) s
-      to_tree number tree there (i, way, q, j, m) =
-          let (other, known, match) = any_of_numbers trees (chars bytes) table list.entries is.name
-          is.written is.entries regular s i number way q j m in (
-            i,
-            j,
-            subst (λ t. IsMatchFrom t (chars bytes) s i j) (same_some (sym known ∙ there)) match,
-          )
-
-      of_tree : (number : ℕ) (tree : Tree) → HasTree trees number tree
-          → HasMatchFrom tree (chars bytes) s
-          → HasMatchOfNumber table (chars bytes) list.entries s number
-      of_tree number tree there (i, j, match) =
-          let (q, way, m) = any_numbered trees (chars bytes) table list.entries is.name is.written
-          is.entries regular s number i j tree there match in
-          (i, way, q, j, m)

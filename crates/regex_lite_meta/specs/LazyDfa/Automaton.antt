@@ -37,6 +37,8 @@ pub record State : Type 0 where
   pub before : Side
   -- where the way began by which a match was complete at the last position
   pub hit : Option KeptOrigin
+  -- whether the last position is the first start from there on
+  pub restarts : Bool
   -- the numbers of the states that turns lead to, by the class of the next character
   pub next : List ℕ
 
@@ -92,6 +94,11 @@ abbrev pub best_left : Option KeptOrigin → (i at : ℕ) → Best → Best
 best_left None i at best = best
 best_left (Some origin) i at best = Some (told_by i origin, at, [])
 
+-- the first start after a turn at the offset, where it was i before
+abbrev pub first_left : (restarts : Bool) → (i at : ℕ) → ℕ
+first_left false i at = i
+first_left true i at = at
+
 -- own starts are added until there is a match
 abbrev pub searching_after : Option KeptOrigin → Bool → Bool
 searching_after None searching = searching
@@ -115,8 +122,8 @@ pub record LeadsOn (table : List (Place ℕ)) (entries : List ℕ) (intervals : 
       → (x.ways ≡ [] → i ≡ there.at) → (best : Best) → Suits x.searching best
       → (haystack : Text) (p first last : ℕ) → IsHere haystack p there → first ≤ p → p ≤ last
       → IsComing table haystack entries first last p (threads_of i x.ways) best
-      → IsComing table haystack entries first last (p + 1) (threads_of i y.ways)
-      (best_left y.hit i there.at best)
+      → IsComing table haystack entries first last (p + 1)
+      (threads_of (first_left y.restarts i there.at) y.ways) (best_left y.hit i there.at best)
   pub searching : y.searching ≡ searching_after y.hit x.searching
   pub before : intervals.looks ≡ true → (there : Here)
       → class_of intervals.boundaries there.after ≡ class → side_of there.after ≡ y.before

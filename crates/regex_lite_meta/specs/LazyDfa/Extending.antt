@@ -7,13 +7,14 @@ use Rattle.regex_lite_meta.specs.LazyDfa.Intervals.{classes_in}
 
 -- the state with this number has these ways and properties
 pub record IsState (automaton : Automaton) (y : ℕ) (all : List Way) (goes_on : Bool)
-    (side : Side) (last : Option KeptOrigin) : Type 0 where
+    (side : Side) (last : Option KeptOrigin) (anew : Bool) : Type 0 where
   pub state : State
   pub is : slice_get automaton.states y ≡ Some state
   pub ways : state.ways ≡ all
   pub searching : state.searching ≡ goes_on
   pub before : state.before ≡ side
   pub hit : state.hit ≡ last
+  pub restarts : state.restarts ≡ anew
 
 -- all states are still there, and no turn is known from a new one
 pub record Extends (old new : Automaton) : Type 0 where

@@ -1,5 +1,6 @@
 -- What is known of a search whose turns are remembered.
-use Rattle.std.specs.Prelude.{◌≡◌, ℕ, Bool, true, List, [], ◌∷◌, slice_get, Option, Some}
+use Rattle.std.specs.Prelude.{◌≡◌, ◌⊎◌, ℕ, Bool, true, List, [], ◌∷◌, slice_get, Option, None}
+use Rattle.std.specs.Prelude.{Some}
 use Rattle.regex_lite_syntax.specs.Text.{Text}
 use Rattle.regex_lite_engine.specs.declared.search.here.Here.{Here}
 use Rattle.regex_lite_engine.specs.declared.search.patterns.Start.{Start}
@@ -12,12 +13,22 @@ use Rattle.regex_lite_engine.specs.Pikevm.Machine.{Thread}
 use Rattle.regex_lite_engine.specs.Pikevm.Searching.{IsHit, TurnsAgain}
 use Rattle.regex_lite_engine.specs.Search.Standing.{IsHere}
 use Rattle.regex_lite_engine.specs.Pikevm.Turns.{best_of}
+use Rattle.regex_lite_engine.specs.Search.NumberedOutcomes.{Best}
 use Rattle.regex_lite_engine.specs.Search.Starts.{AreStartsAt}
 
 -- the first start is the position's own if there is no thread, and otherwise another
 abbrev pub IsFirstStart : (first at : ℕ) → List Thread → Type 0
 IsFirstStart first at [] = first ≡ at
 IsFirstStart first at (thread ∷ threads) = first ≡ at → ⊥
+
+-- the first start after a turn at the offset: that of before, or the offset, if there is no match
+abbrev pub IsFirstAfterTurn : (before at : ℕ) → Best → (first : ℕ) → Type 0
+IsFirstAfterTurn before at best first = (first ≡ before) ⊎ ((first ≡ at) × (best ≡ None))
+
+-- none of the threads began at the offset, as far as that is told
+abbrev pub NoneBegan : (at : ℕ) → List Thread → Type 0
+NoneBegan at [] = Unit {0}
+NoneBegan at (thread ∷ threads) = (thread.1.at ≡ Some at → ⊥) × NoneBegan at threads
 
 -- the search is in this state, after this character
 pub record IsIn {S : Type 0} (automaton : Automaton) (x : ℕ) (first : ℕ) (before : Option ℕ)
@@ -39,6 +50,7 @@ pub record HasTurned {S : Type 0} (table : List (Place ℕ)) (entries : List ℕ
   pub is_hit : IsHit hit (best_of before.best) (best_of now.best)
   pub tells : (number : ℕ) → TellsStart (told number) here.at number
   pub is_first : IsFirstStart first here.at before.walk.memory.threads
+  pub earlier : best_of before.best ≡ None → NoneBegan here.at before.walk.memory.threads
   -- these starts suffice wherever they do
   pub suffice : (haystack : Text) (p : ℕ) (there : Here) → IsHere haystack p there
       → AreStartsAt table haystack entries p starts

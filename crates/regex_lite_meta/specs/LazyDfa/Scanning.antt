@@ -6,7 +6,8 @@ use Rattle.regex_lite_meta.specs.declared.lazy_dfa.scan.Standing.{Standing}
 use Rattle.regex_lite_engine.specs.declared.pikevm.beginning.Origin.{Origin}
 use Rattle.regex_lite_engine.specs.declared.search.here.Here.{Here}
 use Rattle.regex_lite_engine.specs.Graph.Places.{Place}
-use Rattle.regex_lite_meta.specs.LazyDfa.Automaton.{Automaton, State, Suits, threads_of}
+use Rattle.regex_lite_meta.specs.LazyDfa.Automaton.{Automaton, State, Suits, first_left}
+use Rattle.regex_lite_meta.specs.LazyDfa.Automaton.{threads_of}
 use Rattle.regex_lite_meta.specs.LazyDfa.Intervals.{side_of}
 use Rattle.regex_lite_engine.specs.Search.NumberedOutcomes.{IsFoundOf}
 use Rattle.regex_lite_engine.specs.Search.NumberedOutcomes.{IsNumberedEndOf}
@@ -31,11 +32,10 @@ module _ (table : List (Place ℕ)) (entries : List ℕ) (haystack : Text) (low 
     pub is : IsHere haystack r here
     pub coming : IsComing table haystack entries low (length haystack) r [] None
 
-  -- the first start is another one only where there was nothing to go on from, at or after position
-  -- p
-  abbrev pub IsSince : (p before first : ℕ) → Type 0
-  IsSince p before first =
-      (first ≡ before) ⊎ ((here : Here) × (here.at ≡ first) × IsIdleAt p here)
+  -- the offset is another one only where there was nothing to go on from, at or after position p
+  abbrev pub IsSince : (p before idle : ℕ) → Type 0
+  IsSince p before idle =
+      (idle ≡ before) ⊎ ((here : Here) × (here.at ≡ idle) × IsIdleAt p here)
 
   module _ (p : ℕ) (automaton : Automaton) where
     -- a search from position low on stands at position p
@@ -57,7 +57,7 @@ module _ (table : List (Place ℕ)) (entries : List ℕ) (haystack : Text) (low 
       pub suits : Suits state.searching (best_told best)
       pub sees : automaton.intervals.looks ≡ true → side_of at.here.after ≡ state.before
       pub coming : IsComing table haystack entries low (length haystack) (p + 1)
-          (threads_of at.first state.ways) (best_told best)
+          (threads_of (first_left state.restarts at.first at.here.at) state.ways) (best_told best)
 
     -- the turn from there leads to this state, and to this match. Where the least end is asked
     -- for, a turn that completes a match ends the search
@@ -68,16 +68,17 @@ module _ (table : List (Place ℕ)) (entries : List ℕ) (haystack : Text) (low 
     EndsOrLeads true at to (Some best) =
         IsNumberedEndOf table haystack entries low (best_told (Some best))
 
-  -- from position p and this first start it comes to stand there, at that position or a later one
-  abbrev pub ComesTo : (p first : ℕ) → Automaton → (at : Standing) → Type 0
-  ComesTo p first automaton at =
-      (q : ℕ) × (p ≤ q) × IsScanning q automaton at × IsSince p first at.first
+  -- from position p it comes to stand there, at that position or a later one. The offset at which
+  -- there was nothing to go on from is this one, or a later one
+  abbrev pub ComesTo : (p idle : ℕ) → Automaton → (at : Standing) → Type 0
+  ComesTo p idle automaton at =
+      (q : ℕ) × (p ≤ q) × IsScanning q automaton at × IsSince p idle at.idle_at
 
 -- a search goes on from one place to another, at the same position or a later one
 abbrev pub GoesOn : List (Place ℕ) → List ℕ → Text → Automaton → (from at : Standing) → Type 0
 GoesOn table entries haystack automaton from at = (low p : ℕ)
     → IsScanning table entries haystack low p automaton from
-    → ComesTo table entries haystack low p from.first automaton at
+    → ComesTo table entries haystack low p from.idle_at automaton at
 
 -- a search that goes on from there is over, and this is its match or, where the least end is asked
 -- for, one that ends there

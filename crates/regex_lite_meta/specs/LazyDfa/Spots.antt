@@ -5,10 +5,10 @@ use Rattle.regex_lite_meta.specs.declared.lazy_dfa.spot.Spot.{Spot}
 use Rattle.regex_lite_meta.specs.declared.lazy_dfa.state.Target.{Target}
 use Rattle.regex_lite_engine.specs.Graph.Places.{Place}
 use Rattle.regex_lite_meta.specs.LazyDfa.Automaton.{Automaton, KeptOrigin, LeadsOn, State}
-use Rattle.regex_lite_meta.specs.LazyDfa.Automaton.{best_left}
+use Rattle.regex_lite_meta.specs.LazyDfa.Automaton.{best_left, first_left}
 use Rattle.regex_lite_meta.specs.LazyDfa.Intervals.{IsAhead}
 use Rattle.regex_lite_meta.specs.LazyDfa.Scanning.{best_told}
-use Rattle.regex_lite_meta.specs.LazyDfa.Stored.{is_emptying, is_known, known_hit}
+use Rattle.regex_lite_meta.specs.LazyDfa.Stored.{is_emptying, is_known, is_restarting, known_hit}
 use Rattle.regex_lite_meta.specs.LazyDfa.Targets.{IsRowOf}
 
 -- wherever a search in state x sees a character of the class of the one at this offset, its turn
@@ -23,9 +23,10 @@ pub record IsTurn (table : List (Place ℕ)) (entries : List ℕ) (automaton : A
   pub is_to : slice_get automaton.states target.state ≡ Some to
   pub row : IsRowOf automaton target.row target.state
   pub leads : LeadsOn table entries automaton.intervals from class to
-  -- where the effect is known, the state has ways, and what is complete in it is known
+  -- where the effect is known, the state has ways, and what is complete in it and whether it
+  -- restarts is known
   pub effect : (hit : Option KeptOrigin) → known_hit target.effect ≡ Some hit
-      → (to.ways ≡ [] → ⊥) × (to.hit ≡ hit)
+      → (to.ways ≡ [] → ⊥) × (to.hit ≡ hit) × (to.restarts ≡ is_restarting target.effect)
   pub emptied : is_emptying target.effect ≡ true → (to.ways ≡ []) × (to.hit ≡ None)
 
 -- if the turn from the state with this row is remembered, that is where it leads
@@ -42,8 +43,10 @@ pub record IsTaken (at row end : ℕ) (state : State) (before after : Standing) 
   pub ends : on.at ≡ end
   pub is_to : on.row ≡ row
   pub best : best_told after.best ≡ best_left state.hit before.first at (best_told before.best)
-  pub first : ((state.ways ≡ []) × (after.first ≡ on.at) × (after.best ≡ None))
-      ⊎ ((state.ways ≡ [] → ⊥) × (after.first ≡ before.first))
+  pub first : ((state.ways ≡ []) × (after.first ≡ on.at) × (after.idle_at ≡ on.at)
+      × (after.best ≡ None))
+      ⊎ ((state.ways ≡ [] → ⊥) × (after.first ≡ first_left state.restarts before.first at)
+      × (after.idle_at ≡ before.idle_at))
 
 -- after the turn to this state nothing leads on, and the last match is the answer
 pub record EndsScan (at : ℕ) (state : State) (before after : Standing) : Type 0 where
@@ -72,6 +75,6 @@ abbrev pub TakesToNothing : (there : Spot) → (before after : Standing) → Opt
     → Type 0
 TakesToNothing there before after (Some (Some on)) =
     (on.at ≡ there.at) × (on.row ≡ there.row) × (before.best ≡ None)
-    × (after ≡ record before { first = there.at })
+    × (after ≡ record before { first = there.at; idle_at = there.at })
 TakesToNothing there before after (Some None) = (after ≡ before) × (before.best ≡ None → ⊥)
 TakesToNothing there before after None = (after ≡ before) × (before.best ≡ None)

@@ -26,6 +26,7 @@ abbrev pub is_known : effects.Effect → Bool
 is_known effect.Plain = true
 is_known effect.Completes = true
 is_known effect.Empties = true
+is_known effect.Restarts = true
 is_known effect.ByState = true
 is_known effect.Unknown = false
 
@@ -44,6 +45,7 @@ state_in ways targets state = record {
   searching = state.searching;
   before = state.before;
   hit = hit_in state.hit;
+  restarts = state.restarts;
   next = map number_of targets;
 }
 
@@ -63,6 +65,7 @@ abbrev pub known_hit : effects.Effect → Option (Option KeptOrigin)
 known_hit effect.Plain = Some None
 known_hit effect.Completes = Some (hit_in (stored.AtFirst 0))
 known_hit effect.Empties = None
+known_hit effect.Restarts = Some None
 known_hit effect.ByState = None
 known_hit effect.Unknown = None
 
@@ -71,8 +74,18 @@ abbrev pub is_emptying : effects.Effect → Bool
 is_emptying effect.Plain = false
 is_emptying effect.Completes = false
 is_emptying effect.Empties = true
+is_emptying effect.Restarts = false
 is_emptying effect.ByState = false
 is_emptying effect.Unknown = false
+
+-- whether the position of a turn with this effect is the first start from there on
+abbrev pub is_restarting : effects.Effect → Bool
+is_restarting effect.Plain = false
+is_restarting effect.Completes = false
+is_restarting effect.Empties = false
+is_restarting effect.Restarts = true
+is_restarting effect.ByState = false
+is_restarting effect.Unknown = false
 
 -- the state with this number has no ways, and no match is complete in it
 pub record HasNoWays (states : List StoredState) (y : ℕ) : Type 0 where
@@ -81,12 +94,15 @@ pub record HasNoWays (states : List StoredState) (y : ℕ) : Type 0 where
   pub none : state.len ≡ 0
   pub free : hit_in state.hit ≡ None
 
--- the state with this number has ways, and this is where the way began by which a match is complete
-pub record HasWays (states : List StoredState) (y : ℕ) (hit : Option KeptOrigin) : Type 0 where
+-- the state with this number has ways, and this is where the way began by which a match is complete,
+-- and whether the last position is the first start from there on
+pub record HasWays (states : List StoredState) (y : ℕ) (hit : Option KeptOrigin)
+    (restarts : Bool) : Type 0 where
   pub state : StoredState
   pub is_state : slice_get states y ≡ Some state
   pub some : 0 < state.len
   pub same : hit_in state.hit ≡ hit
+  pub first : state.restarts ≡ restarts
 
 -- if the turn is remembered, the target names a state and where its row begins; and what is known of
 -- its effect is so in its state
@@ -94,7 +110,7 @@ pub record Agrees (states : List StoredState) (classes : ℕ) (target : Target) 
   pub row : is_known target.effect ≡ true → target.row ≡ target.state * classes
   pub within : is_known target.effect ≡ true → target.state < length states
   pub effect : (hit : Option KeptOrigin) → known_hit target.effect ≡ Some hit
-      → HasWays states target.state hit
+      → HasWays states target.state hit (is_restarting target.effect)
   pub empties : is_emptying target.effect ≡ true → HasNoWays states target.state
 
 abbrev pub AllAgree : List StoredState → (classes : ℕ) → List Target → Type 0

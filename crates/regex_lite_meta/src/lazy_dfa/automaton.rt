@@ -164,10 +164,10 @@ impl LazyDfa {
     }
 
     /// Adds a state with the pending ways and these properties. Returns whether there was memory.
-    pub(super) fn add(&mut self, searching: bool, before: Side, hit: Hit) -> bool
+    pub(super) fn add(&mut self, searching: bool, before: Side, hit: Hit, restarts: bool) -> bool
         requires { length self.old.states < 256 }
         ensures state { result ≡ true → IsState self.new (length self.old.states)
-            self.old.pending searching before (hit_in hit) }
+            self.old.pending searching before (hit_in hit) restarts }
         ensures extends { Extends self.old self.new }
         ensures none_pending { result ≡ true → self.new.pending ≡ [] }
     {
@@ -175,6 +175,7 @@ impl LazyDfa {
             from: self.used,
             len: self.ways.len() - self.used,
             searching,
+            restarts,
             before,
             hit,
         };

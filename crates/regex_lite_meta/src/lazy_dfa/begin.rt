@@ -64,6 +64,7 @@ impl LazyDfa {
             here,
             state,
             first: here.at,
+            idle_at: here.at,
             best: None,
         };
         if self.run::<P, EARLIEST>(patterns, haystack, &mut at) {

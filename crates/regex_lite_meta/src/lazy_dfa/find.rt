@@ -16,7 +16,9 @@ ghost use Rattle.regex_lite_engine.specs.Pikevm.Turns.{best_of};
 
 use crate::lazy_dfa::automaton::LazyDfa;
 use crate::lazy_dfa::reach::back;
-use crate::lazy_dfa::run::{Progress, go_over, let_go, may_have, next_position, take_up_ways};
+use crate::lazy_dfa::run::{
+    Progress, first_after, go_over, let_go, may_have, next_position, take_up_ways,
+};
 use crate::lazy_dfa::scan::Standing;
 use crate::lazy_dfa::state::StoredWay;
 use regex_lite_engine::pikevm::beginning::Origin;
@@ -130,7 +132,9 @@ impl LazyDfa {
                 return Err(at);
             }
             let hit = go_over(cache, patterns, haystack, at.here);
-            at.state = self.learn(patterns, cache, at, hit);
+            let first = first_after(cache, at);
+            at.state = self.learn(patterns, cache, at, hit, first);
+            at.first = first;
             if is_done::<_, EARLIEST>(at.here, cache) {
                 return Ok(cache.best.found());
             }
@@ -177,6 +181,7 @@ impl LazyDfa {
             here: at.here,
             state,
             first: at.first,
+            idle_at: at.first,
             best: cache.best.found(),
         };
         if self.scan::<P, EARLIEST>(patterns, haystack, &mut to) {
@@ -228,8 +233,8 @@ impl LazyDfa {
         }
         // The offset fits: no haystack has as many bytes.
         at.until = stuck.here.at + 1;
-        if stuck.first > at.here.at {
-            let here = Here::at(haystack, stuck.first);
+        if stuck.idle_at > at.here.at {
+            let here = Here::at(haystack, stuck.idle_at);
             let_go(cache);
             at.state = self.empty_state(here.before);
             at.first = here.at;

@@ -70,7 +70,7 @@ impl LazyDfa {
         ensures state { MatchOption result (Unit {0}) (λ y. IsEmptyState self.new y before) }
     {
         let side = self.side(before);
-        self.settle(true, side, Hit::Nowhere)
+        self.settle(true, side, Hit::Nowhere, false)
     }
 
     /// The same position in the state without ways, if a turn from there is remembered.
@@ -162,6 +162,7 @@ impl LazyDfa {
         }
         at.here = next;
         at.first = next.at;
+        at.idle_at = next.at;
         true
     }
 

@@ -4,7 +4,7 @@ ghost use Rattle.std.specs.Prelude.{true, IfOk, IfSome};
 ghost use Rattle.regex_lite_meta.specs.LazyDfa.Automaton.{FitsOwnParts, Remembers, State, hit_of};
 ghost use Rattle.regex_lite_meta.specs.LazyDfa.Automaton.{searching_after, ways_of};
 ghost use Rattle.regex_lite_meta.specs.LazyDfa.Intervals.{side_of};
-ghost use Rattle.regex_lite_meta.specs.LazyDfa.Learning.{HasTurned, IsIn};
+ghost use Rattle.regex_lite_meta.specs.LazyDfa.Learning.{HasTurned, IsFirstAfterTurn, IsIn};
 ghost use Rattle.regex_lite_meta.specs.LazyDfa.Running.{Stands};
 ghost use Rattle.regex_lite_meta.specs.LazyDfa.Stored.{hit_in};
 ghost use Rattle.regex_lite_syntax.specs.Text.{Text};
@@ -25,25 +25,28 @@ use regex_lite_engine::search::patterns::Patterns;
 impl LazyDfa {
     /// Remembers the turn by which the search came from there to what the cache holds now, if the
     /// state that it stood in is known, unless the last scan went on by it. A match was complete
-    /// there, or not. Returns the state that the search is in, if there is room for it.
+    /// there, or not, and `first` is the first start from there on. Returns the state that the
+    /// search is in, if there is room for it.
     pub(super) fn learn<P: Patterns>(
         &mut self,
         patterns: &P,
         cache: &Cache<Origin>,
         at: Progress,
         hit: bool,
+        first: usize,
     ) -> Option<u16>
         requires remembers { Remembers (P.table patterns.now) (P.entries patterns.now) self.old }
         requires none_pending { self.old.pending ≡ [] }
         requires turned { MatchOption at.state (Unit {0}) (λ x. HasTurned (P.table patterns.now)
             (P.entries patterns.now) self.old x at.first at.here hit cache.now) }
+        requires first { IsFirstAfterTurn at.first at.here.at (best_of cache.now.best) first }
         requires between { IsBetween (P.table patterns.now) cache.now }
         requires own { FitsOwnParts (P.table patterns.now) (P.entries patterns.now)
             (length cache.now.walk.memory.threads) }
         ensures remembers { Remembers (P.table patterns.now) (P.entries patterns.now) self.new }
         ensures none_pending { self.new.pending ≡ [] }
         ensures state { MatchOption result (Unit {0})
-            (λ y. IsIn self.new y at.first at.here.after cache.now) }
+            (λ y. IsIn self.new y first at.here.after cache.now) }
     {
         if at.was_scanned() {
             return None;
@@ -51,14 +54,14 @@ impl LazyDfa {
         let Some(x) = at.state else {
             return None;
         };
-        if !self.gather(&cache.walk.memory, at.first) {
+        if !self.gather(&cache.walk.memory, first) {
             self.drop_pending();
             return None;
         }
         let hit = hit_told(at.first, hit, cache);
         let searching = self.searching_after(x, hit);
         let before = self.side(at.here.after);
-        let y = self.settle(searching, before, hit)?;
+        let y = self.settle(searching, before, hit, first != at.first)?;
         let class = self.classes.class(at.here.after);
         self.remember(x, class, y);
         Some(y)
@@ -87,7 +90,7 @@ impl LazyDfa {
         }
         let before = self.side(at.here.before);
         let hit = hit_told(at.first, has_just_ended(at, cache), cache);
-        self.settle(cache.best.is_none(), before, hit)
+        self.settle(cache.best.is_none(), before, hit, false)
     }
 
     /// The same position, in its state, if the last scan was stuck here. The search has come here
@@ -166,13 +169,20 @@ impl LazyDfa {
     /// The state that has the pending ways and these properties, if it is there or there is room
     /// for it.
     #[tactic(auto, using(crate::proofs::lazy_dfa::StoredStateLemmas::length_states))]
-    pub(crate) fn settle(&mut self, searching: bool, before: Side, hit: Hit) -> Option<u16>
+    pub(crate) fn settle(
+        &mut self,
+        searching: bool,
+        before: Side,
+        hit: Hit,
+        restarts: bool,
+    ) -> Option<u16>
         ensures state { IfSome result (λ y.
-            IsState self.new y self.old.pending searching before (hit_in hit)) }
+            IsState self.new y self.old.pending searching before (hit_in hit)
+            restarts) }
         ensures extends { Extends self.old self.new }
         ensures none_pending { self.new.pending ≡ [] }
     {
-        let cell = match self.find_state(searching, before, hit) {
+        let cell = match self.find_state(searching, before, hit, restarts) {
             Ok(y) => {
                 self.drop_pending();
                 return Some(y);
@@ -180,7 +190,7 @@ impl LazyDfa {
             Err(cell) => cell,
         };
         let y = self.states.len();
-        if !self.has_room() || !self.add(searching, before, hit) {
+        if !self.has_room() || !self.add(searching, before, hit, restarts) {
             self.drop_pending();
             self.not_kept = self.not_kept.saturating_add(1);
             return None;
@@ -192,16 +202,23 @@ impl LazyDfa {
 
     /// The state that has the pending ways and these properties, if its number is looked up. Else
     /// the cell for the number of such a state.
-    fn find_state(&self, searching: bool, before: Side, hit: Hit) -> Result<u16, usize>
+    fn find_state(
+        &self,
+        searching: bool,
+        before: Side,
+        hit: Hit,
+        restarts: bool,
+    ) -> Result<u16, usize>
         ensures { IfOk result (λ y.
-            IsState self.now y self.now.pending searching before (hit_in hit)) }
+            IsState self.now y self.now.pending searching before (hit_in hit)
+            restarts) }
     {
         let first = self.lookup.cell(hash_of(self.pending(), hit));
         'cells: for k in 0..CELLS_FOR_ONE {
             let Some(y) = self.lookup.number(first ^ k) else {
                 return Err(first ^ k);
             };
-            if self.is_state(y, searching, before, hit) {
+            if self.is_state(y, searching, before, hit, restarts) {
                 return Ok(y);
             }
         }
@@ -210,14 +227,14 @@ impl LazyDfa {
 
     /// Whether the state with this number has the pending ways and these properties.
     #[tactic(auto, using(crate::proofs::lazy_dfa::StoredStateLemmas::length_states))]
-    fn is_state(&self, y: u16, searching: bool, before: Side, hit: Hit) -> bool
+    fn is_state(&self, y: u16, searching: bool, before: Side, hit: Hit, restarts: bool) -> bool
         ensures { result ≡ true
-            → IsState self.now y self.now.pending searching before (hit_in hit) }
+            → IsState self.now y self.now.pending searching before (hit_in hit) restarts }
     {
         if y as usize >= self.states.len() {
             return false;
         }
-        self.states[y as usize].is_like(searching, before, hit)
+        self.states[y as usize].is_like(searching, before, hit, restarts)
             && are_same(self.ways(y as usize), self.pending())
     }
 

@@ -1,11 +1,12 @@
 //! Scans that go on by remembered turns, by offsets alone.
 ghost use Rattle.std.specs.Prelude.{◌≡◌, ◌+◌, ◌<◌, [], ℕ, IfErr, IfOk, IfSome, IsCharBoundary};
 ghost use Rattle.std.specs.Prelude.{None, Option, Some, chars, false, true, length, slice_get};
-ghost use Rattle.regex_lite_meta.specs.LazyDfa.Automaton.{KeptOrigin, Remembers, State};
+ghost use Rattle.regex_lite_meta.specs.LazyDfa.Automaton.{KeptOrigin, Remembers, State, first_left};
 ghost use Rattle.regex_lite_meta.specs.LazyDfa.Intervals.{IsInterval};
 ghost use Rattle.regex_lite_meta.specs.LazyDfa.Scanning.{EndsWith, GoesOn, IsScanning};
 ghost use Rattle.regex_lite_meta.specs.LazyDfa.Spots.{IsTurn, IsTurned, LeadsIfKnown, Takes};
-ghost use Rattle.regex_lite_meta.specs.LazyDfa.Stored.{hit_in, is_emptying, known_hit};
+ghost use Rattle.regex_lite_meta.specs.LazyDfa.Stored.{hit_in, is_emptying, is_restarting};
+ghost use Rattle.regex_lite_meta.specs.LazyDfa.Stored.{known_hit};
 ghost use Rattle.regex_lite_meta.specs.LazyDfa.Targets.{IsRowOf};
 
 use crate::lazy_dfa::automaton::LazyDfa;
@@ -153,7 +154,8 @@ impl LazyDfa {
         requires to { target.state < length self.now.states }
         requires effect { (hit : Option KeptOrigin) → known_hit target.effect ≡ Some hit
             → (state : State) → slice_get self.now.states target.state ≡ Some state
-            → ¬ (state.ways ≡ []) × (state.hit ≡ hit) }
+            → ¬ (state.ways ≡ []) × (state.hit ≡ hit)
+            × (state.restarts ≡ is_restarting target.effect) }
         requires emptied { is_emptying target.effect ≡ true → (state : State)
             → slice_get self.now.states target.state ≡ Some state
             → (state.ways ≡ []) × (state.hit ≡ None) }
@@ -167,6 +169,10 @@ impl LazyDfa {
         }
         if let Effect::Empties = target.effect {
             return take_to_nothing(spot, spot.after(target, end), at);
+        }
+        if let Effect::Restarts = target.effect {
+            at.first = spot.at;
+            return Some(Some(spot.after(target, end)));
         }
         self.take_by_state(spot, target, end, at)
     }
@@ -198,7 +204,24 @@ impl LazyDfa {
         if self.is_empty(state) {
             return take_to_nothing(spot, on, at);
         }
+        at.first = self.first_after(state, at.first, spot.at);
         Some(Some(on))
+    }
+
+    /// The first start after a turn from this offset to this state, which has ways, where it was
+    /// `first` before.
+    #[inline(always)]
+    #[tactic(auto, using(crate::proofs::lazy_dfa::StoredStateLemmas::length_states))]
+    pub(super) fn first_after(&self, x: u16, first: usize, at: usize) -> usize
+        requires { x < length self.now.states }
+        ensures { (state : State) → slice_get self.now.states x ≡ Some state
+            → result ≡ first_left state.restarts first at }
+    {
+        if self.states[x as usize].restarts {
+            at
+        } else {
+            first
+        }
     }
 
     /// Where the way began by which a match is complete in this state.
@@ -218,7 +241,8 @@ impl LazyDfa {
         requires to { target.state < length self.now.states }
         requires effect { (hit : Option KeptOrigin) → known_hit target.effect ≡ Some hit
             → (state : State) → slice_get self.now.states target.state ≡ Some state
-            → ¬ (state.ways ≡ []) × (state.hit ≡ hit) }
+            → ¬ (state.ways ≡ []) × (state.hit ≡ hit)
+            × (state.restarts ≡ is_restarting target.effect) }
         ensures none { (state : State) → slice_get self.now.states target.state ≡ Some state
             → EARLIEST ≡ true → result ≡ false → state.hit ≡ None }
         ensures hit { (state : State) → slice_get self.now.states target.state ≡ Some state

@@ -38,11 +38,12 @@ impl Room {
 /// At most this many states differ from one another; `MOST_STATES` where there may be more than
 /// that.
 fn different_states(reading: usize, patterns: usize, looks: bool) -> usize {
-    // The ways of a state lead to different places. Each began at the first start, or it didn't.
-    let lists: usize = match reading {
-        0 => 1,
-        1 => 3,
-        2 => 13,
+    // The ways of a state lead to different places. Each began at the first start, or it didn't. In
+    // some lists all did.
+    let (lists, of_first): (usize, usize) = match reading {
+        0 => (1, 0),
+        1 => (3, 1),
+        2 => (13, 4),
         _ => return MOST_STATES,
     };
     // There is no match yet, there was one before, or one of a pattern is complete, which began at
@@ -50,5 +51,9 @@ fn different_states(reading: usize, patterns: usize, looks: bool) -> usize {
     let hits = patterns.saturating_mul(2).saturating_add(2);
     // Looks see no character, a line feed, a carriage return, one of a word, or any other.
     let sides = if looks { 5 } else { 1 };
-    lists.saturating_mul(hits).saturating_mul(sides)
+    // Where the first start is the last position, there is no match, and all ways began there.
+    lists
+        .saturating_mul(hits)
+        .saturating_add(of_first)
+        .saturating_mul(sides)
 }

@@ -3,7 +3,7 @@ ghost use Rattle.std.specs.Prelude.{◌≡◌, [], ◌<◌, ◌≤◌, ◌+◌, 
 ghost use Rattle.std.specs.Prelude.{IfSome, IsCharBoundary, IsSome, MatchOption, None};
 ghost use Rattle.std.specs.Prelude.{chars, false, length, map, slice_index, true};
 ghost use Rattle.regex_lite_meta.specs.LazyDfa.Automaton.{Automaton};
-ghost use Rattle.regex_lite_meta.specs.LazyDfa.Learning.{IsFirstStart, IsIn};
+ghost use Rattle.regex_lite_meta.specs.LazyDfa.Learning.{IsFirstAfterTurn, IsFirstStart, IsIn};
 ghost use Rattle.regex_lite_meta.specs.LazyDfa.Running.{GoesOnWith, IsOnItsWay, NoneStartsBeforeOf};
 ghost use Rattle.regex_lite_meta.specs.LazyDfa.Running.{Stands, started_at, thread_from};
 ghost use Rattle.regex_lite_meta.specs.LazyDfa.Scanning.{best_told};
@@ -110,6 +110,22 @@ fn first_start(memory: &Memory<Origin>, at: usize) -> Option<usize>
     }
     let (_, start) = memory.thread(0);
     if start.at < at { Some(start.at) } else { None }
+}
+
+/// The first start after the search has gone over the position: the position itself, if the most
+/// preferred thread began there and there is no match. No thread of an earlier start is left then.
+pub(super) fn first_after(cache: &Cache<Origin>, at: Progress) -> usize
+    ensures { IsFirstAfterTurn at.first at.here.at (best_of cache.now.best) result }
+{
+    if cache.walk.memory.threads() == 0 || !cache.best.is_none() {
+        return at.first;
+    }
+    let (_, start) = cache.walk.memory.thread(0);
+    if start.at == at.here.at {
+        at.here.at
+    } else {
+        at.first
+    }
 }
 
 /// Goes on to the next position. The state is the one that the search is in there.

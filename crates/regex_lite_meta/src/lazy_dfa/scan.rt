@@ -2,6 +2,7 @@
 ghost use Rattle.std.specs.Prelude.{◌≡◌, ◌↔◌, ◌+◌, ◌<◌, ◌⊎◌, [], ℕ, IfSome, IsSome, IsTrue, None};
 ghost use Rattle.std.specs.Prelude.{Some, chars, false, length, slice_get, true};
 ghost use Rattle.regex_lite_meta.specs.LazyDfa.Automaton.{IsEmptyState, Remembers, State};
+ghost use Rattle.regex_lite_meta.specs.LazyDfa.Automaton.{first_left};
 ghost use Rattle.regex_lite_meta.specs.LazyDfa.Scanning.{EndsOrLeads, EndsWith, GoesOn};
 ghost use Rattle.regex_lite_meta.specs.LazyDfa.Scanning.{IsScanning, best_told};
 ghost use Rattle.regex_lite_syntax.specs.Text.{Text};
@@ -20,6 +21,8 @@ pub(crate) struct Standing {
     pub state: u16,
     /// The first start, where some ways of the state began.
     pub first: usize,
+    /// The last offset at which there was nothing to go on from, or the first start before that.
+    pub idle_at: usize,
     /// Where the last match that was found starts and ends.
     pub best: Option<(Origin, usize)>,
 }
@@ -159,6 +162,7 @@ impl LazyDfa {
             here,
             state,
             first: here.at,
+            idle_at: here.at,
             best: None,
         };
         true
@@ -259,14 +263,21 @@ impl LazyDfa {
             → IsHere (chars haystack.now) (p + 1) at.new.here }
         ensures same { at.new ≡ record at.new { state = to; best = best } }
         ensures first { (state : State) → slice_get self.now.states to ≡ Some state
-            → ((state.ways ≡ []) × (at.new.first ≡ at.new.here.at))
-            ⊎ (¬ (state.ways ≡ []) × (at.new.first ≡ at.old.first)) }
+            → ((state.ways ≡ []) × (at.new.first ≡ at.new.here.at)
+            × (at.new.idle_at ≡ at.new.here.at))
+            ⊎ (¬ (state.ways ≡ [])
+            × (at.new.first ≡ first_left state.restarts at.old.first at.old.here.at)
+            × (at.new.idle_at ≡ at.old.idle_at)) }
     {
+        let last = at.here.at;
         at.here = at.here.next(haystack);
         at.state = to;
         at.best = best;
         if self.is_empty(to) {
             at.first = at.here.at;
+            at.idle_at = at.here.at;
+        } else {
+            at.first = self.first_after(to, at.first, last);
         }
     }
 }

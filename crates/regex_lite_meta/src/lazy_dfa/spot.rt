@@ -4,7 +4,7 @@ ghost use Rattle.std.specs.Prelude.{None, Option, Some, chars, true, length};
 ghost use Rattle.regex_lite_meta.specs.LazyDfa.Automaton.{KeptOrigin, State};
 ghost use Rattle.regex_lite_meta.specs.LazyDfa.Intervals.{classes_in};
 ghost use Rattle.regex_lite_meta.specs.LazyDfa.Spots.{IsTaken, TakesToNothing};
-ghost use Rattle.regex_lite_meta.specs.LazyDfa.Stored.{known_hit};
+ghost use Rattle.regex_lite_meta.specs.LazyDfa.Stored.{is_restarting, known_hit};
 ghost use Rattle.regex_lite_meta.specs.LazyDfa.Targets.{IsRowOf};
 ghost use Rattle.regex_lite_engine.specs.Search.Offsets.{position_at};
 ghost use Rattle.regex_lite_engine.specs.Search.Standing.{IsHere};
@@ -89,8 +89,8 @@ impl Spot {
     }
 }
 
-/// Takes the turn to this target and offset if its effect is known: the state has ways. With
-/// EARLIEST none is taken that completes a match.
+/// Takes the turn to this target and offset if its effect is known and keeps the first start: the
+/// state has ways. With EARLIEST none is taken that completes a match.
 #[inline(always)]
 pub(super) fn take_known<const EARLIEST: bool>(
     spot: Spot,
@@ -100,7 +100,8 @@ pub(super) fn take_known<const EARLIEST: bool>(
 ) -> Option<Spot>
     ensures taken { IfSome result (λ on. (hit : Option KeptOrigin)
         × (known_hit target.effect ≡ Some hit) × ((state : State) → ¬ (state.ways ≡ [])
-        → state.hit ≡ hit → IsTaken spot.at target.row end state at.old at.new on)) }
+        → state.hit ≡ hit → state.restarts ≡ is_restarting target.effect
+        → IsTaken spot.at target.row end state at.old at.new on)) }
     ensures same { result ≡ None → at.new ≡ at.old }
     ensures best { IfSome result (λ _. known_hit target.effect ≡ Some None
         → at.new.best ≡ at.old.best) }
@@ -115,7 +116,7 @@ pub(super) fn take_known<const EARLIEST: bool>(
             at.complete(0, spot.at);
             Some(spot.after(target, end))
         }
-        Effect::Empties | Effect::ByState | Effect::Unknown => None,
+        Effect::Empties | Effect::Restarts | Effect::ByState | Effect::Unknown => None,
     }
 }
 
@@ -132,6 +133,7 @@ pub(super) fn take_to_nothing(spot: Spot, on: Spot, at: &mut Standing) -> Option
         return None;
     };
     at.first = on.at;
+    at.idle_at = on.at;
     Some(Some(Spot {
         at: on.at,
         row: on.row,

@@ -1,7 +1,8 @@
 //! The states of a lazy automaton.
 ghost use Rattle.std.specs.Prelude.{◌≡◌, ◌<◌, IfSome, Option, Some, true, ◌↔◌, IsTrue, None};
 ghost use Rattle.regex_lite_meta.specs.LazyDfa.Automaton.{KeptOrigin};
-ghost use Rattle.regex_lite_meta.specs.LazyDfa.Stored.{hit_in, is_emptying, is_known, known_hit};
+ghost use Rattle.regex_lite_meta.specs.LazyDfa.Stored.{hit_in, is_emptying, is_known};
+ghost use Rattle.regex_lite_meta.specs.LazyDfa.Stored.{is_restarting, known_hit};
 ghost use Rattle.regex_lite_meta.specs.LazyDfa.Intervals.{side_of};
 ghost use Rattle.regex_lite_syntax.specs.Tree.Looks.{is_word};
 
@@ -33,6 +34,8 @@ pub(crate) struct StoredState {
     pub len: usize,
     /// Whether there is no match yet.
     pub searching: bool,
+    /// Whether the last position is the first start from there on, in place of an earlier one.
+    pub restarts: bool,
     /// What looks see of the character before.
     pub before: Side,
     /// Whether a match was complete at the last position.
@@ -62,6 +65,9 @@ pub(crate) enum Effect {
     Completes,
     /// The state has no ways, and no match was complete.
     Empties,
+    /// The state has ways, no match was complete, and the turn's own position is the first start
+    /// from there on.
+    Restarts,
     /// Only the state says.
     ByState,
     /// The turn isn't remembered.
@@ -115,12 +121,16 @@ impl StoredWay {
 
 impl StoredState {
     /// Whether it has these properties, whatever its ways.
-    pub(crate) fn is_like(&self, searching: bool, before: Side, hit: Hit) -> bool
+    pub(crate) fn is_like(&self, searching: bool, before: Side, hit: Hit, restarts: bool) -> bool
         ensures searching { result ≡ true → self.now.searching ≡ searching }
         ensures before { result ≡ true → self.now.before ≡ before }
         ensures hit { result ≡ true → self.now.hit ≡ hit }
+        ensures restarts { result ≡ true → self.now.restarts ≡ restarts }
     {
-        self.searching == searching && self.before.is(before) && self.hit.is(hit)
+        self.searching == searching
+            && self.restarts == restarts
+            && self.before.is(before)
+            && self.hit.is(hit)
     }
 
     /// What a turn to it does besides.
@@ -132,17 +142,21 @@ impl StoredState {
             → 0 < self.now.len }
         ensures hit { (hit : Option KeptOrigin) → known_hit result ≡ Some hit
             → hit_in self.now.hit ≡ hit }
+        ensures restarts { (hit : Option KeptOrigin) → known_hit result ≡ Some hit
+            → self.now.restarts ≡ is_restarting result }
     {
         match self.hit {
             Hit::Nowhere => {
-                if self.len > 0 {
-                    Effect::Plain
-                } else {
+                if self.len == 0 {
                     Effect::Empties
+                } else if self.restarts {
+                    Effect::Restarts
+                } else {
+                    Effect::Plain
                 }
             }
             Hit::AtFirst(0) => {
-                if self.len > 0 {
+                if self.len > 0 && !self.restarts {
                     Effect::Completes
                 } else {
                     Effect::ByState

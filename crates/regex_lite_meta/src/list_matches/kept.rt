@@ -107,6 +107,10 @@ impl Kept {
         ensures ready { NeedsNoMemory self.old → NeedsNoMemory self.new × IfErr result (λ _. ⊥) }
     {
         let pattern = list.pattern(number);
+        // The next word tells as much as any match.
+        if let Some((found, steps)) = pattern.search_words(self.alloc, haystack, start) {
+            return Ok((found.is_some(), steps));
+        }
         let Some(first) = pattern.first_start(haystack, start) else {
             return Ok((false, no_steps()));
         };

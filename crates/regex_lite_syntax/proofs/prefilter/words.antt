@@ -11,4 +11,5 @@ pub mod WordListLemmas
 pub mod RowLemmas
 pub mod WordWalkLemmas
 pub mod LeadLemmas
+pub mod NeededRowLemmas
 pub mod NeededWalkLemmas

@@ -8,7 +8,8 @@ use Rattle.regex_lite_syntax.specs.declared.prefilter.starts.Starts.{Starts}
 use Rattle.regex_lite_syntax.specs.declared.prefilter.words.letter.Letter.{Letter}
 use Rattle.regex_lite_syntax.specs.declared.prefilter.words.needed_walk.NeededWalk.{NeededWalk}
 use Rattle.regex_lite_syntax.specs.Prefilter.Needed.{NeededWord, Reaches}
-use Rattle.regex_lite_syntax.specs.Prefilter.Starts.{AreBetween, begins_with}
+use Rattle.regex_lite_syntax.specs.Prefilter.Starts.{AreBetween, begins_with, IsWider}
+use Rattle.regex_lite_syntax.specs.Prefilter.Starts.{ReadsAmong}
 use Rattle.regex_lite_syntax.specs.Prefilter.Words.{IsLetter, StartsWith}
 
 -- this word, with these characters before it
@@ -47,19 +48,28 @@ pub record Leaves (before after : NeededWalk) : Type 0 where
       → AreBetween after.read haystack i j
       → HasFound bytes (encode_utf8_all (drop i haystack)) before
       → HasFound bytes (encode_utf8_all (drop j haystack)) after
+  pub wider : IsWider before.read after.read
 
--- what was found before a byte that is the letter is also found behind it
+-- what was found before a byte that is the letter is also found behind it, and the byte is counted
+-- as read
 pub record FindsLetter (letter : Letter) (before after : NeededWalk) : Type 0 where
   pub finds : (bytes rest : List ℕ) (byte : ℕ) → IsLetter letter byte
       → HasFound bytes (byte ∷ rest) before → HasFound bytes rest after
+  pub reads : (byte : ℕ) → IsLetter letter byte → begins_with after.read byte ≡ true
+  pub wider : IsWider before.read after.read
 
--- what was found before these bytes is also found behind the first of them
+-- what was found before these bytes is also found behind them, and they are counted as read
 pub record FindsBytes (read : List ℕ) (before after : NeededWalk) : Type 0 where
   pub finds : (bytes rest : List ℕ) → HasFound bytes (read ++ rest) before
       → HasFound bytes rest after
+  pub reads : AreAmong after.read read (length read)
+  pub wider : IsWider before.read after.read
 
--- what was found up to a position from which the tree matches is also found up to the match's end
+-- what was found up to a position from which the tree matches is also found up to the match's end,
+-- and the characters in between are counted as read
 pub record FindsPast (tree : Tree) (before after : NeededWalk) : Type 0 where
   pub finds : (haystack : Text) (bytes : List ℕ) (i j : ℕ)
       → HasFound bytes (encode_utf8_all (drop i haystack)) before → Matches haystack tree i j
       → HasFound bytes (encode_utf8_all (drop j haystack)) after
+  pub reads : ReadsAmong tree after.read
+  pub wider : IsWider before.read after.read

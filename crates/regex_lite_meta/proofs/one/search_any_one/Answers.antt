@@ -7,7 +7,7 @@ use Rattle.regex_lite_meta.proofs.one.search_any_one.Goals as goal
 pub returns-in-Some : goal.returns-in-Some
 returns-in-Some c =
     let one = c.args.pattern.now in
-    let told = rw c.in-Some.is at c.search_words.ensures in record {
+    let told = rw c.in-Some.is at c.search_words.ensures.told in record {
       found = rw c.is_some.ensures
           (by_outcome (places_of one.table.now) c.args.haystack.now one.entry c.args.start
           c.in-Some.found told.found);

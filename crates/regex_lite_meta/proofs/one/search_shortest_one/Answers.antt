@@ -1,4 +1,4 @@
-use Rattle.regex_lite_meta.proofs.Common.{◌^◌, ◌<◌, length, chars, arith, refl, rules}
+use Rattle.regex_lite_meta.proofs.Common.{◌^◌, ◌<◌, length, chars, arith, rules}
 use Rattle.regex_lite_meta.proofs.Common.{places_of, best_of, position_at, arrows_of}
 use Rattle.regex_lite_engine.proofs.search.FirstStartLemmas.{bounded_from, first_boundary}
 use Rattle.regex_lite_engine.proofs.search.FirstStartLemmas.{none_before_first, none_tried}

@@ -11,6 +11,7 @@ use Rattle.regex_lite_syntax.specs.Tree.{character}
 use Rattle.regex_lite_syntax.specs.Prefilter.Starts.{HasAll}
 use Rattle.std.specs.Char.{is_ascii}
 use Rattle.std.proofs.lemmas.Bool.{or_right}
+use Rattle.std.proofs.lemmas.List.{get_or_default}
 use Rattle.regex_lite_syntax.specs.Sets.{span}
 use Rattle.regex_lite_syntax.specs.Ranges.{AreRuns, next_character}
 use Rattle.regex_lite_syntax.proofs.RangeLemmas.{next_above, runs_from}
@@ -220,6 +221,14 @@ begins_alike s t c any others ascii =
     ap (λ a. a && (if nat_lt c 128 then slice_index_or s.ascii c true else s.others)) any
     ∙ ap (λ b. t.any && (if nat_lt c 128 then b else s.others)) ascii
     ∙ ap (λ o. t.any && (if nat_lt c 128 then slice_index_or t.ascii c true else o)) others
+
+-- what is stored of an ASCII character
+pub stored_at : (s : Starts) (c : ℕ) → c < 128 → c < length s.ascii
+    → (s.any && slice_index_or s.ascii c false) ≡ begins_with s c
+stored_at s c lt inside =
+    let narrow : nat_lt c 128 ≡ true = grind (arith, nat_tests) in
+    ap (λ b. s.any && b) (get_or_default s.ascii c false true inside
+    ∙ sym (ap (λ b. if b then slice_index_or s.ascii c true else s.others) narrow))
 
 -- two sets together, by what is stored of each character
 pub union_at : (s t u : Starts) → u.any ≡ (s.any || t.any)

@@ -11,7 +11,7 @@ use Rattle.std.proofs.Math.Seq.{drop-append_seam, get_or-append_right}
 use Rattle.std.proofs.lemmas.Bool.{cond-false, cond-true}
 use Rattle.std.proofs.Common.{le-ltb, lt-ltb}
 use Rattle.std.proofs.lemmas.List.{drop-drop}
-use Rattle.std.proofs.lemmas.Str.{encode_ascii}
+use Rattle.std.proofs.lemmas.Str.{encode_ascii, len_utf8_bounds, length-encode}
 use Rattle.regex_lite_syntax.specs.Prefilter.Needed.{IsNextReach, NeededWord, Reaches}
 use Rattle.regex_lite_syntax.specs.Prefilter.NeededWalk.{AreAmong}
 use Rattle.regex_lite_syntax.specs.Prefilter.Starts.{AreBetween}
@@ -52,7 +52,7 @@ high_at (byte ∷ bytes) zero high lt = high.0
 high_at (byte ∷ bytes) (suc k) high lt = high_at bytes k high.1 (omega (arith, lt))
 
 -- the bytes of a character are among those among which the character is
-byte_among : (s : Starts) (c : ℕ) → begins_with s c ≡ true
+pub byte_among : (s : Starts) (c : ℕ) → begins_with s c ≡ true
     → AreAmong s (encode_utf8 c) (length (encode_utf8 c))
 byte_among s c own k lt = elim (cases_lt c 128) [
   | inl ascii ↦
@@ -64,6 +64,20 @@ byte_among s c own k lt = elim (cases_lt c 128) [
       begins_as_one s _ (high_at (encode_utf8 c) k (all_high c high) lt)
       ∙ sym (begins_as_one s c high) ∙ own
 ]
+
+-- a character is among those among which its bytes are
+pub char_among : (s : Starts) (c : ℕ) → AreAmong s (encode_utf8 c) (length (encode_utf8 c))
+    → begins_with s c ≡ true
+char_among s c among = elim (cases_lt c 128) [
+  | inl ascii ↦
+      sym (ap (λ b. begins_with s (slice_index b 0)) (encode_ascii c ascii)) ∙ among 0 some
+  | inr high ↦
+      begins_as_one s c high
+      ∙ sym (begins_as_one s _ (high_at (encode_utf8 c) 0 (all_high c high) some)) ∙ among 0 some
+]
+  where
+    some : 0 < length (encode_utf8 c)
+    some = omega (arith, length-encode c, (len_utf8_bounds c).0)
 
 -- the bytes of the first characters, as many as that, and those after them
 bytes_after : (s : Starts) (n : ℕ) (text : Text) → AreBetween s text 0 n

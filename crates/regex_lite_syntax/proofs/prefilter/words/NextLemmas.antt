@@ -50,20 +50,32 @@ none_past_end word bytes from to few none at low stands =
     omega (arith, long, length-drop at bytes, above, few)) (cases_lt at to)
 
 -- what is found from a further offset on is the next from the first one on
-pub next_from : (word : List Letter) (bytes : List ℕ) (from middle to : ℕ) (found : Option ℕ)
-    → from ≤ middle → NoneStands (word ∷ []) bytes from middle
+pub next_from : {Nowhere : Type 0} (word : List Letter) (bytes : List ℕ) (from middle to : ℕ)
+    (found : Option ℕ) → from ≤ middle → NoneStands (word ∷ []) bytes from middle
     → MatchOption found (NoneStands (word ∷ []) bytes middle to)
     (λ at. (middle ≤ at) × NoneStands (word ∷ []) bytes middle at
     × AnyStandsAt (word ∷ []) bytes at)
-    → (is_some found ≡ false → NoneStands (word ∷ []) bytes from to
-    → (at : ℕ) → from ≤ at → ¬ AnyStandsAt (word ∷ []) bytes at)
+    → (is_some found ≡ false → NoneStands (word ∷ []) bytes from to → Nowhere)
+    → MatchOption found Nowhere
+    (λ at. (from ≤ at) × NoneStands (word ∷ []) bytes from at
+    × AnyStandsAt (word ∷ []) bytes at)
+next_from word bytes from middle to None order front none nowhere =
+    nowhere refl (none_joined (word ∷ []) bytes from middle to front none)
+next_from word bytes from middle to (Some at) order front (low, back, stands) nowhere =
+    (omega arith, none_joined (word ∷ []) bytes from middle at front back, stands)
+
+-- what is found among the offsets behind which as many bytes are left is the next at all
+pub next_with_room : (word : List Letter) (bytes : List ℕ) (from : ℕ) (found : Option ℕ)
+    → 0 < length word → length word ≤ length bytes
+    → MatchOption found (NoneStands (word ∷ []) bytes from (length bytes - length word + 1))
+    (λ at. (from ≤ at) × NoneStands (word ∷ []) bytes from at
+    × AnyStandsAt (word ∷ []) bytes at)
     → MatchOption found ((at : ℕ) → from ≤ at → ¬ AnyStandsAt (word ∷ []) bytes at)
     (λ at. (from ≤ at) × NoneStands (word ∷ []) bytes from at
     × AnyStandsAt (word ∷ []) bytes at)
-next_from word bytes from middle to None order front none never =
-    never refl (none_joined (word ∷ []) bytes from middle to front none)
-next_from word bytes from middle to (Some at) order front (low, back, stands) never =
-    (omega arith, none_joined (word ∷ []) bytes from middle at front back, stands)
+next_with_room word bytes from None some room none =
+    none_past_end word bytes from (length bytes - length word + 1) (omega (arith, some, room)) none
+next_with_room word bytes from (Some at) some room found = found
 
 -- where none is found, none stands
 pub none_found : (word : List Letter) (bytes : List ℕ) (from to : ℕ) (found : Option ℕ)

@@ -86,8 +86,10 @@ impl NeededWalk {
             Hir::Repetition { least, body, .. } => {
                 if *least > 0 {
                     self.visit(body);
+                    self.end_row();
+                } else {
+                    self.leave(body);
                 }
-                self.leave(body);
             }
             Hir::Capture { body, .. } => self.visit(body),
             Hir::Concat(parts) => self.visit_parts(parts),

@@ -10,6 +10,9 @@ use crate::prefilter::words::standing::stands;
 /// How many offsets are asked about at a time.
 const BLOCK: usize = 32;
 
+/// How many are where fewer are left.
+const SHORT_BLOCK: usize = 16;
+
 /// Among how many letters of a word the two rarest are looked for.
 const LOOKED_AT: usize = 32;
 
@@ -69,36 +72,59 @@ impl Pair {
             return None;
         }
         let end = bytes.len() - word.len() + 1;
+        if end - from >= BLOCK {
+            self.find_in_blocks::<BLOCK>(word, bytes, from, end)
+        } else {
+            self.find_in_blocks::<SHORT_BLOCK>(word, bytes, from, end)
+        }
+    }
+
+    /// The first offset from this one on, and before that one, at which the word stands.
+    #[inline(always)]
+    fn find_in_blocks<const N: usize>(
+        self,
+        word: &[Letter],
+        bytes: &[u8],
+        from: usize,
+        end: usize,
+    ) -> Option<usize>
+        requires some { 0 < N }
+        requires order { from ≤ end }
+        requires room { end + length word.now ≤ length bytes.now + 1 }
+        requires first { self.first < length word.now }
+        requires second { self.second < length word.now }
+        ensures { MatchOption result (NoneStands (word.now ∷ []) bytes.now from end)
+            (λ at. (from ≤ at) × NoneStands (word.now ∷ []) bytes.now from at
+            × AnyStandsAt (word.now ∷ []) bytes.now at) }
+    {
         let mut at = from;
-        if end - at >= BLOCK {
-            'blocks: while end - at > BLOCK {
-                if self.may_stand(word, bytes, at) {
-                    let found = self.find_before(word, bytes, at, at + BLOCK);
-                    if found.is_some() {
-                        return found;
-                    }
+        'blocks: while end - at >= N {
+            if self.may_stand::<N>(word, bytes, at) {
+                let found = self.find_before(word, bytes, at, at + N);
+                if found.is_some() {
+                    return found;
                 }
-                at += BLOCK;
             }
-            // The last block begins before the one that would be next, so that it is full.
-            if !self.may_stand(word, bytes, end - BLOCK) {
-                return None;
-            }
+            at += N;
+        }
+        // The last block begins before the one that would be next, so that it is full.
+        if end >= N && !self.may_stand::<N>(word, bytes, end - N) {
+            return None;
         }
         self.find_before(word, bytes, at, end)
     }
 
     /// Whether the word may stand at one of a block of offsets.
     #[inline(always)]
-    fn may_stand(self, word: &[Letter], bytes: &[u8], at: usize) -> bool
-        requires room { at + 32 + length word.now ≤ length bytes.now + 1 }
+    fn may_stand<const N: usize>(self, word: &[Letter], bytes: &[u8], at: usize) -> bool
+        requires room { at + N + length word.now ≤ length bytes.now + 1 }
         requires first { self.first < length word.now }
         requires second { self.second < length word.now }
-        ensures { result ≡ false → NoneStands (word.now ∷ []) bytes.now at (at + 32) }
+        ensures { result ≡ false → NoneStands (word.now ∷ []) bytes.now at (at + N) }
     {
         let (first, second) = (at + self.first, at + self.second);
-        let firsts = &bytes[first..first + BLOCK];
-        let seconds = &bytes[second..second + BLOCK];
+        let firsts = &bytes[first..first + N];
+        let seconds = &bytes[second..second + N];
         let (a, b) = (word[self.first], word[self.second]);
         if a.is_exact() && b.is_exact() {
             has_both(firsts, seconds, a.byte, b.byte)
@@ -107,7 +133,9 @@ impl Pair {
         }
     }
 
-    /// The first offset from this one on, and before that one, at which the word stands.
+    /// The first of these offsets at which the word stands, asked about one after another.
+    // Not inlined, since it would be unrolled for each of a block's offsets.
+    #[inline(never)]
     fn find_before(self, word: &[Letter], bytes: &[u8], from: usize, end: usize) -> Option<usize>
         requires order { from ≤ end }
         requires room { end + length word.now ≤ length bytes.now + 1 }

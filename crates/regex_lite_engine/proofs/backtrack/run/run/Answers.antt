@@ -8,6 +8,7 @@ use Rattle.regex_lite_engine.proofs.backtrack.RunLemmas.{begun, start_fits, went
 use Rattle.regex_lite_engine.proofs.backtrack.WalkLemmas.{walk_over}
 use Rattle.regex_lite_engine.proofs.search.CountLemmas.{counted_at_first, still_counted}
 use Rattle.regex_lite_engine.proofs.search.here.HereLemmas.{less_left}
+use Rattle.regex_lite_engine.proofs.backtrack.run.run.Given as given
 use Rattle.regex_lite_engine.proofs.backtrack.run.run.Goals as goal
 
 edge : (bytes : List ℕ) (here : Here) → IsUtf8 bytes
@@ -16,7 +17,7 @@ edge bytes here utf8 is =
     boundary_at bytes (position_at bytes here.at) here.at utf8 (is.inside, is.bytes)
 
 pub starts-init : goal.starts-init
-starts-init c =
+starts-init g c =
     let a = c.args in
     record {
       p = position_at a.haystack.now a.first.at;
@@ -37,7 +38,7 @@ starts-init c =
     }
 
 pub explore-requires-clause-room : goal.explore-requires-clause-room
-explore-requires-clause-room c =
+explore-requires-clause-room g c =
     let a = c.args in
     let v = c.starts.invariant in
     let w = v.passes in
@@ -48,7 +49,7 @@ explore-requires-clause-room c =
     c.requires.counts (omega (arith, a.pattern.now.inside, size))
 
 pub returns-in-Some-clause-found : goal.returns-in-Some-clause-found
-returns-in-Some-clause-found c =
+returns-in-Some-clause-found g c =
     let a = c.args in
     let v = c.starts.invariant in
     let w = v.passes in
@@ -61,7 +62,7 @@ returns-in-Some-clause-found c =
     (w.is.inside, w.is.bytes) w.passed v.under_way.walking c.in-Some.end explored.on.walks
 
 pub returns-in_default-start_after-clause-found : goal.returns-in_default-start_after-clause-found
-returns-in_default-start_after-clause-found c =
+returns-in_default-start_after-clause-found g c =
     let a = c.args in
     let v = c.starts.invariant in
     let w = v.passes in
@@ -77,18 +78,18 @@ returns-in_default-start_after-clause-found c =
     (w.q + 1) 0) new.visited new.stack (c.start_after.ensures.none w.q w.is
     c.in_default-start_after.is) on.walking
 
-next_passes : (c : goal.In-Some-start_after) → PassesTo
+next_passes : (g : given.Over) (c : goal.In-Some-start_after g) → PassesTo
     (IsDeadAt (places_of c.args.pattern.now.table.now) (chars c.args.haystack.now)
     c.args.pattern.now.entry)
     (chars c.args.haystack.now) (c.starts.invariant.passes.q + 1) c.in-Some-start_after.next
-next_passes c =
+next_passes g c =
     let w = c.starts.invariant.passes in
     rw c.in-Some-start_after.is at (c.start_after.ensures.first w.q w.is)
 
 pub starts-smaller : goal.starts-smaller
-starts-smaller c =
+starts-smaller g c =
     let w = c.starts.invariant.passes in
-    let on = next_passes c in
+    let on = next_passes g c in
     let one_on : on.q ≡ (on.q - 1) + 1 = omega (arith, on.later) in
     less_left c.args.haystack.now w.q (on.q - 1) c.starts.here c.in-Some-start_after.next
     c.utf8.haystack w.is
@@ -96,7 +97,7 @@ starts-smaller c =
     (omega (arith, on.later))
 
 pub starts-preserved : goal.starts-preserved
-starts-preserved c =
+starts-preserved g c =
     let a = c.args in
     let v = c.starts.invariant in
     let w = v.passes in
@@ -104,7 +105,7 @@ starts-preserved c =
     let explored = rw c.in_default.is at c.explore.ensures.explored in
     record {
       p = w.q + 1;
-      passes = next_passes c;
+      passes = next_passes g c;
       under_way = went_on table a.haystack.now c.utf8.haystack a.first.at
           (edge a.haystack.now a.first c.utf8.haystack c.requires.here) a.pattern.now.entry v.p
           c.starts.walk v.under_way w.q c.starts.here.at w.later (w.is.inside, w.is.bytes)

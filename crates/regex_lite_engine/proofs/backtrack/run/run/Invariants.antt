@@ -4,7 +4,7 @@ use Rattle.regex_lite_engine.specs.Backtrack.Searching.{IsUnderWay}
 use Rattle.regex_lite_engine.proofs.backtrack.run.run.Given as goal
 
 abbrev pub invariant-starts : goal.invariant-starts
-invariant-starts l = record {
+invariant-starts g l = record {
   p : ℕ;
   passes : PassesTo (IsDeadAt (places_of l.pattern.table.now) (chars l.haystack) l.pattern.entry)
       (chars l.haystack) p l.here;
@@ -17,4 +17,4 @@ invariant-starts l = record {
 }
 
 abbrev pub decreases-starts : goal.decreases-starts
-decreases-starts l = length l.haystack - l.here.at
+decreases-starts g l = length l.haystack - l.here.at

@@ -1,5 +1,9 @@
 use Rattle.regex_lite_meta.proofs.Common.{◌+◌, ◌^◌, ◌<◌, length, true, chars, refl}
 use Rattle.regex_lite_meta.proofs.Common.{◌∙◌, arith, rules, places_of, best_of}
+use Rattle.regex_lite_meta.proofs.Common.{◌≡◌, ◌∷◌, [], sym, subst}
+use Rattle.std.specs.Prelude.{◌↔◌, IsTrue, is_some}
+use Rattle.regex_lite_meta.specs.AnyOfOne.{HasMatchOfAny}
+use Rattle.regex_lite_meta.proofs.list_matches.ToldLemmas.{by_least_end}
 use Rattle.regex_lite_engine.proofs.search.OutcomeLemmas.{can_count}
 use Rattle.regex_lite_engine.proofs.search.here.HereLemmas.{less_left}
 use Rattle.regex_lite_engine.proofs.pikevm.PassLemmas.{begun, passed_as}
@@ -67,12 +71,14 @@ returns-then-is_done-clause-told c = λ p is.
     (c.pass-here.ensures.passes p at.0 at.1 (rw (v.table, v.entries) at.2)) in
     let why = over_after {earliest = true} at.2.low (λ _. v.none)
     (c.is_done.ensures.done (search rules)) w in
-    record {
-      best = best_of c.pass-here.new.self.best;
-      is = search rules;
-      end = over_found {p = at.0} {cache = c.positions.cache}
-          (record { q = w.q + 1; on = w.after; why = why });
-    }
+    let best = best_of c.pass-here.new.self.best in
+    let told : c.is_some.result ≡ is_some best = search rules in
+    subst (λ b. IsTrue b ↔ HasMatchOfAny (places_of c.args.pattern.now.table.now)
+    (chars c.args.haystack.now) (c.args.pattern.now.entry ∷ []) p) (sym told)
+    (by_least_end (places_of c.args.pattern.now.table.now) (chars c.args.haystack.now)
+    c.args.pattern.now.entry p best
+    (over_found {p = at.0} {cache = c.positions.cache}
+    (record { q = w.q + 1; on = w.after; why = why })))
 
 pub returns-then-threads-eq0-clause-told : goal.returns-then-threads-eq0-clause-told
 returns-then-threads-eq0-clause-told c = λ p is.

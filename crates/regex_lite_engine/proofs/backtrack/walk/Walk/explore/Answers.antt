@@ -21,7 +21,7 @@ stays table haystack walk = record {
 }
 
 pub ways-init : goal.ways-init
-ways-init c =
+ways-init g c =
     let a = c.args in let t = places_of a.table.now in let h = a.haystack.now in
     let w = a.self.now in
     let at_start : explore a.entry a.start ∷ [] ≡ explore a.entry a.start ∷ w.stack.frames =
@@ -34,20 +34,21 @@ ways-init c =
     }
 
 pub returns-in-Complete-clause-counts : goal.returns-in-Complete-clause-counts
-returns-in-Complete-clause-counts c =
+returns-in-Complete-clause-counts g c =
     still_counted c.ways.invariant.counts c.come_to.ensures.counts
 
 pub returns-in-Complete-clause-entry : goal.returns-in-Complete-clause-entry
-returns-in-Complete-clause-entry c = c.come_to.ensures.entry (ap completes c.in-Complete.is)
+returns-in-Complete-clause-entry g c counted =
+    c.come_to.ensures.entry counted (ap completes c.in-Complete.is)
 
 pub returns-in_err-place-in-Back-clause-counts : goal.returns-in_err-place-in-Back-clause-counts
-returns-in_err-place-in-Back-clause-counts c =
+returns-in_err-place-in-Back-clause-counts g c =
     subst (StaysCounted c.args.self.now.steps)
     (sym (ap (λ (z : Walk). z.steps) c.go_back.ensures.same))
     (still_counted c.ways.invariant.counts c.come_to.ensures.counts)
 
 pub returns-in-Complete-clause-explored : goal.returns-in-Complete-clause-explored
-returns-in-Complete-clause-explored c =
+returns-in-Complete-clause-explored g c =
     let a = c.args in let t = places_of a.table.now in let w = c.ways.self in
     let v = c.come_to.new.self in
     let next = explore c.ways.place c.ways.at ∷ w.stack.frames in
@@ -55,10 +56,10 @@ returns-in-Complete-clause-explored c =
     c.ways.invariant.on (rw c.in-Complete.is at c.come_to.ensures.taken)
 
 pub ways-smaller-in-To : goal.ways-smaller-in-To
-ways-smaller-in-To c = (rw c.in-To.is at c.come_to.ensures.taken).less refl
+ways-smaller-in-To g c = (rw c.in-To.is at c.come_to.ensures.taken).less refl
 
 pub ways-preserved-in-To : goal.ways-preserved-in-To
-ways-preserved-in-To c =
+ways-preserved-in-To g c =
     let a = c.args in let t = places_of a.table.now in let h = a.haystack.now in
     let w = c.ways.self in let v = c.come_to.new.self in
     let next = explore c.ways.place c.ways.at ∷ w.stack.frames in
@@ -74,14 +75,14 @@ ways-preserved-in-To c =
     }
 
 pub go_back-requires : goal.go_back-requires
-go_back-requires c =
+go_back-requires g c =
     let a = c.args in let t = places_of a.table.now in let v = c.come_to.new.self in
     let went = rw c.in-Back.is at c.come_to.ensures.taken in
     slots_below t a.haystack.now v.visited.first (length v.stack.row) v.stack.frames
     (went.fit refl).below
 
 pub returns-in_err-place-in-Back-clause-explored : goal.returns-in_err-place-in-Back-clause-explored
-returns-in_err-place-in-Back-clause-explored c =
+returns-in_err-place-in-Back-clause-explored g c =
     let a = c.args in let t = places_of a.table.now in let h = a.haystack.now in
     let w = c.ways.self in let v = c.come_to.new.self in
     let next = explore c.ways.place c.ways.at ∷ w.stack.frames in
@@ -96,7 +97,7 @@ returns-in_err-place-in-Back-clause-explored c =
     (went_back t h v u None back e.same e.row e.room (went.fit refl)))
 
 pub ways-smaller : goal.ways-smaller
-ways-smaller c =
+ways-smaller g c =
     let a = c.args in let t = places_of a.table.now in let h = a.haystack.now in
     let v = c.come_to.new.self in
     let went = rw c.in-Back.is at c.come_to.ensures.taken in
@@ -108,7 +109,7 @@ ways-smaller c =
     omega (arith, less, back.less)
 
 pub ways-preserved : goal.ways-preserved
-ways-preserved c =
+ways-preserved g c =
     let a = c.args in let t = places_of a.table.now in let h = a.haystack.now in
     let w = c.ways.self in let v = c.come_to.new.self in
     let next = explore c.ways.place c.ways.at ∷ w.stack.frames in

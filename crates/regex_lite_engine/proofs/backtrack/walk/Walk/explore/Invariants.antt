@@ -4,7 +4,7 @@ use Rattle.regex_lite_engine.specs.Backtrack.Room.{with_frames, GoesOn, HasRoom,
 use Rattle.regex_lite_engine.proofs.backtrack.walk.Walk.explore.Given as goal
 
 abbrev pub invariant-ways : goal.invariant-ways
-invariant-ways l = record {
+invariant-ways g l = record {
   room : HasRoom (places_of l.table) l.haystack l.self (explore l.place l.at ∷ l.self.stack.frames);
   on : GoesOn (places_of l.table) l.haystack
       (with_frames l.fn.self (explore l.entry l.start ∷ []))
@@ -13,6 +13,6 @@ invariant-ways l = record {
 }
 
 abbrev pub decreases-ways : goal.decreases-ways
-decreases-ways l =
+decreases-ways g l =
     work (places_of l.table) l.haystack
     (with_frames l.self (explore l.place l.at ∷ l.self.stack.frames))

@@ -1,4 +1,4 @@
-use Rattle.regex_lite_engine.proofs.Common.{◌^◌, ◌<◌, length, chars, arith, rules, arrows_of}
+use Rattle.regex_lite_engine.proofs.Common.{◌^◌, ◌<◌, length, chars, refl, arith, rules, arrows_of}
 use Rattle.regex_lite_engine.proofs.Common.{length-map, place_of, places_of, position_at}
 use Rattle.regex_lite_engine.specs.Search.NumberedOutcomes.{best_at, with_start_kept}
 use Rattle.regex_lite_engine.proofs.search.FirstStartLemmas.{answer_from, bounded_from}
@@ -68,5 +68,6 @@ returns c =
       cost = bounded_from (length table) (arrows_of table) text s m steps.tried steps.entered
           steps.looked before.from c.run-found.ensures.bounded;
       entered = told_entered _ c.outcome_of.result c.run-found.result
-          c.run-found.new.walk.stack.row c.outcome_of.ensures.told c.run-found.ensures.entry;
+          c.run-found.new.walk.stack.row c.outcome_of.ensures.told
+          (c.run-found.ensures.entry refl);
     }

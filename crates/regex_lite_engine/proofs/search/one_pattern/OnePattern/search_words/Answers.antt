@@ -1,12 +1,14 @@
 use Rattle.regex_lite_engine.proofs.Common.{◌+◌, ap, arith, arrows_of, chars, IsNumberedOutcome}
 use Rattle.regex_lite_engine.proofs.Common.{length, places_of, position_at, Some, subst, sym}
+use Rattle.regex_lite_engine.proofs.Common.{refl}
+use Rattle.regex_lite_engine.specs.Graph.Parts.{row_of}
 use Rattle.regex_lite_syntax.specs.Prefilter.WholeWords.{IsNextSpan}
 use Rattle.regex_lite_engine.proofs.PositionLemmas.{position_is}
 use Rattle.regex_lite_engine.proofs.search.WordSearchLemmas.{entered, one_entry}
 use Rattle.regex_lite_engine.proofs.search.one_pattern.OnePattern.search_words.Goals as goal
 
-pub returns : goal.returns
-returns c =
+pub returns-clause-told : goal.returns-clause-told
+returns-clause-told c =
     let one = c.args.self.now in
     let table = places_of one.table.now in
     let bytes = c.args.haystack.now in
@@ -29,3 +31,14 @@ returns c =
           (position_is bytes start c.utf8.haystack c.requires.boundary).0 c.steps_of_match.ensures;
       entered = entered c.steps_of_match.result c.steps_of_match.ensures;
     }
+
+pub returns-clause-own : goal.returns-clause-own
+returns-clause-own c = λ low len part.
+    let one = c.args.self.now in
+    let bytes = c.args.haystack.now in
+    let entry = part.entered 0 one.entry refl in
+    one_entry len (arrows_of (row_of (places_of one.table.now) low len) + 1) (chars bytes)
+    (position_at bytes c.args.start) c.steps_of_match.result
+    (omega (arith, entry.0, entry.1)) (omega arith)
+    (position_is bytes c.args.start c.utf8.haystack c.requires.boundary).0
+    c.steps_of_match.ensures

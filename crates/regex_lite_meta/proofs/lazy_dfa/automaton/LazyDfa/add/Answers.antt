@@ -51,6 +51,7 @@ invariant_of-self-in-Ok-push c =
       from = i.used;
       len = c.len.result - i.used;
       searching = c.args.searching;
+      restarts = c.args.restarts;
       before = c.args.before;
       hit = c.args.hit;
     } in
@@ -86,6 +87,7 @@ new_state c = record {
   searching = c.args.searching;
   before = c.args.before;
   hit = hit_in c.args.hit;
+  restarts = c.args.restarts;
   next = map number_of
       (replicate (classes_in c.self.inside.classes) blank);
 }

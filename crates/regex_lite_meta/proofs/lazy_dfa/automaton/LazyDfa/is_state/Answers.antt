@@ -24,4 +24,5 @@ returns-then-is_like c = λ same.
       searching = ap (λ (s : StoredState). s.searching) stored ∙ like.searching refl;
       before = ap (λ (s : StoredState). s.before) stored ∙ like.before refl;
       hit = ap (λ (s : StoredState). hit_in s.hit) stored ∙ ap hit_in (like.hit refl);
+      restarts = ap (λ (s : StoredState). s.restarts) stored ∙ like.restarts refl;
     }

@@ -3,9 +3,10 @@ use Rattle.regex_lite_meta.proofs.Common.{slice_get_within, best_of, ◌<◌, Au
 use Rattle.regex_lite_meta.proofs.Common.{searching_after, Remembers, class_of, side_of, IsIn}
 use Rattle.regex_lite_meta.proofs.Common.{classes_in, MatchOption}
 use Rattle.regex_lite_meta.specs.LazyDfa.Learning.{HasTurned}
-use Rattle.regex_lite_meta.proofs.lazy_dfa.LearnLemmas.{learned, remembers_settled, still_in}
+use Rattle.regex_lite_meta.proofs.lazy_dfa.LearnLemmas.{learned, next_start, remembers_settled}
+use Rattle.regex_lite_meta.proofs.lazy_dfa.LearnLemmas.{still_in}
 use Rattle.regex_lite_meta.proofs.lazy_dfa.LearnLemmas.{suits_after}
-use Rattle.regex_lite_meta.proofs.lazy_dfa.RememberedLemmas.{remembers_more}
+use Rattle.regex_lite_meta.proofs.lazy_dfa.RememberedLemmas.{IsNextStart, remembers_more}
 use Rattle.regex_lite_meta.proofs.lazy_dfa.automaton.LazyDfa.learn.Given as given
 use Rattle.regex_lite_meta.proofs.lazy_dfa.automaton.LazyDfa.learn.Goals as goal
 use Rattle.regex_lite_meta.proofs.lazy_dfa.automaton.LazyDfa.learn.Goals.{After-settle}
@@ -32,7 +33,7 @@ own_state g c =
 
 -- what is remembered once the state that is come to has its place
 settled : (g : given.Over) (c : After-settle g) →
-    (c.gather.new.self.pending ≡ ways_of c.args.at.first c.args.cache.now.walk.memory.threads)
+    (c.gather.new.self.pending ≡ ways_of c.args.first c.args.cache.now.walk.memory.threads)
     × Remembers (g.P.Patterns.table c.args.patterns.now) (g.P.Patterns.entries c.args.patterns.now)
     c.settle.new.self
 settled g c =
@@ -41,7 +42,7 @@ settled g c =
     let between = c.requires.between in
     remembers_settled (g.P.Patterns.table patterns) (g.P.Patterns.entries patterns) a.self.now
     c.gather.new.self
-    c.settle.new.self a.at.first a.cache.now.walk.memory.threads
+    c.settle.new.self a.first a.cache.now.walk.memory.threads
     (c.if-not-gather.ensures.gathered refl) c.requires.none_pending c.requires.remembers
     between.below between.few c.requires.own c.settle.ensures.extends
 
@@ -109,11 +110,15 @@ returns g c =
           at to.is
           (learned (g.P.Patterns.table a.patterns.now) entries a.self.now now same whole.1 x
           a.at.first
-          a.at.here a.hit a.cache.now turned class is_class to.state
+          a.at.here a.hit a.cache.now turned class is_class to.state a.first
+          (subst (λ restarts. IsNextStart restarts a.at.first a.at.here.at a.first
+          (best_of turned.before.best) (best_of a.cache.now.best)
+          turned.before.walk.memory.threads) (sym to.restarts)
+          (next_start turned c.requires.first))
           (to.ways ∙ whole.0) is_hit searching before));
       state =
-          subst (λ z. IsIn z c.in_ok-y.y a.at.first a.at.here.after a.cache.now) (sym kept)
-          (still_in now x class c.in_ok-y.y from at c.in_ok-y.y a.at.first a.at.here.after
+          subst (λ z. IsIn z c.in_ok-y.y a.first a.at.here.after a.cache.now) (sym kept)
+          (still_in now x class c.in_ok-y.y from at c.in_ok-y.y a.first a.at.here.after
           a.cache.now (record {
             state = to.state;
             is_state = to.is;

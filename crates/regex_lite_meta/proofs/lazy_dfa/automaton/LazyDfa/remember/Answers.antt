@@ -34,6 +34,7 @@ invariant_of-self c =
                   ∙ ap Some (sym c.index.ensures);
               some = c.effect.ensures.some hit told;
               same = c.effect.ensures.hit hit told;
+              first = c.effect.ensures.restarts hit told;
             };
             empties = λ told. record {
               state = to;

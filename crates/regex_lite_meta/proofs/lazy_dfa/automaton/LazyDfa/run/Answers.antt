@@ -4,7 +4,8 @@ use Rattle.regex_lite_meta.specs.LazyDfa.Automaton.{State}
 use Rattle.regex_lite_meta.specs.LazyDfa.Spots.{EndsScan, Takes}
 use Rattle.regex_lite_meta.proofs.lazy_dfa.ScanLemmas.{preferred}
 use Rattle.regex_lite_meta.proofs.lazy_dfa.OnwardLemmas.{completes_there, ends_there, from_spot}
-use Rattle.regex_lite_meta.proofs.lazy_dfa.OnwardLemmas.{GoesToSpot, next_spot, row_at_spot}
+use Rattle.regex_lite_meta.proofs.lazy_dfa.OnwardLemmas.{GoesToSpot, next_spot, none_settled}
+use Rattle.regex_lite_meta.proofs.lazy_dfa.OnwardLemmas.{row_at_spot}
 use Rattle.regex_lite_meta.proofs.lazy_dfa.OnwardLemmas.{spot_boundary, to_spot, turned_spot}
 use Rattle.regex_lite_meta.proofs.lazy_dfa.OnwardLemmas.{turn_effect, turn_emptied, turn_later, turn_within, turned_later}
 use Rattle.regex_lite_meta.proofs.lazy_dfa.automaton.LazyDfa.run.Given as given
@@ -184,9 +185,8 @@ returns-then-spot-haystack-clause-on g c = λ _.
 
 pub returns-then-spot-haystack-clause-none : goal.returns-then-spot-haystack-clause-none
 returns-then-spot-haystack-clause-none g c = λ earliest _.
-    let row = row_at_spot c.turns.invariant.on c.requires.scanning in
-    ap (λ (s : Standing). s.best) (c.settle_at.ensures.same row.0 row.1)
-    ∙ c.turns.invariant.none earliest
+    none_settled c.turns.at c.settle_at.new.at c.settle_at.ensures.same
+    (row_at_spot c.turns.invariant.on c.requires.scanning) (c.turns.invariant.none earliest)
 
 -- where the search is stuck
 stays : (g : given.Over) (c : After-settle_at-2 g) → c.match-turn.at ≡ c.turns.at
@@ -212,9 +212,9 @@ returns-clause-on g c = λ _.
 
 pub returns-clause-none : goal.returns-clause-none
 returns-clause-none g c = λ earliest _.
-    let row = row_at_spot c.turns.invariant.on c.requires.scanning in
-    ap (λ (s : Standing). s.best) (c.settle_at-2.ensures.same row.0 row.1)
-    ∙ ap (λ (s : Standing). s.best) (stays g c) ∙ c.turns.invariant.none earliest
+    none_settled c.match-turn.at c.settle_at-2.new.at c.settle_at-2.ensures.same
+    (row_at_spot c.turns.invariant.on c.requires.scanning)
+    (ap (λ (s : Standing). s.best) (stays g c) ∙ c.turns.invariant.none earliest)
 
 pub take-requires-clause-emptied : goal.take-requires-clause-emptied
 take-requires-clause-emptied g c =

@@ -1,5 +1,5 @@
 use Rattle.regex_lite_engine.proofs.pikevm.ShortestLemmas.{not_true}
-use Rattle.regex_lite_meta.proofs.Common.{◌==◌, ◌∙◌, arith, rules, best_of, not}
+use Rattle.regex_lite_meta.proofs.Common.{◌==◌, ◌∙◌, arith, inl, inr, rules, best_of, not}
 use Rattle.regex_lite_meta.proofs.lazy_dfa.OnceLemmas.{found_kept}
 use Rattle.regex_lite_meta.proofs.lazy_dfa.RunLemmas.{match_counted}
 use Rattle.regex_lite_meta.proofs.lazy_dfa.StandsLemmas.{bounded_after, bounded_there, found_there}
@@ -89,7 +89,11 @@ learn-at-requires-clause-turned g c =
 pub next_position-at-requires-clause-first : goal.next_position-at-requires-clause-first
 next_position-at-requires-clause-first g c =
     let at = c.positions.invariant.stands _ c.requires.stands.2 in
-    (c.in_default.ensures.stands _ (c.at_idle-at.ensures.stands _ at)).first
+    let first = (c.in_default.ensures.stands _ (c.at_idle-at.ensures.stands _ at)).first in
+    elim c.first_after-first.ensures [
+      | inl same ↦ omega (arith, same, first)
+      | inr own ↦ let same = own.0 in omega (arith, same)
+    ]
 
 pub next_position-at-requires-clause-here : goal.next_position-at-requires-clause-here
 next_position-at-requires-clause-here g c =

@@ -50,7 +50,7 @@ returns-in-Some-clause-taken g c = λ x is.
       target = target;
       end = c.args.spot.at + 1;
       turn = turn;
-      taken = own.2 turn.to effect.0 effect.1;
+      taken = own.2 turn.to effect.0 effect.1 effect.2;
     }
 
 pub returns-in-None-clause-ascii : goal.returns-in-None-clause-ascii

@@ -84,3 +84,9 @@ loop-number-preserved c =
                 (sym (get_or-set_same matched number c.match-rest.matched false room)) known)
           ];
     }
+
+pub returns-clause-told : goal.returns-clause-told
+returns-clause-told c = λ s ends number less.
+    let v = c.loop-number.invariant in
+    v.told s ends number
+    (omega (arith, less, c.loop-number-test.false, c.len-number-end.ensures.same))

@@ -1,9 +1,9 @@
-use Rattle.regex_lite_syntax.proofs.Common.{◌≡◌, ◌<◌, Bool, true, ◌||◌, length, slice_index_or, sym}
-use Rattle.regex_lite_syntax.proofs.Common.{refl, ap, ◌∙◌, inl, inr, arith, rules, cases_eq}
-use Rattle.regex_lite_syntax.proofs.Common.{get_or-set_other, begins_with, Starts}
+use Rattle.regex_lite_syntax.proofs.Common.{◌≡◌, ◌<◌, Bool, true, false, ◌||◌, ◌&&◌, length}
+use Rattle.regex_lite_syntax.proofs.Common.{slice_index_or, sym, refl, ap, ◌∙◌, inl, inr, arith}
+use Rattle.regex_lite_syntax.proofs.Common.{rules, cases_eq, get_or-set_other, begins_with, Starts}
 use Rattle.std.proofs.Common.{set}
 use Rattle.std.proofs.lemmas.List.{get_or-set_same}
-use Rattle.regex_lite_syntax.proofs.prefilter.starts.StartLemmas.{begins_alike, union_at}
+use Rattle.regex_lite_syntax.proofs.prefilter.starts.StartLemmas.{begins_alike, stored_at, union_at}
 use Rattle.regex_lite_syntax.proofs.prefilter.starts.Starts.add_starts.Goals as goal
 
 pub loop-code-preserved : goal.loop-code-preserved
@@ -13,13 +13,18 @@ loop-code-preserved c =
     let now = c.loop-code.self in
     let old = c.args.self.now in
     let other = c.args.other.now in
-    let bit : Bool = c.begins_in.result || c.begins_in-in-loop-code.result in
-    let here : bit
-    ≡ (begins_with old k || begins_with other k) =
-    ap (λ b. b || c.begins_in-in-loop-code.result)
-    (c.begins_in.ensures ∙ begins_alike now old k v.any v.others (v.kept k (omega arith)))
-    ∙ ap (λ b. begins_with old k || b) c.begins_in-in-loop-code.ensures in
     let inside : k < length now.ascii = search rules in
+    let within : k < length other.ascii = search rules in
+    let mine : (old.any && slice_index_or now.ascii k false) ≡ begins_with old k =
+    ap (λ b. b && slice_index_or now.ascii k false) (sym v.any)
+    ∙ stored_at now k c.loop-code-test.true inside
+    ∙ begins_alike now old k v.any v.others (v.kept k (omega arith)) in
+    let theirs = stored_at other k c.loop-code-test.true within in
+    let bit : Bool = (old.any && slice_index_or now.ascii k false)
+    || (other.any && slice_index_or other.ascii k false) in
+    let here : bit ≡ (begins_with old k || begins_with other k) =
+    ap (λ b. b || (other.any && slice_index_or other.ascii k false)) mine
+    ∙ ap (λ b. begins_with old k || b) theirs in
     record {
       any = v.any;
       others = v.others;
@@ -49,15 +54,12 @@ returns c =
     let after : Starts = record {
       any = c.loop-code.self.any || other.any;
       ascii = c.loop-code.self.ascii;
-      others = c.begins_in-2.result || c.begins_in-3.result;
+      others = (old.any && c.loop-code.self.others) || (other.any && other.others);
       at_start = c.loop-code.self.at_start || other.at_start;
     } in
     record {
       with = union_at old other after (ap (λ b. b || other.any) v.any)
           (λ d lt. v.done d (omega (arith, lt, all)))
-          (ap (λ b. b || c.begins_in-3.result)
-          (c.begins_in-2.ensures ∙ begins_alike c.loop-code.self old 128 v.any
-          v.others (v.kept 128 (omega (arith, c.loop-code.auto.code-end))))
-          ∙ ap (λ b. begins_with old 128 || b) c.begins_in-3.ensures);
+          (ap (λ b. (old.any && b) || (other.any && other.others)) v.others);
       at_start = ap (λ b. b || other.at_start) v.at_start;
     }

@@ -1,16 +1,14 @@
-use Rattle.regex_lite_syntax.proofs.Common.{◌+◌, ◌∙◌, ap, drop, repetition, subst, sym, tree_of}
-use Rattle.regex_lite_syntax.specs.Prefilter.NeededWalk.{FindsPast, Leaves}
+use Rattle.regex_lite_syntax.proofs.Common.{◌+◌, ap, arith, drop, drop_all, repetition, subst}
+use Rattle.regex_lite_syntax.proofs.Common.{sym, tree_of}
+use Rattle.regex_lite_syntax.specs.Prefilter.NeededWalk.{FindsPast}
 use Rattle.regex_lite_syntax.proofs.LeafLemmas.{tree_is-Char, tree_is-Repetition}
 use Rattle.regex_lite_syntax.proofs.TreeLemmas.{trees_more, trees_of}
 use Rattle.regex_lite_syntax.proofs.prefilter.starts.ReadLemmas.{reads_passes}
-use Rattle.regex_lite_syntax.proofs.prefilter.words.NeededWalkLemmas.{finds_any, finds_character}
+use Rattle.regex_lite_syntax.proofs.prefilter.words.NeededWalkLemmas.{all_parts_passed, finds_any}
+use Rattle.regex_lite_syntax.proofs.prefilter.words.NeededWalkLemmas.{finds_character}
 use Rattle.regex_lite_syntax.proofs.prefilter.words.NeededWalkLemmas.{finds_passes, FindsParts}
 use Rattle.regex_lite_syntax.proofs.prefilter.words.NeededWalkLemmas.{part_passed, parts_left}
 use Rattle.regex_lite_syntax.proofs.prefilter.words.needed_walk.NeededWalk.+visit.Goals as goal
-use Rattle.regex_lite_syntax.proofs.prefilter.words.needed_walk.NeededWalk.+visit.Goals.{
-  visit-then-least-gt0,
-  visit-else-least-gt0,
-}
 
 pub visit_parts-returns-then-self-eq0 : goal.visit_parts-returns-then-self-eq0
 visit_parts-returns-then-self-eq0 t c =
@@ -31,26 +29,24 @@ visit-returns-in-Alternation t c =
     finds_any (tree_of c.args.hir.now) c.args.self.now left.new.self left.ensures.reads
     left.ensures.left
 
-pub visit-returns-after-least-gt0 : goal.visit-returns-after-least-gt0
-visit-returns-after-least-gt0 t c =
+pub visit-returns-then-least-gt0 : goal.visit-returns-then-least-gt0
+visit-returns-then-least-gt0 t c =
     let r = c.in-Repetition in
-    let body = tree_of c.deref-in-Repetition.result.now in
-    let after = c.leave.new.self in
-    let reads = c.leave.ensures.reads in
-    let left = c.leave.ensures.left in
-    subst (λ tree. FindsPast tree c.args.self.now after) (sym (tree_is-Repetition r.is c.deref-in-Repetition.ensures))
-    (elim c.if-least-gt0.branch [
-      | visit-then-least-gt0 w ↦
-          finds_passes r.least r.most r.greedy body c.args.self.now w.visit.new.self after
-          w.if-least-gt0.true
-          (subst (λ tree. FindsPast tree c.args.self.now w.visit.new.self)
-          (ap tree_of (w.deref-then-least-gt0.ensures ∙ sym c.deref-in-Repetition.ensures)) w.visit.ensures)
-          reads (subst (λ now. Leaves now after) w.self-is left)
-      | visit-else-least-gt0 w ↦
-          finds_any (repetition r.least r.most r.greedy body) c.args.self.now after
-          (reads_passes r.least r.most r.greedy body after.read reads)
-          (subst (λ now. Leaves now after) w.self-is left)
-    ])
+    let body = c.deref-then-least-gt0 in
+    let walk = c.end_row.new.self in
+    subst (λ tree. FindsPast tree c.args.self.now walk) (sym (tree_is-Repetition r.is body.ensures))
+    (finds_passes r.least r.most r.greedy (tree_of body.result.now) c.args.self.now
+    c.visit.new.self walk c.if-least-gt0.true c.visit.ensures c.end_row.ensures)
+
+pub visit-returns-else-least-gt0 : goal.visit-returns-else-least-gt0
+visit-returns-else-least-gt0 t c =
+    let r = c.in-Repetition in
+    let body = c.deref-else-least-gt0 in
+    let walk = c.leave.new.self in
+    subst (λ tree. FindsPast tree c.args.self.now walk) (sym (tree_is-Repetition r.is body.ensures))
+    (finds_any (repetition r.least r.most r.greedy (tree_of body.result.now)) c.args.self.now walk
+    (reads_passes r.least r.most r.greedy (tree_of body.result.now) walk.read
+    c.leave.ensures.reads) c.leave.ensures.left)
 
 pub visit_parts-loop-part-preserved : goal.visit_parts-loop-part-preserved
 visit_parts-loop-part-preserved t c =
@@ -63,3 +59,11 @@ visit_parts-loop-part-preserved t c =
     (subst (λ left. FindsParts (trees_of hirs) left c.args.self.now c.loop-part.self) one
     c.loop-part.invariant)
     c.visit.ensures
+
+pub visit_parts-returns : goal.visit_parts-returns
+visit_parts-returns t c =
+    let hirs = c.args.parts.now in
+    all_parts_passed (trees_of hirs) c.args.self.now c.loop-part.self
+    (subst (λ left. FindsParts (trees_of hirs) left c.args.self.now c.loop-part.self)
+    (ap trees_of (drop_all c.loop-part.part-index hirs (omega (arith, c.loop-part-test.false))))
+    c.loop-part.invariant)

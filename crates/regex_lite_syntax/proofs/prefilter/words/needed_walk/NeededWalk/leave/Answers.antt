@@ -11,4 +11,4 @@ returns-clause-reads c =
 pub returns-clause-left : goal.returns-clause-left
 returns-clause-left c =
     leaves c.args.self.now _ c.end_row.new.self
-    (record { same = refl; wider = c.add_all.ensures.grown.with }) c.end_row.ensures
+    (record { same = refl; wider = c.add_all.ensures.grown }) c.end_row.ensures

@@ -2,7 +2,8 @@ use Rattle.regex_lite_syntax.proofs.Common.{◌≡◌, ℕ, arith, inl, inr, jus
 use Rattle.regex_lite_syntax.proofs.Common.{subst, sym, true}
 use Rattle.std.proofs.lemmas.Bool.Decides.{nat_tests}
 use Rattle.regex_lite_syntax.specs.Prefilter.NeededWalk.{EndsRow}
-use Rattle.regex_lite_syntax.proofs.prefilter.words.NeededWalkLemmas.{letter_added, letter_after}
+use Rattle.regex_lite_syntax.proofs.prefilter.starts.StartLemmas.{grown_on}
+use Rattle.regex_lite_syntax.proofs.prefilter.words.NeededRowLemmas.{letter_added, letter_after}
 use Rattle.regex_lite_syntax.proofs.prefilter.words.needed_walk.NeededWalk.push.Goals as goal
 use Rattle.regex_lite_syntax.proofs.prefilter.words.needed_walk.NeededWalk.push.Goals.{
   then-is_full,
@@ -22,7 +23,7 @@ returns c =
       best = refl;
       row = c.push.ensures;
       led = refl;
-      wider = λ k begins. second.grown.with k (first.grown.with k begins);
+      wider = grown_on _ _ _ first.grown second.grown;
       own = second.grown.with letter.byte (first.added letter.byte (itself letter.byte));
       other = second.added letter.other (itself letter.other);
     }) in

@@ -21,4 +21,4 @@ returns-in-None c =
     (subst (ReadsAmong (class c.args.set.now)) (sym ends.read)
     (reads_class c.args.set.now c.add_class.new.self c.add_class.ensures.added))
     (leaves c.args.self.now _ c.end_row.new.self
-    (record { same = refl; wider = c.add_class.ensures.grown.with }) ends)
+    (record { same = refl; wider = c.add_class.ensures.grown }) ends)

@@ -1,6 +1,6 @@
 use Rattle.regex_lite_engine.proofs.Common.{ap, ◌∙◌, bits_of}
 use Rattle.regex_lite_engine.proofs.backtrack.BitLemmas.{none_of_zeros}
-use Rattle.regex_lite_engine.proofs.backtrack.visited.BitWords.for_pairs.Goals as goal
+use Rattle.regex_lite_engine.proofs.backtrack.visited.PairMap.bits.Goals as goal
 
 pub returns-then-count-clause-none : goal.returns-then-count-clause-none
 returns-then-count-clause-none c = none_of_zeros 32 c.args.count
