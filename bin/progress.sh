@@ -35,11 +35,13 @@ shares_of() {
 # The crates that the target is built from, lowest first, each on a line: all libraries for other
 # crates, and the target.
 crates() {
-    sed -n 's/:.*//p' "$top/crates.txt" | while read -r name kind; do
-        if [ -z "$kind" ] && [ -e "$top/crates/$name/src/lib.rt" ] || [ "$name" = "$target" ]; then
+    while IFS=: read -r declared _; do
+        name=${declared% *} # without the kind, where there is one
+        if [ "$name" = "$declared" ] && [ -e "$top/crates/$name/src/lib.rt" ] ||
+            [ "$name" = "$target" ]; then
             echo "$name"
         fi
-    done
+    done <"$top/crates.txt"
 }
 
 # Whether no crate has kept work of an earlier build.

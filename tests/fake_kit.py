@@ -69,6 +69,7 @@ class Built(unittest.TestCase):
         (self.top / 'tests').mkdir()
         shutil.copy2(TOP / 'tests' / 'scratch.py', self.top / 'tests')
         (self.kit / 'bin').mkdir(parents=True)
+        self.path = f'{self.kit / "bin"}{os.pathsep}{os.environ["PATH"]}'
         write_script(self.kit / 'bin' / 'rt', RT)
         write_script(self.kit / 'bin' / 'rattle', RATTLE)
         write_script(self.kit / 'program', PROGRAM)
@@ -78,11 +79,10 @@ class Built(unittest.TestCase):
     def run_script(self, name: str, *arguments: str, wanted: int = 0,
                    env: Optional[dict[str, str]] = None) -> 'subprocess.CompletedProcess[str]':
         """Runs a script of bin/, which is to end with this status."""
-        path = f'{self.kit / "bin"}{os.pathsep}{os.environ["PATH"]}'
         done = subprocess.run([self.top / 'bin' / name, *arguments], check=False,
                               stdin=subprocess.DEVNULL, stdout=subprocess.PIPE,
                               stderr=subprocess.PIPE, encoding='utf-8',
-                              env={**os.environ, 'PATH': path, **(env or {})})
+                              env={**os.environ, 'PATH': self.path, **(env or {})})
         self.assertEqual(done.returncode, wanted, done.stderr)
         return done
 
