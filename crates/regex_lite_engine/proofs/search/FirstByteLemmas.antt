@@ -147,6 +147,15 @@ begins_later s h i (d, behind) (c, ahead, off) may =
     neither true t = cc
     neither false t = cc
 
+-- at the haystack's start too, where none begins whatever comes next
+pub begins_first : (s : Starts) (h : Text)
+    → (c : ℕ) × (slice_get h 0 ≡ Some c) × (begins_with s c ≡ false) → s.at_start ≡ false
+    → MayBegin s h 0 → ⊥
+begins_first s h (c, ahead, off) none may =
+    let by_next = subst (λ o. IsTrue (may_begin s None o)) ahead may in
+    let by_char = subst (λ z. IsTrue (z || (s.at_start && true))) off by_next in
+    let never = subst (λ z. IsTrue (false || (z && true))) none by_char in cc
+
 pub whole : (bs : List ℕ) → IsUtf8 bs → offset (chars bs) (length (chars bs)) ≡ length bs
 whole bs u =
     let all : take (length (chars bs)) (chars bs) ≡ chars bs =

@@ -1,7 +1,6 @@
 -- A search that begins at the first position at which a match may begin.
-use Rattle.regex_lite_engine.proofs.Common.{◌≡◌, ℕ, ◌+◌, ◌*◌, ◌<◌, ◌≤◌, ◌⊎◌, List, [], ◌∷◌, None}
-use Rattle.regex_lite_engine.proofs.Common.{Some}
-use Rattle.regex_lite_engine.proofs.Common.{Best}
+use Rattle.regex_lite_engine.proofs.Common.{◌≡◌, ℕ, ◌+◌, ◌*◌, ◌^◌, ◌<◌, ◌≤◌, ◌⊎◌, List, []}
+use Rattle.regex_lite_engine.proofs.Common.{◌∷◌, None, Some, Best, after, refl}
 use Rattle.regex_lite_engine.proofs.Common.{IsUtf8, sym, subst, inl, inr, arith, cases_lt}
 use Rattle.regex_lite_engine.proofs.Common.{mul-le-mul_left, zero, suc, true, false, ◌&&◌, ap}
 use Rattle.regex_lite_engine.proofs.Common.{if◌then◌else◌, nat_lt, length, slice_index_or, MayBegin}
@@ -12,11 +11,12 @@ use Rattle.regex_lite_engine.specs.Graph.Places.{Place}
 use Rattle.regex_lite_engine.specs.Search.NumberedAnswer.{NoneStartsBefore, IsNumberedAnswer}
 use Rattle.regex_lite_engine.specs.Search.NumberedAnswer.{IsNumberedMatch}
 use Rattle.regex_lite_engine.specs.Search.Bounds.{IsBounded}
-use Rattle.regex_lite_engine.specs.Search.Starts.{AreDeadFrom}
+use Rattle.regex_lite_engine.specs.Search.Starts.{AreDeadFrom, SkipsTo}
+use Rattle.regex_lite_syntax.specs.Text.{before}
 use Rattle.regex_lite_syntax.proofs.LookupLemmas.{there_is}
-use Rattle.regex_lite_engine.proofs.OffsetLemmas.{boundary_at}
-use Rattle.regex_lite_engine.proofs.PositionLemmas.{position_of}
-use Rattle.regex_lite_engine.proofs.search.FirstByteLemmas.{begins_later}
+use Rattle.regex_lite_engine.proofs.OffsetLemmas.{boundary_at, positions_order}
+use Rattle.regex_lite_engine.proofs.PositionLemmas.{position_is, position_of}
+use Rattle.regex_lite_engine.proofs.search.FirstByteLemmas.{begins_later, whole}
 use Rattle.regex_lite_engine.proofs.search.LaterStartLemmas.{later_end}
 use Rattle.regex_lite_engine.proofs.search.OneStartLemmas.{only_entry}
 
@@ -99,6 +99,33 @@ only_at_start s haystack (suc j) none low high may =
       ap (λ z. z && (if nat_lt there.0 128
           then slice_index_or s.ascii there.0 true else s.others)) none,
     ) may
+
+-- where a search that goes on at this offset stands
+abbrev pub standing : (bytes : List ℕ) (at : ℕ) → at + 1 < 2 ^ 64 → Here
+standing bytes at small = record {
+  before = before (chars bytes) (position_at bytes at);
+  after = after (chars bytes) (position_at bytes at);
+  at = at;
+  small = small;
+}
+
+-- it has only passed positions at which none begins
+pub stands_after : {Passed : ℕ → Type 0} (bytes : List ℕ) (p at : ℕ) (small : at + 1 < 2 ^ 64)
+    → IsUtf8 bytes → IsCharBoundary bytes at → SkipsTo Passed bytes p at
+    → PassesTo Passed (chars bytes) p (standing bytes at small)
+stands_after bytes p at small utf8 edge skips =
+    let is = position_is bytes at utf8 edge in
+    skips (standing bytes at small) refl
+    (record { inside = is.0; bytes = is.1; behind = refl; ahead = refl })
+
+-- where it has come to the end, the only position that is left is the last
+pub last_left : (bytes : List ℕ) (q i : ℕ) {here : Here} → IsUtf8 bytes
+    → IsHere (chars bytes) q here → length bytes ≤ here.at → q ≤ i → i ≤ length (chars bytes)
+    → length (chars bytes) ≡ i
+last_left bytes q i utf8 is end low high =
+    let last = positions_order (chars bytes) (length (chars bytes)) q (omega arith)
+    (omega (arith, end, whole bytes utf8, is.bytes)) in
+    omega (arith, last, low, high)
 
 module _ (table : List (Place ℕ)) (bytes : List ℕ) (utf8 : IsUtf8 bytes) (start s : ℕ)
     (here : Here) (w : PassesTo (IsDeadAt table (chars bytes) start) (chars bytes) s here) where

@@ -9,7 +9,7 @@ use Rattle.regex_lite_syntax.specs.Prefilter.Rows.{start_row, has}
 use Rattle.regex_lite_engine.specs.Graph.Places.{Place}
 use Rattle.regex_lite_engine.proofs.search.FirstByteLemmas.{ascii_there, begins_later, first_byte}
 use Rattle.regex_lite_engine.proofs.Common.{None, Option, Text, after, is_some, IsTrue}
-use Rattle.regex_lite_engine.proofs.OffsetLemmas.{offset_less}
+use Rattle.regex_lite_engine.proofs.OffsetLemmas.{offset_less, positions_order}
 use Rattle.regex_lite_engine.proofs.search.FirstByteLemmas.{inside, next_at, whole}
 use Rattle.regex_lite_syntax.proofs.LookupLemmas.{there_is}
 use Rattle.regex_lite_engine.proofs.search.SkipLemmas.{passes_where}
@@ -95,12 +95,15 @@ module _ (table : List (Place ℕ)) (entries : List ℕ) (heads : ListHeads)
       → ((k : ℕ) → x.at ≤ k → k < y.at → IsPassedByAll heads bs k)
       → (p ≡ 0 → MayBegin heads.any (chars bs) 0 → ⊥)
       → PassesTo (AreDeadAt table (chars bs) entries) (chars bs) p y
-  passes_to {p} is js le most pass start =
-      passes_where is js le (λ i low within from below. dead i low within
+  passes_to {p} {x = x} is js le most pass start =
+      passes_where (is.inside, is.bytes) js le (λ i within from below. dead i within from
       (pass (offset (chars bs) i) from below) (omega (arith, below, most)))
     where
-      dead : (i : ℕ) → p ≤ i → i < length (chars bs)
+      dead : (i : ℕ) → i < length (chars bs) → x.at ≤ offset (chars bs) i
           → IsPassedByAll heads bs (offset (chars bs) i) → offset (chars bs) i < length bs
           → AreDeadAt table (chars bs) entries i
-      dead zero low within off short = w.any (chars bs) 0 (start (omega (arith, low)))
-      dead (suc i) low within off short = dead_later i within short off
+      dead zero within from off short =
+          let same = is.bytes in
+          let low = positions_order (chars bs) p 0 is.inside (omega (arith, same, from)) in
+          w.any (chars bs) 0 (start (omega (arith, low)))
+      dead (suc i) within from off short = dead_later i within short off

@@ -2,7 +2,7 @@
 use Rattle.regex_lite_engine.proofs.Common.{◌≡◌, ℕ, ◌+◌, ◌-◌, ◌<◌, ◌≤◌, List, [], ◌∷◌, drop, IsUtf8}
 use Rattle.regex_lite_engine.proofs.Common.{chars, encodes-chars, length, slice_index, sym, ap, ◌∙◌}
 use Rattle.regex_lite_engine.proofs.Common.{offset, subst, arith, cases_lt, inl, inr, true, Some}
-use Rattle.regex_lite_engine.proofs.Common.{None, Option, NeverBegins, Text}
+use Rattle.regex_lite_engine.proofs.Common.{None, Option, NeverBegins}
 use Rattle.std.proofs.Common.{MatchOption, encode_utf8_all}
 use Rattle.std.proofs.Math.ListN.{drop_of_length-le}
 use Rattle.std.proofs.lemmas.List.{drop-drop, get_or-drop}
@@ -13,6 +13,7 @@ use Rattle.regex_lite_syntax.specs.Prefilter.Words.{AnyStandsAt, NoneStands, Sta
 use Rattle.regex_lite_syntax.specs.declared.prefilter.words.needed.Reach.{Reach}
 use Rattle.regex_lite_syntax.specs.declared.prefilter.words.letter.Letter.{Letter}
 use Rattle.regex_lite_engine.proofs.OffsetLemmas.{rest_at}
+use Rattle.regex_lite_engine.proofs.search.SkipLemmas.{AllBetween}
 
 -- it isn't reached from a position if it isn't from its offset
 pub out_of_reach : (needed : NeededWord) (bs : List ℕ) → IsUtf8 bs → (i : ℕ)
@@ -67,11 +68,6 @@ next_inside needed bs from (Some reach) inside (low, (order, there, led), first,
     let last = stands_inside (needed.word ∷ []) bs from reach.word inside there first in
     (low, order, omega (arith, order, last), none)
 
--- each position from p on whose offset lies between these is passed
-abbrev pub AllBetween : (Passed : ℕ → Type 0) → Text → (p low high : ℕ) → Type 0
-AllBetween Passed h p low high =
-    (i : ℕ) → p ≤ i → i < length h → low ≤ offset h i → offset h i < high → Passed i
-
 -- what a search has passed over by a word that each match needs
 module _ (facts : StartFacts) (needed : NeededWord) (known : facts.needed ≡ Some needed)
     (bs : List ℕ) (utf8 : IsUtf8 bs) where
@@ -81,26 +77,26 @@ module _ (facts : StartFacts) (needed : NeededWord) (known : facts.needed ≡ So
       (sym known) (out_of_reach needed bs utf8 i never)))
 
   -- up to this offset, to the next from which it may be reached, and to where a match can begin
-  pub passed_on : (p low at from to : ℕ)
-      → AllBetween (NeverStarts facts (chars bs)) (chars bs) p low at
+  pub passed_on : (low at from to : ℕ)
+      → AllBetween (NeverStarts facts (chars bs)) (chars bs) low at
       → ((k : ℕ) → at ≤ k → k < from → ¬ Reaches needed bs k)
-      → AllBetween (NeverBegins facts.heads (chars bs)) (chars bs) p from to
-      → AllBetween (NeverStarts facts (chars bs)) (chars bs) p low to
-  passed_on p low at from to before never begins i later inside above below =
+      → AllBetween (NeverBegins facts.heads (chars bs)) (chars bs) from to
+      → AllBetween (NeverStarts facts (chars bs)) (chars bs) low to
+  passed_on low at from to before never begins i inside above below =
       elim (cases_lt (offset (chars bs) i) at) [
-        | inl lt ↦ before i later inside above lt
+        | inl lt ↦ before i inside above lt
         | inr ge ↦
             elim (cases_lt (offset (chars bs) i) from) [
               | inl lt ↦ unreached i (never (offset (chars bs) i) ge lt)
-              | inr ge ↦ inl (begins i later inside ge below)
+              | inr ge ↦ inl (begins i inside ge below)
             ]
       ]
 
   -- and up to the end where it is reached no more
-  pub passed_all : (p low at : ℕ)
-      → AllBetween (NeverStarts facts (chars bs)) (chars bs) p low at
+  pub passed_all : (low at : ℕ)
+      → AllBetween (NeverStarts facts (chars bs)) (chars bs) low at
       → ((k : ℕ) → at ≤ k → ¬ Reaches needed bs k)
-      → AllBetween (NeverStarts facts (chars bs)) (chars bs) p low (length bs)
-  passed_all p low at before never =
-      passed_on p low at (length bs) (length bs) before (λ k from below. never k from)
-      (λ i later inside above below. absurd (omega (arith, above, below)))
+      → AllBetween (NeverStarts facts (chars bs)) (chars bs) low (length bs)
+  passed_all low at before never =
+      passed_on low at (length bs) (length bs) before (λ k from below. never k from)
+      (λ i inside above below. absurd (omega (arith, above, below)))

@@ -1,12 +1,12 @@
 -- Where matches can begin whose first two characters are known.
 use Rattle.regex_lite_engine.proofs.Common.{◌≡◌, ℕ, suc, ◌+◌, ◌<◌, ◌≤◌, Bool, true, false, ◌&&◌}
 use Rattle.regex_lite_engine.proofs.Common.{List, length, replicate, if◌then◌else◌, IsTrue, nat_lt}
-use Rattle.regex_lite_engine.proofs.Common.{slice_index, slice_index_or, Some, IsUtf8, Option}
-use Rattle.regex_lite_engine.proofs.Common.{chars, sym, refl, ap, ◌∙◌, subst, inl}
+use Rattle.regex_lite_engine.proofs.Common.{slice_index, slice_index_or, Some, Option}
+use Rattle.regex_lite_engine.proofs.Common.{sym, refl, ap, ◌∙◌, subst, inl}
 use Rattle.regex_lite_engine.proofs.Common.{inr, arith, cases_eq, cases_lt, nat_tests}
 use Rattle.regex_lite_engine.proofs.Common.{get_or-map-range_with_len, Text, after, character}
-use Rattle.regex_lite_engine.proofs.Common.{look, concat, Trees, more, NeverBegins, IsPassed}
-use Rattle.regex_lite_engine.proofs.Common.{stops_at, MayBegin, offset, IsHere, Heads, Here, ◌⊎◌}
+use Rattle.regex_lite_engine.proofs.Common.{look, concat, Trees, more, IsPassed}
+use Rattle.regex_lite_engine.proofs.Common.{stops_at, MayBegin, Heads, ◌⊎◌}
 use Rattle.std.proofs.Common.{◌||◌, is_none, nat_eq}
 use Rattle.regex_lite_syntax.specs.Prefilter.Bytes.{suits}
 use Rattle.regex_lite_syntax.specs.declared.prefilter.Prefilter.TheVariants.{Pair}
@@ -15,9 +15,6 @@ use Rattle.regex_lite_syntax.specs.Prefilter.Starts.{begins_with, may_begin}
 use Rattle.regex_lite_syntax.specs.Text.{before}
 use Rattle.regex_lite_syntax.specs.declared.hir.look.Look.{Look}
 use Rattle.regex_lite_engine.specs.Search.Prefixes.{just_starts, prefix_heads}
-use Rattle.regex_lite_syntax.proofs.LookupLemmas.{there_is}
-use Rattle.regex_lite_engine.proofs.search.FirstByteLemmas.{first_byte, whole}
-use Rattle.regex_lite_engine.proofs.search.SkipLemmas.{cut_off_here}
 
 module _ (code : ℕ) where
   -- what is noted of an ASCII character
@@ -119,35 +116,7 @@ module _ (first second : ℕ) where
     | inr other ↦ passed_apart bytes at other
   ]
 
-  -- none begins where a search stands before a byte that is passed
-  pub passed_here : (bs : List ℕ) (p : ℕ) (x : Here) → IsUtf8 bs → IsHere (chars bs) p x
-      → x.at < length bs → IsPassed heads bs x.at → NeverBegins heads (chars bs) p
-  passed_here bs p x u is short (inr cut) = cut_off_here heads bs p x u is cut
-  passed_here bs p x u is short (inl off) = inl never
-    where
-      within : p < length (chars bs)
-      within = elim (cases_lt p (length (chars bs))) [
-        | inl lt ↦ lt
-        | inr le ↦
-            let last : p ≡ length (chars bs) = omega (arith, le, is.inside) in
-            let end = is.bytes ∙ ap (offset (chars bs)) last ∙ whole bs u in
-            absurd (omega (arith, end, short))
-      ]
-
-      never : MayBegin (just_starts first) (chars bs) p → ⊥
-      never may =
-          let here = there_is (chars bs) p within in
-          let none : begins_with (just_starts first) here.0 ≡ false
-          = first_byte (just_starts first) bs p here.0 u here.1 within
-          (omega (arith, short, is.bytes))
-          ∙ ap (λ z. stops_at (just_starts first) (slice_index bs z)) (sym is.bytes) ∙ off in
-          let by_next = subst (λ o. IsTrue (may_begin (just_starts first) (before (chars bs) p) o))
-          here.1 may in
-          let by_char = subst (λ z. IsTrue (z || (false && is_none (before (chars bs) p)))) none
-          by_next in
-          cc
-
-  -- nor where the prefilter for both is not suited
+  -- so is one where the prefilter for both is not suited
   pub passed_unsuited : (bytes : List ℕ) (at : ℕ) → first < 128 → at + 1 < length bytes
       → suits (Pair (replicate 2 first) (replicate 2 second)) (slice_index bytes at)
       (slice_index bytes (at + 1)) ≡ false

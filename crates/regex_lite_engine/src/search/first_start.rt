@@ -52,8 +52,14 @@ impl<'g> OnePattern<'g> {
         if !self.has_prefilter() {
             return Some(start);
         }
-        let first = self.first_start(haystack, start)?;
-        Some(first.at)
+        if start >= haystack.len() {
+            return Some(start);
+        }
+        let first = self.filter.first_start(haystack, start);
+        if first >= haystack.len() && self.reads {
+            return None;
+        }
+        Some(first)
     }
 
     /// The first such position after this one.

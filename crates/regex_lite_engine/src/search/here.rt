@@ -101,7 +101,9 @@ pub fn next_char(haystack: &str, at: usize) -> Option<(char, usize)>
 }
 
 /// The character that ends there.
-fn last_char(haystack: &str, at: usize) -> Option<char>
+///
+/// Condition: the offset is on a character boundary.
+pub fn last_char(haystack: &str, at: usize) -> Option<char>
     requires { IsCharBoundary haystack.now at }
     ensures { (p : ℕ) → IsOffset (chars haystack.now) p at
         → result ≡ before (chars haystack.now) p }

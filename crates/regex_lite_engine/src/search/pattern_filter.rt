@@ -3,12 +3,13 @@ ghost use Rattle.std.specs.Prelude.{◌≡◌, ℕ, IfSome, IsTrue, Some, false,
 ghost use Rattle.regex_lite_syntax.specs.Prefilter.StartFacts.{NeverStarts};
 ghost use Rattle.regex_lite_syntax.specs.Prefilter.Starts.{may_begin};
 ghost use Rattle.regex_lite_engine.specs.Search.Filters.{facts_of};
+ghost use Rattle.regex_lite_engine.specs.Search.Offsets.{IsOffset};
 ghost use Rattle.regex_lite_engine.specs.Search.Standing.{IsHere};
 ghost use Rattle.regex_lite_engine.specs.Search.Starts.{PassesTo, SkipsTo};
 
 use crate::search::here::Here;
 use crate::search::prefix::Prefix;
-use crate::search::skip::next_start;
+use crate::search::skip::{first_start, next_start};
 use regex_lite_syntax::prefilter::{Filter, Words};
 
 /// What is known of the positions at which a match of a pattern can begin.
@@ -62,6 +63,21 @@ impl<'g> PatternFilter<'g> {
         match self {
             PatternFilter::Whole(filter) => next_start(filter, haystack, here),
             PatternFilter::Literal(prefix) => prefix.next_start(haystack, here),
+        }
+    }
+
+    /// The first offset from this one on at which a match can begin, or the haystack's end.
+    #[inline(always)]
+    pub(crate) fn first_start(self, haystack: &str, from: usize) -> usize
+        requires { IsCharBoundary haystack.now from }
+        ensures boundary { IsCharBoundary haystack.now result }
+        ensures passes { (p : ℕ) → IsOffset (chars haystack.now) p from
+            → SkipsTo (NeverStarts (facts_of self.entry) (chars haystack.now)) haystack.now p
+            result }
+    {
+        match self {
+            PatternFilter::Whole(filter) => first_start(filter, haystack, from),
+            PatternFilter::Literal(prefix) => prefix.next_offset(haystack.as_bytes(), from),
         }
     }
 

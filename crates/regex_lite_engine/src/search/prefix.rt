@@ -99,7 +99,7 @@ impl Prefix {
     /// The first offset from this one on at which both stand, or the end.
     // Not inlined, since the loop of a search is so large that this one would lose its registers.
     #[inline(never)]
-    fn next_offset(self, bytes: &[u8], from: usize) -> usize
+    pub(super) fn next_offset(self, bytes: &[u8], from: usize) -> usize
         requires { from ≤ length bytes.now }
         ensures low { from ≤ result }
         ensures high { result ≤ length bytes.now }

@@ -5,15 +5,14 @@ ghost use Rattle.std.specs.Prelude.{false, true, chars, length, slice_index};
 ghost use Rattle.regex_lite_syntax.specs.Prefilter.Heads.{IsCutOff, IsPassed, NeverBegins};
 ghost use Rattle.regex_lite_syntax.specs.Prefilter.Bytes.{suits, IsPrefilterOf};
 ghost use Rattle.regex_lite_syntax.specs.Prefilter.Needed.{Reaches};
-ghost use Rattle.regex_lite_syntax.specs.Prefilter.StartFacts.{NeverStarts, NoneStandsIn};
-ghost use Rattle.regex_lite_syntax.specs.Prefilter.Words.{AnyStandsAt};
+ghost use Rattle.regex_lite_syntax.specs.Prefilter.StartFacts.{NeverStarts};
 ghost use Rattle.regex_lite_syntax.specs.Prefilter.Starts.{may_begin, stops_at};
-ghost use Rattle.regex_lite_engine.specs.Search.Offsets.{offset};
+ghost use Rattle.regex_lite_engine.specs.Search.Offsets.{offset, IsOffset};
 ghost use Rattle.regex_lite_engine.specs.Search.Standing.{IsHere};
 ghost use Rattle.regex_lite_engine.specs.Search.Starts.{SkipsTo};
 
 use crate::search::here::Here;
-use regex_lite_syntax::prefilter::{Filter, Heads, Needed, Prefilter, Reach, Starts, Words};
+use regex_lite_syntax::prefilter::{Filter, Heads, Needed, Prefilter, Reach, Starts};
 
 /// How many bytes a prefilter is asked about at a time.
 const BLOCK: usize = 32;
@@ -32,51 +31,58 @@ pub(super) fn next_start(filter: &Filter, haystack: &str, here: Here) -> Option<
     ensures passes { (p : ℕ) → IsHere (chars haystack.now) p here → IfSome result
         (SkipsTo (NeverStarts filter.now (chars haystack.now)) haystack.now p) }
 {
-    if let Some(words) = filter.words() {
-        return next_by_words(words, haystack, here);
+    if goes_by_heads(filter) && can_begin(filter.heads(), haystack.as_bytes(), here) {
+        return None;
     }
-    match filter.needed() {
-        None => next_by_heads(filter, haystack, here),
-        Some(needed) => next_by_needed(filter, needed, haystack, here),
-    }
-}
-
-/// The same by the first characters and by a word that each match needs.
-// Not inlined, so that a pattern without one costs no more than the test for it.
-#[inline(never)]
-fn next_by_needed(filter: &Filter, needed: &Needed, haystack: &str, here: Here) -> Option<usize>
-    requires here { (p : ℕ) × IsHere (chars haystack.now) p here }
-    requires needed { filter.now.needed ≡ Some needed.now }
-    ensures boundary { IfSome result (IsCharBoundary haystack.now) }
-    ensures passes { (p : ℕ) → IsHere (chars haystack.now) p here → IfSome result
-        (SkipsTo (NeverStarts filter.now (chars haystack.now)) haystack.now p) }
-{
-    let at = start_by_needed(filter, needed, haystack, here);
+    let at = first_start(filter, haystack, here.at);
     if at == here.at {
         return None;
     }
     Some(at)
 }
 
-/// The first offset from this position on at which a match can begin, judging by the first
-/// characters and by a word that each match needs, or the end.
-fn start_by_needed(filter: &Filter, needed: &Needed, haystack: &str, here: Here) -> usize
-    requires here { (p : ℕ) × IsHere (chars haystack.now) p here }
+/// Whether nothing but the first characters tells where matches begin.
+fn goes_by_heads(filter: &Filter) -> bool {
+    filter.words().is_none() && filter.needed().is_none()
+}
+
+/// The first offset from this one on at which a match can begin, or the haystack's end.
+#[inline(always)]
+pub(super) fn first_start(filter: &Filter, haystack: &str, from: usize) -> usize
+    requires { IsCharBoundary haystack.now from }
+    ensures boundary { IsCharBoundary haystack.now result }
+    ensures passes { (p : ℕ) → IsOffset (chars haystack.now) p from
+        → SkipsTo (NeverStarts filter.now (chars haystack.now)) haystack.now p result }
+{
+    if let Some(words) = filter.words() {
+        return words.next_offset(haystack, from);
+    }
+    match filter.needed() {
+        None => first_head(filter, haystack, from),
+        Some(needed) => first_by_needed(filter, needed, haystack, from),
+    }
+}
+
+/// The same by the first characters and by a word that each match needs.
+// Not inlined, so that a pattern without one costs no more than the test for it.
+#[inline(never)]
+fn first_by_needed(filter: &Filter, needed: &Needed, haystack: &str, from: usize) -> usize
+    requires boundary { IsCharBoundary haystack.now from }
     requires needed { filter.now.needed ≡ Some needed.now }
     ensures boundary { IsCharBoundary haystack.now result }
-    ensures passes { (p : ℕ) → IsHere (chars haystack.now) p here
+    ensures passes { (p : ℕ) → IsOffset (chars haystack.now) p from
         → SkipsTo (NeverStarts filter.now (chars haystack.now)) haystack.now p result }
 {
     let bytes = haystack.as_bytes();
-    let mut at = here.at;
+    let mut at = from;
     'starts: loop {
         let Some(reach) = next_reach(needed, bytes, at) else {
             return bytes.len();
         };
-        if reach.from == at && at > here.at {
+        if reach.from == at && at > from {
             return at;
         }
-        let start = next_head(filter, haystack, here, reach.from);
+        let start = first_head(filter, haystack, reach.from);
         if start <= reach.word {
             return start;
         }
@@ -103,62 +109,23 @@ fn next_reach(needed: &Needed, bytes: &[u8], from: usize) -> Option<Reach>
 }
 
 /// The first offset from this one on at which a match can begin, judging by the first characters,
-/// or the end. The offset isn't before the position.
-fn next_head(filter: &Filter, haystack: &str, here: Here, from: usize) -> usize
-    requires here { (p : ℕ) × IsHere (chars haystack.now) p here }
-    requires later { here.at ≤ from }
-    requires inside { from ≤ length haystack.now }
+/// or the end.
+#[inline(always)]
+fn first_head(filter: &Filter, haystack: &str, from: usize) -> usize
+    requires { from ≤ length haystack.now }
     ensures boundary { IsCharBoundary haystack.now result }
     ensures low { from ≤ result }
-    ensures passed { (p : ℕ) → IsHere (chars haystack.now) p here → (i : ℕ) → p ≤ i
-        → i < length (chars haystack.now) → from ≤ offset (chars haystack.now) i
-        → offset (chars haystack.now) i < result
+    ensures passed { (i : ℕ) → i < length (chars haystack.now)
+        → from ≤ offset (chars haystack.now) i → offset (chars haystack.now) i < result
         → NeverBegins filter.now.heads (chars haystack.now) i }
+    ensures stops { result < length haystack.now → (result ≡ 0)
+        ⊎ (stops_at filter.now.heads.first (slice_index haystack.now result) ≡ true) }
 {
     let heads = filter.heads();
-    let bytes = haystack.as_bytes();
-    if from == here.at && can_begin(heads, bytes, here) {
-        return from;
+    if from == 0 && heads.first.at_start {
+        return 0;
     }
-    next_offset(heads, filter.prefilter(), bytes, from)
-}
-
-/// The same by the words of which a match begins with one.
-#[inline(always)]
-fn next_by_words(words: &Words, haystack: &str, here: Here) -> Option<usize>
-    requires { (p : ℕ) × IsHere (chars haystack.now) p here }
-    ensures boundary { IfSome result (IsCharBoundary haystack.now) }
-    ensures passes { (p : ℕ) → IsHere (chars haystack.now) p here → IfSome result
-        (SkipsTo (NoneStandsIn words.now (chars haystack.now)) haystack.now p) }
-    ensures stops { MatchOption result
-        (here.at < length haystack.now → AnyStandsAt words.now haystack.now here.at)
-        (λ at. at < length haystack.now → AnyStandsAt words.now haystack.now at) }
-{
-    let at = words.next_offset(haystack, here.at);
-    if at == here.at {
-        return None;
-    }
-    Some(at)
-}
-
-/// The same by the characters that can come first and second.
-#[inline(always)]
-fn next_by_heads(filter: &Filter, haystack: &str, here: Here) -> Option<usize>
-    requires { (p : ℕ) × IsHere (chars haystack.now) p here }
-    ensures boundary { IfSome result (IsCharBoundary haystack.now) }
-    ensures passes { (p : ℕ) → IsHere (chars haystack.now) p here → IfSome result
-        (SkipsTo (NeverBegins filter.now.heads (chars haystack.now)) haystack.now p) }
-    ensures stops { MatchOption result
-        (may_begin filter.now.heads.first here.before here.after ≡ true)
-        (λ at. at < length haystack.now
-        → stops_at filter.now.heads.first (slice_index haystack.now at) ≡ true) }
-{
-    let heads = filter.heads();
-    let bytes = haystack.as_bytes();
-    if can_begin(heads, bytes, here) {
-        return None;
-    }
-    Some(next_offset(heads, filter.prefilter(), bytes, here.at))
+    next_offset(heads, filter.prefilter(), haystack.as_bytes(), from)
 }
 
 /// Whether a match can begin here, with the byte after the next character.

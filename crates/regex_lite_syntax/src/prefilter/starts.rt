@@ -27,7 +27,7 @@ pub struct Starts {
     pub(crate) others: bool,
     /// Whether a match can begin at the haystack's start, whatever comes next. This is separate,
     /// since a search has to begin there once and not at each character.
-    pub(crate) at_start: bool,
+    pub at_start: bool,
 }
 
 impl Starts {

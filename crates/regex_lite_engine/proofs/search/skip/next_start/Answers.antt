@@ -1,23 +1,18 @@
-use Rattle.regex_lite_engine.proofs.Common.{◌≡◌, chars, inl, inr, sym, subst, ap, ◌∙◌, NeverBegins}
-use Rattle.regex_lite_engine.proofs.Common.{Some}
-use Rattle.std.proofs.Common.{MatchOption, option_map}
-use Rattle.regex_lite_syntax.specs.Prefilter.StartFacts.{NoneStandsIn}
-use Rattle.regex_lite_engine.proofs.search.SkipLemmas.{skips_as}
+use Rattle.regex_lite_engine.proofs.Common.{◌≤◌, length, sym, subst}
+use Rattle.regex_lite_engine.proofs.OffsetLemmas.{boundary_at}
+use Rattle.regex_lite_engine.proofs.search.here.HereLemmas.{at_most}
 use Rattle.regex_lite_engine.proofs.search.skip.next_start.Goals as goal
 
-pub returns-in-None-clause-passes : goal.returns-in-None-clause-passes
-returns-in-None-clause-passes c = λ p is.
-    let bytes = c.args.haystack.now in
-    skips_as (NeverBegins c.args.filter.now.heads (chars bytes)) _ bytes p c.next_by_heads.result
-    (λ i never. inl never) (c.next_by_heads.ensures.passes p is)
+pub can_begin-requires : goal.can_begin-requires
+can_begin-requires c =
+    subst (λ z. c.args.here.at ≤ length z) (sym c.as_bytes.ensures.value)
+    (at_most c.args.haystack.now c.requires.0 c.args.here c.utf8.haystack c.requires.1)
 
-pub returns-in-Some-clause-passes : goal.returns-in-Some-clause-passes
-returns-in-Some-clause-passes c = λ p is.
-    let bytes = c.args.haystack.now in
-    let words = c.in-Some.words.now in
-    let known : c.args.filter.now.words ≡ Some words =
-    sym c.words.ensures ∙ ap (option_map (λ w. w.now)) c.in-Some.is in
-    skips_as (NoneStandsIn words (chars bytes)) _ bytes p c.next_by_words.result
-    (λ i none. inr (inl (subst (λ o. MatchOption o ⊥ (λ w. NoneStandsIn w (chars bytes) i)) (sym known)
-    none)))
-    (c.next_by_words.ensures.passes p is)
+pub first_start-at-requires : goal.first_start-at-requires
+first_start-at-requires c =
+    let is = c.requires.1 in
+    boundary_at c.args.haystack.now c.requires.0 c.args.here.at c.utf8.haystack
+    (is.inside, is.bytes)
+
+pub returns-clause-passes : goal.returns-clause-passes
+returns-clause-passes c = λ p is. c.first_start-at.ensures.passes p (is.inside, is.bytes)

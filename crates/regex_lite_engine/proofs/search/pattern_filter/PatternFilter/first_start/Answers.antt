@@ -1,0 +1,30 @@
+use Rattle.regex_lite_engine.proofs.Common.{◌≤◌, length, chars, inl, refl, sym, subst, arith}
+use Rattle.regex_lite_engine.proofs.Common.{IsPassed, NeverBegins}
+use Rattle.regex_lite_syntax.specs.Prefilter.StartFacts.{NeverStarts}
+use Rattle.regex_lite_engine.specs.Search.Filters.{facts_of}
+use Rattle.regex_lite_engine.specs.Search.Prefixes.{prefix_heads}
+use Rattle.regex_lite_engine.specs.Search.Starts.{SkipsTo}
+use Rattle.regex_lite_engine.specs.declared.search.pattern_filter.PatternFilter.{PatternFilter}
+use Rattle.regex_lite_engine.specs.declared.search.pattern_filter.PatternFilter.TheVariants.{
+  Literal,
+}
+use Rattle.regex_lite_engine.proofs.search.SkipLemmas.{passes_as, passes_between}
+use Rattle.regex_lite_engine.proofs.search.pattern_filter.PatternFilter.first_start.Goals as goal
+
+pub returns-in-Literal-clause-passes : goal.returns-in-Literal-clause-passes
+returns-in-Literal-clause-passes c = λ p is.
+    let prefix = c.in-Literal.prefix in
+    let heads = prefix_heads prefix.first prefix.second in
+    let bytes = c.args.haystack.now in
+    let same = c.as_bytes.ensures.value in
+    let found = c.next_offset.ensures in
+    subst (λ (filter : PatternFilter). SkipsTo (NeverStarts (facts_of filter) (chars bytes)) bytes p
+    c.next_offset.result) (sym c.in-Literal.is)
+    (λ there at stands. passes_as (NeverBegins heads (chars bytes))
+    (NeverStarts (facts_of (Literal prefix)) (chars bytes)) (chars bytes) p there
+    (λ i never. inl never)
+    (passes_between heads bytes c.utf8.haystack is stands (λ first. refl)
+    (omega (arith, found.low, at))
+    (subst (λ z. there.at ≤ length z) same (omega (arith, at, found.high)))
+    (λ k from below. subst (λ z. IsPassed heads z k) same
+    (found.passed k from (omega (arith, below, at))))))
