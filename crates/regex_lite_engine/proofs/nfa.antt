@@ -2,5 +2,6 @@
 pub mod BoundaryLemmas
 pub mod FirstWordLemmas
 pub mod ListWordLemmas
+pub mod OneWordLemmas
 pub mod WayLemmas
 pub mod WholeWordLemmas

@@ -4,6 +4,7 @@ pub mod AnewLemmas
 pub mod BeginLemmas
 pub mod BoundaryLemmas
 pub mod BuildLemmas
+pub mod HereLemmas
 pub mod IntervalLemmas
 pub mod KnownEndLemmas
 pub mod LeapLemmas
@@ -21,6 +22,7 @@ pub mod SpotLemmas
 pub mod StandsLemmas
 pub mod StoredChangeLemmas
 pub mod StoredStateLemmas
+pub mod TakenLemmas
 pub mod TargetLemmas
 pub mod AlikeLemmas
 pub mod OnceLemmas

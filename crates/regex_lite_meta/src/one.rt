@@ -70,16 +70,37 @@ pub(crate) fn search_any_one(
     if let Some((found, steps)) = pattern.search_words(alloc, haystack, start) {
         return Ok((found.is_some(), steps));
     }
-    let (end, steps) = search_shortest_one(pattern, alloc, haystack, start)?;
+    let (end, steps) = search_shortest_in_graph(pattern, alloc, haystack, start)?;
     Ok((end.is_some(), steps))
 }
 
-/// The least end of any match that starts at or after this offset, and what the search did. It
-/// stops at the first match that it comes to.
+/// The least end of any match that starts at or after this offset, and what the search did: that of
+/// the next word, if the pattern is one word alone.
+#[inline(always)]
+pub(crate) fn search_shortest_one(
+    pattern: &mut OnePattern<'_>,
+    alloc: Global,
+    haystack: &str,
+    start: usize,
+) -> Result<(Option<usize>, Steps), AllocError>
+    requires boundary { IsCharBoundary haystack.now start }
+    requires answers { DoWordsAnswer (places_of pattern.old.table.now) pattern.old.entry
+        (facts_of pattern.old.filter) }
+    ensures { IfOk result (TellsEndOfOne (places_of pattern.old.table.now) pattern.old.entry
+        haystack.now start) }
+{
+    if let Some(told) = pattern.search_word_end(haystack, start) {
+        return Ok(told);
+    }
+    search_shortest_in_graph(pattern, alloc, haystack, start)
+}
+
+/// The same, whether the pattern is one word alone or not. It stops at the first match that it
+/// comes to.
 // Inlined, since many searches are over before their pattern is looked at twice: as a call it cost
 // `is_match` of 20 bytes up to 1.14 times as much.
 #[inline(always)]
-pub(crate) fn search_shortest_one(
+fn search_shortest_in_graph(
     pattern: &mut OnePattern<'_>,
     alloc: Global,
     haystack: &str,

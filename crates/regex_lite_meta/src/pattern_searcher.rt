@@ -68,6 +68,7 @@ impl PatternSearcher {
 
     /// Where the most preferred match starts and ends, from the least start at or after this
     /// offset. It needs no memory, and the row has the slots of the match.
+    #[inline(always)]
     pub(crate) fn find(
         &mut self,
         pattern: &mut OnePattern<'_>,
@@ -185,7 +186,7 @@ impl PatternSearcher {
             return cache.best.end();
         };
         pattern.may_start = true;
-        end_of(dfa.find::<_, true>(pattern, cache, haystack, first))
+        end_of(dfa.find::<_, true>(pattern, cache, haystack, first.at))
     }
 
     /// The slots of the last match.

@@ -1,6 +1,7 @@
 -- A frame was taken off: the memory still suffices, and the counts stay within what is left.
 use Rattle.regex_lite_engine.proofs.Common.{◌≡◌, ℕ, ◌+◌, ◌≤◌, Bool, true, false, List, ◌∷◌, length}
-use Rattle.regex_lite_engine.proofs.Common.{set, if◌then◌else◌, slice_get, Option, Some, None, IsUtf8}
+use Rattle.regex_lite_engine.proofs.Common.{set, if◌then◌else◌, slice_get, Option, Some, None}
+use Rattle.regex_lite_engine.proofs.Common.{IsUtf8}
 use Rattle.regex_lite_engine.proofs.Common.{chars, sym, refl, ap, ◌∙◌, subst, arith, length-set}
 use Rattle.regex_lite_engine.proofs.Common.{set-get_or, Pairs, pair_number, was_entered, Held}
 use Rattle.regex_lite_engine.proofs.Common.{kept_back_with, arrow_count, place_of, LeadsBelow}

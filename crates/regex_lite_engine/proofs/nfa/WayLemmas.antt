@@ -39,7 +39,7 @@ use Rattle.regex_lite_engine.proofs.laws.list.ReadingLemmas.{reads}
 use Rattle.regex_lite_engine.proofs.laws.PatternWayLemmas.{walk_match, one_or_two_pairs}
 use Rattle.regex_lite_engine.proofs.laws.search.NumberedWayLemmas.{IsPart, IsPartNumber, whole_part}
 use Rattle.regex_lite_engine.proofs.laws.search.NumberedWayLemmas.{whole_number, in_addresses}
-use Rattle.regex_lite_engine.proofs.nfa.WholeWordLemmas.{words_answer}
+use Rattle.regex_lite_engine.proofs.nfa.OneWordLemmas.{words_answer_searches}
 use Rattle.regex_lite_syntax.proofs.LookupLemmas.{there_is}
 use Rattle.regex_lite_syntax.proofs.prefilter.list_heads.WalkLemmas.{filter_at_most}
 use Rattle.regex_lite_engine.proofs.search.list_patterns.ListStartLemmas.{all_below, tested_start}
@@ -115,7 +115,7 @@ written_answers tree regular table start table_is start_is facts of_tree all =
     let name = whole_names tree regular in
     let places = pattern_table tree 0 in
     let first = (pattern_layout tree 0).1 in
-    rw (table_is, start_is) (words_answer tree regular places first name
+    rw (table_is, start_is) (words_answer_searches tree regular places first name
     (λ q. q < length places) (whole_part (written_out tree) name places (renumbered tree regular))
     (whole_number name places start_address first (starts_there tree regular)) facts.words
     of_tree.words (of_tree.all all))
@@ -165,7 +165,7 @@ module _ (trees : List Tree) (regular : AreRegularPatterns trees) (name : ℕ �
     answers = λ number entry filter is there whole. (
         let own = are.of_pattern number entry is in
         let told = w.each number own.0 filter own.1 there in
-        words_answer own.0 (regular number own.0 own.1) table entry
+        words_answer_searches own.0 (regular number own.0 own.1) table entry
         (name_in_pattern trees number own.0 own.1 name table written)
         (InPattern trees number own.0 own.1 name table written)
         (part_of_list trees number own.0 own.1 name table written)

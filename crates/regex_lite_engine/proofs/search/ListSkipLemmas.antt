@@ -79,7 +79,8 @@ module _ (table : List (Place ℕ)) (entries : List ℕ) (heads : ListHeads)
 
   -- nor where a search stands between two characters
   pub dead_here : (p : ℕ) (x : Here) → IsHere (chars bs) p x → IsTrue (is_some x.before)
-      → IsTrue (is_some x.after) → IsPassedByAll heads bs x.at → AreDeadAt table (chars bs) entries p
+      → IsTrue (is_some x.after) → IsPassedByAll heads bs x.at
+      → AreDeadAt table (chars bs) entries p
   dead_here zero x is behind ahead passed = absurd (no_character (ap is_some is.behind) behind)
     where
       no_character : is_some x.before ≡ false → IsTrue (is_some x.before) → ⊥

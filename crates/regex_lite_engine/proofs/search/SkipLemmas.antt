@@ -13,7 +13,8 @@ use Rattle.regex_lite_syntax.specs.declared.prefilter.words.letter.Letter.{Lette
 use Rattle.regex_lite_engine.specs.Search.Starts.{SkipsTo}
 use Rattle.regex_lite_syntax.specs.Prefilter.Heads.{IsCutOff}
 use Rattle.regex_lite_syntax.proofs.LookupLemmas.{there_is}
-use Rattle.regex_lite_engine.proofs.OffsetLemmas.{offset_grows, offset_less, positions_order, rest_at}
+use Rattle.regex_lite_engine.proofs.OffsetLemmas.{offset_grows, offset_less, positions_order}
+use Rattle.regex_lite_engine.proofs.OffsetLemmas.{rest_at}
 use Rattle.regex_lite_engine.proofs.search.FirstByteLemmas.{begins_first, begins_later, first_byte}
 use Rattle.regex_lite_engine.proofs.search.FirstByteLemmas.{second_off}
 

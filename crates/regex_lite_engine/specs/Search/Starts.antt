@@ -2,6 +2,7 @@
 use Rattle.std.specs.Prelude.{◌≡◌, ◌≤◌, ◌<◌, ◌^◌, ◌⊎◌, ℕ, suc, Bool, false, true, not, All}
 use Rattle.std.specs.Prelude.{List, [], ◌∷◌, length, map, slice_get, slice_index, slice_index_or}
 use Rattle.std.specs.Prelude.{IfSome, IsCharBoundary, IsTrue, IsUtf8, Option, Some, chars}
+use Rattle.std.specs.Prelude.{option_map}
 use Rattle.regex_lite_syntax.specs.Text.{Text, after}
 use Rattle.regex_lite_syntax.specs.Tree.{Tree}
 use Rattle.regex_lite_syntax.specs.Tree.Properties.{nullable}
@@ -18,8 +19,10 @@ use Rattle.regex_lite_syntax.specs.Prefilter.Thirds.{may_go_on}
 use Rattle.regex_lite_engine.specs.Search.Explored.{IsDead}
 use Rattle.regex_lite_engine.specs.Search.NumberedAnswer.{numbered_step, is_end}
 use Rattle.regex_lite_engine.specs.Search.NumberedList.{IsEntry}
-use Rattle.regex_lite_engine.specs.Search.NumberedOutcomes.{IsNumberedOutcome, best_at}
+use Rattle.regex_lite_engine.specs.Search.NumberedOutcomes.{IsNumberedEndOf, IsNumberedOutcome}
+use Rattle.regex_lite_engine.specs.Search.NumberedOutcomes.{best_at}
 use Rattle.regex_lite_engine.specs.Search.Offsets.{position_at}
+use Rattle.regex_lite_engine.specs.Search.OutcomeOfOne.{ending_at}
 use Rattle.regex_lite_engine.specs.Search.Standing.{IsHere}
 
 module _ (table : List (Place ℕ)) where
@@ -69,10 +72,24 @@ IsAnsweredBy table start words =
     → IsNextSpan words bytes from span
     → IsNumberedOutcome table (chars bytes) start (position_at bytes from) (best_at span [])
 
+-- and what it finds for the least end is where the next word ends, if there is one word alone
+abbrev pub IsEndedBy : List (Place ℕ) → (start : ℕ) → (words : List (List Letter)) → Type 0
+IsEndedBy table start words =
+    length words ≡ 1 → (bytes : List ℕ) (from : ℕ) (span : Option (ℕ × ℕ)) → IsUtf8 bytes
+    → IsCharBoundary bytes from → IsNextSpan words bytes from span
+    → IsNumberedEndOf table (chars bytes) (start ∷ []) (position_at bytes from)
+    (ending_at (option_map (λ span. span.1) span))
+
+-- the words answer searches for both
+pub record AnswerSearches (table : List (Place ℕ)) (start : ℕ) (words : List (List Letter))
+    : Type 0 where
+  pub found : IsAnsweredBy table start words
+  pub ends : IsEndedBy table start words
+
 -- if the pattern is nothing but its words, they answer searches
 abbrev pub DoWordsAnswer : List (Place ℕ) → (start : ℕ) → StartFacts → Type 0
 DoWordsAnswer table start facts =
-    IsTrue facts.are_all → IfSome facts.words (IsAnsweredBy table start)
+    IsTrue facts.are_all → IfSome facts.words (AnswerSearches table start)
 
 -- no way from the start leads to a complete match where none can begin
 abbrev pub AreFactsOf : List (Place ℕ) → (start : ℕ) → StartFacts → Type 0

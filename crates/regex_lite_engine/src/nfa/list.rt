@@ -36,7 +36,8 @@ use std::marker::Model;
 
 /// In a list of fewer patterns than these a search for one of them goes by all that its tree tells,
 /// as that for a regex does. It pays where each pattern is searched for by itself: which of twelve
-/// filters match took .55 to .90 of what it takes by two characters of each, in a fifth more memory.
+/// filters match took .52 to .79 of what it takes by two characters of each, in a quarter more
+/// memory.
 const MANY: usize = 16;
 
 /// Several patterns that are written out as one graph. Each has places of its own, is entered at

@@ -2,7 +2,7 @@
 ghost use Rattle.std.specs.Prelude.{◌≡◌, ◌<◌, IfSome, IsTrue, length, true};
 ghost use Rattle.regex_lite_engine.specs.Graph.Stored.{places_of};
 ghost use Rattle.regex_lite_engine.specs.Search.Filters.{facts_of};
-ghost use Rattle.regex_lite_engine.specs.Search.Starts.{AreFactsOf, DoWordsAnswer, IsAnsweredBy};
+ghost use Rattle.regex_lite_engine.specs.Search.Starts.{AnswerSearches, AreFactsOf, DoWordsAnswer};
 ghost use Rattle.regex_lite_engine.specs.Search.Starts.{NoneBeginsAtEnd};
 
 use crate::nfa::table::Table;
@@ -52,7 +52,7 @@ impl<'g> OnePattern<'g> {
         requires { DoWordsAnswer (places_of self.now.table.now) self.now.entry
             (facts_of self.now.filter) }
         ensures { IfSome result (λ words.
-            IsAnsweredBy (places_of self.now.table.now) self.now.entry words.now) }
+            AnswerSearches (places_of self.now.table.now) self.now.entry words.now) }
     {
         self.filter.whole_words()
     }

@@ -10,7 +10,7 @@ ghost use Rattle.regex_lite_engine.specs.Graph.StoredList.{IsGraphOfList};
 ghost use Rattle.regex_lite_engine.specs.Search.Bounds.{IsBoundedBy};
 ghost use Rattle.regex_lite_engine.specs.Search.Filters.{facts_of};
 ghost use Rattle.regex_lite_engine.specs.Search.Offsets.{position_at};
-ghost use Rattle.regex_lite_engine.specs.Search.OutcomeOfOne.{TellsOfOne};
+ghost use Rattle.regex_lite_engine.specs.Search.OutcomeOfOne.{TellsEndOfOne, TellsOfOne};
 ghost use Rattle.regex_lite_engine.specs.Search.Outcomes.{HasCostOfList, IsOutcomeOfList};
 ghost use Rattle.regex_lite_engine.specs.Search.Starts.{DoWordsAnswer};
 
@@ -53,6 +53,28 @@ impl<'g> OnePattern<'g> {
             slots: Vec::new(alloc),
         };
         Some((Some(outcome), steps_of_match()))
+    }
+
+    /// The least end of any match that starts at or after this offset, and what the search did: it
+    /// enters a place for the match. None if the pattern isn't one word alone.
+    ///
+    /// Condition: the start is on a character boundary.
+    #[inline(always)]
+    pub fn search_word_end(&self, haystack: &str, start: usize) -> Option<(Option<usize>, Steps)>
+        requires boundary { IsCharBoundary haystack.now start }
+        requires answers { DoWordsAnswer (places_of self.now.table.now) self.now.entry
+            (facts_of self.now.filter) }
+        ensures { IfSome result (TellsEndOfOne (places_of self.now.table.now) self.now.entry
+            haystack.now start) }
+    {
+        let words = self.whole_words()?;
+        if !words.is_one() {
+            return None;
+        }
+        let Some((_, end)) = words.find_span(haystack.as_bytes(), start) else {
+            return Some((None, no_steps()));
+        };
+        Some((Some(end), steps_of_match()))
     }
 }
 

@@ -1,15 +1,21 @@
 -- A search that begins by remembered turns.
-use Rattle.regex_lite_meta.proofs.Common.{◌≡◌, ℕ, false, List, [], length, None}
-use Rattle.regex_lite_meta.proofs.Common.{sym, refl, subst, arith, Text, IsComing, IsScanning}
+use Rattle.regex_lite_meta.proofs.Common.{◌≡◌, ℕ, ◌+◌, ◌^◌, ◌<◌, false, List, [], length, None}
+use Rattle.regex_lite_meta.proofs.Common.{ap, ◌∙◌, sym, refl, subst, arith, Text, IsComing}
+use Rattle.regex_lite_meta.proofs.Common.{IsScanning}
+use Rattle.regex_lite_meta.proofs.Common.{IsUtf8, chars, IsCharBoundary, position_at, IsHere}
+use Rattle.regex_lite_meta.proofs.Common.{IfSome, Some, Option}
 use Rattle.regex_lite_meta.proofs.Common.{AreDeadAt, PassesTo, Cache, Here, Automaton, Suits}
 use Rattle.regex_lite_meta.proofs.Common.{threads_of, Stands, Standing}
 use Rattle.regex_lite_engine.specs.Graph.Places.{Place}
 use Rattle.regex_lite_engine.specs.Pikevm.Searching.{IsFresh}
+use Rattle.regex_lite_engine.specs.Search.Starts.{SkipsTo}
+use Rattle.regex_lite_syntax.specs.Text.{before}
 use Rattle.regex_lite_meta.specs.LazyDfa.Automaton.{IsEmptyState}
 use Rattle.regex_lite_meta.specs.LazyDfa.Scanning.{ComesTo, GoesOn}
 use Rattle.regex_lite_meta.specs.declared.lazy_dfa.run.Progress.{Progress}
 use Rattle.regex_lite_engine.proofs.pikevm.ComingLemmas.{jumped, none_coming}
 use Rattle.regex_lite_meta.proofs.lazy_dfa.AnewLemmas.{none_before}
+use Rattle.regex_lite_meta.proofs.lazy_dfa.HereLemmas.{here_at, here_is, passed_at}
 use Rattle.regex_lite_meta.proofs.lazy_dfa.RunLemmas.{begun_on, own_first, passed_over}
 use Rattle.regex_lite_meta.proofs.lazy_dfa.SpotLemmas.{since_on}
 
@@ -62,13 +68,15 @@ module _ (table : List (Place ℕ)) (h : Text) (entries : List ℕ) (s : ℕ) wh
         (begun_there automaton cache fresh width, comes)
 
     -- they begin in the state for what looks see before
-    pub starts_there : (automaton : Automaton) (x : ℕ) → IsEmptyState automaton x here.before
+    starts_there : (automaton : Automaton) (x : ℕ) → IsEmptyState automaton x here.before
         → IsScanning table entries h s passes.q automaton
-        (record { here = here; state = x; first = here.at; idle_at = here.at; best = None })
+        (record { at = here.at; state = x; first = here.at; idle_at = here.at; best = None })
     starts_there automaton x empty = record {
       state = empty.state;
       is_state = empty.is_state;
+      here = here;
       is = passes.is;
+      there = refl;
       later = passes.later;
       own = λ e. refl;
       suits = subst (λ b. Suits b None) (sym empty.searching) refl;
@@ -80,6 +88,47 @@ module _ (table : List (Place ℕ)) (h : Text) (entries : List ℕ) (s : ℕ) wh
           (jumped table h entries s (length h) s passes.q [] refl passes.later passes.passed
           (none_coming table h entries s (length h) [] refl));
     }
+
+-- where there are no looks, any character may stand before
+pub any_before : (automaton : Automaton) (found last : Option ℕ)
+    → automaton.intervals.looks ≡ false → IfSome found (λ x. IsEmptyState automaton x None)
+    → IfSome found (λ x. IsEmptyState automaton x last)
+any_before automaton None last none empty = tt
+any_before automaton (Some x) last none empty = record {
+  state = empty.state;
+  is_state = empty.is_state;
+  none = empty.none;
+  searching = empty.searching;
+  sees = λ looks. absurd cc;
+}
+
+-- they begin at this offset, where the search has only passed positions at which no match begins
+module _ (table : List (Place ℕ)) (entries : List ℕ) (bs : List ℕ) (u : IsUtf8 bs) (s at : ℕ)
+    (edge : IsCharBoundary bs at)
+    (skips : SkipsTo (AreDeadAt table (chars bs) entries) bs s at) where
+  pub starts_at : length bs + 1 < 2 ^ 64 → (automaton : Automaton) (x : ℕ)
+      → IsEmptyState automaton x (before (chars bs) (position_at bs at))
+      → IsScanning table entries (chars bs) s (position_at bs at) automaton
+      (record { at = at; state = x; first = at; idle_at = at; best = None })
+  starts_at fits automaton x empty =
+      let here = here_at bs u fits at edge in
+      let passes = skips here refl (here_is bs u fits at edge) in
+      subst (λ q. IsScanning table entries (chars bs) s q automaton
+      (record { at = at; state = x; first = at; idle_at = at; best = None }))
+      (sym (passed_at bs u passes))
+      (starts_there table (chars bs) entries s here passes automaton x empty)
+
+  -- remembered turns have come this far from there
+  pub comes_from : (automaton : Automaton) (stopped : Standing) (here : Here)
+      → (same : here.at ≡ at) → (is : IsHere (chars bs) (position_at bs at) here)
+      → ComesTo table entries (chars bs) s (position_at bs at) at automaton stopped
+      → ComesTo table entries (chars bs) s (skips here same is).q here.at automaton stopped
+  comes_from automaton stopped here same is comes =
+      let passes = skips here same is in
+      subst (λ first. ComesTo table entries (chars bs) s passes.q first automaton stopped)
+      (sym same)
+      (subst (λ p. ComesTo table entries (chars bs) s p at automaton stopped)
+      (ap (position_at bs) (sym same) ∙ passed_at bs u passes) comes)
 
 -- it has come further
 pub comes_on : {table : List (Place ℕ)} {entries : List ℕ} {h : Text} {automaton : Automaton}

@@ -24,7 +24,7 @@ module _ (table : List (Place ℕ)) (entries : List ℕ) (h : Text) (low p : ℕ
   -- without looks it is in the same state there
   pub leapt : automaton.intervals.looks ≡ false → (q : ℕ) × (p ≤ q)
       × IsScanning table entries h low q automaton (record at {
-        here = next;
+        at = next.at;
         first = next.at;
         idle_at = next.at;
       })
@@ -35,7 +35,7 @@ module _ (table : List (Place ℕ)) (entries : List ℕ) (h : Text) (low p : ℕ
     subst
         (λ best. IsScanning table entries h low passes.q automaton
         (record {
-          here = next;
+          at = next.at;
           state = at.state;
           first = next.at;
           idle_at = next.at;
@@ -45,9 +45,5 @@ module _ (table : List (Place ℕ)) (entries : List ℕ) (h : Text) (low p : ℕ
         at.state scanning.state scanning.is_state idle
         (still_searching scanning.state.searching (best_told at.best) scanning.suits
         (ap best_told none)) (λ looks. absurd cc)),
-    inr (
-      next,
-      refl,
-      is_idle table entries h low p automaton at scanning next passes idle (ap best_told none),
-    ),
+    inr (is_idle table entries h low p automaton at scanning next passes idle (ap best_told none)),
   )

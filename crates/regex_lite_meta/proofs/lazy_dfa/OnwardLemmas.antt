@@ -4,22 +4,23 @@ use Rattle.regex_lite_meta.proofs.Common.{slice_get, Some, None, IsUtf8, Option,
 use Rattle.regex_lite_meta.proofs.Common.{IsCharBoundary, sym, refl, ap, ◌∙◌, subst, inl, ◌⊎◌}
 use Rattle.regex_lite_meta.proofs.Common.{arith, slice_get_within, Text, IsBestOutcomeOf}
 use Rattle.regex_lite_meta.proofs.Common.{Bool, IsFoundOf, true, ◌*◌, classes_in}
-use Rattle.regex_lite_meta.proofs.Common.{position_at, IsHere, Origin, Automaton, best_told}
+use Rattle.regex_lite_meta.proofs.Common.{IsHere, Here, Origin, Automaton, best_told}
 use Rattle.regex_lite_meta.proofs.Common.{IsSince, IsScanning, Standing}
 use Rattle.regex_lite_engine.specs.Graph.Places.{Place}
-use Rattle.regex_lite_meta.specs.LazyDfa.Automaton.{KeptOrigin, State, first_left}
+use Rattle.regex_lite_meta.specs.LazyDfa.Automaton.{State, first_left}
 use Rattle.regex_lite_meta.specs.LazyDfa.Scanning.{GoesOn, LedTo}
-use Rattle.regex_lite_meta.specs.LazyDfa.Stored.{is_emptying, is_restarting, known_hit}
+use Rattle.regex_lite_meta.specs.LazyDfa.Stored.{HasEffect}
 use Rattle.regex_lite_meta.specs.declared.lazy_dfa.spot.Spot.{Spot}
 use Rattle.regex_lite_meta.specs.declared.lazy_dfa.state.Target.{Target}
-use Rattle.regex_lite_meta.specs.LazyDfa.Spots.{EndsScan, IsTaken, IsTurn, IsTurned}
+use Rattle.regex_lite_meta.specs.LazyDfa.Spots.{EndsScan, IsSpotAt, IsTaken, IsTurn, Stays}
 use Rattle.regex_lite_meta.specs.LazyDfa.Targets.{IsRowOf}
 use Rattle.std.proofs.lemmas.Str.{len_utf8_bounds}
 use Rattle.regex_lite_syntax.proofs.OptionLemmas.{same_some}
 use Rattle.regex_lite_meta.proofs.lazy_dfa.ScanLemmas.{first_and_idle, scanned_on}
-use Rattle.regex_lite_meta.proofs.lazy_dfa.SpotLemmas.{IsSpotAt, since_led, since_on, spot_edge}
-use Rattle.regex_lite_meta.proofs.lazy_dfa.SpotLemmas.{spot_completed, spot_of, spot_on, spot_over}
-use Rattle.regex_lite_meta.proofs.lazy_dfa.SpotLemmas.{spot_since, standing_there}
+use Rattle.regex_lite_meta.proofs.lazy_dfa.HereLemmas.{edge_there}
+use Rattle.regex_lite_meta.proofs.lazy_dfa.SpotLemmas.{since_led, since_on, spot_completed}
+use Rattle.regex_lite_meta.proofs.lazy_dfa.SpotLemmas.{spot_kept, spot_of, spot_on, spot_over}
+use Rattle.regex_lite_meta.proofs.lazy_dfa.SpotLemmas.{spot_since}
 
 -- the same by offsets alone
 abbrev pub GoesToSpot : List (Place ℕ) → List ℕ → Text → Automaton → (from : Standing) → Spot
@@ -53,26 +54,27 @@ module _ {table : List (Place ℕ)} {entries : List ℕ} {h : Text} {automaton :
       → LedTo table entries h low p automaton b to best)
       → ((state : State) → slice_get automaton.states to ≡ Some state → state.ways ≡ []
       → best ≡ None)
-      → ((p : ℕ) → IsHere h p b.here → IsHere h (p + 1) next.here)
+      → ((low p : ℕ) → IsScanning table entries h low p automaton b
+      → (on : Here) × IsHere h (p + 1) on × (on.at ≡ next.at))
       → next ≡ record next { state = to; best = best }
       → ((state : State) → slice_get automaton.states to ≡ Some state
-      → ((state.ways ≡ []) × (next.first ≡ next.here.at) × (next.idle_at ≡ next.here.at))
-      ⊎ ((state.ways ≡ [] → ⊥) × (next.first ≡ first_left state.restarts b.first b.here.at)
+      → ((state.ways ≡ []) × (next.first ≡ next.at) × (next.idle_at ≡ next.at))
+      ⊎ ((state.ways ≡ [] → ⊥) × (next.first ≡ first_left state.restarts b.first b.at)
       × (next.idle_at ≡ b.idle_at)))
       → GoesOn table entries h automaton a next
   then_turned {b = b} {next = next} {to = to} {best = best} there led none here same first =
       then_on there (λ low p scanning.
       let state = led low p scanning in
-      let is = here p scanning.is in
-      let told = first_and_idle state.state b.here.at next.here.at b.first next.first b.idle_at
+      let on = here low p scanning in
+      let told = first_and_idle state.state b.at next.at b.first next.first b.idle_at
       next.idle_at (first state.state state.is_state) in (
         p + 1,
         omega arith,
         subst (IsScanning table entries h low (p + 1) automaton) (sym same)
-            (scanned_on table entries h low p automaton b scanning to best state next.here
-            next.first next.idle_at is told.0),
-        since_led table entries h low p automaton b to best state next.here next.idle_at is
-            (none state.state state.is_state) told.1,
+            (scanned_on table entries h low p automaton b scanning to best state on.0 next.at
+            next.first next.idle_at on.1 on.2 told.0),
+        since_led table entries h low p automaton b to best state next.at next.idle_at
+            (on.1.inside, sym on.2 ∙ on.1.bytes) (none state.state state.is_state) told.1,
       ))
 
   -- the state there is one of the automaton
@@ -84,7 +86,7 @@ module _ {table : List (Place ℕ)} {entries : List ℕ} {h : Text} {automaton :
       slice_get_within automaton.states at.state is.state is.is_state
 
   -- a search goes by offsets from where it stands
-  pub to_spot : {spot : Spot} (at : Standing) → spot.at ≡ at.here.at
+  pub to_spot : {spot : Spot} (at : Standing) → spot.at ≡ at.at
       → spot.row ≡ at.state * classes_in automaton.intervals
       → GoesToSpot table entries h automaton at spot at
   to_spot {spot} at e row low p scanning = (
@@ -94,15 +96,62 @@ module _ {table : List (Place ℕ)} {entries : List ℕ} {h : Text} {automaton :
     inl refl,
   )
 
+  -- what is read there is not told of it
+  pub kept_at_spot : {from : Standing} {spot : Spot} {told after : Standing}
+      → GoesToSpot table entries h automaton from spot told
+      → Stays told after → GoesToSpot table entries h automaton from spot after
+  kept_at_spot {from} {spot} {told} {after} there same low p scanning =
+      let v = there low p scanning in (
+        v.0,
+        v.1,
+        spot_kept table entries h low v.0 automaton spot told after same v.2,
+        subst (IsSince table entries h low p from.idle_at)
+            (sym (ap (λ (s : Standing). s.idle_at) same)) v.3,
+      )
+
+  -- some turns are passed, which change no more than that
+  pub passed_to_spot : {from : Standing} {spot on : Spot} {told : Standing}
+      → GoesToSpot table entries h automaton from spot told
+      → ((low p : ℕ) → IsSpotAt table entries h low p automaton spot told → (q : ℕ) × (p ≤ q)
+      × IsSpotAt table entries h low q automaton on told)
+      → GoesToSpot table entries h automaton from on told
+  passed_to_spot there passed low p scanning =
+      let v = there low p scanning in
+      let w = passed low v.0 v.2 in
+      let le = v.1 in
+      let more = w.1 in (w.0, omega (arith, le, more), w.2, v.3)
+
+  pub scans_at_spot : {from : Standing} {spot : Spot} {told : Standing}
+      → GoesToSpot table entries h automaton from spot told
+      → (low p : ℕ) × IsScanning table entries h low p automaton from →
+      (low p : ℕ) × IsSpotAt table entries h low p automaton spot told
+  scans_at_spot there (low, p, scanning) =
+      let v = there low p scanning in (low, v.0, v.2)
+
   pub row_at_spot : {from : Standing} {spot : Spot} {told : Standing}
       → GoesToSpot table entries h automaton from spot told
       → (low p : ℕ) × IsScanning table entries h low p automaton from →
       (x : ℕ) × IsRowOf automaton spot.row x
   row_at_spot there from = let is = (there from.0 from.1 from.2).2 in (is.x, is.row)
 
--- to look up what is beside it changes no match
-pub none_settled : {automaton : Automaton} {row : ℕ} (told at : Standing)
-    → ((x : ℕ) → IsRowOf automaton row x → at ≡ record told { here = at.here; state = x })
+  -- the scan moves to the spot
+  pub from_spot : {from : Standing} {spot : Spot} {told : Standing}
+      → GoesToSpot table entries h automaton from spot told → (at : Standing)
+      → ((x : ℕ) → IsRowOf automaton spot.row x → at ≡ record told { at = spot.at; state = x })
+      → GoesOn table entries h automaton from at
+  from_spot {from} there at same low p scanning =
+      let v = there low p scanning in
+      let e = same v.2.x v.2.row in (
+        v.0,
+        v.1,
+        subst (IsScanning table entries h low v.0 automaton) (sym e) v.2.scanning,
+        subst (IsSince table entries h low p from.idle_at)
+            (sym (ap (λ (s : Standing). s.idle_at) e)) v.3,
+      )
+
+-- to move there changes no match
+pub none_settled : {automaton : Automaton} {row there : ℕ} (told at : Standing)
+    → ((x : ℕ) → IsRowOf automaton row x → at ≡ record told { at = there; state = x })
     → (x : ℕ) × IsRowOf automaton row x → told.best ≡ None → at.best ≡ None
 none_settled told at same (x, is) none = ap (λ (s : Standing). s.best) (same x is) ∙ none
 
@@ -119,28 +168,10 @@ module _ {table : List (Place ℕ)} {entries : List ℕ} {automaton : Automaton}
         let ends = leads.ahead.ends in
         let some = (len_utf8_bounds leads.ahead.character).0 in omega (arith, ends, some)
 
-    pub turn_effect : (hit : Option KeptOrigin) → known_hit target.effect ≡ Some hit
-        → (state : State) → slice_get automaton.states target.state ≡ Some state
-        → (state.ways ≡ [] → ⊥) × (state.hit ≡ hit)
-        × (state.restarts ≡ is_restarting target.effect)
-    turn_effect hit told state is =
-        subst (λ (s : State). (s.ways ≡ [] → ⊥) × (s.hit ≡ hit)
-        × (s.restarts ≡ is_restarting target.effect)) (same_some (sym leads.is_to ∙ is))
-        (leads.effect hit told)
-
-    pub turn_emptied : is_emptying target.effect ≡ true → (state : State)
-        → slice_get automaton.states target.state ≡ Some state
-        → (state.ways ≡ []) × (state.hit ≡ None)
-    turn_emptied told state is =
-        subst (λ (s : State). (s.ways ≡ []) × (s.hit ≡ None)) (same_some (sym leads.is_to ∙ is))
-        (leads.emptied told)
-
-pub turned_later : {table : List (Place ℕ)} {entries : List ℕ} {automaton : Automaton}
-    {bs : List ℕ} {at x : ℕ} {before after : Standing} {on : Spot}
-    → IsTurned table entries automaton bs at x before after on → at < on.at
-turned_later turned =
-    let ends = turned.taken.ends in
-    let later = turn_later turned.turn in omega (arith, ends, later)
+    pub turn_effect : (state : State) → slice_get automaton.states target.state ≡ Some state
+        → HasEffect target.effect state
+    turn_effect state is =
+        subst (HasEffect target.effect) (same_some (sym leads.is_to ∙ is)) leads.effect
 
 module _ {table : List (Place ℕ)} {entries : List ℕ} {automaton : Automaton} (bs : List ℕ)
     (u : IsUtf8 bs) (fits : length bs + 1 < 2 ^ 64) where
@@ -149,56 +180,29 @@ module _ {table : List (Place ℕ)} {entries : List ℕ} {automaton : Automaton}
     pub spot_boundary : (low p : ℕ) × IsScanning table entries (chars bs) low p automaton from
         → IsCharBoundary bs spot.at
     spot_boundary (low, p, scanning) =
-        let v = there low p scanning in
-        spot_edge table entries bs u fits low v.0 automaton spot told v.2
-
-    -- the characters beside it are looked up
-    pub from_spot : (at : Standing) → IsHere (chars bs) (position_at bs spot.at) at.here
-        → ((x : ℕ) → IsRowOf automaton spot.row x
-        → at ≡ record told { here = at.here; state = x })
-        → GoesOn table entries (chars bs) automaton from at
-    from_spot at here same low p scanning =
-        let v = there low p scanning in
-        let e = same v.2.x v.2.row in (
-          v.0,
-          v.1,
-          subst (IsScanning table entries (chars bs) low v.0 automaton) (sym e)
-              (standing_there table entries bs u fits low v.0 automaton spot told v.2 at.here
-              here),
-          subst (IsSince table entries (chars bs) low p from.idle_at)
-              (sym (ap (λ (s : Standing). s.idle_at) e)) v.3,
-        )
-
-    -- a turn is taken
-    pub turned_spot : (on : Spot) (after : Standing)
-        → ((x : ℕ) → IsRowOf automaton spot.row x
-        → IsTurned table entries automaton bs spot.at x told after on)
-        → GoesToSpot table entries (chars bs) automaton from on after
-    turned_spot on after turned low p scanning =
-        let v = there low p scanning in
-        let le = v.1 in
-        let own = turned v.2.x v.2.row in (
-          v.0 + 1,
-          omega (arith, le),
-          spot_on table entries bs u fits low v.0 automaton spot told v.2 own.target own.end
-              own.turn after on own.taken,
-          since_on table entries (chars bs) low p v.0 from.idle_at told.idle_at after.idle_at le v.3
-              (spot_since table entries bs u fits low v.0 automaton spot told v.2 own.target
-              own.end own.turn after on own.taken),
-        )
+        edge_there bs u (there low p scanning).2.scanning
 
     module _ {target : Target} {end : ℕ} (leads : (x : ℕ) → IsRowOf automaton spot.row x
         → IsTurn table entries automaton bs spot.at x target end) where
+      -- the turn is taken
       pub next_spot : (on : Spot) (after : Standing)
           → ((state : State) → slice_get automaton.states target.state ≡ Some state
           → IsTaken spot.at target.row end state told after on)
           → GoesToSpot table entries (chars bs) automaton from on after
-      next_spot on after taken = turned_spot on after (λ x row. let turn = leads x row in record {
-        target = target;
-        end = end;
-        turn = turn;
-        taken = taken turn.to turn.is_to;
-      })
+      next_spot on after taken low p scanning =
+          let v = there low p scanning in
+          let le = v.1 in
+          let turn = leads v.2.x v.2.row in
+          let own = taken turn.to turn.is_to in (
+            v.0 + 1,
+            omega (arith, le),
+            spot_on table entries bs u fits low v.0 automaton spot told v.2 target end turn after on
+                own,
+            since_on table entries (chars bs) low p v.0 from.idle_at told.idle_at after.idle_at le
+                v.3
+                (spot_since table entries bs u fits low v.0 automaton spot told v.2 target end turn
+                after on own),
+          )
 
       -- the turn completes a match where the least end is asked for
       pub completes_there : {earliest : Bool} → earliest ≡ true → told.best ≡ None

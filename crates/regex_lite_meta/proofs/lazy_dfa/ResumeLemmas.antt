@@ -18,7 +18,7 @@ use Rattle.regex_lite_engine.specs.Pikevm.Walking.{WayTold, ThreadsHold}
 use Rattle.regex_lite_engine.specs.Search.Beginnings.{Told, IsTold}
 use Rattle.regex_lite_engine.specs.Search.Bounds.{StepCounts}
 use Rattle.regex_lite_engine.specs.Search.Offers.{Node, Offer}
-use Rattle.regex_lite_meta.proofs.Common.{IsCharBoundary, IsOffset, IsSince, IsUtf8, chars}
+use Rattle.regex_lite_meta.proofs.Common.{IsCharBoundary, IsSince, IsUtf8, chars, side_of}
 use Rattle.regex_lite_meta.proofs.Common.{position_at}
 use Rattle.regex_lite_engine.proofs.OffsetLemmas.{boundary_at}
 use Rattle.regex_lite_engine.proofs.PositionLemmas.{position_of}
@@ -148,28 +148,21 @@ below_at n first ws ways e below =
 module _ {table : List (Place ℕ)} {entries : List ℕ} (bs : List ℕ) (u : IsUtf8 bs)
     {low p before first : ℕ} (since : IsSince table entries (chars bs) low p before first)
     (other : first ≡ before → ⊥) where
-  there_idle : (here : Here) × (here.at ≡ first) × IsIdleAt table entries (chars bs) low p here
+  pub there_idle : IsIdleAt table entries (chars bs) low p first
   there_idle = by_first since
     where
-      by_first : IsSince table entries (chars bs) low p before first →
-          (here : Here) × (here.at ≡ first) × IsIdleAt table entries (chars bs) low p here
+      by_first : IsSince table entries (chars bs) low p before first
+          → IsIdleAt table entries (chars bs) low p first
       by_first (inl e) = absurd (other e)
       by_first (inr idle) = idle
 
-  is_offset : IsOffset (chars bs) there_idle.2.r first
-  is_offset = let is = there_idle.2.is in (is.inside, sym there_idle.1 ∙ is.bytes)
-
   pub idle_edge : IsCharBoundary bs first
-  idle_edge = boundary_at bs there_idle.2.r first u is_offset
+  idle_edge = boundary_at bs there_idle.r first u there_idle.is
 
-  pub idle_at : (here : Here) → IsHere (chars bs) (position_at bs first) here
-      → IsIdleAt table entries (chars bs) low p here
-  idle_at here is = let own = there_idle.2 in record {
-    r = own.r;
-    later = own.later;
-    is = subst (λ z. IsHere (chars bs) z here) (position_of bs u own.r first is_offset) is;
-    coming = own.coming;
-  }
+  pub idle_is : (here : Here) → IsHere (chars bs) (position_at bs first) here
+      → IsHere (chars bs) there_idle.r here
+  idle_is here is =
+      subst (λ z. IsHere (chars bs) z here) (position_of bs u there_idle.r first there_idle.is) is
 
 module _ (table : List (Place ℕ)) (h : Text) (entries : List ℕ) (s from p : ℕ)
     (automaton : Automaton)
@@ -238,59 +231,60 @@ module _ (table : List (Place ℕ)) (h : Text) (entries : List ℕ) (s from p : 
         (subst (λ xs. IsComing table h entries from (length h) q (threads_of stuck.first xs)
         (best_told stuck.best)) (sym ways) scanning.coming))))
 
-    is_in_stuck : IsIn automaton stuck.state stuck.first stuck.here.before new
-    is_in_stuck = record {
+    is_in_stuck : (here : Here) → IsHere h q here
+        → IsIn automaton stuck.state stuck.first here.before new
+    is_in_stuck here is = record {
       state = scanning.state;
       is_state = scanning.is_state;
       ways = ap (ways_of stuck.first) threads ∙ ways_first stuck.first ws all ∙ ways;
       suits = subst (Suits scanning.state.searching) (sym best) scanning.suits;
-      sees = scanning.sees;
+      sees = λ looks. ap side_of (is.behind ∙ sym scanning.is.behind) ∙ scanning.sees looks;
     }
 
-    first_stuck : (ws ≡ []) ⊎ (stuck.first < stuck.here.at)
-        → (stuck.first ≤ stuck.here.at)
-        × IsFirstStart stuck.first stuck.here.at new.walk.memory.threads
+    first_stuck : (ws ≡ []) ⊎ (stuck.first < stuck.at)
+        → (stuck.first ≤ stuck.at) × IsFirstStart stuck.first stuck.at new.walk.memory.threads
     first_stuck (inl empty) =
         let own = scanning.own (sym ways ∙ ap (map way_in) empty) in (
           omega (arith, own),
-          subst (IsFirstStart stuck.first stuck.here.at)
+          subst (IsFirstStart stuck.first stuck.at)
               (sym (threads ∙ ap (map (thread_from stuck.first)) empty)) own,
         )
     first_stuck (inr below) = (
       omega (arith, below),
-      subst (IsFirstStart stuck.first stuck.here.at) (sym threads) (by_ways ws ways),
+      subst (IsFirstStart stuck.first stuck.at) (sym threads) (by_ways ws ways),
     )
       where
         by_ways : (vs : List StoredWay) → map way_in vs ≡ scanning.state.ways
-            → IsFirstStart stuck.first stuck.here.at (map (thread_from stuck.first) vs)
+            → IsFirstStart stuck.first stuck.at (map (thread_from stuck.first) vs)
         by_ways [] e = scanning.own (sym e)
         by_ways (v ∷ vs) e = λ f. omega (arith, f, below)
 
-    pub stands_stuck : (ws ≡ []) ⊎ (stuck.first < stuck.here.at) → (until : ℕ) →
+    pub stands_stuck : (here : Here) → IsHere h q here → here.at ≡ stuck.at
+        → (ws ≡ []) ⊎ (stuck.first < stuck.at) → (until : ℕ) →
         Stands table h entries s automaton (record {
-          here = stuck.here;
+          here = here;
           state = Some stuck.state;
           first = stuck.first;
           until = until;
           anew = anew;
         }) new
-    stands_stuck before until = let first = first_stuck before in record {
+    stands_stuck here is there before until = let first = first_stuck before in record {
       p = q;
-      is = scanning.is;
+      is = is;
       from = from;
       begun = begun;
       own_from = own_from;
       on = taken_up;
-      first = first.0;
-      own = first.1;
-      state = is_in_stuck;
+      first = subst (λ z. stuck.first ≤ z) (sym there) first.0;
+      own = subst (λ z. IsFirstStart stuck.first z new.walk.memory.threads) (sym there) first.1;
+      state = is_in_stuck here is;
     }
 
   -- or from nothing
-  let_gone : (here : Here) (idle : IsIdleAt table entries h from p here) → p < idle.r
+  let_gone : {at : ℕ} (idle : IsIdleAt table entries h from p at) → p < idle.r
       → best_of new.best ≡ None → new.walk.memory.threads ≡ []
       → IsOnItsWay table h entries s from idle.r new
-  let_gone here idle later none threads =
+  let_gone idle later none threads =
       moved_on table h entries s from p idle.r old new on
       (between_again (λ some. absurd (some none))
       (let n = ap (λ (ts : List Thread). length ts) threads in omega (arith, n))
@@ -303,8 +297,9 @@ module _ (table : List (Place ℕ)) (h : Text) (entries : List ℕ) (s from p : 
       (sym threads)
       (subst (λ b. IsComing table h entries from (length h) idle.r [] b) (sym none) idle.coming))
 
-  pub stands_gone : (here : Here) (idle : IsIdleAt table entries h from p here) → p < idle.r
-      → best_of new.best ≡ None → new.walk.memory.threads ≡ [] → (state : Option ℕ)
+  pub stands_gone : {at : ℕ} (here : Here) (idle : IsIdleAt table entries h from p at)
+      → IsHere h idle.r here → p < idle.r → best_of new.best ≡ None
+      → new.walk.memory.threads ≡ [] → (state : Option ℕ)
       → MatchOption state (Unit {0}) (λ y. IsEmptyState automaton y here.before) → (until : ℕ) →
       Stands table h entries s automaton
       (record {
@@ -314,13 +309,13 @@ module _ (table : List (Place ℕ)) (h : Text) (entries : List ℕ) (s from p : 
         until = until;
         anew = anew;
       }) new
-  stands_gone here idle later none threads state empty until = record {
+  stands_gone here idle is later none threads state empty until = record {
     p = idle.r;
-    is = idle.is;
+    is = is;
     from = from;
     begun = begun;
     own_from = own_from;
-    on = let_gone here idle later none threads;
+    on = let_gone idle later none threads;
     first = omega arith;
     own = own_first here.at new.walk.memory.threads threads;
     state = maybe_in_empty automaton state here.at here.before new empty threads none;

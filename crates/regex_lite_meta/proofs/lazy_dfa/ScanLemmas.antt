@@ -11,7 +11,7 @@ use Rattle.regex_lite_engine.specs.Graph.Places.{Place}
 use Rattle.regex_lite_meta.specs.LazyDfa.Automaton.{KeptOrigin, State, first_left}
 use Rattle.regex_lite_meta.specs.LazyDfa.Scanning.{EndsOrLeads, LedTo}
 use Rattle.std.proofs.Common.{is_some}
-use Rattle.regex_lite_syntax.specs.Text.{before}
+use Rattle.regex_lite_syntax.specs.Text.{after, before}
 use Rattle.regex_lite_engine.specs.Pikevm.Turns.{EndsAt}
 use Rattle.regex_lite_engine.proofs.pikevm.EndLemmas.{ended_all}
 use Rattle.regex_lite_engine.proofs.search.here.HereLemmas.{over_at}
@@ -52,9 +52,8 @@ first_and_idle state last at before first before_idle idle (inr (some, own, same
     (inr (some, own), inr same)
 
 -- the character before the next position
-pub next_before : (h : Text) (p : ℕ) (here next : Here) → IsHere h p here → IsHere h (p + 1) next
-    → next.before ≡ here.after
-next_before h p here next is on = on.behind ∙ ap (before h) more ∙ sym is.ahead
+pub next_before : (h : Text) (p : ℕ) (next : Here) → IsHere h (p + 1) next → next.before ≡ after h p
+next_before h p next on = on.behind ∙ ap (before h) more
   where
     more : p + 1 ≡ suc p
     more = omega arith
@@ -74,7 +73,10 @@ pub record TurnsTo (table : List (Place ℕ)) (entries : List ℕ) (automaton : 
 module _ (table : List (Place ℕ)) (entries : List ℕ) (h : Text) (low p : ℕ) (automaton : Automaton)
     (at : Standing) (scanning : IsScanning table entries h low p automaton at) where
   module _ {y : ℕ} {hit : Option KeptOrigin}
-      (turn : TurnsTo table entries automaton at.state at.here.after y hit) where
+      (turn : TurnsTo table entries automaton at.state (after h p) y hit) where
+    here_class : class_of automaton.intervals.boundaries scanning.here.after ≡ turn.class
+    here_class = ap (class_of automaton.intervals.boundaries) scanning.is.ahead ∙ turn.is_class
+
     leads_here : LeadsOn table entries automaton.intervals scanning.state turn.class turn.to
     leads_here =
         subst (λ s. LeadsOn table entries automaton.intervals s turn.class turn.to)
@@ -83,18 +85,21 @@ module _ (table : List (Place ℕ)) (entries : List ℕ) (h : Text) (low p : ℕ
     coming_next : (best : Best) → Suits scanning.state.searching best →
         IsComing table h entries low (length h) p (threads_of at.first scanning.state.ways) best →
         IsComing table h entries low (length h) (p + 1)
-        (threads_of (first_left turn.to.restarts at.first at.here.at) turn.to.ways)
-        (best_left hit at.first at.here.at best)
+        (threads_of (first_left turn.to.restarts at.first at.at) turn.to.ways)
+        (best_left hit at.first at.at best)
     coming_next best suits coming =
         subst (λ z. IsComing table h entries low (length h) (p + 1)
-        (threads_of (first_left turn.to.restarts at.first at.here.at) turn.to.ways)
-        (best_left z at.first at.here.at best)) turn.is_hit
-        (leads_here.on at.here (record { ahead = turn.is_class; behind = scanning.sees }) at.first
-        scanning.own best suits h p low (length h) scanning.is scanning.later scanning.is.inside
-        coming)
+        (threads_of (first_left turn.to.restarts at.first z) turn.to.ways)
+        (best_left hit at.first z best)) scanning.there
+        (subst (λ z. IsComing table h entries low (length h) (p + 1)
+        (threads_of (first_left turn.to.restarts at.first scanning.here.at) turn.to.ways)
+        (best_left z at.first scanning.here.at best)) turn.is_hit
+        (leads_here.on scanning.here (record { ahead = here_class; behind = scanning.sees })
+        at.first (λ none. scanning.own none ∙ sym scanning.there) best suits h p low (length h)
+        scanning.is scanning.later scanning.is.inside coming))
 
     pub led_step : (best : Option (Origin × ℕ))
-        → best_told best ≡ best_left hit at.first at.here.at (best_told at.best) →
+        → best_told best ≡ best_left hit at.first at.at (best_told at.best) →
         LedTo table entries h low p automaton at y best
     led_step best left = record {
       state = turn.to;
@@ -104,25 +109,28 @@ module _ (table : List (Place ℕ)) (entries : List ℕ) (h : Text) (low p : ℕ
           (ap (λ hit. searching_after hit scanning.state.searching) (sym turn.is_hit)
           ∙ sym leads_here.searching)
           (subst (Suits (searching_after hit scanning.state.searching)) (sym left)
-          (still_suits hit scanning.state.searching at.first at.here.at (best_told at.best)
+          (still_suits hit scanning.state.searching at.first at.at (best_told at.best)
           scanning.suits));
-      sees = λ looks. leads_here.before looks at.here turn.is_class;
+      sees = λ looks.
+          ap side_of (sym scanning.is.ahead)
+          ∙ leads_here.before looks scanning.here here_class;
       coming =
           subst
           (IsComing table h entries low (length h) (p + 1)
-          (threads_of (first_left turn.to.restarts at.first at.here.at) turn.to.ways))
+          (threads_of (first_left turn.to.restarts at.first at.at) turn.to.ways))
           (sym left) (coming_next (best_told at.best) scanning.suits scanning.coming);
     }
 
     -- a turn without a match before it ends the search where it completes one, or at the end
     pub end_led : at.best ≡ None
-        → ((p ≡ length h) ⊎ (best_left hit at.first at.here.at None ≡ None → ⊥)) →
-        IsNumberedEndOf table h entries low (best_left hit at.first at.here.at None)
+        → ((p ≡ length h) ⊎ (best_left hit at.first at.at None ≡ None → ⊥)) →
+        IsNumberedEndOf table h entries low (best_left hit at.first at.at None)
     end_led none over =
-        shortest_known table h entries low p at.here.at (threads_of at.first scanning.state.ways)
-        (threads_of (first_left turn.to.restarts at.first at.here.at) turn.to.ways) None
-        (best_left hit at.first at.here.at None)
-        scanning.later scanning.is.inside refl scanning.is.bytes (ends hit) over before
+        shortest_known table h entries low p at.at (threads_of at.first scanning.state.ways)
+        (threads_of (first_left turn.to.restarts at.first at.at) turn.to.ways) None
+        (best_left hit at.first at.at None)
+        scanning.later scanning.is.inside refl (sym scanning.there ∙ scanning.is.bytes) (ends hit)
+        over before
         (coming_next None (subst (λ b. Suits scanning.state.searching (best_told b)) none
         scanning.suits) before)
       where
@@ -133,7 +141,7 @@ module _ (table : List (Place ℕ)) (entries : List ℕ) (h : Text) (low p : ℕ
             (threads_of at.first scanning.state.ways) (best_told b)) none scanning.coming
 
         ends : (hit : Option KeptOrigin)
-            → EndsAt at.here.at None (best_left hit at.first at.here.at None)
+            → EndsAt at.at None (best_left hit at.first at.at None)
         ends None = inl refl
         ends (Some origin) = inr (told_by at.first origin, [], refl)
 
@@ -143,15 +151,15 @@ module _ (table : List (Place ℕ)) (entries : List ℕ) (h : Text) (low p : ℕ
         → hit ≡ Some origin → (earliest ≡ true → at.best ≡ None)
         → (earliest ≡ false
         → told_by at.first origin ≡ record { at = Some told.at; number = Some told.number })
-        → EndsOrLeads table entries h low p automaton earliest at y (Some (told, at.here.at))
+        → EndsOrLeads table entries h low p automaton earliest at y (Some (told, at.at))
     completed false told is none same =
-        led_step (Some (told, at.here.at))
-        (ap (λ z. Some (z, at.here.at, [])) (sym (same refl))
-        ∙ ap (λ z. best_left z at.first at.here.at (best_told at.best)) (sym is))
+        led_step (Some (told, at.at))
+        (ap (λ z. Some (z, at.at, [])) (sym (same refl))
+        ∙ ap (λ z. best_left z at.first at.at (best_told at.best)) (sym is))
     completed {origin} true told is none same =
-        subst (λ z. IsNumberedEndOf table h entries low (best_left z at.first at.here.at None)) is
+        subst (λ z. IsNumberedEndOf table h entries low (best_left z at.first at.at None)) is
         (end_led (none refl)
-        (inr (subst (λ z. best_left z at.first at.here.at None ≡ None → ⊥) (sym is)
+        (inr (subst (λ z. best_left z at.first at.at None ≡ None → ⊥) (sym is)
         (λ e. not_there (sym e)))))
 
   -- a turn that completes no match leads on
@@ -165,51 +173,53 @@ module _ (table : List (Place ℕ)) (entries : List ℕ) (h : Text) (low p : ℕ
 
   module _ (y : ℕ) (best : Option (Origin × ℕ))
       (to : LedTo table entries h low p automaton at y best) where
-    pub scanned_on : (next : Here) (first idle : ℕ) → IsHere h (p + 1) next
-        → IsFirstAfter to.state at.here.at next.at at.first first →
+    pub scanned_on : (next : Here) (end first idle : ℕ) → IsHere h (p + 1) next
+        → next.at ≡ end → IsFirstAfter to.state at.at end at.first first →
         IsScanning table entries h low (p + 1) automaton
-        (record { here = next; state = y; first = first; idle_at = idle; best = best })
-    scanned_on next first idle is told = let later = scanning.later in record {
+        (record { at = end; state = y; first = first; idle_at = idle; best = best })
+    scanned_on next end first idle is there told = let later = scanning.later in record {
       state = to.state;
       is_state = to.is_state;
+      here = next;
       is = is;
+      there = there;
       later = omega (arith, later);
       own = own told;
       suits = to.suits;
-      sees = λ looks. ap side_of (next_before h p at.here next scanning.is is) ∙ to.sees looks;
+      sees = λ looks. ap side_of (next_before h p next is) ∙ to.sees looks;
       coming =
           subst (λ z. IsComing table h entries low (length h) (p + 1) z (best_told best))
-          (same_threads (first_left to.state.restarts at.first at.here.at) first to.state.ways
+          (same_threads (first_left to.state.restarts at.first at.at) first to.state.ways
           (firsts told)) to.coming;
     }
       where
-        own : IsFirstAfter to.state at.here.at next.at at.first first
-            → to.state.ways ≡ [] → first ≡ next.at
+        own : IsFirstAfter to.state at.at end at.first first
+            → to.state.ways ≡ [] → first ≡ end
         own (inl (none, e)) empty = e
         own (inr (some, e)) empty = absurd (some empty)
 
-        firsts : IsFirstAfter to.state at.here.at next.at at.first first
-            → (to.state.ways ≡ [])
-            ⊎ (first ≡ first_left to.state.restarts at.first at.here.at)
+        firsts : IsFirstAfter to.state at.at end at.first first
+            → (to.state.ways ≡ []) ⊎ (first ≡ first_left to.state.restarts at.first at.at)
         firsts (inl (none, e)) = inl none
         firsts (inr (some, e)) = inr e
 
-    pub scan_over : ((at.here.after ≡ None) ⊎ ((best_told best ≡ None → ⊥) × (to.state.ways ≡ [])))
+    pub scan_over : (here : Here) → IsHere h p here
+        → ((here.after ≡ None) ⊎ ((best_told best ≡ None → ⊥) × (to.state.ways ≡ [])))
         → IsBestOutcomeOf table h entries low (best_told best)
-    scan_over over =
+    scan_over here is over =
         ended_all table h entries low p
-        (threads_of (first_left to.state.restarts at.first at.here.at) to.state.ways)
+        (threads_of (first_left to.state.restarts at.first at.at) to.state.ways)
         (best_told best)
-        scanning.later scanning.is.inside (at_end (over_at h p at.here scanning.is over)) to.coming
+        scanning.later scanning.is.inside (at_end (over_at h p here is over)) to.coming
       where
         at_end : ((p ≡ length h) ⊎ ((best_told best ≡ None → ⊥) × (to.state.ways ≡ [])))
             → (p ≡ length h)
             ⊎ ((best_told best ≡ None → ⊥) × (length (threads_of
-            (first_left to.state.restarts at.first at.here.at) to.state.ways) ≡ 0))
+            (first_left to.state.restarts at.first at.at) to.state.ways) ≡ 0))
         at_end (inl e) = inl e
         at_end (inr (some, e)) = inr (
           some,
-          ap (λ ways. length (threads_of (first_left to.state.restarts at.first at.here.at) ways))
+          ap (λ ways. length (threads_of (first_left to.state.restarts at.first at.at) ways))
               e,
         )
 
@@ -223,19 +233,26 @@ module _ (table : List (Place ℕ)) (entries : List ℕ) (h : Text) (low p : ℕ
         (subst (λ ways. IsComing table h entries low (length h) p (threads_of at.first ways)
         (best_told at.best)) idle scanning.coming))
 
-    pub is_idle : IsIdleAt table entries h low p here
-    is_idle = record { r = passes.q; later = passes.later; is = passes.is; coming = idle_there }
+    pub is_idle : IsIdleAt table entries h low p here.at
+    is_idle = record {
+      r = passes.q;
+      later = passes.later;
+      is = (passes.is.inside, passes.is.bytes);
+      coming = idle_there;
+    }
 
     pub skipped : (x : ℕ) (state : State) → slice_get automaton.states x ≡ Some state
         → state.ways ≡ [] → state.searching ≡ true
         → (automaton.intervals.looks ≡ true → state.before ≡ side_of here.before) →
         IsScanning table entries h low passes.q automaton
-        (record { here = here; state = x; first = here.at; idle_at = here.at; best = None })
+        (record { at = here.at; state = x; first = here.at; idle_at = here.at; best = None })
     skipped x state x_at empty searching sees =
         let later = scanning.later in let more = passes.later in record {
           state = state;
           is_state = x_at;
+          here = here;
           is = passes.is;
+          there = refl;
           later = omega (arith, later, more);
           own = λ e. refl;
           suits = subst (λ b. Suits b None) (sym searching) refl;
@@ -251,14 +268,14 @@ module _ (table : List (Place ℕ)) (entries : List ℕ) (h : Text) (low p : ℕ
 pub end_none : (table : List (Place ℕ)) (entries : List ℕ) (h : Text) (low p : ℕ)
     (automaton : Automaton) (at : Standing)
     → IsScanning table entries h low p automaton at → at.best ≡ None → (y : ℕ)
-    → LedTo table entries h low p automaton at y None →
-    at.here.after ≡ None → IsNumberedEndOf table h entries low None
-end_none table entries h low p automaton at scanning none y to last =
-    shortest_known table h entries low p at.here.at (threads_of at.first scanning.state.ways)
-    (threads_of (first_left to.state.restarts at.first at.here.at) to.state.ways) None None
+    → LedTo table entries h low p automaton at y None → (here : Here) → IsHere h p here →
+    here.after ≡ None → IsNumberedEndOf table h entries low None
+end_none table entries h low p automaton at scanning none y to here is last =
+    shortest_known table h entries low p here.at (threads_of at.first scanning.state.ways)
+    (threads_of (first_left to.state.restarts at.first at.at) to.state.ways) None None
     scanning.later scanning.is.inside refl
-    scanning.is.bytes (inl refl)
-    (over_at {Q = None ≡ None → ⊥} h p at.here scanning.is (inl last))
+    is.bytes (inl refl)
+    (over_at {Q = None ≡ None → ⊥} h p here is (inl last))
     (subst (λ b. IsComing table h entries low (length h) p (threads_of at.first scanning.state.ways)
     (best_told b)) none scanning.coming) to.coming
 
@@ -273,24 +290,25 @@ module _ (table : List (Place ℕ)) (entries : List ℕ) (h : Text) (low p : ℕ
   leads_on true (Some found) none led = absurd (not_there (sym (none refl)))
 
   -- it is over after the turn
-  pub scan_found : (earliest : Bool) (best : Option (Origin × ℕ))
+  pub scan_found : (here : Here) → IsHere h p here → (earliest : Bool)
+      (best : Option (Origin × ℕ))
       → IsScanning table entries h low p automaton at → (earliest ≡ true → at.best ≡ None)
       → EndsOrLeads table entries h low p automaton earliest at y best
       → ((state : State) → slice_get automaton.states y ≡ Some state → earliest ≡ false
-      → (at.here.after ≡ None) ⊎ ((best_told best ≡ None → ⊥) × (state.ways ≡ [])))
-      → (at.here.after ≡ None) ⊎ (best ≡ None → ⊥)
+      → (here.after ≡ None) ⊎ ((best_told best ≡ None → ⊥) × (state.ways ≡ [])))
+      → (here.after ≡ None) ⊎ (best ≡ None → ⊥)
       → IsFoundOf earliest table h entries low (best_told best)
-  scan_found false best scanning none led over known =
-      scan_over table entries h low p automaton at scanning y best led
+  scan_found here is false best scanning none led over known =
+      scan_over table entries h low p automaton at scanning y best led here is
       (over led.state led.is_state refl)
-  scan_found true None scanning none led over known =
-      end_none table entries h low p automaton at scanning (none refl) y led (last known)
+  scan_found here is true None scanning none led over known =
+      end_none table entries h low p automaton at scanning (none refl) y led here is (last known)
     where
-      last : {found : Option (Origin × ℕ)} → (at.here.after ≡ None) ⊎ (found ≡ found → ⊥)
-          → at.here.after ≡ None
+      last : {found : Option (Origin × ℕ)} → (here.after ≡ None) ⊎ (found ≡ found → ⊥)
+          → here.after ≡ None
       last (inl e) = e
       last (inr some) = absurd (some refl)
-  scan_found true (Some found) scanning none led over known = led
+  scan_found here is true (Some found) scanning none led over known = led
 
 -- the most preferred match is what is asked for
 pub preferred : (table : List (Place ℕ)) (h : Text) (entries : List ℕ) (s : ℕ) (best : Best)

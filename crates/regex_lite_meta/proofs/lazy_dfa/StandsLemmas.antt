@@ -33,7 +33,7 @@ module _ {table : List (Place ℕ)} {h : Text} {entries : List ℕ} {s : ℕ} {a
       → best_of cache.best ≡ best_told best → IsScanning table entries h stands.from stands.p
       automaton
       (record {
-        here = at.here;
+        at = at.here.at;
         state = x;
         first = at.first;
         idle_at = at.first;
@@ -42,7 +42,9 @@ module _ {table : List (Place ℕ)} {h : Text} {entries : List ℕ} {s : ℕ} {a
   scanning_there {x} known best same = record {
     state = is_in.state;
     is_state = is_in.is_state;
+    here = at.here;
     is = stands.is;
+    there = refl;
     later = stands.on.after;
     own = λ none. first_of cache.walk.memory.threads stands.own (is_in.ways ∙ none);
     suits = subst (Suits is_in.state.searching) same is_in.suits;
@@ -82,7 +84,7 @@ module _ {table : List (Place ℕ)} {h : Text} {entries : List ℕ} {s : ℕ} {a
       → best_of cache.best ≡ best_kept best cache.best.row → IsScanning table entries h stands.from
       stands.p automaton
       (record {
-        here = at.here;
+        at = at.here.at;
         state = x;
         first = at.first;
         idle_at = at.first;

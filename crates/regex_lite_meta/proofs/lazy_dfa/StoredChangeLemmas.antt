@@ -6,7 +6,7 @@ use Rattle.regex_lite_meta.proofs.Common.{◌∙◌, arith, suc-mul, length-take
 use Rattle.regex_lite_meta.proofs.Common.{Automaton, unknown, Extends, Intervals, classes_in}
 use Rattle.regex_lite_meta.proofs.Common.{way_in, number_of, state_in, StoredState, StoredWay}
 use Rattle.regex_lite_meta.proofs.Common.{Target, false, true≢false}
-use Rattle.regex_lite_meta.specs.LazyDfa.Stored.{Agrees, LieWithin, is_emptying, is_known, known_hit}
+use Rattle.regex_lite_meta.specs.LazyDfa.Stored.{Agrees, LieWithin, is_known, known_hit, last_hit}
 use Rattle.regex_lite_meta.specs.LazyDfa.Stored.{states_in, AllAgree, HasNoWays}
 use Rattle.regex_lite_meta.specs.LazyDfa.Stored.{HasWays}
 use Rattle.std.proofs.Math.Seq.{drop-length, take-length, take-set-lt}
@@ -282,23 +282,23 @@ has_ways_still states more y hit restarts own = record {
 }
 
 -- nor does a state without ways get any
-pub no_ways_still : (states more : List StoredState) (y : ℕ) → HasNoWays states y
-    → HasNoWays (states ++ more) y
-no_ways_still states more y own = record {
+pub no_ways_still : (states more : List StoredState) (y : ℕ) (hit : Option KeptOrigin)
+    → HasNoWays states y hit → HasNoWays (states ++ more) y hit
+no_ways_still states more y hit own = record {
   state = own.state;
   is_state = still_there states more y own.state own.is_state;
   none = own.none;
-  free = own.free;
+  same = own.same;
 }
 
 -- and all effects that are known are still right when a blank row is added
 pub agree_added : (states more : List StoredState) (targets : List Target) (n : ℕ)
     (classes : ℕ) (blank : Target)
     → is_known blank.effect ≡ false → known_hit blank.effect ≡ None
-    → is_emptying blank.effect ≡ false
+    → last_hit blank.effect ≡ None
     → AllAgree states classes targets
     → AllAgree (states ++ more) classes (targets ++ replicate n blank)
-agree_added states more targets n classes blank free none full agree =
+agree_added states more targets n classes blank free none last agree =
     All-append (Agrees (states ++ more) classes) targets (replicate n blank)
     (λ k d lt. let own = agree k d lt in record {
       row = own.row;
@@ -306,13 +306,13 @@ agree_added states more targets n classes blank free none full agree =
           let inside = own.within told in
           let m = length-append states more in omega (arith, inside, m);
       effect = λ hit told. has_ways_still states more _ hit _ (own.effect hit told);
-      empties = λ told. no_ways_still states more _ (own.empties told);
+      ends = λ hit told. no_ways_still states more _ hit (own.ends hit told);
     })
     (All-replicate (Agrees (states ++ more) classes) n blank (record {
       row = λ told. absurd (true≢false (sym told ∙ free));
       within = λ told. absurd (true≢false (sym told ∙ free));
       effect = λ hit told. absurd (not_there (sym none ∙ told));
-      empties = λ told. absurd (true≢false (sym told ∙ full));
+      ends = λ hit told. absurd (not_there (sym last ∙ told));
     }))
 
 -- a state more lies within, if it has the ways that were pending

@@ -2,14 +2,14 @@
 use Rattle.regex_lite_meta.proofs.Common.{◌≡◌, ℕ, zero, suc, ◌+◌, ◌*◌, ◌<◌, ◌≤◌, List, [], ◌∷◌, map}
 use Rattle.regex_lite_meta.proofs.Common.{Bool}
 use Rattle.regex_lite_meta.proofs.Common.{length, take, drop, slice_get, slice_index}
-use Rattle.regex_lite_meta.proofs.Common.{slice_index_or, Some, None, Option, sym, refl, ap, ◌∙◌, subst}
+use Rattle.regex_lite_meta.proofs.Common.{slice_index_or, Some, Option, sym, refl, ap, ◌∙◌, subst}
 use Rattle.regex_lite_meta.proofs.Common.{arith, suc-mul, length-map, length-take-le}
 use Rattle.regex_lite_meta.proofs.Common.{nil_from_length, get_or_from_slice_get, slice_get_within}
 use Rattle.regex_lite_meta.proofs.Common.{Automaton, unknown, LeadsOn, Remembers, Intervals}
 use Rattle.regex_lite_meta.proofs.Common.{class_of, classes_in, number_of, way_in, hit_in, state_in}
 use Rattle.regex_lite_meta.proofs.Common.{StoredState, StoredWay, Target}
-use Rattle.regex_lite_meta.specs.LazyDfa.Stored.{Agrees, AllAgree, HasNoWays, HasWays, LieWithin}
-use Rattle.regex_lite_meta.specs.LazyDfa.Stored.{is_restarting, number_if, states_in}
+use Rattle.regex_lite_meta.specs.LazyDfa.Stored.{Agrees, AllAgree, HasEffect, HasNoWays, HasWays}
+use Rattle.regex_lite_meta.specs.LazyDfa.Stored.{LieWithin, is_restarting, number_if, states_in}
 use Rattle.regex_lite_meta.specs.LazyDfa.Targets.{IsRowOf, IsTargetOf}
 use Rattle.regex_lite_engine.specs.Graph.Places.{Place}
 use Rattle.regex_lite_meta.specs.LazyDfa.Automaton.{KeptOrigin, State}
@@ -131,43 +131,58 @@ module _ (states : List StoredState) (used : ℕ) (ways : List StoredWay) (class
   len_by_empty x d state within fits at none =
       sym (ways_len x d state within fits at) ∙ ap length none
 
+  -- a state is as it is stored
+  stored_there : (y : ℕ) (s : StoredState) → slice_get states y ≡ Some s → (to : State)
+      → slice_get (states_in ways classes targets states) y ≡ Some to →
+      to ≡ state_in ways (row classes targets y) s
+  stored_there y s stored to at =
+      same_some (sym at
+      ∙ state_at states ways classes targets y s (slice_get_within states y s stored))
+      ∙ ap (state_in ways (row classes targets y)) (get_or_from_slice_get states y s s stored)
+
   -- a stored state with ways is one with ways
   pub has_ways : LieWithin used states → used ≤ length ways → (y : ℕ) → (hit : Option KeptOrigin)
-      → (restarts : Bool) → HasWays states y hit restarts →
-      (to : State) × (slice_get (states_in ways classes targets states) y ≡ Some to)
-      × (to.ways ≡ [] → ⊥) × (to.hit ≡ hit) × (to.restarts ≡ restarts)
-  has_ways within fits y hit restarts own_ways =
+      → (restarts : Bool) → HasWays states y hit restarts → (to : State)
+      → slice_get (states_in ways classes targets states) y ≡ Some to →
+      (to.ways ≡ [] → ⊥) × (to.hit ≡ hit) × (to.restarts ≡ restarts)
+  has_ways within fits y hit restarts own_ways to at =
       let s = own_ways.state in
-      let at = state_at states ways classes targets y s
-      (slice_get_within states y s own_ways.is_state) in
+      let same = stored_there y s own_ways.is_state to at in
       let own : slice_index_or states y s ≡ s =
       get_or_from_slice_get states y s s own_ways.is_state in
       let some = own_ways.some in (
-        state_in ways (row classes targets y) (slice_index_or states y s),
-        at,
         λ none.
-            let zero = len_by_empty y s _ within fits at none in
+            let zero = len_by_empty y s to within fits at none in
             let len = ap (λ (z : StoredState). z.len) own in omega (arith, zero, len, some),
-        ap (λ (z : StoredState). (state_in ways [] z).hit) own ∙ own_ways.same,
-        ap (λ (z : StoredState). z.restarts) own ∙ own_ways.first,
+        ap (λ (z : State). z.hit) same ∙ own_ways.same,
+        ap (λ (z : State). z.restarts) same ∙ own_ways.first,
       )
 
   -- and one without ways is one without
-  pub has_no_ways : LieWithin used states → used ≤ length ways → (y : ℕ) → HasNoWays states y →
-      (to : State) × (slice_get (states_in ways classes targets states) y ≡ Some to)
-      × (to.ways ≡ []) × (to.hit ≡ None)
-  has_no_ways within fits y own_state =
+  pub has_no_ways : LieWithin used states → used ≤ length ways → (y : ℕ) → (hit : Option KeptOrigin)
+      → HasNoWays states y hit → (to : State)
+      → slice_get (states_in ways classes targets states) y ≡ Some to →
+      (to.ways ≡ []) × (to.hit ≡ hit)
+  has_no_ways within fits y hit own_state to at =
       let s = own_state.state in
-      let at = state_at states ways classes targets y s
-      (slice_get_within states y s own_state.is_state) in
       let own : slice_index_or states y s ≡ s =
       get_or_from_slice_get states y s s own_state.is_state in (
-        state_in ways (row classes targets y) (slice_index_or states y s),
-        at,
-        empty_by_len y s _ within fits at
+        empty_by_len y s to within fits at
             (ap (λ (z : StoredState). z.len) own ∙ own_state.none),
-        ap (λ (z : StoredState). (state_in ways [] z).hit) own ∙ own_state.free,
+        ap (λ (z : State). z.hit) (stored_there y s own_state.is_state to at) ∙ own_state.same,
       )
+
+  -- what is known of a target's effect is so in its state
+  pub has_effect : LieWithin used states → used ≤ length ways → (target : Target)
+      → Agrees states classes target → (to : State)
+      → slice_get (states_in ways classes targets states) target.state ≡ Some to →
+      HasEffect target.effect to
+  has_effect within fits target own to at = record {
+    goes = λ hit told.
+        has_ways within fits target.state hit (is_restarting target.effect) (own.effect hit told) to
+        at;
+    ends = λ hit told. has_no_ways within fits target.state hit (own.ends hit told) to at;
+  }
 
 module _ (intervals : Intervals) (reach : Option ℕ) (states : List StoredState)
     (targets : List Target) (used : ℕ) (ways : List StoredWay) (automaton : Automaton)
@@ -295,17 +310,7 @@ module _ (intervals : Intervals) (reach : Option ℕ) (states : List StoredState
                 let m = length_states states ways (classes_in intervals) targets in
                 omega (arith, inside, n, m);
           };
-          effect = λ hit told. subst
-              (λ (z : Automaton). (to : State) × (slice_get z.states target.state ≡ Some to)
-              × (to.ways ≡ [] → ⊥) × (to.hit ≡ hit)
-              × (to.restarts ≡ is_restarting target.effect))
-              view
-              (has_ways states used ways (classes_in intervals) targets within fits target.state
-              hit (is_restarting target.effect) (own.effect hit told));
-          emptied = λ told. subst
-              (λ (z : Automaton). (to : State) × (slice_get z.states target.state ≡ Some to)
-              × (to.ways ≡ []) × (to.hit ≡ None))
-              view
-              (has_no_ways states used ways (classes_in intervals) targets within fits
-              target.state (own.empties told));
+          effect = λ _ to at.
+              has_effect states used ways (classes_in intervals) targets within fits target own to
+              (ap (λ (z : Automaton). slice_get z.states target.state) view ∙ at);
         }

@@ -1,7 +1,8 @@
 -- Which patterns match, by what is known of the pattern that is entered at each place.
 use Rattle.regex_lite_engine.proofs.Common.{◌≡◌, ℕ, ◌<◌, ◌≤◌, ◌↔◌, Bool, false, List, length}
 use Rattle.regex_lite_engine.proofs.Common.{replicate}
-use Rattle.regex_lite_engine.proofs.Common.{◌∷◌, [], Some, IsTrue, chars, slice_get, slice_get-get_or}
+use Rattle.regex_lite_engine.proofs.Common.{◌∷◌, [], Some, IsTrue, chars, slice_get}
+use Rattle.regex_lite_engine.proofs.Common.{slice_get-get_or}
 use Rattle.regex_lite_engine.proofs.Common.{IsCharBoundary, slice_index, slice_index_or, sym, refl}
 use Rattle.regex_lite_engine.proofs.Common.{◌∙◌, subst, arith, slice_get_within, table_of_list}
 use Rattle.regex_lite_engine.proofs.Common.{StoredList, Tree, HasMatchFrom, position_at}

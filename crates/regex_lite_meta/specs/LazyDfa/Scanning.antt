@@ -1,7 +1,7 @@
 -- A search that goes by remembered turns.
 use Rattle.std.specs.Prelude.{◌≡◌, ◌+◌, ◌≤◌, ◌⊎◌, ℕ, Bool, true, false, List, []}
 use Rattle.std.specs.Prelude.{length, slice_get, Option, None, Some}
-use Rattle.regex_lite_syntax.specs.Text.{Text}
+use Rattle.regex_lite_syntax.specs.Text.{Text, after}
 use Rattle.regex_lite_meta.specs.declared.lazy_dfa.scan.Standing.{Standing}
 use Rattle.regex_lite_engine.specs.declared.pikevm.beginning.Origin.{Origin}
 use Rattle.regex_lite_engine.specs.declared.search.here.Here.{Here}
@@ -13,6 +13,7 @@ use Rattle.regex_lite_engine.specs.Search.NumberedOutcomes.{IsFoundOf}
 use Rattle.regex_lite_engine.specs.Search.NumberedOutcomes.{IsNumberedEndOf}
 use Rattle.regex_lite_engine.specs.Search.NumberedOutcomes.{Best, best_at, best_kept}
 use Rattle.regex_lite_engine.specs.Search.NumberedOutcomes.{with_start_kept}
+use Rattle.regex_lite_engine.specs.Search.Offsets.{IsOffset}
 use Rattle.regex_lite_engine.specs.Search.Standing.{IsHere}
 use Rattle.regex_lite_engine.specs.Pikevm.Turns.{IsComing}
 
@@ -25,28 +26,30 @@ abbrev pub span_told : Option (ℕ × ℕ) → Best
 span_told found = with_start_kept (best_at found [])
 
 module _ (table : List (Place ℕ)) (entries : List ℕ) (haystack : Text) (low : ℕ) where
-  -- at position p there is nothing to go on from, and no match
-  pub record IsIdleAt (p : ℕ) (here : Here) : Type 0 where
+  -- at this offset, at or after position p, there is nothing to go on from, and no match
+  pub record IsIdleAt (p at : ℕ) : Type 0 where
     pub r : ℕ
     pub later : p ≤ r
-    pub is : IsHere haystack r here
+    pub is : IsOffset haystack r at
     pub coming : IsComing table haystack entries low (length haystack) r [] None
 
   -- the offset is another one only where there was nothing to go on from, at or after position p
   abbrev pub IsSince : (p before idle : ℕ) → Type 0
-  IsSince p before idle =
-      (idle ≡ before) ⊎ ((here : Here) × (here.at ≡ idle) × IsIdleAt p here)
+  IsSince p before idle = (idle ≡ before) ⊎ IsIdleAt p idle
 
   module _ (p : ℕ) (automaton : Automaton) where
     -- a search from position low on stands at position p
     pub record IsScanning (at : Standing) : Type 0 where
       pub state : State
       pub is_state : slice_get automaton.states at.state ≡ Some state
-      pub is : IsHere haystack p at.here
+      -- the position, with the characters beside it
+      pub here : Here
+      pub is : IsHere haystack p here
+      pub there : here.at ≡ at.at
       pub later : low ≤ p
-      pub own : state.ways ≡ [] → at.first ≡ at.here.at
+      pub own : state.ways ≡ [] → at.first ≡ at.at
       pub suits : Suits state.searching (best_told at.best)
-      pub sees : automaton.intervals.looks ≡ true → side_of at.here.before ≡ state.before
+      pub sees : automaton.intervals.looks ≡ true → side_of here.before ≡ state.before
       pub coming : IsComing table haystack entries low (length haystack) p
           (threads_of at.first state.ways) (best_told at.best)
 
@@ -55,9 +58,9 @@ module _ (table : List (Place ℕ)) (entries : List ℕ) (haystack : Text) (low 
       pub state : State
       pub is_state : slice_get automaton.states to ≡ Some state
       pub suits : Suits state.searching (best_told best)
-      pub sees : automaton.intervals.looks ≡ true → side_of at.here.after ≡ state.before
+      pub sees : automaton.intervals.looks ≡ true → side_of (after haystack p) ≡ state.before
       pub coming : IsComing table haystack entries low (length haystack) (p + 1)
-          (threads_of (first_left state.restarts at.first at.here.at) state.ways) (best_told best)
+          (threads_of (first_left state.restarts at.first at.at) state.ways) (best_told best)
 
     -- the turn from there leads to this state, and to this match. Where the least end is asked
     -- for, a turn that completes a match ends the search

@@ -1,15 +1,29 @@
 -- A search that goes by remembered turns from offset to offset, without the characters beside them.
 use Rattle.std.specs.Prelude.{◌≡◌, ◌⊎◌, ℕ, true, List, [], Option, None, Some, slice_get}
+use Rattle.regex_lite_syntax.specs.Text.{Text}
 use Rattle.regex_lite_meta.specs.declared.lazy_dfa.scan.Standing.{Standing}
 use Rattle.regex_lite_meta.specs.declared.lazy_dfa.spot.Spot.{Spot}
 use Rattle.regex_lite_meta.specs.declared.lazy_dfa.state.Target.{Target}
 use Rattle.regex_lite_engine.specs.Graph.Places.{Place}
-use Rattle.regex_lite_meta.specs.LazyDfa.Automaton.{Automaton, KeptOrigin, LeadsOn, State}
+use Rattle.regex_lite_meta.specs.LazyDfa.Automaton.{Automaton, LeadsOn, State}
 use Rattle.regex_lite_meta.specs.LazyDfa.Automaton.{best_left, first_left}
 use Rattle.regex_lite_meta.specs.LazyDfa.Intervals.{IsAhead}
-use Rattle.regex_lite_meta.specs.LazyDfa.Scanning.{best_told}
-use Rattle.regex_lite_meta.specs.LazyDfa.Stored.{is_emptying, is_known, is_restarting, known_hit}
+use Rattle.regex_lite_meta.specs.LazyDfa.Scanning.{IsScanning, best_told}
+use Rattle.regex_lite_meta.specs.LazyDfa.Stored.{HasEffect, is_known}
 use Rattle.regex_lite_meta.specs.LazyDfa.Targets.{IsRowOf}
+
+-- a search from position `low` on stands there, at position p, with this first start and last match
+pub record IsSpotAt (table : List (Place ℕ)) (entries : List ℕ) (haystack : Text) (low p : ℕ)
+    (automaton : Automaton) (spot : Spot) (told : Standing) : Type 0 where
+  pub x : ℕ
+  pub row : IsRowOf automaton spot.row x
+  pub scanning : IsScanning table entries haystack low p automaton (record {
+    at = spot.at;
+    state = x;
+    first = told.first;
+    idle_at = told.idle_at;
+    best = told.best;
+  })
 
 -- wherever a search in state x sees a character of the class of the one at this offset, its turn
 -- leads to the target's state, and here to the end of that character
@@ -23,11 +37,7 @@ pub record IsTurn (table : List (Place ℕ)) (entries : List ℕ) (automaton : A
   pub is_to : slice_get automaton.states target.state ≡ Some to
   pub row : IsRowOf automaton target.row target.state
   pub leads : LeadsOn table entries automaton.intervals from class to
-  -- where the effect is known, the state has ways, and what is complete in it and whether it
-  -- restarts is known
-  pub effect : (hit : Option KeptOrigin) → known_hit target.effect ≡ Some hit
-      → (to.ways ≡ [] → ⊥) × (to.hit ≡ hit) × (to.restarts ≡ is_restarting target.effect)
-  pub emptied : is_emptying target.effect ≡ true → (to.ways ≡ []) × (to.hit ≡ None)
+  pub effect : HasEffect target.effect to
 
 -- if the turn from the state with this row is remembered, that is where it leads
 abbrev pub LeadsIfKnown : List (Place ℕ) → List ℕ → Automaton → (bytes : List ℕ) → (at row : ℕ)
@@ -53,22 +63,18 @@ pub record EndsScan (at : ℕ) (state : State) (before after : Standing) : Type 
   pub none : state.ways ≡ []
   pub best : best_told after.best ≡ best_left state.hit before.first at (best_told before.best)
   pub some : best_told after.best ≡ None → ⊥
-  pub same : after ≡ record before { best = after.best }
+  pub same : after ≡ record before { at = after.at; best = after.best }
+
+-- nothing is changed but where the scan stands, which is told by its spot
+abbrev pub Stays : (before after : Standing) → Type 0
+Stays before after = after ≡ record before { at = after.at }
 
 -- what comes of the turn at this offset to that state, if it is taken
 abbrev pub Takes : (at row end : ℕ) → State → (before after : Standing) → Option (Option Spot)
     → Type 0
 Takes at row end state before after (Some (Some on)) = IsTaken at row end state before after on
 Takes at row end state before after (Some None) = EndsScan at state before after
-Takes at row end state before after None = after ≡ before
-
--- from there a turn is taken to where the search stands then
-pub record IsTurned (table : List (Place ℕ)) (entries : List ℕ) (automaton : Automaton)
-    (bytes : List ℕ) (at x : ℕ) (before after : Standing) (on : Spot) : Type 0 where
-  pub target : Target
-  pub end : ℕ
-  pub turn : IsTurn table entries automaton bytes at x target end
-  pub taken : IsTaken at target.row end turn.to before after on
+Takes at row end state before after None = Stays before after
 
 -- what comes of a turn after which there is nothing to go on from there
 abbrev pub TakesToNothing : (there : Spot) → (before after : Standing) → Option (Option Spot)

@@ -26,6 +26,7 @@ abbrev pub is_known : effects.Effect → Bool
 is_known effect.Plain = true
 is_known effect.Completes = true
 is_known effect.Empties = true
+is_known effect.Ends = true
 is_known effect.Restarts = true
 is_known effect.ByState = true
 is_known effect.Unknown = false
@@ -60,39 +61,52 @@ states_in ways classes targets (state ∷ states) =
 abbrev pub LieWithin : (used : ℕ) → List StoredState → Type 0
 LieWithin used states = All (λ state. state.from + state.len ≤ used) states
 
--- where the way began by which a turn with this effect completes a match, if that is known
+-- where the way began by which a turn with this effect completes a match, if it is known that the
+-- turn leads to a state with ways
 abbrev pub known_hit : effects.Effect → Option (Option KeptOrigin)
 known_hit effect.Plain = Some None
 known_hit effect.Completes = Some (hit_in (stored.AtFirst 0))
 known_hit effect.Empties = None
+known_hit effect.Ends = None
 known_hit effect.Restarts = Some None
 known_hit effect.ByState = None
 known_hit effect.Unknown = None
 
--- whether a turn with this effect leads to a state without ways, and completes no match
-abbrev pub is_emptying : effects.Effect → Bool
-is_emptying effect.Plain = false
-is_emptying effect.Completes = false
-is_emptying effect.Empties = true
-is_emptying effect.Restarts = false
-is_emptying effect.ByState = false
-is_emptying effect.Unknown = false
+-- the same, if it is known that the turn leads to a state without ways
+abbrev pub last_hit : effects.Effect → Option (Option KeptOrigin)
+last_hit effect.Plain = None
+last_hit effect.Completes = None
+last_hit effect.Empties = Some None
+last_hit effect.Ends = Some (hit_in (stored.AtFirst 0))
+last_hit effect.Restarts = None
+last_hit effect.ByState = None
+last_hit effect.Unknown = None
 
 -- whether the position of a turn with this effect is the first start from there on
 abbrev pub is_restarting : effects.Effect → Bool
 is_restarting effect.Plain = false
 is_restarting effect.Completes = false
 is_restarting effect.Empties = false
+is_restarting effect.Ends = false
 is_restarting effect.Restarts = true
 is_restarting effect.ByState = false
 is_restarting effect.Unknown = false
 
--- the state with this number has no ways, and no match is complete in it
-pub record HasNoWays (states : List StoredState) (y : ℕ) : Type 0 where
+-- a turn with this effect can lead to this state
+pub record HasEffect (e : effects.Effect) (state : State) : Type 0 where
+  pub goes : (hit : Option KeptOrigin) → known_hit e ≡ Some hit
+      → (state.ways ≡ [] → ⊥) × (state.hit ≡ hit) × (state.restarts ≡ is_restarting e)
+  pub ends : (hit : Option KeptOrigin) → last_hit e ≡ Some hit
+      → (state.ways ≡ []) × (state.hit ≡ hit)
+
+-- the state with this number has no ways, and this is where the way began by which a match is
+-- complete
+pub record HasNoWays (states : List StoredState) (y : ℕ) (hit : Option KeptOrigin)
+    : Type 0 where
   pub state : StoredState
   pub is_state : slice_get states y ≡ Some state
   pub none : state.len ≡ 0
-  pub free : hit_in state.hit ≡ None
+  pub same : hit_in state.hit ≡ hit
 
 -- the state with this number has ways, and this is where the way began by which a match is complete,
 -- and whether the last position is the first start from there on
@@ -111,7 +125,8 @@ pub record Agrees (states : List StoredState) (classes : ℕ) (target : Target) 
   pub within : is_known target.effect ≡ true → target.state < length states
   pub effect : (hit : Option KeptOrigin) → known_hit target.effect ≡ Some hit
       → HasWays states target.state hit (is_restarting target.effect)
-  pub empties : is_emptying target.effect ≡ true → HasNoWays states target.state
+  pub ends : (hit : Option KeptOrigin) → last_hit target.effect ≡ Some hit
+      → HasNoWays states target.state hit
 
 abbrev pub AllAgree : List StoredState → (classes : ℕ) → List Target → Type 0
 AllAgree states classes targets = All (Agrees states classes) targets

@@ -6,7 +6,7 @@ ghost use Rattle.regex_lite_meta.specs.LazyDfa.Automaton.{State, unknown};
 ghost use Rattle.regex_lite_meta.specs.LazyDfa.Extending.{Extends, IsState};
 ghost use Rattle.regex_lite_meta.specs.LazyDfa.Intervals.{classes_in};
 ghost use Rattle.regex_lite_meta.specs.LazyDfa.Stored.{hit_in, way_in};
-ghost use Rattle.regex_lite_meta.specs.LazyDfa.Targets.{IsRowOf, IsTargetOf};
+ghost use Rattle.regex_lite_meta.specs.LazyDfa.Targets.{AreTargets, IsRowOf, IsTargetOf};
 
 use crate::lazy_dfa::classes::Classes;
 use crate::lazy_dfa::lookup::Lookup;
@@ -245,7 +245,15 @@ impl LazyDfa {
         requires class { class < classes_in self.now.intervals }
         ensures { (x : ℕ) → IsRowOf self.now row x → IsTargetOf self.now x class result }
     {
-        self.targets[row + class]
+        self.targets()[row + class]
+    }
+
+    /// The targets of all rows.
+    #[inline(always)]
+    pub(super) fn targets(&self) -> &[Target]
+        ensures { AreTargets self.now result.now }
+    {
+        &self.targets
     }
 
     /// Where the row of this state begins.

@@ -1,5 +1,5 @@
 //! Searches begin by known transitions: those that end there touch no memory of ordered sets.
-ghost use Rattle.std.specs.Prelude.{◌≡◌, [], ℕ, IfErr, IfOk, None, chars};
+ghost use Rattle.std.specs.Prelude.{◌≡◌, [], ℕ, IfErr, IfOk, IsCharBoundary, None, chars};
 ghost use Rattle.std.specs.Prelude.{false, length, true};
 ghost use Rattle.regex_lite_meta.specs.LazyDfa.Automaton.{Remembers};
 ghost use Rattle.regex_lite_meta.specs.LazyDfa.Running.{Stands};
@@ -7,8 +7,8 @@ ghost use Rattle.regex_lite_meta.specs.LazyDfa.Scanning.{ComesTo, best_told};
 ghost use Rattle.regex_lite_engine.specs.Search.Bounds.{characters_left};
 ghost use Rattle.regex_lite_engine.specs.Search.Counting.{CanCount};
 ghost use Rattle.regex_lite_engine.specs.Search.NumberedOutcomes.{IsFoundOf};
-ghost use Rattle.regex_lite_engine.specs.Search.Standing.{IsHere};
-ghost use Rattle.regex_lite_engine.specs.Search.Starts.{AreAllStarts, AreDeadAt, PassesTo};
+ghost use Rattle.regex_lite_engine.specs.Search.Offsets.{position_at};
+ghost use Rattle.regex_lite_engine.specs.Search.Starts.{AreAllStarts, AreDeadAt, SkipsTo};
 ghost use Rattle.regex_lite_engine.specs.Pikevm.Searching.{IsBetween};
 ghost use Rattle.regex_lite_engine.specs.Pikevm.Turns.{best_of};
 
@@ -18,12 +18,14 @@ use crate::lazy_dfa::scan::Standing;
 use regex_lite_engine::pikevm::beginning::Origin;
 use regex_lite_engine::pikevm::cache::{Cache, restart};
 use regex_lite_engine::search::here::Here;
-use regex_lite_engine::search::patterns::{Patterns, pass_over};
+use regex_lite_engine::search::patterns::Patterns;
 
 impl LazyDfa {
-    /// What a search from this position on finds: the most preferred match or, with EARLIEST, one
-    /// with the least end, whose start says nothing. If too many transitions find no room, it
+    /// What a search that goes on at this offset finds: the most preferred match or, with EARLIEST,
+    /// one with the least end, whose start says nothing. If too many transitions find no room, it
     /// returns where it stands.
+    ///
+    /// Condition: the offset is on a character boundary.
     // Inlined, and the two functions that it calls last are not: most searches need neither, and a
     // call of this one would move the result once more.
     #[inline(always)]
@@ -32,21 +34,25 @@ impl LazyDfa {
         patterns: &P,
         cache: &mut Cache<Origin>,
         haystack: &str,
-        from: Here,
+        from: usize,
     ) -> Result<Option<(Origin, usize)>, Progress>
         requires all { AreAllStarts (P.table patterns.now) (P.entries patterns.now)
             (P.starts patterns.now) }
         requires remembers { Remembers (P.table patterns.now) (P.entries patterns.now) self.old }
         requires none_pending { self.old.pending ≡ [] }
         requires between { IsBetween (P.table patterns.now) cache.old }
-        requires on { (s : ℕ) × IsHere (chars haystack.now) s from
+        requires boundary { IsCharBoundary haystack.now from }
+        requires on { (s : ℕ) × SkipsTo (AreDeadAt (P.table patterns.now) (chars haystack.now)
+            (P.entries patterns.now)) haystack.now s from
             × CanCount (P.table patterns.now) (length (P.entries patterns.now))
             (characters_left (chars haystack.now) s) }
         requires width { length cache.old.walk.memory.row ≡ 0 }
-        ensures found { (s : ℕ) → IsHere (chars haystack.now) s from
+        ensures found { (s : ℕ) → SkipsTo (AreDeadAt (P.table patterns.now) (chars haystack.now)
+            (P.entries patterns.now)) haystack.now s from
             → IfOk result (λ found. IsFoundOf EARLIEST (P.table patterns.now) (chars haystack.now)
             (P.entries patterns.now) s (best_told found)) }
-        ensures stands { (s : ℕ) → IsHere (chars haystack.now) s from
+        ensures stands { (s : ℕ) → SkipsTo (AreDeadAt (P.table patterns.now) (chars haystack.now)
+            (P.entries patterns.now)) haystack.now s from
             → IfErr result (λ at. Stands (P.table patterns.now) (chars haystack.now)
             (P.entries patterns.now) s self.new at cache.new) }
         ensures none { IfErr result (λ _. EARLIEST ≡ true → best_of cache.new.best ≡ None) }
@@ -56,31 +62,30 @@ impl LazyDfa {
         ensures between { IsBetween (P.table patterns.now) cache.new }
         ensures width { length cache.new.walk.memory.row ≡ 0 }
     {
-        let here = first_position(patterns, haystack, from);
-        let Some(state) = self.empty_state(here.before) else {
-            return self.search_anew::<_, EARLIEST>(patterns, cache, haystack, here);
+        let Some(state) = self.start_state(haystack, from) else {
+            return self.search_anew::<_, EARLIEST>(patterns, cache, haystack, from);
         };
         let mut at = Standing {
-            here,
+            at: from,
             state,
-            first: here.at,
-            idle_at: here.at,
+            first: from,
+            idle_at: from,
             best: None,
         };
         if self.run::<P, EARLIEST>(patterns, haystack, &mut at) {
             return Ok(at.best);
         }
-        self.search_on::<_, EARLIEST>(patterns, cache, haystack, here, at)
+        self.search_on::<_, EARLIEST>(patterns, cache, haystack, from, at)
     }
 
-    /// The same from this position on, before which no match begins, where `run` stopped there.
+    /// The same where `run` stopped there.
     #[inline(never)]
     fn search_on<P: Patterns, const EARLIEST: bool>(
         &mut self,
         patterns: &P,
         cache: &mut Cache<Origin>,
         haystack: &str,
-        here: Here,
+        from: usize,
         stopped: Standing,
     ) -> Result<Option<(Origin, usize)>, Progress>
         requires all { AreAllStarts (P.table patterns.now) (P.entries patterns.now)
@@ -88,22 +93,23 @@ impl LazyDfa {
         requires remembers { Remembers (P.table patterns.now) (P.entries patterns.now) self.old }
         requires none_pending { self.old.pending ≡ [] }
         requires between { IsBetween (P.table patterns.now) cache.old }
-        requires on { (s : ℕ) × PassesTo (AreDeadAt (P.table patterns.now) (chars haystack.now)
-            (P.entries patterns.now)) (chars haystack.now) s here
+        requires boundary { IsCharBoundary haystack.now from }
+        requires on { (s : ℕ) × SkipsTo (AreDeadAt (P.table patterns.now) (chars haystack.now)
+            (P.entries patterns.now)) haystack.now s from
             × CanCount (P.table patterns.now) (length (P.entries patterns.now))
             (characters_left (chars haystack.now) s) }
-        requires scanned { (s : ℕ) → (passes : PassesTo (AreDeadAt (P.table patterns.now)
-            (chars haystack.now) (P.entries patterns.now)) (chars haystack.now) s here)
+        requires scanned { (s : ℕ) → SkipsTo (AreDeadAt (P.table patterns.now) (chars haystack.now)
+            (P.entries patterns.now)) haystack.now s from
             → ComesTo (P.table patterns.now) (P.entries patterns.now) (chars haystack.now) s
-            passes.q here.at self.old stopped }
+            (position_at haystack.now from) from self.old stopped }
         requires none { EARLIEST ≡ true → stopped.best ≡ None }
         requires width { length cache.old.walk.memory.row ≡ 0 }
-        ensures found { (s : ℕ) → PassesTo (AreDeadAt (P.table patterns.now) (chars haystack.now)
-            (P.entries patterns.now)) (chars haystack.now) s here
+        ensures found { (s : ℕ) → SkipsTo (AreDeadAt (P.table patterns.now) (chars haystack.now)
+            (P.entries patterns.now)) haystack.now s from
             → IfOk result (λ found. IsFoundOf EARLIEST (P.table patterns.now) (chars haystack.now)
             (P.entries patterns.now) s (best_told found)) }
-        ensures stands { (s : ℕ) → PassesTo (AreDeadAt (P.table patterns.now) (chars haystack.now)
-            (P.entries patterns.now)) (chars haystack.now) s here
+        ensures stands { (s : ℕ) → SkipsTo (AreDeadAt (P.table patterns.now) (chars haystack.now)
+            (P.entries patterns.now)) haystack.now s from
             → IfErr result (λ at. Stands (P.table patterns.now) (chars haystack.now)
             (P.entries patterns.now) s self.new at cache.new) }
         ensures none { IfErr result (λ _. EARLIEST ≡ true → best_of cache.new.best ≡ None) }
@@ -118,37 +124,38 @@ impl LazyDfa {
             return Ok(to.best);
         }
         restart(cache);
-        let mut at = Progress::begun(here);
+        let mut at = Progress::begun(Here::at(haystack, from));
         self.resume(patterns, cache, haystack, &mut at, to);
         self.begin_anew(patterns, cache, haystack, &mut at, to);
         self.search_while_it_pays::<_, EARLIEST>(patterns, cache, haystack, at, 0)
     }
 
-    /// The same from this position on, where the state in which it starts isn't known.
+    /// The same where the state in which it starts isn't known.
     #[inline(never)]
     fn search_anew<P: Patterns, const EARLIEST: bool>(
         &mut self,
         patterns: &P,
         cache: &mut Cache<Origin>,
         haystack: &str,
-        here: Here,
+        from: usize,
     ) -> Result<Option<(Origin, usize)>, Progress>
         requires all { AreAllStarts (P.table patterns.now) (P.entries patterns.now)
             (P.starts patterns.now) }
         requires remembers { Remembers (P.table patterns.now) (P.entries patterns.now) self.old }
         requires none_pending { self.old.pending ≡ [] }
         requires between { IsBetween (P.table patterns.now) cache.old }
-        requires on { (s : ℕ) × PassesTo (AreDeadAt (P.table patterns.now) (chars haystack.now)
-            (P.entries patterns.now)) (chars haystack.now) s here
+        requires boundary { IsCharBoundary haystack.now from }
+        requires on { (s : ℕ) × SkipsTo (AreDeadAt (P.table patterns.now) (chars haystack.now)
+            (P.entries patterns.now)) haystack.now s from
             × CanCount (P.table patterns.now) (length (P.entries patterns.now))
             (characters_left (chars haystack.now) s) }
         requires width { length cache.old.walk.memory.row ≡ 0 }
-        ensures found { (s : ℕ) → PassesTo (AreDeadAt (P.table patterns.now) (chars haystack.now)
-            (P.entries patterns.now)) (chars haystack.now) s here
+        ensures found { (s : ℕ) → SkipsTo (AreDeadAt (P.table patterns.now) (chars haystack.now)
+            (P.entries patterns.now)) haystack.now s from
             → IfOk result (λ found. IsFoundOf EARLIEST (P.table patterns.now) (chars haystack.now)
             (P.entries patterns.now) s (best_told found)) }
-        ensures stands { (s : ℕ) → PassesTo (AreDeadAt (P.table patterns.now) (chars haystack.now)
-            (P.entries patterns.now)) (chars haystack.now) s here
+        ensures stands { (s : ℕ) → SkipsTo (AreDeadAt (P.table patterns.now) (chars haystack.now)
+            (P.entries patterns.now)) haystack.now s from
             → IfErr result (λ at. Stands (P.table patterns.now) (chars haystack.now)
             (P.entries patterns.now) s self.new at cache.new) }
         ensures none { IfErr result (λ _. EARLIEST ≡ true → best_of cache.new.best ≡ None) }
@@ -159,33 +166,7 @@ impl LazyDfa {
         ensures width { length cache.new.walk.memory.row ≡ 0 }
     {
         restart(cache);
-        let begun = Progress::begun(here);
+        let begun = Progress::begun(Here::at(haystack, from));
         self.search_while_it_pays::<_, EARLIEST>(patterns, cache, haystack, begun, 0)
     }
-}
-
-/// The first position from here on at which a match can begin, if a prefilter finds it.
-#[inline(always)]
-fn first_position<P: Patterns>(patterns: &P, haystack: &str, from: Here) -> Here
-    requires { (p : ℕ) × IsHere (chars haystack.now) p from }
-    ensures { (p : ℕ) → IsHere (chars haystack.now) p from
-        → PassesTo (AreDeadAt (P.table patterns.now) (chars haystack.now) (P.entries patterns.now))
-        (chars haystack.now) p result }
-{
-    if !patterns.has_prefilter() {
-        return from;
-    }
-    filtered_position(patterns, haystack, from)
-}
-
-/// [`pass_over`].
-// Not inlined, so that a search without a prefilter costs no more than the test for it.
-#[inline(never)]
-fn filtered_position<P: Patterns>(patterns: &P, haystack: &str, from: Here) -> Here
-    requires { (p : ℕ) × IsHere (chars haystack.now) p from }
-    ensures { (p : ℕ) → IsHere (chars haystack.now) p from
-        → PassesTo (AreDeadAt (P.table patterns.now) (chars haystack.now) (P.entries patterns.now))
-        (chars haystack.now) p result }
-{
-    pass_over(patterns, haystack, from)
 }

@@ -1,6 +1,6 @@
 //! A whole search that remembers its turns, and goes by those that it remembers.
 ghost use Rattle.std.specs.Prelude.{◌≡◌, ◌+◌, ◌≤◌, [], ℕ, IfErr, IfOk, IfSome, MatchOption, None};
-ghost use Rattle.std.specs.Prelude.{chars, false, length, true, ◌<◌, ◌⊎◌, All};
+ghost use Rattle.std.specs.Prelude.{chars, false, length, true, ◌<◌, ◌⊎◌, All, IsCharBoundary};
 ghost use Rattle.regex_lite_meta.specs.LazyDfa.Automaton.{Remembers};
 ghost use Rattle.regex_lite_meta.specs.LazyDfa.Running.{Stands, NoneStartsBeforeOf};
 ghost use Rattle.regex_lite_meta.specs.LazyDfa.Scanning.{best_told, ComesTo, IsScanning};
@@ -8,7 +8,7 @@ ghost use Rattle.regex_lite_engine.specs.Graph.Parts.{IsOwnPart, row_of};
 ghost use Rattle.regex_lite_engine.specs.Graph.Renumbered.{arrows_of};
 ghost use Rattle.regex_lite_engine.specs.Search.Starts.{AreAllStarts};
 ghost use Rattle.regex_lite_engine.specs.Search.Bounds.{IsBoundedBy, characters_left};
-ghost use Rattle.regex_lite_engine.specs.Search.Standing.{IsHere};
+ghost use Rattle.regex_lite_engine.specs.Search.Offsets.{position_at};
 ghost use Rattle.regex_lite_engine.specs.Search.Counting.{CanCount};
 ghost use Rattle.regex_lite_engine.specs.Search.NumberedOutcomes.{IsFoundOf};
 ghost use Rattle.regex_lite_engine.specs.Pikevm.Searching.{IsBetween};
@@ -29,8 +29,10 @@ use regex_lite_engine::search::patterns::Patterns;
 
 impl LazyDfa {
     /// Where the most preferred match starts and ends, from the least start at or after this
-    /// position, with the number of its pattern. With EARLIEST it is a match with the least end of
+    /// offset, with the number of its pattern. With EARLIEST it is a match with the least end of
     /// all that start there or later, and its start and number say nothing.
+    ///
+    /// Condition: the offset is on a character boundary.
     // Inlined, since most searches are soon over.
     #[inline(always)]
     pub(crate) fn find<P: Patterns + Copy, const EARLIEST: bool>(
@@ -38,20 +40,19 @@ impl LazyDfa {
         patterns: &P,
         cache: &mut Cache<Origin>,
         haystack: &str,
-        from: Here,
+        from: usize,
     ) -> Option<(Origin, usize)>
         requires all { AreAllStarts (P.table patterns.now) (P.entries patterns.now)
             (P.starts patterns.now) }
         requires remembers { Remembers (P.table patterns.now) (P.entries patterns.now) self.old }
         requires none_pending { self.old.pending ≡ [] }
         requires between { IsBetween (P.table patterns.now) cache.old }
-        requires on { (s : ℕ) × IsHere (chars haystack.now) s from
-            × CanCount (P.table patterns.now) (length (P.entries patterns.now))
-            (characters_left (chars haystack.now) s) }
+        requires boundary { IsCharBoundary haystack.now from }
+        requires on { CanCount (P.table patterns.now) (length (P.entries patterns.now))
+            (characters_left (chars haystack.now) (position_at haystack.now from)) }
         requires width { length cache.old.walk.memory.row ≡ 0 }
-        ensures found { (s : ℕ) → IsHere (chars haystack.now) s from
-            → IsFoundOf EARLIEST (P.table patterns.now) (chars haystack.now)
-            (P.entries patterns.now) s (best_told result) }
+        ensures found { IsFoundOf EARLIEST (P.table patterns.now) (chars haystack.now)
+            (P.entries patterns.now) (position_at haystack.now from) (best_told result) }
         ensures remembers { Remembers (P.table patterns.now) (P.entries patterns.now) self.new }
         ensures none_pending { self.new.pending ≡ [] }
         ensures between { IsBetween (P.table patterns.now) cache.new }
@@ -178,7 +179,7 @@ impl LazyDfa {
             return None;
         }
         let mut to = Standing {
-            here: at.here,
+            at: at.here.at,
             state,
             first: at.first,
             idle_at: at.first,
@@ -220,7 +221,7 @@ impl LazyDfa {
             → best_of cache.new.best ≡ None }
         ensures later { at.old.here.at ≤ at.new.here.at }
     {
-        if stuck.here.at == at.here.at {
+        if stuck.at == at.here.at {
             return;
         }
         let ways = self.ways(stuck.state as usize);
@@ -228,11 +229,11 @@ impl LazyDfa {
             take_up_ways(cache, ways, stuck.first, stuck.best);
             at.state = Some(stuck.state);
             at.first = stuck.first;
-            at.here = stuck.here;
+            at.here = Here::at(haystack, stuck.at);
             return;
         }
         // The offset fits: no haystack has as many bytes.
-        at.until = stuck.here.at + 1;
+        at.until = stuck.at + 1;
         if stuck.idle_at > at.here.at {
             let here = Here::at(haystack, stuck.idle_at);
             let_go(cache);
@@ -277,7 +278,8 @@ impl LazyDfa {
         if stuck.best.is_some() {
             return;
         }
-        let Some(here) = back(haystack, stuck.here, reach, at.here.at) else {
+        let stuck_here = Here::at(haystack, stuck.at);
+        let Some(here) = back(haystack, stuck_here, reach, at.here.at) else {
             return;
         };
         let_go(cache);
@@ -291,12 +293,12 @@ impl LazyDfa {
 /// Whether all ways began at the first start, which is before this position if there are any.
 fn may_take_up(ways: &[StoredWay], stuck: Standing) -> bool
     ensures all { result ≡ true → All (λ way. way.is_first ≡ true) ways.now }
-    ensures before { result ≡ true → (ways.now ≡ []) ⊎ (stuck.first < stuck.here.at) }
+    ensures before { result ≡ true → (ways.now ≡ []) ⊎ (stuck.first < stuck.at) }
 {
     'ways: for k in 0..ways.len() {
         if !ways[k].is_first {
             return false;
         }
     }
-    ways.is_empty() || stuck.first < stuck.here.at
+    ways.is_empty() || stuck.first < stuck.at
 }

@@ -147,20 +147,20 @@ impl LazyDfa {
             (chars haystack.now) low p self.now at.old }
         ensures on { result ≡ true → GoesOn (P.table patterns.now) (P.entries patterns.now)
             (chars haystack.now) self.now at.old at.new }
-        ensures later { result ≡ true → at.old.here.at < at.new.here.at }
+        ensures later { result ≡ true → at.old.at < at.new.at }
         ensures same { result ≡ false → at.new ≡ at.old }
         ensures none { at.new.best ≡ at.old.best }
     {
-        if !self.may_leap(patterns, at) {
+        if !self.may_leap(patterns, haystack, at) {
             return false;
         }
-        let Some(next) = patterns.skip(haystack, at.here) else {
+        let Some(next) = patterns.skip(haystack, Here::at(haystack, at.at)) else {
             return false;
         };
-        if next.at <= at.here.at {
+        if next.at <= at.at {
             return false;
         }
-        at.here = next;
+        at.at = next.at;
         at.first = next.at;
         at.idle_at = next.at;
         true
@@ -169,14 +169,14 @@ impl LazyDfa {
     /// Whether there is nothing to go on from and no match, a prefilter and no looks, and a next
     /// character.
     #[inline(always)]
-    fn may_leap<P: Patterns>(&self, patterns: &P, at: &Standing) -> bool
+    fn may_leap<P: Patterns>(&self, patterns: &P, haystack: &str, at: &Standing) -> bool
         requires { at.now.state < length self.now.states }
         ensures looks { result ≡ true → self.now.intervals.looks ≡ false }
         ensures none { result ≡ true → at.now.best ≡ None }
         ensures empty { result ≡ true → (state : State)
             → slice_get self.now.states at.now.state ≡ Some state → state.ways ≡ [] }
     {
-        at.here.after.is_some()
+        at.at < haystack.len()
             && patterns.has_prefilter()
             && !self.has_looks()
             && at.best.is_none()

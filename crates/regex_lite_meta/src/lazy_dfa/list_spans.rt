@@ -21,6 +21,7 @@ use regex_lite_engine::pikevm::run::advance;
 use regex_lite_engine::search::all_of_list::AllOfList;
 use regex_lite_engine::search::here::Here;
 use regex_lite_engine::search::list_patterns::ListPatterns;
+use regex_lite_engine::search::patterns::pass_over;
 use std::alloc::{AllocError, Global};
 
 /// The memory in which the patterns of a list are searched for.
@@ -183,7 +184,8 @@ impl LazyDfa {
         let _entries = list.entries();
         let all = AllOfList { list };
         let from = Here::at(haystack, start);
-        let told = self.search::<_, EARLIEST>(&all, cache, haystack, from);
+        let from = pass_over(&all, haystack, from);
+        let told = self.search::<_, EARLIEST>(&all, cache, haystack, from.at);
         let Ok(found) = told else {
             return None;
         };

@@ -1,18 +1,17 @@
 //! Scans that go on by remembered turns, by offsets alone.
-ghost use Rattle.std.specs.Prelude.{◌≡◌, ◌+◌, ◌<◌, [], ℕ, IfErr, IfOk, IfSome, IsCharBoundary};
-ghost use Rattle.std.specs.Prelude.{None, Option, Some, chars, false, true, length, slice_get};
-ghost use Rattle.regex_lite_meta.specs.LazyDfa.Automaton.{KeptOrigin, Remembers, State, first_left};
+ghost use Rattle.std.specs.Prelude.{◌≡◌, ◌+◌, ◌<◌, ◌≤◌, ℕ, IfSome, IsCharBoundary, None, Some};
+ghost use Rattle.std.specs.Prelude.{chars, false, true, length, slice_get};
+ghost use Rattle.regex_lite_meta.specs.LazyDfa.Automaton.{Remembers, State, first_left};
 ghost use Rattle.regex_lite_meta.specs.LazyDfa.Intervals.{IsInterval};
 ghost use Rattle.regex_lite_meta.specs.LazyDfa.Scanning.{EndsWith, GoesOn, IsScanning};
-ghost use Rattle.regex_lite_meta.specs.LazyDfa.Spots.{IsTurn, IsTurned, LeadsIfKnown, Takes};
-ghost use Rattle.regex_lite_meta.specs.LazyDfa.Stored.{hit_in, is_emptying, is_restarting};
-ghost use Rattle.regex_lite_meta.specs.LazyDfa.Stored.{known_hit};
+ghost use Rattle.regex_lite_meta.specs.LazyDfa.Spots.{IsSpotAt, IsTurn, LeadsIfKnown, Takes};
+ghost use Rattle.regex_lite_meta.specs.LazyDfa.Stored.{HasEffect, hit_in};
 ghost use Rattle.regex_lite_meta.specs.LazyDfa.Targets.{IsRowOf};
 
 use crate::lazy_dfa::automaton::LazyDfa;
 use crate::lazy_dfa::classes::Interval;
 use crate::lazy_dfa::scan::Standing;
-use crate::lazy_dfa::spot::{Spot, take_known, take_to_nothing};
+use crate::lazy_dfa::spot::{Spot, take_by_effect, take_to_nothing};
 use crate::lazy_dfa::state::{Effect, Hit, Target};
 use regex_lite_engine::search::patterns::Patterns;
 
@@ -41,72 +40,83 @@ impl LazyDfa {
         let mut near = Interval::none();
         let mut spot = self.spot_of(at);
         'turns: loop {
+            let (on, ascii) = self.pass_plain(patterns, haystack, spot, at);
+            spot = on;
             // A way out for itself: one for all would cost each turn two moves.
             if spot.at >= haystack.len() {
-                self.settle_at(haystack, spot, at);
+                self.settle_at(spot, at);
                 return false;
             }
-            let ascii = match self.take_ascii::<P, EARLIEST>(patterns, haystack, spot, at) {
-                Ok(on) => {
-                    spot = on;
-                    continue;
-                }
-                Err(ascii) => ascii,
-            };
             let Some((target, end)) = self.turn(patterns, haystack, spot, ascii, &mut near) else {
                 break;
             };
-            if self.is_last::<EARLIEST>(target) {
+            match take_by_effect::<EARLIEST>(spot, target, end, at) {
+                Some(Some(on)) => {
+                    spot = on;
+                    continue;
+                }
+                Some(None) => return true,
+                None => {}
+            }
+            let Some(known) = target.remembered() else {
+                break;
+            };
+            if self.is_last::<EARLIEST>(known) {
                 at.complete(0, spot.at);
                 return true;
             }
-            match self.take(spot, target, end, at) {
+            match self.take_by_state(spot, known, end, at) {
                 Some(Some(on)) => spot = on,
                 Some(None) => return true,
                 None => break,
             }
         }
-        self.settle_at(haystack, spot, at);
+        self.settle_at(spot, at);
         false
     }
 
-    /// Takes the turn from there if the character is ASCII and the effect is known, as for most
-    /// turns. With EARLIEST none is taken that completes a match. If it isn't taken, returns the
-    /// target for an ASCII character.
+    /// Goes on by turns that change nothing but the state, as most do, while the characters are
+    /// ASCII. Returns where the scan stands then and, if the next character is ASCII too, where its
+    /// turn leads.
     #[inline(always)]
-    fn take_ascii<P: Patterns, const EARLIEST: bool>(
+    fn pass_plain<P: Patterns>(
         &self,
         patterns: &P,
         haystack: &str,
-        spot: Spot,
-        at: &mut Standing,
-    ) -> Result<Spot, Option<Target>>
+        from: Spot,
+        at: &Standing,
+    ) -> (Spot, Option<Target>)
         requires remembers { Remembers (P.table patterns.now) (P.entries patterns.now) self.now }
-        requires boundary { IsCharBoundary haystack.now spot.at }
-        requires inside { spot.at < length haystack.now }
-        requires row { (x : ℕ) × IsRowOf self.now spot.row x }
-        ensures taken { IfOk result (λ on. (x : ℕ) → IsRowOf self.now spot.row x
-            → IsTurned (P.table patterns.now) (P.entries patterns.now) self.now haystack.now spot.at
-            x at.old at.new on) }
-        ensures ascii { IfErr result (λ ascii. IfSome ascii (λ target.
-            LeadsIfKnown (P.table patterns.now) (P.entries patterns.now) self.now haystack.now
-            spot.at spot.row target (spot.at + 1))) }
-        ensures same { IfErr result (λ _. at.new ≡ at.old) }
-        ensures best { EARLIEST ≡ true → at.new.best ≡ at.old.best }
+        requires scanning { (low p : ℕ) × IsSpotAt (P.table patterns.now) (P.entries patterns.now)
+            (chars haystack.now) low p self.now from at.now }
+        ensures on { (low p : ℕ) → IsSpotAt (P.table patterns.now) (P.entries patterns.now)
+            (chars haystack.now) low p self.now from at.now → (q : ℕ) × (p ≤ q)
+            × IsSpotAt (P.table patterns.now) (P.entries patterns.now) (chars haystack.now) low q
+            self.now result.0 at.now }
+        ensures later { from.at ≤ result.0.at }
+        ensures next { IfSome result.1 (λ target. LeadsIfKnown (P.table patterns.now)
+            (P.entries patterns.now) self.now haystack.now result.0.at result.0.row target
+            (result.0.at + 1)) }
     {
-        let byte = haystack.as_bytes()[spot.at];
-        if byte >= 128 {
-            return Err(None);
+        let bytes = haystack.as_bytes();
+        let targets = self.targets();
+        let mut spot = from;
+        'plain: while spot.at < bytes.len() {
+            let byte = bytes[spot.at];
+            if byte >= 128 {
+                return (spot, None);
+            }
+            let target = targets[spot.row + self.classes.ascii_class(byte)];
+            let Effect::Plain = target.effect else {
+                return (spot, Some(target));
+            };
+            spot = spot.after(target, spot.at + 1);
         }
-        let target = self.target(spot.row, self.classes.ascii_class(byte));
-        match take_known::<EARLIEST>(spot, target, spot.at + 1, at) {
-            Some(on) => Ok(on),
-            None => Err(Some(target)),
-        }
+        (spot, None)
     }
 
-    /// Where the turn from there leads, if it is remembered: the target, and the offset. None at
-    /// the end of the haystack. For an ASCII character the target may be known.
+    /// Where the turn from there leads: the target, and the offset. None at the end of the haystack.
+    /// For an ASCII character the target may be known.
     #[inline(always)]
     fn turn<P: Patterns>(
         &self,
@@ -123,61 +133,23 @@ impl LazyDfa {
         requires ascii { IfSome ascii (λ target. LeadsIfKnown (P.table patterns.now)
             (P.entries patterns.now) self.now haystack.now spot.at spot.row target (spot.at + 1)) }
         requires near { IsInterval self.now.intervals.boundaries near.old }
-        ensures turn { IfSome result (λ turn. (x : ℕ) → IsRowOf self.now spot.row x
-            → IsTurn (P.table patterns.now) (P.entries patterns.now) self.now haystack.now spot.at x
-            turn.0 turn.1) }
+        ensures turn { IfSome result (λ turn. LeadsIfKnown (P.table patterns.now)
+            (P.entries patterns.now) self.now haystack.now spot.at spot.row turn.0 turn.1) }
         ensures near { IsInterval self.now.intervals.boundaries near.new }
     {
         if let Some(target) = ascii {
-            let known = target.remembered()?;
-            return Some((known, spot.at + 1));
+            return Some((target, spot.at + 1));
         }
         let Some((class, end)) = self.classes.ahead(haystack, spot.at, near) else {
             return None;
         };
-        let known = self.target(spot.row, class).remembered()?;
-        Some((known, end))
+        Some((self.target(spot.row, class), end))
     }
 
-    /// Takes the turn to this target and offset. Returns where the scan stands then, or nothing if
-    /// the search is over: nothing leads on from its match. None if the turn isn't taken: it
-    /// completes a match of which the start isn't known, or leads from nothing to go on from to
-    /// nothing too often in a row.
-    #[inline(always)]
-    fn take(
-        &self,
-        spot: Spot,
-        target: Target,
-        end: usize,
-        at: &mut Standing,
-    ) -> Option<Option<Spot>>
-        requires to { target.state < length self.now.states }
-        requires effect { (hit : Option KeptOrigin) → known_hit target.effect ≡ Some hit
-            → (state : State) → slice_get self.now.states target.state ≡ Some state
-            → ¬ (state.ways ≡ []) × (state.hit ≡ hit)
-            × (state.restarts ≡ is_restarting target.effect) }
-        requires emptied { is_emptying target.effect ≡ true → (state : State)
-            → slice_get self.now.states target.state ≡ Some state
-            → (state.ways ≡ []) × (state.hit ≡ None) }
-        ensures taken { (state : State) → slice_get self.now.states target.state ≡ Some state
-            → Takes spot.at target.row end state at.old at.new result }
-        ensures same { (state : State) → slice_get self.now.states target.state ≡ Some state
-            → state.hit ≡ None → at.new.best ≡ at.old.best }
-    {
-        if let Some(on) = take_known::<false>(spot, target, end, at) {
-            return Some(Some(on));
-        }
-        if let Effect::Empties = target.effect {
-            return take_to_nothing(spot, spot.after(target, end), at);
-        }
-        if let Effect::Restarts = target.effect {
-            at.first = spot.at;
-            return Some(Some(spot.after(target, end)));
-        }
-        self.take_by_state(spot, target, end, at)
-    }
-
-    /// The same, by what the state says.
+    /// Takes the turn to this target and offset by what the state says. Returns where the scan
+    /// stands then, or nothing if the search is over: nothing leads on from its match. None if the
+    /// turn isn't taken: it completes a match of which the start isn't known, or leads from nothing
+    /// to go on from to nothing too often in a row.
     #[inline(always)]
     fn take_by_state(
         &self,
@@ -239,10 +211,8 @@ impl LazyDfa {
     #[inline(always)]
     fn is_last<const EARLIEST: bool>(&self, target: Target) -> bool
         requires to { target.state < length self.now.states }
-        requires effect { (hit : Option KeptOrigin) → known_hit target.effect ≡ Some hit
-            → (state : State) → slice_get self.now.states target.state ≡ Some state
-            → ¬ (state.ways ≡ []) × (state.hit ≡ hit)
-            × (state.restarts ≡ is_restarting target.effect) }
+        requires effect { (state : State)
+            → slice_get self.now.states target.state ≡ Some state → HasEffect target.effect state }
         ensures none { (state : State) → slice_get self.now.states target.state ≡ Some state
             → EARLIEST ≡ true → result ≡ false → state.hit ≡ None }
         ensures hit { (state : State) → slice_get self.now.states target.state ≡ Some state

@@ -1,23 +1,25 @@
 //! Searches that go on by remembered turns, without a try.
-ghost use Rattle.std.specs.Prelude.{◌≡◌, ◌↔◌, ◌+◌, ◌<◌, ◌⊎◌, [], ℕ, IfSome, IsSome, IsTrue, None};
-ghost use Rattle.std.specs.Prelude.{Some, chars, false, length, slice_get, true};
+ghost use Rattle.std.specs.Prelude.{◌≡◌, ◌↔◌, ◌+◌, ◌<◌, ◌⊎◌, [], ℕ, IfSome, IsCharBoundary};
+ghost use Rattle.std.specs.Prelude.{IsSome, IsTrue, None, Some, chars, false, length, slice_get};
+ghost use Rattle.std.specs.Prelude.{true};
 ghost use Rattle.regex_lite_meta.specs.LazyDfa.Automaton.{IsEmptyState, Remembers, State};
 ghost use Rattle.regex_lite_meta.specs.LazyDfa.Automaton.{first_left};
 ghost use Rattle.regex_lite_meta.specs.LazyDfa.Scanning.{EndsOrLeads, EndsWith, GoesOn};
 ghost use Rattle.regex_lite_meta.specs.LazyDfa.Scanning.{IsScanning, best_told};
-ghost use Rattle.regex_lite_syntax.specs.Text.{Text};
+ghost use Rattle.regex_lite_syntax.specs.Text.{Text, before};
+ghost use Rattle.regex_lite_engine.specs.Search.Offsets.{position_at};
 ghost use Rattle.regex_lite_engine.specs.Search.Standing.{IsHere};
 
 use crate::lazy_dfa::automaton::LazyDfa;
 use crate::lazy_dfa::state::{Hit, Side};
 use regex_lite_engine::pikevm::beginning::Origin;
-use regex_lite_engine::search::here::Here;
+use regex_lite_engine::search::here::{Here, last_char};
 use regex_lite_engine::search::patterns::{Patterns, pass_over};
 
 /// Where a search that goes by remembered turns stands.
 #[derive(Clone, Copy)]
 pub(crate) struct Standing {
-    pub here: Here,
+    pub at: usize,
     pub state: u16,
     /// The first start, where some ways of the state began.
     pub first: usize,
@@ -45,13 +47,13 @@ impl Standing {
     /// The match of this pattern that began at the first start and ends here.
     fn completed(&self, number: u32) -> Option<(Origin, usize)>
         ensures { result
-            ≡ Some (record { at = self.now.first; number = number }, self.now.here.at) }
+            ≡ Some (record { at = self.now.first; number = number }, self.now.at) }
     {
         let origin = Origin {
             at: self.first,
             number,
         };
-        Some((origin, self.here.at))
+        Some((origin, self.at))
     }
 }
 
@@ -106,14 +108,15 @@ impl LazyDfa {
             if !self.skip(patterns, haystack, at) {
                 return false;
             }
-            let Some((to, best)) = self.step::<P, EARLIEST>(patterns, at) else {
+            let here = Here::at(haystack, at.at);
+            let Some((to, best)) = self.step::<P, EARLIEST>(patterns, at, here) else {
                 return false;
             };
-            if self.is_over::<EARLIEST>(at.here, to, best) {
+            if self.is_over::<EARLIEST>(here, to, best) {
                 at.best = best;
                 return true;
             }
-            self.go_on(haystack, at, to, best);
+            self.go_on(haystack, at, here, to, best);
             if self.run::<P, EARLIEST>(patterns, haystack, at) {
                 return true;
             }
@@ -133,7 +136,7 @@ impl LazyDfa {
         ensures none { at.old.best ≡ None → at.new.best ≡ None }
     {
         // At the haystack's end there is nothing to pass over.
-        if at.here.after.is_none() || at.best.is_some() || !self.is_empty(at.state) {
+        if at.at >= haystack.len() || at.best.is_some() || !self.is_empty(at.state) {
             return true;
         }
         self.skip_idle(patterns, haystack, at)
@@ -151,15 +154,16 @@ impl LazyDfa {
             (chars haystack.now) self.now at.old at.new }
         ensures none { at.new.best ≡ None }
     {
-        let here = pass_over(patterns, haystack, at.here);
-        if self.is_worth_a_turn(patterns, at.here, here) && !self.knows(at.state, at.here.after) {
+        let from = Here::at(haystack, at.at);
+        let here = pass_over(patterns, haystack, from);
+        if self.is_worth_a_turn(patterns, from, here) && !self.knows(at.state, from.after) {
             return false;
         }
         let Some(state) = self.empty_state(here.before) else {
             return false;
         };
         *at = Standing {
-            here,
+            at: here.at,
             state,
             first: here.at,
             idle_at: here.at,
@@ -168,7 +172,23 @@ impl LazyDfa {
         true
     }
 
+    /// The state in which a search starts at this offset.
+    ///
+    /// Condition: the offset is on a character boundary.
+    #[inline(always)]
+    pub(crate) fn start_state(&self, haystack: &str, at: usize) -> Option<u16>
+        requires boundary { IsCharBoundary haystack.now at }
+        ensures { IfSome result (λ x. IsEmptyState self.now x
+            (before (chars haystack.now) (position_at haystack.now at))) }
+    {
+        if !self.has_looks() {
+            return self.empty_state(None);
+        }
+        self.empty_state(last_char(haystack, at))
+    }
+
     /// The state without ways in which a match is searched for after this character.
+    #[inline(always)]
     pub(crate) fn empty_state(&self, before: Option<char>) -> Option<u16>
         ensures { IfSome result (λ x. IsEmptyState self.now x before) }
     {
@@ -207,17 +227,18 @@ impl LazyDfa {
         &self,
         patterns: &P,
         at: &Standing,
+        here: Here,
     ) -> Option<(u16, Option<(Origin, usize)>)>
         requires remembers { Remembers (P.table patterns.now) (P.entries patterns.now) self.now }
         requires state { at.now.state < length self.now.states }
         requires none { EARLIEST ≡ true → at.now.best ≡ None }
         ensures led { (haystack : Text) (low p : ℕ) → IsScanning (P.table patterns.now)
-            (P.entries patterns.now) haystack low p self.now at.now
+            (P.entries patterns.now) haystack low p self.now at.now → IsHere haystack p here
             → IfSome result (λ told. EndsOrLeads (P.table patterns.now) (P.entries patterns.now)
             haystack low p self.now EARLIEST at.now told.0 told.1) }
         ensures state { IfSome result (λ told. told.0 < length self.now.states) }
     {
-        let class = self.classes.class(at.here.after);
+        let class = self.classes.class(here.after);
         let to = self.known_target(at.state, class)?.state as u16;
         match self.states[to as usize].hit {
             Hit::Nowhere => Some((to, at.best)),
@@ -255,27 +276,32 @@ impl LazyDfa {
     }
 
     /// Goes on to the next position, in this state and with this match.
-    fn go_on(&self, haystack: &str, at: &mut Standing, to: u16, best: Option<(Origin, usize)>)
-        requires here { (p : ℕ) × IsHere (chars haystack.now) p at.old.here
-            × IsSome at.old.here.after }
+    fn go_on(
+        &self,
+        haystack: &str,
+        at: &mut Standing,
+        here: Here,
+        to: u16,
+        best: Option<(Origin, usize)>,
+    )
+        requires here { (p : ℕ) × IsHere (chars haystack.now) p here × IsSome here.after }
         requires state { to < length self.now.states }
-        ensures here { (p : ℕ) → IsHere (chars haystack.now) p at.old.here
-            → IsHere (chars haystack.now) (p + 1) at.new.here }
+        ensures here { (p : ℕ) → IsHere (chars haystack.now) p here → (next : Here)
+            × IsHere (chars haystack.now) (p + 1) next × (next.at ≡ at.new.at) }
         ensures same { at.new ≡ record at.new { state = to; best = best } }
         ensures first { (state : State) → slice_get self.now.states to ≡ Some state
-            → ((state.ways ≡ []) × (at.new.first ≡ at.new.here.at)
-            × (at.new.idle_at ≡ at.new.here.at))
+            → ((state.ways ≡ []) × (at.new.first ≡ at.new.at) × (at.new.idle_at ≡ at.new.at))
             ⊎ (¬ (state.ways ≡ [])
-            × (at.new.first ≡ first_left state.restarts at.old.first at.old.here.at)
+            × (at.new.first ≡ first_left state.restarts at.old.first at.old.at)
             × (at.new.idle_at ≡ at.old.idle_at)) }
     {
-        let last = at.here.at;
-        at.here = at.here.next(haystack);
+        let last = at.at;
+        at.at = here.next(haystack).at;
         at.state = to;
         at.best = best;
         if self.is_empty(to) {
-            at.first = at.here.at;
-            at.idle_at = at.here.at;
+            at.first = at.at;
+            at.idle_at = at.at;
         } else {
             at.first = self.first_after(to, at.first, last);
         }

@@ -17,7 +17,6 @@ use regex_lite_engine::pikevm::beginning::Origin;
 use regex_lite_engine::pikevm::best::span_of;
 use regex_lite_engine::pikevm::cache::{Cache, cache_for, restart};
 use regex_lite_engine::pikevm::run::run;
-use regex_lite_engine::search::here::Here;
 use regex_lite_engine::search::one_pattern::OnePattern;
 use std::alloc::Global;
 
@@ -105,7 +104,6 @@ impl LazyDfa {
         ensures between { IsBetween (places_of pattern.now.table.now) cache.new }
         ensures width { length cache.new.walk.memory.row ≡ 0 }
     {
-        let from = Here::at(haystack, start);
-        span_of(self.find::<_, false>(pattern, cache, haystack, from))
+        span_of(self.find::<_, false>(pattern, cache, haystack, start))
     }
 }

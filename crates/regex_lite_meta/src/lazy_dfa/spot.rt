@@ -1,19 +1,15 @@
 //! Where a scan stands between two turns, and what a turn changes of that.
-ghost use Rattle.std.specs.Prelude.{◌≡◌, ◌*◌, ◌<◌, [], ℕ, IfSome, IsCharBoundary};
-ghost use Rattle.std.specs.Prelude.{None, Option, Some, chars, true, length};
-ghost use Rattle.regex_lite_meta.specs.LazyDfa.Automaton.{KeptOrigin, State};
+ghost use Rattle.std.specs.Prelude.{◌≡◌, ◌*◌, ◌<◌, ℕ, IfSome, None, length, true};
+ghost use Rattle.regex_lite_meta.specs.LazyDfa.Automaton.{State};
 ghost use Rattle.regex_lite_meta.specs.LazyDfa.Intervals.{classes_in};
-ghost use Rattle.regex_lite_meta.specs.LazyDfa.Spots.{IsTaken, TakesToNothing};
-ghost use Rattle.regex_lite_meta.specs.LazyDfa.Stored.{is_restarting, known_hit};
+ghost use Rattle.regex_lite_meta.specs.LazyDfa.Spots.{Stays, Takes, TakesToNothing};
+ghost use Rattle.regex_lite_meta.specs.LazyDfa.Stored.{HasEffect, is_known};
 ghost use Rattle.regex_lite_meta.specs.LazyDfa.Targets.{IsRowOf};
-ghost use Rattle.regex_lite_engine.specs.Search.Offsets.{position_at};
-ghost use Rattle.regex_lite_engine.specs.Search.Standing.{IsHere};
 
 use crate::lazy_dfa::automaton::LazyDfa;
 use crate::lazy_dfa::scan::Standing;
 use crate::lazy_dfa::state::{Effect, Target};
 use crate::strategy::MOST_IDLE;
-use regex_lite_engine::search::here::Here;
 
 /// Where a scan stands between two turns. What changes less often is left in its [`Standing`], so
 /// that a turn moves little.
@@ -33,29 +29,27 @@ impl LazyDfa {
     #[inline(always)]
     pub(super) fn spot_of(&self, at: &Standing) -> Spot
         requires { at.now.state < length self.now.states }
-        ensures at { result.at ≡ at.now.here.at }
+        ensures at { result.at ≡ at.now.at }
         ensures row { result.row ≡ at.now.state * classes_in self.now.intervals }
     {
         Spot {
-            at: at.here.at,
+            at: at.at,
             row: self.row(at.state),
             idle_at: usize::MAX,
             idle: 0,
         }
     }
 
-    /// Moves a scan to this spot, and looks up the characters beside that.
+    /// Moves a scan to this spot.
     #[inline(always)]
-    pub(super) fn settle_at(&self, haystack: &str, spot: Spot, at: &mut Standing)
-        requires boundary { IsCharBoundary haystack.now spot.at }
+    pub(super) fn settle_at(&self, spot: Spot, at: &mut Standing)
         requires row { (x : ℕ) × IsRowOf self.now spot.row x }
-        ensures here { IsHere (chars haystack.now) (position_at haystack.now spot.at) at.new.here }
         ensures same { (x : ℕ) → IsRowOf self.now spot.row x → at.new ≡ record at.old {
-          here = at.new.here;
+          at = spot.at;
           state = x;
         } }
     {
-        at.here = Here::at(haystack, spot.at);
+        at.at = spot.at;
         at.state = self.state_of(spot.row);
     }
 }
@@ -89,34 +83,49 @@ impl Spot {
     }
 }
 
-/// Takes the turn to this target and offset if its effect is known and keeps the first start: the
-/// state has ways. With EARLIEST none is taken that completes a match.
+/// Takes the turn to this target and offset if its effect tells all of it. Returns where the scan
+/// stands then, or nothing if the search is over. None if it isn't taken: for what only the state
+/// says, if it leads from nothing to go on from to nothing too often in a row, and with EARLIEST if
+/// it completes a match.
 #[inline(always)]
-pub(super) fn take_known<const EARLIEST: bool>(
+pub(super) fn take_by_effect<const EARLIEST: bool>(
     spot: Spot,
     target: Target,
     end: usize,
     at: &mut Standing,
-) -> Option<Spot>
-    ensures taken { IfSome result (λ on. (hit : Option KeptOrigin)
-        × (known_hit target.effect ≡ Some hit) × ((state : State) → ¬ (state.ways ≡ [])
-        → state.hit ≡ hit → state.restarts ≡ is_restarting target.effect
-        → IsTaken spot.at target.row end state at.old at.new on)) }
-    ensures same { result ≡ None → at.new ≡ at.old }
-    ensures best { IfSome result (λ _. known_hit target.effect ≡ Some None
-        → at.new.best ≡ at.old.best) }
+) -> Option<Option<Spot>>
+    ensures taken { (state : State) → HasEffect target.effect state
+        → Takes spot.at target.row end state at.old at.new result }
+    ensures known { IfSome result (λ _. is_known target.effect ≡ true) }
+    ensures stays { result ≡ None → Stays at.old at.new }
     ensures earliest { EARLIEST ≡ true → at.new.best ≡ at.old.best }
 {
+    if let Effect::Plain = target.effect {
+        return Some(Some(spot.after(target, end)));
+    }
+    if let Effect::Completes = target.effect {
+        if EARLIEST {
+            return None;
+        }
+        at.complete(0, spot.at);
+        return Some(Some(spot.after(target, end)));
+    }
+    // Stored here, or else the compiler makes one jump of this `match` and the test before it.
+    at.at = spot.at;
     match target.effect {
-        Effect::Plain => Some(spot.after(target, end)),
-        Effect::Completes => {
+        Effect::Ends => {
             if EARLIEST {
                 return None;
             }
             at.complete(0, spot.at);
-            Some(spot.after(target, end))
+            Some(None)
         }
-        Effect::Empties | Effect::Restarts | Effect::ByState | Effect::Unknown => None,
+        Effect::Empties => take_to_nothing(spot, spot.after(target, end), at),
+        Effect::Restarts => {
+            at.first = spot.at;
+            Some(Some(spot.after(target, end)))
+        }
+        Effect::Plain | Effect::Completes | Effect::ByState | Effect::Unknown => None,
     }
 }
 

@@ -1,8 +1,8 @@
 //! The states of a lazy automaton.
 ghost use Rattle.std.specs.Prelude.{◌≡◌, ◌<◌, IfSome, Option, Some, true, ◌↔◌, IsTrue, None};
 ghost use Rattle.regex_lite_meta.specs.LazyDfa.Automaton.{KeptOrigin};
-ghost use Rattle.regex_lite_meta.specs.LazyDfa.Stored.{hit_in, is_emptying, is_known};
-ghost use Rattle.regex_lite_meta.specs.LazyDfa.Stored.{is_restarting, known_hit};
+ghost use Rattle.regex_lite_meta.specs.LazyDfa.Stored.{hit_in, is_known, is_restarting};
+ghost use Rattle.regex_lite_meta.specs.LazyDfa.Stored.{known_hit, last_hit};
 ghost use Rattle.regex_lite_meta.specs.LazyDfa.Intervals.{side_of};
 ghost use Rattle.regex_lite_syntax.specs.Tree.Looks.{is_word};
 
@@ -48,11 +48,12 @@ const _: () = prove!(size_of::<StoredState>() == 32);
 /// Where a turn leads.
 #[derive(Clone, Copy)]
 pub(crate) struct Target {
-    pub effect: Effect,
-    /// The number of the state.
-    pub state: u8,
     /// Where the row of the state begins in the list of all targets.
     pub row: u16,
+    /// The number of the state.
+    pub state: u8,
+    // The last, so that one comparison of all bytes tells whether the turn is plain.
+    pub effect: Effect,
 }
 
 /// What a turn does besides, as far as that is known without a look at the state it leads to.
@@ -65,6 +66,9 @@ pub(crate) enum Effect {
     Completes,
     /// The state has no ways, and no match was complete.
     Empties,
+    /// The state has no ways, and a match of the first pattern was complete, which began at the
+    /// first start.
+    Ends,
     /// The state has ways, no match was complete, and the turn's own position is the first start
     /// from there on.
     Restarts,
@@ -136,14 +140,16 @@ impl StoredState {
     /// What a turn to it does besides.
     pub(crate) fn effect(&self) -> Effect
         ensures known { is_known result ≡ true }
-        ensures empties { is_emptying result ≡ true
-            → (self.now.len ≡ 0) × (hit_in self.now.hit ≡ None) }
         ensures some { (hit : Option KeptOrigin) → known_hit result ≡ Some hit
             → 0 < self.now.len }
         ensures hit { (hit : Option KeptOrigin) → known_hit result ≡ Some hit
             → hit_in self.now.hit ≡ hit }
         ensures restarts { (hit : Option KeptOrigin) → known_hit result ≡ Some hit
             → self.now.restarts ≡ is_restarting result }
+        ensures none { (hit : Option KeptOrigin) → last_hit result ≡ Some hit
+            → self.now.len ≡ 0 }
+        ensures last { (hit : Option KeptOrigin) → last_hit result ≡ Some hit
+            → hit_in self.now.hit ≡ hit }
     {
         match self.hit {
             Hit::Nowhere => {
@@ -156,10 +162,12 @@ impl StoredState {
                 }
             }
             Hit::AtFirst(0) => {
-                if self.len > 0 && !self.restarts {
-                    Effect::Completes
-                } else {
+                if self.len == 0 {
+                    Effect::Ends
+                } else if self.restarts {
                     Effect::ByState
+                } else {
+                    Effect::Completes
                 }
             }
             Hit::AtFirst(_) | Hit::AtLater(_) => Effect::ByState,

@@ -1,5 +1,6 @@
 -- How one walk over a tree finds a word that each match has.
-use Rattle.std.specs.Prelude.{◌≡◌, ◌⊎◌, ◌+◌, ◌≤◌, ◌<◌, ℕ, List, [], ◌∷◌, ◌++◌, drop, encode_utf8_all}
+use Rattle.std.specs.Prelude.{◌≡◌, ◌⊎◌, ◌+◌, ◌≤◌, ◌<◌, ℕ, List, [], ◌∷◌, ◌++◌, drop}
+use Rattle.std.specs.Prelude.{encode_utf8_all}
 use Rattle.std.specs.Prelude.{length, slice_index, true}
 use Rattle.regex_lite_syntax.specs.Text.{Text}
 use Rattle.regex_lite_syntax.specs.Tree.{Tree}

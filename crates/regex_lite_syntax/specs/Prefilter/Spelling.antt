@@ -2,7 +2,8 @@
 use Rattle.std.specs.Prelude.{◌≡◌, ℕ, Bool, List, ◌++◌, IsTrue}
 use Rattle.regex_lite_syntax.specs.Tree.{Tree, Trees}
 use Rattle.regex_lite_syntax.specs.declared.prefilter.words.letter.Letter.{Letter}
-use Rattle.regex_lite_syntax.specs.Prefilter.WholeWords.{AreBytes, AreSpelled, IsItsWords, IsSpelled}
+use Rattle.regex_lite_syntax.specs.Prefilter.WholeWords.{AreBytes, AreSpelled, IsItsWords}
+use Rattle.regex_lite_syntax.specs.Prefilter.WholeWords.{IsSpelled}
 use Rattle.regex_lite_syntax.specs.Prefilter.WholeWords.{IsWholeWord}
 use Rattle.regex_lite_syntax.specs.Prefilter.WordLists.{ListOfWords}
 use Rattle.regex_lite_syntax.specs.Prefilter.Words.{AreWordsOfTree}

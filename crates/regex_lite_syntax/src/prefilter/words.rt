@@ -143,6 +143,14 @@ impl Words {
         }
     }
 
+    /// Whether there is one word alone.
+    #[inline(always)]
+    pub fn is_one(&self) -> bool
+        ensures { IsTrue result ↔ (length self.now ≡ 1) }
+    {
+        self.list.len() == 1
+    }
+
     /// How many letters the word with this number has.
     #[inline(always)]
     fn len_of(&self, number: usize) -> usize

@@ -10,8 +10,9 @@ use Rattle.regex_lite_meta.proofs.once.search_shortest.Goals as goal
 pub returns-then-start-haystack-clause-found : goal.returns-then-start-haystack-clause-found
 returns-then-start-haystack-clause-found c = grind (arith, common_steps)
 
-pub search_shortest_one-requires : goal.search_shortest_one-requires
-search_shortest_one-requires c = on_boundary _ _ c.requires c.if-start-haystack.false
+pub search_shortest_one-requires-clause-boundary : goal.search_shortest_one-requires-clause-boundary
+search_shortest_one-requires-clause-boundary c =
+    on_boundary _ _ c.requires c.if-start-haystack.false
 
 pub returns : goal.returns
 returns c =

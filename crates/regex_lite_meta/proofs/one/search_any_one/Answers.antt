@@ -24,6 +24,7 @@ returns c =
           (by_end (places_of one.table.now) c.args.haystack.now one.entry c.args.start
           c.in_ok-end.end told.found);
       cost = told.cost;
-      entered = λ yes. some_entered _ c.in_ok-end.end (subst (λ b. IsTrue b) c.is_some-2.ensures yes)
+      entered = λ yes. some_entered _ c.in_ok-end.end
+          (subst (λ b. IsTrue b) c.is_some-2.ensures yes)
           told.entered;
     }

@@ -1,4 +1,5 @@
-use Rattle.regex_lite_meta.proofs.Common.{◌≡◌, ℕ, suc, ◌+◌, List, Some, None, IsUtf8, chars, sym, ap}
+use Rattle.regex_lite_meta.proofs.Common.{◌≡◌, ℕ, suc, ◌+◌, List, Some, None, IsUtf8, chars, sym}
+use Rattle.regex_lite_meta.proofs.Common.{ap}
 use Rattle.regex_lite_meta.proofs.Common.{◌∙◌, subst, inl, inr, arith, take, drop, take_all}
 use Rattle.regex_lite_meta.proofs.Common.{slice_get_within, len_utf8, IsOffset, position_at}
 use Rattle.std.proofs.Common.{slice_range}

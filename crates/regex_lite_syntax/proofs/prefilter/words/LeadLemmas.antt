@@ -131,7 +131,8 @@ pub next_reached : (needed : NeededWord) (bytes : List ℕ) (from start word : �
     → ((k : ℕ) → start ≤ k → k < word → begins_with needed.lead (slice_index bytes k) ≡ true)
     → (from < start → begins_with needed.lead (slice_index bytes (start - 1)) ≡ false)
     → IsNextReach needed bytes from (Some (record { from = start; word = word }))
-next_reached needed bytes from start word low high none stands led stops = (low, (high, stands, led), none, before)
+next_reached needed bytes from start word low high none stands led stops =
+    (low, (high, stands, led), none, before)
   where
     before : (k : ℕ) → from ≤ k → k < start → ¬ Reaches needed bytes k
     before k later less (at, (le, there, ahead)) = elim (cases_lt at word) [

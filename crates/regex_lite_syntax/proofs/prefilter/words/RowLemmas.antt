@@ -1,6 +1,7 @@
 -- A match of a row of characters reads its letters, and one of a tree that is its words begins with
 -- one of them.
-use Rattle.regex_lite_syntax.proofs.Common.{◌≡◌, ℕ, zero, suc, ◌<◌, List, [], ◌∷◌, ◌++◌, length, drop}
+use Rattle.regex_lite_syntax.proofs.Common.{◌≡◌, ℕ, zero, suc, ◌<◌, List, [], ◌∷◌, ◌++◌, length}
+use Rattle.regex_lite_syntax.proofs.Common.{drop}
 use Rattle.regex_lite_syntax.proofs.Common.{Some, Tree, Trees, Matches, Chain, SomeBranch, Text}
 use Rattle.regex_lite_syntax.proofs.Common.{inl, inr, sym, refl, ap, ◌∙◌, subst, arith}
 use Rattle.regex_lite_syntax.proofs.Common.{look, class, repetition, concat, more}
@@ -10,8 +11,10 @@ use Rattle.std.proofs.lemmas.List.{drop-drop, length-append}
 use Rattle.std.proofs.lemmas.Str.{encode_ascii}
 use Rattle.regex_lite_syntax.specs.Tree.{character, capture, empty, none}
 use Rattle.regex_lite_syntax.specs.Prefilter.WholeWords.{AreBytes, AreSpelled, AreWholeWords}
-use Rattle.regex_lite_syntax.specs.Prefilter.WholeWords.{HasCases, IsItsWords, IsSpelled, IsWholeWord}
+use Rattle.regex_lite_syntax.specs.Prefilter.WholeWords.{HasCases, IsItsWords, IsSpelled}
+use Rattle.regex_lite_syntax.specs.Prefilter.WholeWords.{IsWholeWord}
 use Rattle.regex_lite_syntax.specs.Prefilter.Words.{AnyStandsAt, AreWordsOfTree, StartsWith}
+use Rattle.regex_lite_syntax.specs.Prefilter.Words.{word_at}
 use Rattle.regex_lite_syntax.proofs.OptionLemmas.{not_there, same_some}
 use Rattle.regex_lite_syntax.proofs.prefilter.words.StandLemmas.{starts_with_both}
 
@@ -93,17 +96,17 @@ reads_row (more part rest) word (letters, others, same, one, are) h i j (k, firs
     (reads_row rest others are h k j chain))
 
 reads_word : (tree : Tree) (word : List Letter) → IsWholeWord tree word → (h : Text) (i j : ℕ)
-    → Matches h tree i j → StartsWith word (rest_of h i)
-reads_word tree word (inl is) h i j m = (reads_spelled tree word is h i j m).stands
+    → Matches h tree i j → ReadsLetters word (rest_of h i) (rest_of h j)
+reads_word tree word (inl is) h i j m = reads_spelled tree word is h i j m
 reads_word tree word (inr (parts, same, are)) h i j m =
-    (reads_row parts word are h i j (subst (λ t. Matches h t i j) same m)).stands
+    reads_row parts word are h i j (subst (λ t. Matches h t i j) same m)
 
 reads_branch : (branches : Trees) (words : List (List Letter)) → AreWholeWords branches words
     → (h : Text) (i j : ℕ) → SomeBranch h branches i j → AnyStandsAt words (rest_of h i) 0
 reads_branch none words are h i j never = absurd never
 reads_branch (more branch rest) [] are h i j m = absurd are
 reads_branch (more branch rest) (word ∷ words) (is, are) h i j (inl m) =
-    (0, omega arith, reads_word branch word is h i j m)
+    (0, omega arith, (reads_word branch word is h i j m).stands)
 reads_branch (more branch rest) (word ∷ words) (is, are) h i j (inr m) =
     let (n, inside, stands) = reads_branch rest words are h i j m in
     (suc n, omega (arith, inside), stands)
@@ -113,6 +116,27 @@ pub begins_with_own : (tree : Tree) (words : List (List Letter)) → IsItsWords 
     → AreWordsOfTree tree words
 begins_with_own tree words (inl (word, one, is)) = λ h i j m.
     subst (λ words. AnyStandsAt words (rest_of h i) 0) (sym one)
-    (0, omega arith, reads_word tree word is h i j m)
+    (0, omega arith, (reads_word tree word is h i j m).stands)
 begins_with_own tree words (inr (branches, same, are)) = λ h i j m.
     reads_branch branches words are h i j (subst (λ t. Matches h t i j) same m)
+
+reads_only : (branches : Trees) (words : List (List Letter)) → AreWholeWords branches words
+    → length words ≡ 1 → (h : Text) (i j : ℕ) → SomeBranch h branches i j
+    → ReadsLetters (word_at words 0) (rest_of h i) (rest_of h j)
+reads_only none words are one h i j never = absurd never
+reads_only (more branch rest) [] are one h i j m = absurd are
+reads_only (more branch rest) (word ∷ words) (is, are) one h i j (inl m) =
+    reads_word branch word is h i j m
+reads_only (more branch rest) (word ∷ words) (is, are) one h i j (inr m) =
+    let (n, inside, stands) = reads_branch rest words are h i j m in
+    absurd (omega (arith, inside, one))
+
+-- and if it is one word alone, each match reads that and nothing else
+pub reads_one : (tree : Tree) (words : List (List Letter)) → IsItsWords tree words
+    → length words ≡ 1 → (h : Text) (i j : ℕ) → Matches h tree i j
+    → ReadsLetters (word_at words 0) (rest_of h i) (rest_of h j)
+reads_one tree words (inl (word, same, is)) one h i j m =
+    subst (λ words. ReadsLetters (word_at words 0) (rest_of h i) (rest_of h j)) (sym same)
+    (reads_word tree word is h i j m)
+reads_one tree words (inr (branches, same, are)) one h i j m =
+    reads_only branches words are one h i j (subst (λ t. Matches h t i j) same m)

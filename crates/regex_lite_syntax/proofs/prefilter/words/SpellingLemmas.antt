@@ -1,6 +1,8 @@
 -- How letters are added to a list of words, part by part and branch by branch.
-use Rattle.regex_lite_syntax.proofs.Common.{◌≡◌, ℕ, ◌+◌, ◌<◌, List, [], ◌∷◌, ◌++◌, length, take, get_or}
-use Rattle.regex_lite_syntax.proofs.Common.{map, sym, ap, ◌∙◌, subst, refl, append-nil, append_assoc}
+use Rattle.regex_lite_syntax.proofs.Common.{◌≡◌, ℕ, ◌+◌, ◌<◌, List, [], ◌∷◌, ◌++◌, length, take}
+use Rattle.regex_lite_syntax.proofs.Common.{get_or}
+use Rattle.regex_lite_syntax.proofs.Common.{map, sym, ap, ◌∙◌, subst, refl, append-nil}
+use Rattle.regex_lite_syntax.proofs.Common.{append_assoc}
 use Rattle.regex_lite_syntax.proofs.Common.{Tree, trees, tree_of, Letter, Hir}
 use Rattle.std.proofs.lemmas.List.{map_more, take_more}
 use Rattle.regex_lite_syntax.specs.Prefilter.Spelling.{AddsLetters, AddsBytes, AddsRow, AddsSpelled}
@@ -28,7 +30,8 @@ pub both_added : (first second both : List Letter → Type 0) (before now after 
     → AddsLetters both before after
 both_added first second both before now after join one other = record {
   letters = one.letters ++ other.letters;
-  added = other.added ∙ ap (λ (words : ListOfWords). with_last words (words.last ++ other.letters)) one.added
+  added = other.added
+      ∙ ap (λ (words : ListOfWords). with_last words (words.last ++ other.letters)) one.added
       ∙ ap (with_last before) (append_assoc before.last one.letters other.letters);
   are = join one.letters other.letters one.are other.are;
 }
@@ -78,7 +81,8 @@ pub part_more : (hirs : List Hir) (k : ℕ) (part : Hir) (before now after : Lis
     → AddsRow (trees (map tree_of (take (k + 1) hirs))) before after
 part_more hirs k part before now after inside is row spelled =
     subst (λ some. AddsRow (trees some) before after)
-    (ap (λ p. map tree_of (take k hirs) ++ tree_of p ∷ []) is ∙ sym (map_more tree_of hirs k part inside))
+    (ap (λ p. map tree_of (take k hirs) ++ tree_of p ∷ []) is
+    ∙ sym (map_more tree_of hirs k part inside))
     (both_added (AreSpelled (trees (map tree_of (take k hirs)))) (IsSpelled (tree_of part))
     (AreSpelled (trees (map tree_of (take k hirs) ++ tree_of part ∷ []))) before now after
     (λ front back. part_joined (map tree_of (take k hirs)) (tree_of part) front back) row spelled)
@@ -113,7 +117,8 @@ next_branch hirs k branch before now after inside is are begun adds =
     let (word, whole, same) = word_added (tree_of branch) now after
     (ap (λ (words : ListOfWords). words.last) begun) adds in
     subst (λ some. AreWholeWords (trees some) (all_words after))
-    (ap (λ b. map tree_of (take k hirs) ++ tree_of b ∷ []) is ∙ sym (map_more tree_of hirs k branch inside))
+    (ap (λ b. map tree_of (take k hirs) ++ tree_of b ∷ []) is
+    ∙ sym (map_more tree_of hirs k branch inside))
     (subst (AreWholeWords (trees (map tree_of (take k hirs) ++ tree_of branch ∷ [])))
     (sym (same ∙ ap (λ (words : ListOfWords). words.done ++ word ∷ []) begun))
     (branch_joined (map tree_of (take k hirs)) (tree_of branch) (all_words before) word are whole))

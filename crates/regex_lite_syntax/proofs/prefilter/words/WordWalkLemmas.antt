@@ -1,8 +1,10 @@
 -- How the words of a tree grow, kind by kind of tree.
 use Rattle.regex_lite_syntax.proofs.Common.{◌≡◌, ℕ, zero, suc, ◌≤◌, ◌⊎◌, Bool, true, false}
 use Rattle.regex_lite_syntax.proofs.Common.{List, [], ◌∷◌, ◌++◌, length, drop, Option, Tree}
-use Rattle.regex_lite_syntax.proofs.Common.{Trees, Matches, Chain, SomeBranch, Text, after, inl, inr}
-use Rattle.regex_lite_syntax.proofs.Common.{sym, refl, ap, ◌∙◌, subst, arith, append-nil, false≢true}
+use Rattle.regex_lite_syntax.proofs.Common.{Trees, Matches, Chain, SomeBranch, Text, after, inl}
+use Rattle.regex_lite_syntax.proofs.Common.{inr}
+use Rattle.regex_lite_syntax.proofs.Common.{sym, refl, ap, ◌∙◌, subst, arith, append-nil}
+use Rattle.regex_lite_syntax.proofs.Common.{false≢true}
 use Rattle.regex_lite_syntax.proofs.Common.{look, repetition, concat, more}
 use Rattle.regex_lite_syntax.proofs.Common.{alternation, append_assoc, Look}
 use Rattle.regex_lite_syntax.proofs.Common.{trees}

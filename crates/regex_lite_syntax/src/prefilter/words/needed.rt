@@ -1,5 +1,6 @@
 //! A word that each match of a pattern has, and what stands before it.
-ghost use Rattle.std.specs.Prelude.{◌≡◌, ◌≤◌, ◌<◌, ◌-◌, ℕ, IfSome, false, length, slice_index, true};
+ghost use Rattle.std.specs.Prelude.{◌≡◌, ◌≤◌, ◌<◌, ◌-◌, ℕ, IfSome, false, length, slice_index};
+ghost use Rattle.std.specs.Prelude.{true};
 ghost use Rattle.regex_lite_syntax.specs.Tree.Views.{tree_of};
 ghost use Rattle.regex_lite_syntax.specs.Prefilter.Needed.{IsNeededBy, IsNextReach};
 ghost use Rattle.regex_lite_syntax.specs.Prefilter.Starts.{begins_with};

@@ -23,7 +23,7 @@ returns-then-threads-eq0-clause-stands c = λ table entries automaton s from p i
       own = own_first now.at c.args.cache.now.walk.memory.threads none;
       state =
           state_from automaton at.state at.first now.at at.here.after now.before c.args.cache.now
-          (next_before (chars c.args.haystack.now) p at.here now is next) (inl none) known;
+          (next_before (chars c.args.haystack.now) p now next ∙ sym is.ahead) (inl none) known;
     }
 
 pub returns-then-threads-eq0-clause-later : goal.returns-then-threads-eq0-clause-later
@@ -54,7 +54,7 @@ returns-else-threads-eq0-clause-stands c = λ table entries automaton s from p i
           (λ e. omega (arith, e, so_far, less));
       state =
           state_from automaton at.state at.first at.first at.here.after now.before c.args.cache.now
-          (next_before (chars c.args.haystack.now) p at.here now is next) (inr refl) known;
+          (next_before (chars c.args.haystack.now) p now next ∙ sym is.ahead) (inr refl) known;
     }
 
 pub returns-else-threads-eq0-clause-later : goal.returns-else-threads-eq0-clause-later

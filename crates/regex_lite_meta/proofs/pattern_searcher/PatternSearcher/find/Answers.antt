@@ -18,7 +18,7 @@ returns-in-Some c =
     record {
       found = subst (λ row. IsNumberedOutcome (places_of one.table.now) (chars bytes) one.entry
           (position_at bytes start) (best_at span row)) (sym (nil_from_length row none))
-          (c.in-Some.ensures bytes start span c.utf8.haystack c.requires.boundary next);
+          (c.in-Some.ensures.found bytes start span c.utf8.haystack c.requires.boundary next);
       searches = c.requires.searches;
       slots = refl;
     }

@@ -15,7 +15,7 @@ returns-in-Some c =
     record {
       found = rw c.is_some.ensures
           (by_span (places_of one.table.now) bytes one.entry start span
-          (c.in-Some.ensures bytes start span c.utf8.haystack c.requires.boundary next));
+          (c.in-Some.ensures.found bytes start span c.utf8.haystack c.requires.boundary next));
       searches = c.requires.searches;
       slots = refl;
     }

@@ -1,5 +1,6 @@
 use Rattle.regex_lite_meta.proofs.Common.{◌^◌, ◌<◌, length, refl, arith, rules}
 use Rattle.regex_lite_meta.proofs.Common.{places_of, best_of, best_told, position_at}
+use Rattle.regex_lite_engine.proofs.OffsetLemmas.{boundary_at}
 use Rattle.regex_lite_engine.proofs.pikevm.PassLemmas.{begun}
 use Rattle.regex_lite_engine.proofs.pikevm.StopLemmas.{over_found}
 use Rattle.regex_lite_engine.proofs.search.FirstStartLemmas.{first_here}
@@ -52,22 +53,25 @@ find-requires-clause-on c =
     let table = places_of one.table.now in
     let haystack = c.args.haystack.now in
     let m = position_at haystack c.in_ok-first.first.at in
-    let short : length haystack < 2 ^ 63 = search rules in (
-      m,
-      first_here table haystack c.utf8.haystack one.entry (position_at haystack c.args.start)
-          c.in_ok-first.first c.in_ok-first.ensures.first,
-      can_count table haystack m c.utf8.haystack short c.requires.searches.memory.countable 1
-          (omega arith),
-    )
+    let short : length haystack < 2 ^ 63 = search rules in
+    can_count table haystack m c.utf8.haystack short c.requires.searches.memory.countable 1
+    (omega arith)
+
+pub find-requires-clause-boundary : goal.find-requires-clause-boundary
+find-requires-clause-boundary c =
+    let one = c.args.pattern.now in
+    let haystack = c.args.haystack.now in
+    let first = c.in_ok-first.first in
+    let here = first_here (places_of one.table.now) haystack c.utf8.haystack one.entry
+    (position_at haystack c.args.start) first c.in_ok-first.ensures.first in
+    boundary_at haystack (position_at haystack first.at) first.at c.utf8.haystack
+    (here.inside, here.bytes)
 
 pub returns-clause-found : goal.returns-clause-found
 returns-clause-found c =
     let one = c.args.pattern.now in
     let table = places_of one.table.now in
     let haystack = c.args.haystack.now in
-    let m = position_at haystack c.in_ok-first.first.at in
-    let here = first_here table haystack c.utf8.haystack one.entry
-    (position_at haystack c.args.start) c.in_ok-first.first c.in_ok-first.ensures.first in
     rw c.end_of.ensures
     (end_told table haystack one.entry c.args.start c.utf8.haystack c.in_ok-first.first
-    c.in_ok-first.ensures.first (best_told c.find.result) (c.find.ensures.found m here))
+    c.in_ok-first.ensures.first (best_told c.find.result) c.find.ensures.found)

@@ -1,6 +1,7 @@
 use Rattle.regex_lite_engine.proofs.Common.{◌<◌, length, subst, arith, length-map}
 use Rattle.regex_lite_engine.proofs.Common.{table_of_list, start_numbered}
-use Rattle.regex_lite_engine.proofs.Common.{chars, map, sym, refl, ◌∙◌, inr, AreStartsAt, IsPassedByAll}
+use Rattle.regex_lite_engine.proofs.Common.{chars, map, sym, refl, ◌∙◌, inr, AreStartsAt}
+use Rattle.regex_lite_engine.proofs.Common.{IsPassedByAll}
 use Rattle.std.specs.List.{All}
 use Rattle.regex_lite_engine.proofs.search.ListSkipLemmas.{before_end, dead_here}
 use Rattle.regex_lite_engine.proofs.search.list_patterns.ListStartLemmas.{places_inside}

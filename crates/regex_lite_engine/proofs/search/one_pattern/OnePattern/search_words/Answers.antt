@@ -19,7 +19,7 @@ returns-clause-told c =
     let next : IsNextSpan c.in_ok-words.words.now bytes start (Some (from, end)) =
     subst (λ bs. IsNextSpan c.in_ok-words.words.now bs start (Some (from, end)))
     c.as_bytes.ensures.value c.in-Some.ensures in
-    let answer = c.in_ok-words.ensures bytes start (Some (from, end)) c.utf8.haystack
+    let answer = c.in_ok-words.ensures.found bytes start (Some (from, end)) c.utf8.haystack
     c.requires.boundary next in
     record {
       found = subst

@@ -5,17 +5,17 @@ use Rattle.regex_lite_syntax.specs.Prefilter.StartFacts.{StartFacts}
 use Rattle.regex_lite_syntax.specs.declared.prefilter.words.letter.Letter.{Letter}
 use Rattle.regex_lite_engine.specs.Graph.Places.{Place}
 use Rattle.regex_lite_engine.specs.Search.Filters.{facts_of}
-use Rattle.regex_lite_engine.specs.Search.Starts.{DoWordsAnswer, IsAnsweredBy}
+use Rattle.regex_lite_engine.specs.Search.Starts.{AnswerSearches, DoWordsAnswer}
 use Rattle.regex_lite_engine.proofs.search.one_pattern.OnePattern.whole_words.Goals as goal
 
 -- words that are told are those of the facts
 told_answer : {X : Type 0} (words : X → List (List Letter)) (table : List (Place ℕ)) (start : ℕ)
     (facts : StartFacts) → DoWordsAnswer table start facts → (told : Option X)
     → IfSome told (λ x. facts.words ≡ Some (words x)) → IfSome told (λ _. IsTrue facts.are_all)
-    → IfSome told (λ x. IsAnsweredBy table start (words x))
+    → IfSome told (λ x. AnswerSearches table start (words x))
 told_answer words table start facts answer None same all = tt
 told_answer words table start facts answer (Some x) same all =
-    subst (λ own. IfSome own (IsAnsweredBy table start)) same (answer all)
+    subst (λ own. IfSome own (AnswerSearches table start)) same (answer all)
 
 pub returns : goal.returns
 returns c =

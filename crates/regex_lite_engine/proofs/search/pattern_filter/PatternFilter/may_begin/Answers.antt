@@ -8,5 +8,6 @@ pub returns-in-Literal : goal.returns-in-Literal
 returns-in-Literal c = λ off.
     let here = c.args.here in
     subst
-    (λ (filter : PatternFilter). may_begin (facts_of filter).heads.first here.before here.after ≡ false)
+    (λ (filter : PatternFilter).
+    may_begin (facts_of filter).heads.first here.before here.after ≡ false)
     (sym c.in-Literal.is) (c.may_begin-in-Literal.ensures off here.before)

@@ -2,14 +2,22 @@ use Rattle.regex_lite_meta.proofs.Common.{◌≡◌, None, IfSome, chars, length
 use Rattle.regex_lite_meta.proofs.Common.{rules, best_told, IsComing, threads_of}
 use Rattle.regex_lite_meta.specs.LazyDfa.Automaton.{ReadsAtMost}
 use Rattle.regex_lite_meta.proofs.lazy_dfa.AnewLemmas.{anew}
+use Rattle.regex_lite_meta.proofs.lazy_dfa.HereLemmas.{edge_there, is_there}
 use Rattle.regex_lite_meta.proofs.lazy_dfa.ResumeLemmas.{stands_anew}
 use Rattle.regex_lite_meta.proofs.lazy_dfa.RunLemmas.{position_later}
 use Rattle.regex_lite_meta.proofs.lazy_dfa.automaton.LazyDfa.begin_anew.Goals as goal
 
+pub at-stuck_here-requires : goal.at-stuck_here-requires
+at-stuck_here-requires g c =
+    edge_there c.args.haystack.now c.utf8.haystack c.requires.stands.5
+
 pub back-requires : goal.back-requires
 back-requires g c =
-    let from = c.requires.stands in
-    (from.2, from.5.is)
+    let from = c.requires.stands in (
+      from.2,
+      is_there c.args.haystack.now c.utf8.haystack from.5 c.at-stuck_here.result
+          c.at-stuck_here.ensures.here,
+    )
 
 pub returns-clause-stands : goal.returns-clause-stands
 returns-clause-stands g c = λ s low q stands before scanning.
@@ -23,7 +31,9 @@ returns-clause-stands g c = λ s low q stands before scanning.
     let coming = subst
     (λ best. IsComing table h entries low (length h) q
     (threads_of stuck.first scanning.state.ways) (best_told best)) none scanning.coming in
-    let there = c.in-Some-back.ensures.here q scanning.is in
+    let is = is_there c.args.haystack.now c.utf8.haystack scanning c.at-stuck_here.result
+    c.at-stuck_here.ensures.here in
+    let there = c.in-Some-back.ensures.here q is in
     let all = there.2 in
     let later = position_later h stands.p there.0 c.args.at.now.here c.in-Some-back.here stands.is
     there.1 c.in-Some-back.ensures.later in

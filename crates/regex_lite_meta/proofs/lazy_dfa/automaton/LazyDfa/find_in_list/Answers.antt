@@ -1,6 +1,17 @@
 use Rattle.regex_lite_meta.proofs.Common.{position_at}
 use Rattle.regex_lite_engine.proofs.search.list_patterns.ListStartLemmas.{all_of_entries}
+use Rattle.regex_lite_meta.proofs.lazy_dfa.HereLemmas.{passed_edge, skips_there}
 use Rattle.regex_lite_meta.proofs.lazy_dfa.automaton.LazyDfa.find_in_list.Goals as goal
+
+pub pass_over-from-requires : goal.pass_over-from-requires
+pass_over-from-requires g c =
+    (position_at c.args.haystack.now c.args.start, c.at-from.ensures.here)
+
+pub search-told-requires-clause-boundary : goal.search-told-requires-clause-boundary
+search-told-requires-clause-boundary g c =
+    passed_edge c.args.haystack.now c.utf8.haystack
+    (c.pass_over-from.ensures (position_at c.args.haystack.now c.args.start)
+    c.at-from.ensures.here)
 
 pub search-told-requires-clause-all : goal.search-told-requires-clause-all
 search-told-requires-clause-all g c =
@@ -8,12 +19,17 @@ search-told-requires-clause-all g c =
     all_of_entries c.args.list.now c.entries-entries.result.now told.same told.inside told.few
 
 pub search-told-requires-clause-on : goal.search-told-requires-clause-on
-search-told-requires-clause-on g c = (
-  position_at c.args.haystack.now c.args.start,
-  c.at-from.ensures.here,
-  c.requires.counts,
-)
+search-told-requires-clause-on g c =
+    let s = position_at c.args.haystack.now c.args.start in (
+      s,
+      skips_there c.args.haystack.now c.utf8.haystack
+          (c.pass_over-from.ensures s c.at-from.ensures.here),
+      c.requires.counts,
+    )
 
 pub returns-clause-found : goal.returns-clause-found
 returns-clause-found g c =
-    c.in-Ok.ensures.found (position_at c.args.haystack.now c.args.start) c.at-from.ensures.here
+    let s = position_at c.args.haystack.now c.args.start in
+    c.in-Ok.ensures.found s
+    (skips_there c.args.haystack.now c.utf8.haystack
+    (c.pass_over-from.ensures s c.at-from.ensures.here))

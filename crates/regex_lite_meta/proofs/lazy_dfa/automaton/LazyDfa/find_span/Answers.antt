@@ -10,12 +10,9 @@ pub find-requires-clause-on : goal.find-requires-clause-on
 find-requires-clause-on c =
     let haystack = c.args.haystack.now in
     let s = position_at haystack c.args.start in
-    let short : length haystack < 2 ^ 63 = search rules in (
-      s,
-      c.at-from.ensures.here,
-      (can_count (places_of c.args.pattern.now.table.now) haystack s c.utf8.haystack short
-          c.requires.countable 1 (omega arith)),
-    )
+    let short : length haystack < 2 ^ 63 = search rules in
+    can_count (places_of c.args.pattern.now.table.now) haystack s c.utf8.haystack short
+    c.requires.countable 1 (omega arith)
 
 pub find-requires-clause-all : goal.find-requires-clause-all
 find-requires-clause-all c = all_everywhere c.args.pattern.now c.requires.all
@@ -28,5 +25,4 @@ returns-clause-found c =
     let s = position_at c.args.haystack.now c.args.start in
     subst (λ span. IsBestOutcomeOf table haystack (one.entry ∷ []) s (span_told span))
     (sym c.span_of.ensures)
-    (spanned table haystack (one.entry ∷ []) s c.find.result []
-    (c.find.ensures.found s c.at-from.ensures.here))
+    (spanned table haystack (one.entry ∷ []) s c.find.result [] c.find.ensures.found)

@@ -4,4 +4,4 @@ use Rattle.regex_lite_meta.proofs.lazy_dfa.automaton.LazyDfa.is_last.Goals as go
 
 pub returns-in-Plain-clause-none : goal.returns-in-Plain-clause-none
 returns-in-Plain-clause-none g c = λ state at earliest told.
-    (c.requires.effect None (ap known_hit c.in-Plain.is) state at).1
+    ((c.requires.effect state at).goes None (ap known_hit c.in-Plain.is)).1

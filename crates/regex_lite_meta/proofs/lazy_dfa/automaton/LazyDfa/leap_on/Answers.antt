@@ -39,9 +39,11 @@ leaps-smaller g c =
     let on = c.leap.ensures.on leaps from.0 v.0 v.2 in
     let r = c.run.ensures.on c.if-run.false from.0 on.0 on.2 in
     let later = c.leap.ensures.later leaps in
-    let le = at_later (chars bs) on.0 r.0 c.leap.new.at.here c.run.new.at.here on.2.is r.2.is r.1 in
-    let inside = at_most bs r.0 c.run.new.at.here c.utf8.haystack r.2.is in
-    omega (arith, le, later, inside)
+    let le = at_later (chars bs) on.0 r.0 on.2.here r.2.here on.2.is r.2.is r.1 in
+    let inside = at_most bs r.0 r.2.here c.utf8.haystack r.2.is in
+    let from = on.2.there in
+    let to = r.2.there in
+    omega (arith, le, later, inside, from, to)
 
 pub leaps-preserved : goal.leaps-preserved
 leaps-preserved g c = record {

@@ -10,4 +10,4 @@ invariant-leaps g l = record {
 }
 
 abbrev pub decreases-leaps : goal.decreases-leaps
-decreases-leaps g l = length l.haystack - l.at.here.at
+decreases-leaps g l = length l.haystack - l.at.at

@@ -36,13 +36,13 @@ invariant_of-self c =
               same = c.effect.ensures.hit hit told;
               first = c.effect.ensures.restarts hit told;
             };
-            empties = λ told. record {
+            ends = λ hit told. record {
               state = to;
               is_state =
                   slice_get-get_or i.states.items c.args.y to inside
                   ∙ ap Some (sym c.index.ensures);
-              none = (c.effect.ensures.empties told).0;
-              free = (c.effect.ensures.empties told).1;
+              none = c.effect.ensures.none hit told;
+              same = c.effect.ensures.last hit told;
             };
           }) v.3,
       length-set i.targets.items (c.row-2.result + c.args.class) target ∙ v.4,

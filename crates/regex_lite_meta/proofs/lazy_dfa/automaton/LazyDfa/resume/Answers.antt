@@ -1,7 +1,9 @@
 use Rattle.regex_lite_meta.proofs.Common.{chars, length, refl, ap, arith, length-map, way_in}
+use Rattle.regex_lite_meta.proofs.Common.{◌≡◌, sym, ◌∙◌}
+use Rattle.regex_lite_meta.proofs.lazy_dfa.HereLemmas.{edge_there, is_there}
 use Rattle.regex_lite_meta.proofs.lazy_dfa.RunLemmas.{at_later, other_at}
-use Rattle.regex_lite_meta.proofs.lazy_dfa.ResumeLemmas.{idle_at, idle_edge, stands_gone}
-use Rattle.regex_lite_meta.proofs.lazy_dfa.ResumeLemmas.{stands_stuck}
+use Rattle.regex_lite_meta.proofs.lazy_dfa.ResumeLemmas.{idle_edge, idle_is, stands_gone}
+use Rattle.regex_lite_meta.proofs.lazy_dfa.ResumeLemmas.{stands_stuck, there_idle}
 use Rattle.regex_lite_meta.proofs.lazy_dfa.automaton.LazyDfa.resume.Goals as goal
 
 pub take_up_ways-requires-clause-few : goal.take_up_ways-requires-clause-few
@@ -20,8 +22,10 @@ returns-then-may_have-clause-stands g c = λ s stands comes.
     let q = comes.0 in
     let scanning = comes.2 in
     let stuck = c.args.stuck in
-    let later = other_at haystack stands.p q c.args.at.now.here stuck.here stands.is scanning.is
-    comes.1 c.if-stuck-at.false in
+    let there = scanning.there in
+    let other = c.if-stuck-at.false in
+    let later = other_at haystack stands.p q c.args.at.now.here scanning.here stands.is scanning.is
+    comes.1 (λ e. other (sym there ∙ e)) in
     let ways = c.ways-ways.ensures scanning.state scanning.is_state in
     let fits = c.requires.remembers.fit stuck.state scanning.state scanning.is_state in
     stands_stuck (g.P.Patterns.table c.args.patterns.now) haystack
@@ -30,14 +34,22 @@ returns-then-may_have-clause-stands g c = λ s stands comes.
     stands.own_from c.take_up_ways.ensures.kept q stuck scanning later
     c.ways-ways.result.now ways (c.if-may_take_up.ensures.all refl) fits
     c.take_up_ways.ensures.best (c.if-may_have.ensures refl) c.take_up_ways.ensures.threads
-    (c.if-may_take_up.ensures.before refl) c.args.at.now.until
+    c.at-at.result (is_there c.args.haystack.now c.utf8.haystack scanning c.at-at.result
+    c.at-at.ensures.here) c.at-at.ensures.at (c.if-may_take_up.ensures.before refl)
+    c.args.at.now.until
 
 pub returns-then-may_have-clause-later : goal.returns-then-may_have-clause-later
 returns-then-may_have-clause-later g c =
     let stands = c.requires.stands.1 in
     let comes = c.requires.stands.2 in
-    at_later (chars c.args.haystack.now) stands.p comes.0 c.args.at.now.here c.args.stuck.here
-    stands.is comes.2.is comes.1
+    let there = comes.2.there in
+    let at = c.at-at.ensures.at in
+    let le = at_later (chars c.args.haystack.now) stands.p comes.0 c.args.at.now.here comes.2.here
+    stands.is comes.2.is comes.1 in
+    omega (arith, there, at, le)
+
+pub at-at-requires : goal.at-at-requires
+at-at-requires g c = edge_there c.args.haystack.now c.utf8.haystack c.requires.stands.2.2
 
 pub at-here-requires : goal.at-here-requires
 at-here-requires g c =
@@ -54,13 +66,16 @@ returns-then-stuck-at-2-clause-stands g c = λ s stands comes.
     let first = stands.first in
     let more = c.if-stuck-at-2.true in
     let at = c.at-here.ensures.at in
-    let idle = idle_at c.args.haystack.now c.utf8.haystack comes.3
-    (λ e. omega (arith, e, first, more)) here c.at-here.ensures.here in
+    let other : c.args.stuck.idle_at ≡ c.args.at.now.first → ⊥ = λ e.
+    omega (arith, e, first, more) in
+    let idle = there_idle c.args.haystack.now c.utf8.haystack comes.3 other in
+    let is = idle_is c.args.haystack.now c.utf8.haystack comes.3 other here
+    c.at-here.ensures.here in
     let later =
-    other_at haystack stands.p idle.r c.args.at.now.here here stands.is idle.is idle.later
+    other_at haystack stands.p idle.r c.args.at.now.here here stands.is is idle.later
     (λ e. omega (arith, e, at, more)) in
     stands_gone (g.P.Patterns.table c.args.patterns.now) haystack
     (g.P.Patterns.entries c.args.patterns.now) s stands.from stands.p c.args.self.now
     c.args.cache.now c.let_go.new.cache stands.on stands.begun c.args.at.now.anew
-    stands.own_from c.let_go.ensures.kept here idle later c.let_go.ensures.none
+    stands.own_from c.let_go.ensures.kept here idle is later c.let_go.ensures.none
     c.let_go.ensures.threads c.empty_state-at.result c.empty_state-at.ensures _

@@ -1,5 +1,6 @@
 use Rattle.regex_lite_meta.proofs.Common.{◌≡◌, ◌==◌, true, chars, ap, ◌∙◌, rules, Standing, not}
 use Rattle.regex_lite_meta.proofs.Common.{arith, None}
+use Rattle.regex_lite_meta.proofs.lazy_dfa.HereLemmas.{edge_there, is_there}
 use Rattle.regex_lite_meta.proofs.lazy_dfa.RunLemmas.{at_later}
 use Rattle.regex_lite_engine.proofs.pikevm.ShortestLemmas.{not_true}
 use Rattle.regex_lite_meta.specs.LazyDfa.Scanning.{GoesOn}
@@ -50,6 +51,14 @@ pub returns-then-not-skip-clause-none : goal.returns-then-not-skip-clause-none
 returns-then-not-skip-clause-none g c = λ earliest _.
     c.skip.ensures.none (c.leap_on.ensures.none earliest c.if-leap_on.false)
 
+-- the characters beside the offset are read
+pub at-here-requires : goal.at-here-requires
+at-here-requires g c =
+    let from = c.requires.scanning in
+    let on = then_on c.positions.invariant.on
+    (past g (goal.at.at-here-requires g c).After-skip) from.0 from.1 from.2 in
+    edge_there c.args.haystack.now c.utf8.haystack on.2
+
 pub step-requires-clause-state : goal.step-requires-clause-state
 step-requires-clause-state g c =
     state_there
@@ -76,11 +85,13 @@ pub returns-then-is_over-clause-over : goal.returns-then-is_over-clause-over
 returns-then-is_over-clause-over g c = λ _ low p from.
     let on = then_on c.positions.invariant.on
     (past g (goal.at.returns-then-is_over-clause-over g c).After-skip) low p from in
+    let is = is_there c.args.haystack.now c.utf8.haystack on.2 c.at-here.result
+    c.at-here.ensures.here in
     scan_found (g.P.Patterns.table c.args.patterns.now) (g.P.Patterns.entries c.args.patterns.now)
     (chars c.args.haystack.now) low on.0 c.args.self.now c.skip.new.at c.in-Some.to
-    (not (g.row.EARLIEST == 0)) c.in-Some.best on.2
+    c.at-here.result is (not (g.row.EARLIEST == 0)) c.in-Some.best on.2
     (λ earliest. c.skip.ensures.none (c.leap_on.ensures.none earliest c.if-leap_on.false))
-    (c.in-Some.ensures.led (chars c.args.haystack.now) low on.0 on.2)
+    (c.in-Some.ensures.led (chars c.args.haystack.now) low on.0 on.2 is)
     (λ state is preferred. c.if-is_over.ensures.over state is (search rules) preferred)
     (c.is_over.ensures.earliest (search rules))
 
@@ -90,8 +101,8 @@ go_on-requires-clause-here g c =
     let on = then_on c.positions.invariant.on
     (past g (goal.at.go_on-requires-clause-here g c).After-skip) from.0 from.1 from.2 in (
       on.0,
-      on.2.is,
-      some_after c.skip.new.at.here.after c.is_over.result c.if-is_over.false
+      is_there c.args.haystack.now c.utf8.haystack on.2 c.at-here.result c.at-here.ensures.here,
+      some_after c.at-here.result.after c.is_over.result c.if-is_over.false
           c.is_over.ensures.at_end,
     )
 
@@ -114,8 +125,14 @@ turned g c =
     leads_on (g.P.Patterns.table c.args.patterns.now) (g.P.Patterns.entries
     c.args.patterns.now) (chars c.args.haystack.now) low p c.args.self.now c.skip.new.at
     c.in-Some.to (not (g.row.EARLIEST == 0)) c.in-Some.best (none_yet g c)
-    (c.in-Some.ensures.led (chars c.args.haystack.now) low p scanning))
-    (λ state at. c.is_over.ensures.none state at (search rules)) c.go_on.ensures.here
+    (c.in-Some.ensures.led (chars c.args.haystack.now) low p scanning
+    (is_there c.args.haystack.now c.utf8.haystack scanning c.at-here.result
+    c.at-here.ensures.here)))
+    (λ state at. c.is_over.ensures.none state at (search rules))
+    (λ low p scanning.
+    c.go_on.ensures.here p
+    (is_there c.args.haystack.now c.utf8.haystack scanning c.at-here.result
+    c.at-here.ensures.here))
     c.go_on.ensures.same c.go_on.ensures.first
 
 pub run-requires-clause-scanning : goal.run-requires-clause-scanning
@@ -142,14 +159,17 @@ positions-smaller g c =
     let haystack = c.args.haystack.now in
     let v = c.positions.invariant.on from.0 from.1 from.2 in
     let on = then_on (c.leap_on.ensures.on c.if-leap_on.false) c.skip.ensures.on from.0 v.0 v.2 in
-    let next = c.go_on.ensures.here on.0 on.2.is in
-    let less = less_left haystack v.0 on.0 c.positions.at.here c.go_on.new.at.here
-    c.utf8.haystack v.2.is next on.1 in
+    let next = c.go_on.ensures.here on.0 (is_there haystack c.utf8.haystack on.2 c.at-here.result
+    c.at-here.ensures.here) in
+    let less = less_left haystack v.0 on.0 v.2.here next.0 c.utf8.haystack v.2.is next.1 on.1 in
     let turn = turned g (goal.at.positions-smaller g c).After-go_on from.0 v.0 v.2 in
     let r = c.run.ensures.on c.if-run.false from.0 turn.0 turn.2 in
-    let le = at_later (chars haystack) turn.0 r.0 c.go_on.new.at.here c.run.new.at.here turn.2.is
-    r.2.is r.1 in
-    omega (arith, less, le)
+    let le = at_later (chars haystack) turn.0 r.0 turn.2.here r.2.here turn.2.is r.2.is r.1 in
+    let begins = v.2.there in
+    let ends = next.2 in
+    let turns = turn.2.there in
+    let last = r.2.there in
+    omega (arith, less, le, begins, ends, turns, last)
 
 pub positions-preserved : goal.positions-preserved
 positions-preserved g c = record {

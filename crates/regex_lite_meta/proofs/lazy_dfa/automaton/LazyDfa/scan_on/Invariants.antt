@@ -10,4 +10,4 @@ invariant-positions g l = record {
 }
 
 abbrev pub decreases-positions : goal.decreases-positions
-decreases-positions g l = length l.haystack - l.at.here.at
+decreases-positions g l = length l.haystack - l.at.at

@@ -1,4 +1,5 @@
-use Rattle.regex_lite_meta.proofs.Common.{ℕ, chars, sym, ◌∙◌, Stands, PassesTo, AreDeadAt}
+use Rattle.regex_lite_meta.proofs.Common.{ℕ, chars, sym, ◌∙◌, Stands, AreDeadAt}
+use Rattle.regex_lite_engine.specs.Search.Starts.{SkipsTo}
 use Rattle.regex_lite_meta.proofs.lazy_dfa.BeginLemmas.{begun_as}
 use Rattle.regex_lite_meta.proofs.lazy_dfa.automaton.LazyDfa.search_anew.Given as given
 use Rattle.regex_lite_meta.proofs.lazy_dfa.automaton.LazyDfa.search_anew.Goals as goal
@@ -6,16 +7,17 @@ use Rattle.regex_lite_meta.proofs.lazy_dfa.automaton.LazyDfa.search_anew.Goals.{
 
 -- the search stands at its beginning
 begun : (g : given.Over) (c : After-begun-begun g) (s : ℕ)
-    → PassesTo (AreDeadAt (g.P.Patterns.table c.args.patterns.now) (chars c.args.haystack.now)
-    (g.P.Patterns.entries c.args.patterns.now)) (chars c.args.haystack.now) s c.args.here
+    → SkipsTo (AreDeadAt (g.P.Patterns.table c.args.patterns.now) (chars c.args.haystack.now)
+    (g.P.Patterns.entries c.args.patterns.now)) c.args.haystack.now s c.args.from
     → Stands (g.P.Patterns.table c.args.patterns.now) (chars c.args.haystack.now)
     (g.P.Patterns.entries c.args.patterns.now) s c.args.self.now c.begun-begun.result
     c.restart.new.cache
-begun g c s passes =
+begun g c s skips =
     let table = g.P.Patterns.table c.args.patterns.now in
     let fresh = c.restart.ensures.fresh table c.requires.between in
     begun_as table (chars c.args.haystack.now) (g.P.Patterns.entries c.args.patterns.now) s
-    c.args.here passes c.args.self.now c.begun-begun.result c.restart.new.cache
+    c.at.result (skips c.at.result c.at.ensures.at c.at.ensures.here) c.args.self.now
+    c.begun-begun.result c.restart.new.cache
     c.begun-begun.ensures.is fresh
     (sym fresh.between.best_width ∙ c.restart.ensures.width ∙ c.requires.between.best_width
     ∙ c.requires.width)
@@ -27,11 +29,11 @@ search_while_it_pays-requires-clause-stands g c =
     (on.0, on.2, begun g at.After-begun-begun on.0 on.1)
 
 pub returns-clause-found : goal.returns-clause-found
-returns-clause-found g c = λ s passes.
+returns-clause-found g c = λ s skips.
     let at = goal.at.returns-clause-found g c in
-    c.search_while_it_pays.ensures.found s (begun g at.After-begun-begun s passes)
+    c.search_while_it_pays.ensures.found s (begun g at.After-begun-begun s skips)
 
 pub returns-clause-stands : goal.returns-clause-stands
-returns-clause-stands g c = λ s passes.
+returns-clause-stands g c = λ s skips.
     let at = goal.at.returns-clause-stands g c in
-    c.search_while_it_pays.ensures.stands s (begun g at.After-begun-begun s passes)
+    c.search_while_it_pays.ensures.stands s (begun g at.After-begun-begun s skips)

@@ -1,8 +1,9 @@
 use Rattle.regex_lite_meta.proofs.Common.{ℕ, chars, sym, ◌∙◌, slice_get_within}
-use Rattle.regex_lite_meta.proofs.Common.{Stands, PassesTo, AreDeadAt}
+use Rattle.regex_lite_meta.proofs.Common.{Stands, AreDeadAt, position_at}
+use Rattle.regex_lite_engine.specs.Search.Starts.{SkipsTo}
 use Rattle.regex_lite_meta.specs.LazyDfa.Scanning.{ComesTo}
 use Rattle.regex_lite_meta.proofs.lazy_dfa.AnewLemmas.{none_before}
-use Rattle.regex_lite_meta.proofs.lazy_dfa.BeginLemmas.{begun_with, comes_on}
+use Rattle.regex_lite_meta.proofs.lazy_dfa.BeginLemmas.{begun_with, comes_from, comes_on}
 use Rattle.regex_lite_meta.proofs.lazy_dfa.automaton.LazyDfa.search_on.Given as given
 use Rattle.regex_lite_meta.proofs.lazy_dfa.automaton.LazyDfa.search_on.Goals as goal
 use Rattle.regex_lite_meta.proofs.lazy_dfa.automaton.LazyDfa.search_on.Goals.{After-begun-at}
@@ -13,39 +14,44 @@ scan_on-requires-clause-scanning g c =
     let comes = c.requires.scanned on.0 on.1 in (on.0, comes.0, comes.2)
 
 pub returns-then-scan_on-clause-found : goal.returns-then-scan_on-clause-found
-returns-then-scan_on-clause-found g c = λ s passes.
-    let comes = c.requires.scanned s passes in
+returns-then-scan_on-clause-found g c = λ s skips.
+    let comes = c.requires.scanned s skips in
     c.scan_on.ensures.over c.if-scan_on.true s comes.0 comes.2
 
 -- no match begins before the position, if the search begins at this one
 abbrev IsAfter : (g : given.Over) (c : After-begun-at g) (s : ℕ) → Type 0
 IsAfter g c s =
-    PassesTo (AreDeadAt (g.P.Patterns.table c.args.patterns.now) (chars c.args.haystack.now)
-    (g.P.Patterns.entries c.args.patterns.now)) (chars c.args.haystack.now) s c.args.here
+    SkipsTo (AreDeadAt (g.P.Patterns.table c.args.patterns.now) (chars c.args.haystack.now)
+    (g.P.Patterns.entries c.args.patterns.now)) c.args.haystack.now s c.args.from
 
 -- how far remembered turns have come
-comes : (g : given.Over) (c : After-begun-at g) (s : ℕ) (passes : IsAfter g c s)
+comes : (g : given.Over) (c : After-begun-at g) (s : ℕ) → IsAfter g c s
     → ComesTo (g.P.Patterns.table c.args.patterns.now) (g.P.Patterns.entries c.args.patterns.now)
-    (chars c.args.haystack.now) s passes.q c.args.here.at c.args.self.now c.scan_on.new.at
-comes g c s passes =
-    comes_on (c.requires.scanned s passes) (c.scan_on.ensures.on c.if-scan_on.false)
+    (chars c.args.haystack.now) s (position_at c.args.haystack.now c.args.from) c.args.from
+    c.args.self.now c.scan_on.new.at
+comes g c s skips =
+    comes_on (c.requires.scanned s skips) (c.scan_on.ensures.on c.if-scan_on.false)
 
 -- the search stands at its beginning, and remembered turns have come so far from there
-begun : (g : given.Over) (c : After-begun-at g) (s : ℕ) (passes : IsAfter g c s)
+begun : (g : given.Over) (c : After-begun-at g) (s : ℕ) → IsAfter g c s
     → (stands : Stands (g.P.Patterns.table c.args.patterns.now) (chars c.args.haystack.now)
     (g.P.Patterns.entries c.args.patterns.now) s c.args.self.now c.begun-at.result
     c.restart.new.cache)
     × ComesTo (g.P.Patterns.table c.args.patterns.now) (g.P.Patterns.entries c.args.patterns.now)
     (chars c.args.haystack.now) stands.from stands.p c.begun-at.result.first c.args.self.now
     c.scan_on.new.at
-begun g c s passes =
+begun g c s skips =
     let table = g.P.Patterns.table c.args.patterns.now in
     let fresh = c.restart.ensures.fresh table c.requires.between in
     begun_with table (chars c.args.haystack.now) (g.P.Patterns.entries c.args.patterns.now) s
-    c.args.here passes c.args.self.now c.begun-at.result c.restart.new.cache
+    c.at.result (skips c.at.result c.at.ensures.at c.at.ensures.here) c.args.self.now
+    c.begun-at.result c.restart.new.cache
     c.begun-at.ensures.is fresh
     (sym fresh.between.best_width ∙ c.restart.ensures.width ∙ c.requires.between.best_width
-    ∙ c.requires.width) c.scan_on.new.at (comes g c s passes)
+    ∙ c.requires.width) c.scan_on.new.at
+    (comes_from table (g.P.Patterns.entries c.args.patterns.now) c.args.haystack.now
+    c.utf8.haystack s c.args.from c.requires.boundary skips c.args.self.now c.scan_on.new.at
+    c.at.result c.at.ensures.at c.at.ensures.here (comes g c s skips))
 
 pub resume-requires-clause-state : goal.resume-requires-clause-state
 resume-requires-clause-state g c =
@@ -88,20 +94,20 @@ search_while_it_pays-requires-clause-stands g c =
     )
 
 pub returns-clause-found : goal.returns-clause-found
-returns-clause-found g c = λ s passes.
+returns-clause-found g c = λ s skips.
     let at = (goal.at.returns-clause-found g c).After-begun-at in
-    let both = begun g at s passes in
-    let to = comes g at s passes in
+    let both = begun g at s skips in
+    let to = comes g at s skips in
     c.search_while_it_pays.ensures.found s
     (c.begin_anew.ensures.stands s s to.0 (c.resume.ensures.stands s both.0 both.1)
     (none_before (g.P.Patterns.table c.args.patterns.now) (chars c.args.haystack.now)
     (g.P.Patterns.entries c.args.patterns.now) s) to.2)
 
 pub returns-clause-stands : goal.returns-clause-stands
-returns-clause-stands g c = λ s passes.
+returns-clause-stands g c = λ s skips.
     let at = (goal.at.returns-clause-stands g c).After-begun-at in
-    let both = begun g at s passes in
-    let to = comes g at s passes in
+    let both = begun g at s skips in
+    let to = comes g at s skips in
     c.search_while_it_pays.ensures.stands s
     (c.begin_anew.ensures.stands s s to.0 (c.resume.ensures.stands s both.0 both.1)
     (none_before (g.P.Patterns.table c.args.patterns.now) (chars c.args.haystack.now)

@@ -1,4 +1,5 @@
-use Rattle.regex_lite_meta.proofs.Common.{chars, refl, inr, slice_get_within}
+use Rattle.regex_lite_meta.proofs.Common.{chars, inr, slice_get_within}
+use Rattle.regex_lite_meta.proofs.lazy_dfa.HereLemmas.{edge_there, is_there}
 use Rattle.regex_lite_meta.proofs.lazy_dfa.ScanLemmas.{is_idle, skipped}
 use Rattle.regex_lite_meta.proofs.lazy_dfa.automaton.LazyDfa.skip_idle.Goals as goal
 
@@ -10,22 +11,26 @@ returns-clause-on g c = λ low p scanning.
     let at = c.args.at.now in
     let here = c.pass_over-here.result in
     let none = c.requires.none in
-    let passes = c.pass_over-here.ensures p scanning.is in
+    let passes = c.pass_over-here.ensures p (is_there c.args.haystack.now c.utf8.haystack scanning
+    c.at-from.result c.at-from.ensures.here) in
     let idle = c.requires.empty scanning.state scanning.is_state in
     let found = c.in-Some.ensures in (
       passes.q,
       passes.later,
       skipped table entries h low p c.args.self.now at scanning here passes idle none
           c.in-Some.state found.state found.is_state found.none found.searching found.sees,
-      inr (
-        here,
-        refl,
-        is_idle table entries h low p c.args.self.now at scanning here passes idle none,
-      ),
+      inr (is_idle table entries h low p c.args.self.now at scanning here passes idle none),
     )
 
+pub at-from-requires : goal.at-from-requires
+at-from-requires g c = edge_there c.args.haystack.now c.utf8.haystack c.requires.scanning.2
+
 pub pass_over-here-requires : goal.pass_over-here-requires
-pass_over-here-requires g c = (c.requires.scanning.1, c.requires.scanning.2.is)
+pass_over-here-requires g c =
+    let from = c.requires.scanning in (
+      from.1,
+      is_there c.args.haystack.now c.utf8.haystack from.2 c.at-from.result c.at-from.ensures.here,
+    )
 
 pub knows-requires : goal.knows-requires
 knows-requires g c =

@@ -1,5 +1,7 @@
 use Rattle.regex_lite_meta.proofs.Common.{◌==◌, ◌<◌, length, slice_get_within, refl, sym, ap, not}
-use Rattle.regex_lite_meta.proofs.Common.{rules, best_left, best_told, hit_in}
+use Rattle.regex_lite_meta.proofs.Common.{rules, best_left, best_told, hit_in, ℕ, Text, IsHere}
+use Rattle.regex_lite_meta.proofs.Common.{subst}
+use Rattle.regex_lite_syntax.specs.Text.{after}
 use Rattle.regex_lite_meta.proofs.lazy_dfa.StoredStateLemmas.{turn_led, turn_stored}
 use Rattle.regex_lite_meta.proofs.lazy_dfa.ScanLemmas.{TurnsTo, completed, led_none, led_step}
 use Rattle.regex_lite_meta.proofs.lazy_dfa.automaton.LazyDfa.step.Given as given
@@ -19,7 +21,7 @@ index-requires g c =
 -- where the turn leads, and where the way began by which a match is complete then
 led : (g : given.Over) (c : After-index g) →
     TurnsTo (g.P.Patterns.table c.args.patterns.now) (g.P.Patterns.entries c.args.patterns.now)
-    c.args.self.now c.args.at.now.state c.args.at.now.here.after c.in_ok-to.field-0.state
+    c.args.self.now c.args.at.now.state c.args.here.after c.in_ok-to.field-0.state
     (hit_in c.index.result.now.hit)
 led g c =
     let i = c.self.inside in
@@ -27,35 +29,48 @@ led g c =
     c.self.view_is (g.P.Patterns.table c.args.patterns.now)
     (g.P.Patterns.entries c.args.patterns.now) c.requires.remembers c.args.at.now.state
     c.class-class.result c.in_ok-to.field-0.state c.requires.state c.class-class.ensures.few
-    c.in_ok-to.ensures.known c.args.at.now.here.after c.class-class.ensures.same c.index.result.now
+    c.in_ok-to.ensures.known c.args.here.after c.class-class.ensures.same c.index.result.now
     c.index.ensures
 
+-- the same at the position before the next character
+led_from : (g : given.Over) (c : After-index g) (haystack : Text) (p : ℕ)
+    → IsHere haystack p c.args.here →
+    TurnsTo (g.P.Patterns.table c.args.patterns.now) (g.P.Patterns.entries c.args.patterns.now)
+    c.args.self.now c.args.at.now.state (after haystack p) c.in_ok-to.field-0.state
+    (hit_in c.index.result.now.hit)
+led_from g c haystack p is =
+    subst (λ next. TurnsTo (g.P.Patterns.table c.args.patterns.now)
+    (g.P.Patterns.entries c.args.patterns.now) c.args.self.now c.args.at.now.state next
+    c.in_ok-to.field-0.state (hit_in c.index.result.now.hit)) is.ahead (led g c)
+
 pub returns-in-Nowhere-clause-led : goal.returns-in-Nowhere-clause-led
-returns-in-Nowhere-clause-led g c = λ haystack low p scanning.
+returns-in-Nowhere-clause-led g c = λ haystack low p scanning is.
     led_none (g.P.Patterns.table c.args.patterns.now) (g.P.Patterns.entries c.args.patterns.now)
     haystack low p c.args.self.now c.args.at.now scanning (not (g.row.EARLIEST == 0))
     c.requires.none
     (led_step (g.P.Patterns.table c.args.patterns.now) (g.P.Patterns.entries c.args.patterns.now)
     haystack low p c.args.self.now c.args.at.now scanning
-    (led g (goal.at.returns-in-Nowhere-clause-led g c).After-index) c.args.at.now.best
-    (sym (ap (λ hit. best_left (hit_in hit) c.args.at.now.first c.args.at.now.here.at
+    (led_from g (goal.at.returns-in-Nowhere-clause-led g c).After-index haystack p is)
+    c.args.at.now.best
+    (sym (ap (λ hit. best_left (hit_in hit) c.args.at.now.first c.args.at.now.at
     (best_told c.args.at.now.best)) c.in-Nowhere.is)))
 
 pub returns-in-AtFirst-clause-led : goal.returns-in-AtFirst-clause-led
-returns-in-AtFirst-clause-led g c = λ haystack low p scanning.
+returns-in-AtFirst-clause-led g c = λ haystack low p scanning is.
     rw c.completed.ensures
     (completed (g.P.Patterns.table c.args.patterns.now) (g.P.Patterns.entries c.args.patterns.now)
     haystack low p c.args.self.now c.args.at.now scanning
-    (led g (goal.at.returns-in-AtFirst-clause-led g c).After-index) (not (g.row.EARLIEST == 0))
+    (led_from g (goal.at.returns-in-AtFirst-clause-led g c).After-index haystack p is)
+    (not (g.row.EARLIEST == 0))
     (record { at = c.args.at.now.first; number = c.in-AtFirst.number }) (ap hit_in c.in-AtFirst.is)
     c.requires.none (λ _. refl))
 
 pub returns-else-not-this-clause-led : goal.returns-else-not-this-clause-led
-returns-else-not-this-clause-led g c = λ haystack low p scanning.
+returns-else-not-this-clause-led g c = λ haystack low p scanning is.
     rw c.completed-in-AtLater.ensures
     (completed (g.P.Patterns.table c.args.patterns.now) (g.P.Patterns.entries c.args.patterns.now)
     haystack low p c.args.self.now c.args.at.now scanning
-    (led g (goal.at.returns-else-not-this-clause-led g c).After-index)
+    (led_from g (goal.at.returns-else-not-this-clause-led g c).After-index haystack p is)
     (not (g.row.EARLIEST == 0))
     (record { at = c.args.at.now.first; number = c.in-AtLater.number }) (ap hit_in c.in-AtLater.is)
     c.requires.none (λ other. absurd (c.if-not-this.false (search (other, rules)))))

@@ -24,7 +24,8 @@ search_from-requires-clause-boundary c =
     let is = c.pattern-pattern.ensures in
     first_boundary (table_of_list list) c.args.haystack.now c.utf8.haystack
     (slice_index list.entries c.args.number) (position_at c.args.haystack.now c.args.start)
-    c.in-Some-first_start.first (rw (is.table, is.entry) at (rw c.in-Some-first_start.is at c.first_start.ensures.first))
+    c.in-Some-first_start.first
+    (rw (is.table, is.entry) at (rw c.in-Some-first_start.is at c.first_start.ensures.first))
 
 pub returns-clause-told : goal.returns-clause-told
 returns-clause-told c = IfOk-weaker c.search_from.result _ _ known c.search_from.ensures.told
@@ -45,7 +46,8 @@ returns-clause-told c = IfOk-weaker c.search_from.result _ _ known c.search_from
         let own = c.pattern-pattern.ensures in
         let before = none_before_first (table_of_list list) haystack c.utf8.haystack entry s
         c.in-Some-first_start.first
-        (rw (own.table, own.entry) at (rw c.in-Some-first_start.is at c.first_start.ensures.first)) in
+        (rw (own.table, own.entry) at
+        (rw c.in-Some-first_start.is at c.first_start.ensures.first)) in
         told_from_first (table_of_list list) haystack entry s m told before from
 
 pub returns-clause-found : goal.returns-clause-found
@@ -79,7 +81,8 @@ returns-clause-cost c = IfOk-weaker c.search_from.result _ _ cost c.search_from.
         (slice_get-get_or list.entries c.args.number 0 c.requires.number) in
         let before = none_before_first (table_of_list list) haystack c.utf8.haystack entry s
         c.in-Some-first_start.first
-        (rw (own.table, own.entry) at (rw c.in-Some-first_start.is at c.first_start.ensures.first)) in
+        (rw (own.table, own.entry) at
+        (rw c.in-Some-first_start.is at c.first_start.ensures.first)) in
         bounded_from len (whole_arrows tree) (chars haystack) s m told.1.tried told.1.entered
         told.1.looked before.from (rw part.arrows at (from.own part.low len part.is))
 

@@ -8,6 +8,7 @@ use Rattle.regex_lite_meta.proofs.list_matches.TriedLemmas.{ends_with_all, rest_
 use Rattle.regex_lite_meta.proofs.list_matches.TriedLemmas.{standing_read}
 use Rattle.regex_lite_meta.proofs.list_matches.pass.ListPass.finish.Goals as goal
 use Rattle.regex_lite_meta.proofs.list_matches.pass.ListPass.finish.Goals.{in-Known}
+use Rattle.regex_lite_meta.proofs.list_matches.pass.ListPass.finish.Goals.{}
 use Rattle.regex_lite_meta.proofs.list_matches.pass.ListPass.finish.Goals.{in-From+in_ok-matched-in-From}
 
 pub search_one-requires-clause-boundary : goal.search_one-requires-clause-boundary

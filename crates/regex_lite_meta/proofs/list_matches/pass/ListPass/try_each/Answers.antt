@@ -10,6 +10,7 @@ use Rattle.regex_lite_meta.proofs.list_matches.TriedLemmas.{standing_read, start
 use Rattle.regex_lite_meta.proofs.list_matches.PassLemmas.{passed_on}
 use Rattle.regex_lite_meta.proofs.list_matches.pass.ListPass.try_each.Goals as goal
 use Rattle.regex_lite_meta.proofs.list_matches.pass.ListPass.try_each.Goals.{}
+use Rattle.regex_lite_meta.proofs.list_matches.pass.ListPass.try_each.Goals.{}
 use Rattle.regex_lite_meta.proofs.list_matches.pass.ListPass.try_each.Goals.{then-is_due+else-is_spent+in_ok-status}
 use Rattle.regex_lite_meta.proofs.list_matches.pass.ListPass.try_each.Goals.{else-is_due}
 

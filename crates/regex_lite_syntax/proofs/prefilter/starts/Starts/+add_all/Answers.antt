@@ -40,7 +40,8 @@ add_all-returns-in-Repetition-clause-added t c =
     let r = c.in-Repetition in
     subst (λ (tree : Tree). ReadsAmong tree c.add_all.new.self)
     (sym (tree_is-Repetition r.is c.deref-in-Repetition.ensures))
-    (reads_passes r.least r.most r.greedy (tree_of c.deref-in-Repetition.result.now) c.add_all.new.self
+    (reads_passes r.least r.most r.greedy (tree_of c.deref-in-Repetition.result.now)
+    c.add_all.new.self
     c.add_all.ensures.added)
 
 pub add_all-returns-in-Capture-clause-added : goal.add_all-returns-in-Capture-clause-added

@@ -13,7 +13,8 @@ returns-in_default c =
     let same : c.letters.result.now ≡ needed.word
     = c.letters.ensures ∙ ap (λ (n : NeededWord). n.word) c.self.view_is in
     never_reached needed bytes c.args.from
-    (λ at low. subst (λ word. ¬ AnyStandsAt (word ∷ []) bytes at) same (c.in_default.ensures at low))
+    (λ at low. subst (λ word. ¬ AnyStandsAt (word ∷ []) bytes at) same
+    (c.in_default.ensures at low))
 
 pub lead_start-from-requires-clause-inside : goal.lead_start-from-requires-clause-inside
 lead_start-from-requires-clause-inside c =

@@ -31,7 +31,8 @@ pub returns-then-not-may_stand : goal.returns-then-not-may_stand
 returns-then-not-may_stand g c =
     none_joined (c.args.word.now ∷ []) c.args.bytes.now c.args.from c.blocks-2.at c.args.end
     c.blocks-2.invariant.none
-    (λ at low high. c.may_stand-then-end.ensures c.if-not-may_stand.true at (omega arith) (omega arith))
+    (λ at low high. c.may_stand-then-end.ensures c.if-not-may_stand.true at (omega arith)
+    (omega arith))
 
 pub returns : goal.returns
 returns g c =

@@ -5,7 +5,8 @@ use Rattle.regex_lite_syntax.specs.Prefilter.WordWalk.{GrowsBy}
 use Rattle.regex_lite_syntax.proofs.LeafLemmas.{tree_is-Repetition}
 use Rattle.regex_lite_syntax.proofs.TreeLemmas.{trees_more, trees_of}
 use Rattle.regex_lite_syntax.proofs.prefilter.words.WordWalkLemmas.{all_branches, begun}
-use Rattle.regex_lite_syntax.proofs.prefilter.words.WordWalkLemmas.{extends_passes, first_branch, first_parts}
+use Rattle.regex_lite_syntax.proofs.prefilter.words.WordWalkLemmas.{extends_passes, first_branch}
+use Rattle.regex_lite_syntax.proofs.prefilter.words.WordWalkLemmas.{first_parts}
 use Rattle.regex_lite_syntax.proofs.prefilter.words.WordWalkLemmas.{next_branch, part_read}
 use Rattle.regex_lite_syntax.proofs.prefilter.words.WordWalkLemmas.{ReadsBranches, ReadsParts}
 use Rattle.regex_lite_syntax.proofs.prefilter.words.walk.WordWalk.+extend.Goals as goal

@@ -6,7 +6,7 @@ use Rattle.regex_lite_engine.proofs.search.OutcomeLemmas.{can_count}
 use Rattle.regex_lite_meta.proofs.EndLemmas.{end_from_later, end_told, none_told}
 use Rattle.regex_lite_engine.specs.Search.OutcomeOfOne.{TellsEndOfOne}
 use Rattle.std.proofs.lemmas.Result.{IfOk-weaker}
-use Rattle.regex_lite_meta.proofs.one.search_shortest_one.Goals as goal
+use Rattle.regex_lite_meta.proofs.one.search_shortest_in_graph.Goals as goal
 
 pub run-requires : goal.run-requires
 run-requires c =
@@ -14,7 +14,8 @@ run-requires c =
     let haystack = c.args.haystack.now in record {
       counts =
           let short : length haystack < 2 ^ 63 = search rules in
-          can_count (places_of one.table.now) haystack (position_at haystack c.in-Some-first_start.first.at)
+          can_count (places_of one.table.now) haystack
+          (position_at haystack c.in-Some-first_start.first.at)
           c.utf8.haystack short c.in_ok-cache.ensures.countable 1 (omega arith);
       fresh = c.in_ok-cache.ensures.fresh;
       boundary = first_boundary (places_of one.table.now) haystack c.utf8.haystack one.entry
@@ -31,10 +32,12 @@ returns c =
     let m = position_at haystack c.in-Some-first_start.first.at in
     let steps = c.run.new.cache.walk.steps in
     let passes = rw c.in-Some-first_start.is at c.first_start.ensures.first in
-    let before = none_before_first table haystack c.utf8.haystack one.entry s c.in-Some-first_start.first passes
+    let before = none_before_first table haystack c.utf8.haystack one.entry s
+    c.in-Some-first_start.first passes
     in record {
       found = rw c.end.ensures
-          (end_told table haystack one.entry c.args.start c.utf8.haystack c.in-Some-first_start.first passes
+          (end_told table haystack one.entry c.args.start c.utf8.haystack
+          c.in-Some-first_start.first passes
           (best_of c.run.new.cache.best) c.run.ensures.found);
       cost = bounded_from (length table) (arrows_of table) (chars haystack) s m steps.tried
           steps.entered steps.looked before.from c.run.ensures.bounded;
