@@ -13,7 +13,7 @@ MEGABYTE = 1 << 20
 TEXT = ENGLISH(MEGABYTE)
 ACCENTED = f'{TEXT[:MEGABYTE // 2]}é{TEXT[MEGABYTE // 2 + 1:]}'  # beyond ASCII by one character
 CYRILLIC = ('слово, 2026-11 ' * MEGABYTE)[:MEGABYTE]
-SEPARATORS = (' ', ',', r'\s+', ', *', '[,;]')
+SEPARATORS = (' ', ',', r'\s+', ', *', '[,;]', r'\W+', r'\n')
 LINE = '2026-11-28 GET /index.html 200 512 bytes in 93 ms'
 RUNS = 9
 LEAST_SECONDS = 0.02  # of a run
@@ -59,8 +59,9 @@ GOALS = (
          lambda module: spans(module, r'\w+', ACCENTED), ''),
     Goal(r'`finditer("[0-9]+")`, each `span`, Cyrillic',
          lambda module: spans(module, '[0-9]+', CYRILLIC), ''),
-    *(Goal(f'`split(r"{pattern}")`{of}', splitting(pattern, text), '2')
-      for text, of in ((TEXT, ''), (ACCENTED, ', one `é`')) for pattern in SEPARATORS),
+    *(Goal(f'`split(r"{pattern}")`{of}', splitting(pattern, text), most)
+      for text, of, most in ((TEXT, '', '2'), (ACCENTED, ', one `é`', '2'),
+                             (CYRILLIC, ', Cyrillic', '')) for pattern in SEPARATORS),
     Goal(r'`sub(r"(\w+)", r"<\1>")`',
          lambda module: module.sub(r'(\w+)', r'<\1>', TEXT, 0, flags_of(module)), '2'),
     Goal(r'`sub(r"(\w+)", function)`',

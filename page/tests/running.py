@@ -11,6 +11,7 @@ import sys
 import tempfile
 import time
 import unittest
+from contextlib import closing
 from http.client import HTTPConnection
 from pathlib import Path
 from typing import IO, Any, Callable, Dict, List, Mapping, Sequence, Tuple
@@ -46,13 +47,12 @@ class WithServer(unittest.TestCase):
              headers: Mapping[str, str] = {}) -> Tuple[int, bytes, Dict[str, str]]:
         """Sends a request as the page does, but for these headers, and returns the status, the body
         and the headers of the reply."""
-        connection = HTTPConnection('127.0.0.1', self.port, timeout=60)
         own = {'Content-Type': 'application/json', 'Origin': f'http://127.0.0.1:{self.port}'}
         data = body if isinstance(body, bytes) or body is None else json.dumps(body).encode()
-        connection.request(method, path, data, {**own, **headers})
-        reply = connection.getresponse()
-        content = reply.read()
-        connection.close()
+        with closing(HTTPConnection('127.0.0.1', self.port, timeout=60)) as connection:
+            connection.request(method, path, data, {**own, **headers})
+            reply = connection.getresponse()
+            content = reply.read()
         return reply.status, content, {name.lower(): value for name, value in reply.getheaders()}
 
     def ask(self, pattern: str, text: str, replacement: str = '',
@@ -76,10 +76,11 @@ class WithServer(unittest.TestCase):
         return connection
 
     def wait(self, is_so: Callable[[], bool], seconds: float, what: str) -> None:
-        """Waits until something is so, for this time at most."""
-        last = time.monotonic() + seconds
+        """Waits until something is so, at most for the time that this is on a machine for itself."""
+        begun = time.monotonic()
         while not is_so():
-            self.assertLess(time.monotonic(), last, what)
+            taken = time.monotonic() - begun
+            self.assertTrue(taken < seconds or taken < seconds * slowness(), what)
             time.sleep(0.05)
 
 

@@ -12,13 +12,14 @@ from typing import Any, Callable, Iterator, List, Optional, Sequence, Tuple, cas
 
 from ._errors import error
 from ._loading import load
-from ._structures import Cost, CSpan, Fault, Handle, Options as Options, Replacing
+from ._structures import Cost, CSpan, Cut, Fault, Handle, Options as Options, Replacing
 from ._structures import Walk as Walk
 
 NO, YES, NOTHING_HELD, NOT_TEXT, BAD_OFFSET, NO_ROOM, OUT_OF_MEMORY, NO_GROUP = range(8)
 SYNTAX = 10
 LONGEST_MESSAGE = 100
 FIRST_ROOM, LATER_ROOM = 16, 1 << 16  # spans that are asked for at once
+FEW, MANY = 1024, 64  # bytes of a text for which there is one span more in the first room
 LONG = 1 << 14  # characters of a string that is encoded once, if it isn't ASCII
 Span = Optional[Tuple[int, int]]
 # Whether a group took part, where it starts, and where it ends: for each group of a match.
@@ -79,6 +80,7 @@ _find = quick_call('find')
 _captures = quick_call('captures')
 _find_all = quick_call('find_all')
 _captures_all = quick_call('captures_all')
+_split = quick_call('split')
 SPAN, BYTE = struct.Struct('@?NN'), struct.Struct('@c')
 _START, _UNREAD = c_size_t.from_param(0), byref(c_size_t())  # the second for a count that is known
 
@@ -116,12 +118,19 @@ def spans_of(row: Row) -> List[Span]:
     return [(start, end) if is_there else None for is_there, start, end in zip(*[fields] * 3)]
 
 
-def room_sizes(length: int, groups: int) -> Iterator[int]:
+def bounds_of(rows: memoryview, groups: int = 1, group: int = 0) -> Iterator[Tuple[int, int]]:
+    """The starts and ends of one span of each row, in which there are as many spans as groups."""
+    fields = rows.cast('N')
+    starts, ends = (fields[3 * group + i::3 * groups].tolist() for i in (1, 2))
+    return zip(starts, ends)
+
+
+def room_sizes(length: int, groups: int, share: int = FEW) -> Iterator[int]:
     """For how many matches there is room in one call after another, in a text of this length.
 
     Each call reads the whole text, so rooms grow, and are the larger the longer the text is. The
-    first is small, since a caller may stop early."""
-    spans = FIRST_ROOM + length // 1024
+    first is small, since a caller may stop early; one that goes to the end asks for MANY."""
+    spans = FIRST_ROOM + length // share
     while True:
         yield max(1, spans // groups)
         spans = min(4 * spans, max(LATER_ROOM, length // 16))
@@ -248,9 +257,24 @@ class Regex:
 
     def column_in(self, rows: memoryview, group: int) -> Iterator[Tuple[int, int]]:
         """Where a group of each match starts and ends: both are 0 where it took no part."""
-        size = SPAN.size
-        own = struct.Struct(f'@{size * group}x8xNN{size * (self.groups - group - 1)}x')
-        return own.iter_unpack(rows)  # type: ignore[return-value]
+        return bounds_of(rows, self.groups, group)
+
+    def pieces(self, text: bytes, most: int) -> Iterator[Iterator[Tuple[int, int]]]:
+        """Where the pieces of a text start and end, some of them at a time: the first matches cut
+        it, all where `most` is 0."""
+        cut, left, count = Cut(), most or sys.maxsize, c_size_t()
+        for size in room_sizes(len(text), 1, MANY):
+            room = min(size, left)
+            spans = Room(SPAN, room)
+            checked(_split(self._here, text, c_size_t(len(text)), byref(cut), spans.start,
+                           c_size_t(room), byref(count)))
+            yield bounds_of(spans.first(count.value))
+            left -= room
+            if cut.is_over:
+                return
+            if left == 0:
+                yield iter([(cut.walk.end, len(text))])
+                return
 
     def count(self, text: bytes, walk: Walk, most: int = 0) -> int:
         """How many matches are left, or of the next ones, as `most` says. They are walked over."""
@@ -275,7 +299,7 @@ class Regex:
         _, rows = self._walk_on(text, walk, room, self.groups)
         return [spans_of(row) for row in self.matches_in(rows)]
 
-    def replaced(self, text: bytes, new: bytes, limit: int, is_literal: bool = True) -> str:
+    def replaced(self, text: bytes, new: bytes, limit: int, is_literal: bool) -> str:
         """The text with its first matches replaced, or all if the limit is 0, by another text or
         by what it gives as a template, where `$1` is a group."""
         # A single byte makes the text longer only where it replaces an empty match.

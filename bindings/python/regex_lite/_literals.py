@@ -7,9 +7,10 @@ from typing import Optional
 
 from ._flags import IGNORECASE, VERBOSE
 
-# Characters without another meaning outside classes, and those that `escape` writes with a
-# backslash.
-_LITERAL = re.compile(r'(?:[^\\.+*?()|\[\]{}^$]|\\[\\.+*?()|\[\]{}^$#&~-])+')
+# Characters without another meaning outside classes, and those that are written with a backslash:
+# by `escape`, or as a letter that stands for a control character.
+_LITERAL = re.compile(r'(?:[^\\.+*?()|\[\]{}^$]|\\[\\.+*?()|\[\]{}^$#&~afnrtv-])+')
+_CONTROLS = dict(zip('afnrtv', '\a\f\n\r\t\v'))
 _ESCAPED = re.compile(r'\\(.)')
 
 
@@ -19,4 +20,4 @@ def literal_of(pattern: str, flags: int) -> Optional[str]:
     else."""
     if flags & (IGNORECASE | VERBOSE) or not _LITERAL.fullmatch(pattern):
         return None
-    return _ESCAPED.sub(r'\1', pattern)
+    return _ESCAPED.sub(lambda found: _CONTROLS.get(found[1], found[1]), pattern)

@@ -15,7 +15,6 @@ from ._matches import Match, match_of
 from ._templates import as_library_has_it, parts_of
 from ._texts import Offsets, offsets_in, part_of, start_in, texts_at
 
-SEPARATORS = '\0\1\2\3'  # marks of matches, of which a text seldom holds all
 Replacement = Union[str, Callable[[Match], str]]
 
 
@@ -88,16 +87,14 @@ class Pattern:
         after it. At most `maxsplit` matches split the string, or all where that is 0; none where it
         is negative."""
         raw, most = encoded(string), _how_many(maxsplit)
+        pieces: List[Optional[str]] = []
         if self.groups == 0 and most >= 0:
             if self._literal is not None:
                 return cast(List[Optional[str]], string.split(self._literal, most or -1))
-            # To mark the matches and to split there takes less time than to cut out each piece.
-            for free in SEPARATORS:
-                if free not in string:
-                    joined = self._regex.replaced(raw, free.encode(), most)
-                    return cast(List[Optional[str]], joined.split(free))
+            for spans in self._regex.pieces(raw, most):
+                pieces += texts_at(spans, string, raw)
+            return pieces
         part, end = part_of(string, raw), 0
-        pieces: List[Optional[str]] = []
         for row in self._rows(raw, most):
             pieces.append(part(end, row[1]))
             pieces += [part(row[i + 1], row[i + 2]) if row[i] else None

@@ -38,6 +38,12 @@ class Walk(ctypes.Structure):
     _fields_ = [('is_begun', c_bool), ('end', c_size_t)]
 
 
+class Cut(ctypes.Structure):
+    """How far a text has been split."""
+
+    _fields_ = [('walk', Walk), ('is_over', c_bool)]
+
+
 class Replacing(ctypes.Structure):
     """How matches are replaced, and how long the new text is."""
 

@@ -163,6 +163,17 @@ class Lists(unittest.TestCase):
                 self.assertEqual(regex_lite.split(pattern, text, most),
                                  re.split(pattern, text, maxsplit=most))
 
+    def test_split_into_many_pieces(self):
+        """More of them than there is room for in one call."""
+        for text in ('ab12' * 30000, 'é-3' * 30000, '1' * 9000):
+            for pattern in ('[0-9]', '[0-9]+', '[a-z]*[0-9]', '(?m)^|[0-9]$'):
+                pieces = re.split(pattern, text)
+                self.assertEqual(regex_lite.split(pattern, text), pieces)
+                room = 16 + len(text.encode()) // 64  # of the first call
+                for most in (1, room - 1, room, room + 1, 5 * room, len(pieces) - 1, len(pieces)):
+                    self.assertEqual(regex_lite.split(pattern, text, most),
+                                     re.split(pattern, text, maxsplit=most))
+
     def test_split_of_control_characters(self):
         for text in ('\0a\0b', '\0\1\2\3a\3\2\1\0', 'é\3a\2a\1a\0', 'aaa'):
             for pattern in ('a', '(a)', '(a)|(b)', '\0', '\3|é', r'\x01'):

@@ -11,6 +11,7 @@ from regex_lite._literals import literal_of
 ORDER = random.Random(20261129)
 ALPHABETS = ('ab', 'a ,', 'aé', 'ab.*', '\\.-#', '☃💩a', 'a\n\r', '[]{}()^$|+?~&')
 TEXTS = 400  # of each alphabet
+CONTROLS = {r'\a': '\a', r'\f': '\f', r'\n': '\n', r'\r': '\r', r'\t': '\t', r'\v': '\v'}
 
 
 def by_library(pattern: str) -> regex_lite.Pattern:
@@ -49,16 +50,18 @@ class Literals(unittest.TestCase):
             for pattern in (character, '\\' + character):
                 found = literal_of(pattern, 0)
                 if found is not None:
-                    self.assertEqual(found, character)
-                    string = f'a{character * 3}b'
+                    self.assertEqual(found, CONTROLS.get(pattern, character))
+                    string = f'a{found * 3}b'
                     self.assertEqual(by_library(f'(?:{pattern}){{3}}').search(string).group(),
-                                     character * 3)
+                                     found * 3)
+        for pattern, character in CONTROLS.items():
+            self.assertEqual(literal_of(f'a{pattern}b', 0), f'a{character}b')
         for separator in ' ,;:\t\n-/=&#_':
             self.assertEqual(literal_of(separator, 0), separator)
 
     def test_others(self) -> None:
-        for pattern in ('', 'a*', 'a|b', '.', '[a]', '(a)', '^a', 'a$', r'\d', r'\n', r'\b', 'a{2}',
-                        '(?i)a', r'\\\d', 'a.', r'\<'):
+        for pattern in ('', 'a*', 'a|b', '.', '[a]', '(a)', '^a', 'a$', r'\d', r'\x0a', r'\b',
+                        'a{2}', '(?i)a', r'\\\d', 'a.', r'\<'):
             self.assertIsNone(literal_of(pattern, 0), pattern)
         self.assertIsNone(literal_of('a b', regex_lite.X))
         self.assertIsNone(literal_of('a', regex_lite.I))
