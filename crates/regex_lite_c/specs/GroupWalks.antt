@@ -13,16 +13,16 @@ use Rattle.regex_lite_c.specs.Walks.{NoneComes, WalkRoom, ended_of}
 use Rattle.regex_lite_c.specs.declared.answer.TheConstants.{NO, YES, NO_ROOM, OUT_OF_MEMORY}
 use Rattle.regex_lite_c.specs.declared.list.types.ListGroups.{ListGroups}
 use Rattle.regex_lite_c.specs.declared.types.Span.{Span}
-use Rattle.regex_lite_c.specs.declared.types.Walk.{Walk}
+use Rattle.regex_lite_c.specs.declared.types.MatchWalk.{MatchWalk}
 
 -- what a walk over groups writes to: how far it has gone, the room for what is told of each match,
 -- and the room for spans
 pub record GroupRoom (T : Type 0) : Type 0 where
-  pub walk : Walk
+  pub walk : MatchWalk
   pub told : List T
   pub room : List Span
 
-abbrev pub group_room : {T : Type 0} → Walk → List T → List Span → GroupRoom T
+abbrev pub group_room : {T : Type 0} → MatchWalk → List T → List Span → GroupRoom T
 group_room walk told room = record { walk = walk; told = told; room = room }
 
 -- the spans of all these groups in a row, each those of an answer
@@ -114,7 +114,7 @@ IsGroupWalkAnswer re bytes old new count answer =
     (group_room new.walk [] new.room) count answer
 
 -- and for several patterns, with what is told of each match
-abbrev pub list_group_room : Walk → List ListGroups → List Span → GroupRoom ListGroups
+abbrev pub list_group_room : MatchWalk → List ListGroups → List Span → GroupRoom ListGroups
 list_group_room walk told room = group_room walk told room
 
 abbrev pub IsListGroupWalkAnswer : List Expression → (bytes : List ℕ)

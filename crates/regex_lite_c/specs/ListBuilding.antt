@@ -13,7 +13,7 @@ use Rattle.regex_lite_c.specs.declared.answer.TheConstants.{YES, NOT_TEXT, BAD_O
 use Rattle.regex_lite_c.specs.declared.answer.TheConstants.{OUT_OF_MEMORY}
 use Rattle.regex_lite_c.specs.declared.list.build.Refused.{Refused}
 use Rattle.regex_lite_c.specs.declared.list.build.Refused.TheVariants as refused
-use Rattle.regex_lite_c.specs.declared.list.patterns.Source.{Source}
+use Rattle.regex_lite_c.specs.declared.list.patterns.PatternSource.{PatternSource}
 use Rattle.regex_lite_c.specs.declared.list.types.ListPattern.{ListPattern}
 use Rattle.regex_lite_c.specs.declared.list.types.ListRefusal.{ListRefusal}
 
@@ -32,7 +32,7 @@ settings_of_all bytes (pattern ∷ patterns) =
     settings_of (take pattern.len bytes) pattern.options
     ∷ settings_of_all (drop pattern.len bytes) patterns
 
-abbrev pub settings_of_source : Source → Settings
+abbrev pub settings_of_source : PatternSource → Settings
 settings_of_source source = settings_of source.text.now source.options.now
 
 -- each of the patterns is UTF-8

@@ -10,18 +10,18 @@ use Rattle.regex_lite_c.specs.Spans.{AreWrittenAs}
 use Rattle.regex_lite_c.specs.declared.answer.TheConstants.{NO, YES, NO_ROOM}
 use Rattle.regex_lite_c.specs.declared.list.types.ListSpan.{ListSpan}
 use Rattle.regex_lite_c.specs.declared.types.Span.{Span}
-use Rattle.regex_lite_c.specs.declared.types.Walk.{Walk}
+use Rattle.regex_lite_c.specs.declared.types.MatchWalk.{MatchWalk}
 
 -- where the last match ended, if there was one
-abbrev pub ended_of : Walk → Option ℕ
+abbrev pub ended_of : MatchWalk → Option ℕ
 ended_of walk = cond walk.is_begun (Some walk.end) None
 
 -- what a walk writes to: how far it has gone, and the caller's room
 pub record WalkRoom (X : Type 0) : Type 0 where
-  pub walk : Walk
+  pub walk : MatchWalk
   pub room : List X
 
-abbrev pub walk_room : {X : Type 0} → Walk → List X → WalkRoom X
+abbrev pub walk_room : {X : Type 0} → MatchWalk → List X → WalkRoom X
 walk_room walk room = record { walk = walk; room = room }
 
 -- these are the first of the matches ahead, as many as there is room for, or all where they are
@@ -40,7 +40,7 @@ NoneComes kind ahead = AnswerComesNext kind.found_of kind.IsAnswerTo ahead None
 
 -- the walk goes on where the last of this many ends
 pub record GoesOnAfterLast {X : Type 0} (end_of : X → ℕ) (written : List X) (count : ℕ)
-    (walk : Walk) : Type 0 where
+    (walk : MatchWalk) : Type 0 where
   pub some : 0 < count
   pub end : (k : ℕ) → suc k ≡ count → option_map end_of (slice_get written k) ≡ ended_of walk
 

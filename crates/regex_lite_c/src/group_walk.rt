@@ -11,7 +11,7 @@ use crate::groups::put_groups;
 use crate::handle::{Handle, Holds};
 use crate::sought::{GroupsAhead, Sought};
 use crate::text::text_from;
-use crate::types::{Span, Walk};
+use crate::types::{MatchWalk, Span};
 use crate::written::Written;
 use std::alloc::Global;
 
@@ -27,7 +27,7 @@ pub extern "C" fn regex_lite_captures_all(
     alloc: Global,
     handle: &mut Handle,
     text: &[u8],
-    walk: &mut Walk,
+    walk: &mut MatchWalk,
     spans: &mut [Span],
     count: &mut usize,
 ) -> u32
@@ -52,7 +52,7 @@ pub extern "C" fn regex_lite_captures_all(
 pub(crate) fn captures_all<P: Sought>(
     sought: &P,
     text: &[u8],
-    walk: &mut Walk,
+    walk: &mut MatchWalk,
     told: &mut [P::Told],
     spans: &mut [Span],
 ) -> (u32, usize)
@@ -69,7 +69,7 @@ pub(crate) fn captures_all<P: Sought>(
 /// Writes the groups of the next matches, and where the last of these ends.
 pub(crate) fn fill_groups<'h, M: GroupsAhead<'h>>(
     matches: &mut M,
-    walk: &mut Walk,
+    walk: &mut MatchWalk,
     told: &mut [<M::Sought as Written>::Told],
     spans: &mut [Span],
 ) -> (u32, usize)
@@ -89,7 +89,7 @@ pub(crate) fn fill_groups<'h, M: GroupsAhead<'h>>(
                 }
                 put_groups(&caps, spans, used);
                 put_told::<M::Sought>(told, count, own);
-                *walk = Walk::after(&Span::of_group(caps.get(0)));
+                *walk = MatchWalk::after(&Span::of_group(caps.get(0)));
                 used += caps.len();
                 count += 1;
             }

@@ -6,7 +6,7 @@ ghost use Rattle.regex_lite.specs.Expression.{Expression};
 ghost use Rattle.regex_lite.specs.contracts.string.list.RegexList as patterns;
 ghost use Rattle.regex_lite.specs.contracts.string.regex.Regex as regex;
 
-use crate::place::Place;
+use crate::place::HeapPlace;
 use regex_lite::{Regex, RegexList, Unboxed};
 use std::alloc::Global;
 use std::marker::Model;
@@ -53,11 +53,11 @@ pub(crate) trait Holds: Drop {
     ghost held: { Self → Option Self.Value };
 
     /// The handle of what is at this place.
-    fn from_place(place: Place<Self::Value>) -> Self
+    fn from_place(place: HeapPlace<Self::Value>) -> Self
         ensures { held result ≡ place.value };
 
     /// The place of what is held.
-    fn into_place(self) -> Place<Self::Value>
+    fn into_place(self) -> HeapPlace<Self::Value>
         ensures { result.value ≡ held self };
 
     /// The value, which the handle no longer holds.
@@ -66,7 +66,7 @@ pub(crate) trait Holds: Drop {
             (λ value. held self.old ≡ Some value.value) }
         ensures nothing { held self.new ≡ None }
     {
-        let old = std::mem::replace(self, Self::from_place(Place::nothing()));
+        let old = std::mem::replace(self, Self::from_place(HeapPlace::nothing()));
         match old.into_place().into_unboxed(alloc) {
             Some(value) => Some(value.into_box()),
             None => None,
@@ -80,7 +80,7 @@ pub(crate) trait Holds: Drop {
         requires { held self.old ≡ None }
         ensures { held self.new ≡ Some value.value }
     {
-        *self = Self::from_place(Place::of(Unboxed::of(value)));
+        *self = Self::from_place(HeapPlace::of(Unboxed::of(value)));
     }
 }
 
@@ -111,20 +111,20 @@ impl Holds for Handle {
 
     ghost held = { λ handle. handle.value };
 
-    fn from_place(place: Place<Regex>) -> Handle
+    fn from_place(place: HeapPlace<Regex>) -> Handle
         ensures { result.value ≡ place.value }
     {
-        let Place { ptr } = place;
+        let HeapPlace { ptr } = place;
         let ptr = ptr as *mut u8;
         Handle { ptr }
     }
 
-    fn into_place(self) -> Place<Regex>
+    fn into_place(self) -> HeapPlace<Regex>
         ensures { result.value ≡ self.value }
     {
         let Handle { ptr } = self;
         let ptr = ptr as *mut Regex;
-        Place { ptr }
+        HeapPlace { ptr }
     }
 }
 
@@ -133,19 +133,19 @@ impl Holds for ListHandle {
 
     ghost held = { λ handle. handle.value };
 
-    fn from_place(place: Place<RegexList>) -> ListHandle
+    fn from_place(place: HeapPlace<RegexList>) -> ListHandle
         ensures { result.value ≡ place.value }
     {
-        let Place { ptr } = place;
+        let HeapPlace { ptr } = place;
         let ptr = ptr as *mut u8;
         ListHandle { ptr }
     }
 
-    fn into_place(self) -> Place<RegexList>
+    fn into_place(self) -> HeapPlace<RegexList>
         ensures { result.value ≡ self.value }
     {
         let ListHandle { ptr } = self;
         let ptr = ptr as *mut RegexList;
-        Place { ptr }
+        HeapPlace { ptr }
     }
 }

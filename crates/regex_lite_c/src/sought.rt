@@ -9,7 +9,7 @@ ghost use Rattle.regex_lite_c.specs.Walks.{AreListed, NoneComes, ended_of};
 
 mod regex;
 
-use crate::types::{Cost, Span, Walk};
+use crate::types::{Cost, MatchWalk, Span};
 use crate::written::Written;
 use regex_lite::{Captures, Error};
 
@@ -61,7 +61,7 @@ pub(crate) trait Sought: Written + Drop {
     fn write_groups_after(
         &self,
         text: &str,
-        walk: &mut Walk,
+        walk: &mut MatchWalk,
         told: &mut [Self::Told],
         spans: &mut [Span],
     ) -> (u32, usize)

@@ -7,7 +7,7 @@ ghost use Rattle.regex_lite_c.specs.Walks.{ended_of};
 use crate::answer::{NO, NO_ROOM, NOTHING_HELD, OUT_OF_MEMORY, YES};
 use crate::handle::{Handle, Holds};
 use crate::text::text_from;
-use crate::types::{Cut, Span, Walk};
+use crate::types::{Cut, MatchWalk, Span};
 use regex_lite::{Matches, Regex};
 use std::alloc::Global;
 
@@ -86,7 +86,7 @@ fn put_pieces(
         match matches.next() {
             Some(found) => {
                 pieces[k] = Span::between(from, found.start());
-                cut.walk = Walk::after(&Span::of(&found));
+                cut.walk = MatchWalk::after(&Span::of(&found));
             }
             None => {
                 pieces[k] = Span::between(from, len);

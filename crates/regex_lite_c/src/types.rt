@@ -161,14 +161,14 @@ pub struct Replacing {
 /// How far a walk over the matches of a text has come.
 #[repr(C)]
 #[derive(Clone, Copy)]
-pub struct Walk {
+pub struct MatchWalk {
     /// Whether a match has been found yet.
     pub is_begun: bool,
     /// Where the last one ended.
     pub end: usize,
 }
 
-impl Walk {
+impl MatchWalk {
     /// Where the last match ended, if there was one.
     pub(crate) fn ended(&self) -> Option<usize>
         ensures { result ≡ ended_of self.now }
@@ -177,10 +177,10 @@ impl Walk {
     }
 
     /// After the match with this span.
-    pub(crate) fn after(span: &Span) -> Walk
+    pub(crate) fn after(span: &Span) -> MatchWalk
         ensures { ended_of result ≡ Some span.now.end }
     {
-        Walk {
+        MatchWalk {
             is_begun: true,
             end: span.end,
         }
@@ -192,7 +192,7 @@ impl Walk {
 #[derive(Clone, Copy)]
 pub struct Cut {
     /// The matches before which pieces were written.
-    pub walk: Walk,
+    pub walk: MatchWalk,
     /// Whether the last piece was written.
     pub is_over: bool,
 }

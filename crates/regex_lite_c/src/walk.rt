@@ -7,7 +7,7 @@ use crate::answer::{NO, NO_ROOM, NOTHING_HELD, OUT_OF_MEMORY, YES};
 use crate::handle::{Handle, Holds};
 use crate::sought::{Sought, Spans};
 use crate::text::text_from;
-use crate::types::{Span, Walk};
+use crate::types::{MatchWalk, Span};
 use crate::written::Written;
 use std::alloc::Global;
 
@@ -23,7 +23,7 @@ pub extern "C" fn regex_lite_find_all(
     alloc: Global,
     handle: &mut Handle,
     text: &[u8],
-    walk: &mut Walk,
+    walk: &mut MatchWalk,
     spans: &mut [Span],
     count: &mut usize,
 ) -> u32
@@ -46,7 +46,7 @@ pub extern "C" fn regex_lite_find_all(
 pub(crate) fn find_all<P: Sought>(
     sought: &P,
     text: &[u8],
-    walk: &mut Walk,
+    walk: &mut MatchWalk,
     spans: &mut [P::Span],
     count: &mut usize,
 ) -> u32
@@ -72,7 +72,7 @@ pub(crate) fn find_all<P: Sought>(
 }
 
 /// Goes on after the last of these matches, if there is one.
-fn go_on<P: Written>(walk: &mut Walk, spans: &[P::Span], count: usize) -> u32
+fn go_on<P: Written>(walk: &mut MatchWalk, spans: &[P::Span], count: usize) -> u32
     requires { count ≤ length spans.now }
     ensures found { 0 < count
         → (result ≡ YES) × GoesOnAfterLast P.kind.end_of spans.now count walk.new }
@@ -82,7 +82,7 @@ fn go_on<P: Written>(walk: &mut Walk, spans: &[P::Span], count: usize) -> u32
         return NO;
     }
     let end = P::end_of(&spans[count - 1]);
-    *walk = Walk {
+    *walk = MatchWalk {
         is_begun: true,
         end,
     };

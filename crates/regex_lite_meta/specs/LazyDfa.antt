@@ -10,4 +10,5 @@ pub mod Scanning
 pub mod Spots
 pub mod Learning
 pub mod Running
+pub mod Starting
 pub mod Remembering

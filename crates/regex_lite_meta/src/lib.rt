@@ -1,13 +1,13 @@
 //! How a graph is searched: which search is taken, and the one that remembers its turns.
 //!
 //! [`search`], [`search_any`] and [`search_shortest`] search a graph once, and [`search_list`],
-//! [`search_list_uncounted`] and [`search_list_any`] that of several patterns. A [`Searcher`]
-//! searches one graph again and again in the same memory, and a [`ListSearcher`] that of several
-//! patterns. [`search_each`] and [`search_each_uncounted`] say which of several patterns match, and
-//! a [`SetSearcher`] does so again and again in the same memory. Each goes by a lazy automaton
-//! (`lazy_dfa`) where that pays, and otherwise by one of the two searches of `regex_lite_engine`.
-//! All of them return the same. A [`SlotSearcher`] finds the slots of matches that another search
-//! has found.
+//! [`search_list_uncounted`] and [`search_list_any`] that of several patterns. A [`GraphSearcher`]
+//! searches one graph again and again in the same memory, and a [`GraphListSearcher`] that of
+//! several patterns. [`search_each`] and [`search_each_uncounted`] say which of several patterns
+//! match, and a [`GraphSetSearcher`] does so again and again in the same memory. Each goes by a
+//! lazy automaton (`lazy_dfa`) where that pays, and otherwise by one of the two searches of
+//! `regex_lite_engine`. All of them return the same. A [`SlotSearcher`] finds the slots of matches
+//! that another search has found.
 #![tactic(auto)]
 
 mod lazy_dfa;
@@ -24,10 +24,10 @@ mod slots;
 mod strategy;
 
 pub use list_matches::{search_each, search_each_uncounted};
-pub use list_searcher::ListSearcher;
+pub use list_searcher::GraphListSearcher;
 pub use once::{
     search, search_any, search_list, search_list_any, search_list_uncounted, search_shortest,
 };
-pub use searcher::Searcher;
-pub use set_searcher::SetSearcher;
+pub use searcher::GraphSearcher;
+pub use set_searcher::GraphSetSearcher;
 pub use slot_searcher::SlotSearcher;

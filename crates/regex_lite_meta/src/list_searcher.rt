@@ -18,7 +18,7 @@ use std::marker::Model;
 
 /// The graph of several patterns, and the memory in which it is searched, search after search.
 #[derive(Drop)]
-pub struct ListSearcher<'g> {
+pub struct GraphListSearcher<'g> {
     graph: &'g GraphList,
     inner: Inner<'g>,
 }
@@ -33,7 +33,7 @@ pub(crate) enum Inner<'g> {
     Several(SeveralSearcher<'g>),
 }
 
-impl<'g> Model for ListSearcher<'g> {
+impl<'g> Model for GraphListSearcher<'g> {
     ghost use Rattle.regex_lite_meta.specs.Memories.{SearchesList, row_of_list};
     ghost use Rattle.regex_lite_meta.specs.Searching.{ListSearching};
 
@@ -47,7 +47,7 @@ impl<'g> Model for ListSearcher<'g> {
     ghost invariant = { λ searcher. SearchesList searcher.graph.now searcher.inner };
 }
 
-impl<'g> ListSearcher<'g> {
+impl<'g> GraphListSearcher<'g> {
     /// A searcher of this graph, whose matches have `slots` slots, for haystacks of about `bytes`
     /// bytes. All the memory that its searches need is asked for here. In long haystacks its
     /// searches may remember their turns, unless the memory for that is refused: the results are
@@ -61,21 +61,21 @@ impl<'g> ListSearcher<'g> {
         graph: &'g GraphList,
         slots: usize,
         bytes: usize,
-    ) -> Result<ListSearcher<'g>, AllocError>
+    ) -> Result<GraphListSearcher<'g>, AllocError>
         ensures graph { IfOk result (λ searcher. searcher.graph ≡ graph.now) }
         ensures slots { IfOk result (λ searcher. length searcher.slots ≡ slots) }
     {
         if slots == 0 {
             if let Some(words) = graph.words() {
                 let inner = Inner::Words(words);
-                return Ok(ListSearcher { graph, inner });
+                return Ok(GraphListSearcher { graph, inner });
             }
         }
         let inner = match graph.alone() {
             Some(pattern) => { Inner::One(PatternSearcher::new(alloc, &pattern, slots, bytes)?) }
             None => Inner::Several(SeveralSearcher::new(alloc, graph, slots, bytes)?),
         };
-        Ok(ListSearcher { graph, inner })
+        Ok(GraphListSearcher { graph, inner })
     }
 
     /// One for several patterns that finds a match first, in this way, and then its slots: depth
@@ -86,12 +86,12 @@ impl<'g> ListSearcher<'g> {
         slots: usize,
         by: SpanSearch,
         pairs: usize,
-    ) -> Result<ListSearcher<'g>, AllocError>
+    ) -> Result<GraphListSearcher<'g>, AllocError>
         ensures graph { IfOk result (λ searcher. searcher.graph ≡ graph.now) }
         ensures slots { IfOk result (λ searcher. length searcher.slots ≡ slots) }
     {
         let several = SeveralSearcher::span_first(alloc, graph, slots, by, pairs)?;
-        Ok(ListSearcher {
+        Ok(GraphListSearcher {
             graph,
             inner: Inner::Several(several),
         })
@@ -99,7 +99,7 @@ impl<'g> ListSearcher<'g> {
 
     /// The match that starts first at or after this offset, of the pattern with the lowest number
     /// that matches there: that number, and where the most preferred match of the pattern starts
-    /// and ends. It takes no memory, and [`ListSearcher::slots`] has the slots of the match.
+    /// and ends. It takes no memory, and [`GraphListSearcher::slots`] has the slots of the match.
     ///
     /// Condition: the start is above the haystack's length or on a character boundary.
     pub fn search(&mut self, haystack: &str, start: usize) -> Option<(usize, (usize, usize))>
@@ -125,8 +125,8 @@ impl<'g> ListSearcher<'g> {
     }
 
     /// Whether any pattern has a match that starts at or after this offset. The search is over at
-    /// the first match that it comes to, and takes no memory. What [`ListSearcher::slots`] has then
-    /// belongs to no match.
+    /// the first match that it comes to, and takes no memory. What [`GraphListSearcher::slots`] has
+    /// then belongs to no match.
     ///
     /// Condition: the start is above the haystack's length or on a character boundary.
     pub fn search_any(&mut self, haystack: &str, start: usize) -> bool

@@ -13,7 +13,7 @@ ghost use Rattle.regex_lite_engine.specs.Search.Outcomes.{IsOutcome, IsEndOutcom
 ghost use Rattle.regex_lite_engine.specs.Search.Outcomes.{HasCostOfList, IsOutcomeOfList};
 
 use crate::lazy_dfa::single::list::{search_any_remembering, search_list_remembering};
-use crate::list_searcher::ListSearcher;
+use crate::list_searcher::GraphListSearcher;
 use crate::one::{search_any_one, search_one, search_shortest_one};
 use crate::strategy::{Searched, SpanSearch, Strategy, Wanted, choose};
 use regex_lite_engine::nfa::list::GraphList;
@@ -183,7 +183,7 @@ pub fn search_list_uncounted(
         let (told, _) = search_list(list, alloc, haystack, start, slots)?;
         return Ok(told);
     };
-    let mut searcher = ListSearcher::span_first(alloc, list, slots, by, pairs)?;
+    let mut searcher = GraphListSearcher::span_first(alloc, list, slots, by, pairs)?;
     let Some((number, (from, end))) = searcher.search(haystack, start) else {
         return Ok(None);
     };

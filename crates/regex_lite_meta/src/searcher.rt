@@ -15,12 +15,12 @@ use std::marker::Model;
 
 /// A graph, and the memory in which it is searched, search after search.
 #[derive(Drop)]
-pub struct Searcher<'g> {
+pub struct GraphSearcher<'g> {
     graph: &'g Graph,
     inner: PatternSearcher,
 }
 
-impl<'g> Model for Searcher<'g> {
+impl<'g> Model for GraphSearcher<'g> {
     ghost use Rattle.regex_lite_meta.specs.Memories.{SearchesForOne};
     ghost use Rattle.regex_lite_meta.specs.Searching.{Searching};
     ghost use Rattle.regex_lite_engine.specs.Graph.Stored.{table_of};
@@ -36,7 +36,7 @@ impl<'g> Model for Searcher<'g> {
         SearchesForOne (table_of searcher.graph.now) searcher.graph.now.start searcher.inner };
 }
 
-impl<'g> Searcher<'g> {
+impl<'g> GraphSearcher<'g> {
     /// A searcher of this graph, whose matches have `slots` slots, for haystacks of about `bytes`
     /// bytes. All the memory that its searches need is asked for here. In long haystacks its
     /// searches remember their turns, unless the memory for that is refused: the results are the
@@ -50,17 +50,17 @@ impl<'g> Searcher<'g> {
         graph: &'g Graph,
         slots: usize,
         bytes: usize,
-    ) -> Result<Searcher<'g>, AllocError>
+    ) -> Result<GraphSearcher<'g>, AllocError>
         ensures graph { IfOk result (λ searcher. searcher.graph ≡ graph.now) }
         ensures slots { IfOk result (λ searcher. length searcher.slots ≡ slots) }
     {
         let pattern = graph.pattern();
         let inner = PatternSearcher::new(alloc, &pattern, slots, bytes)?;
-        Ok(Searcher { graph, inner })
+        Ok(GraphSearcher { graph, inner })
     }
 
     /// Where the most preferred match starts and ends, from the least start at or after this
-    /// offset. It needs no memory, and [`Searcher::slots`] has the slots of the match.
+    /// offset. It needs no memory, and [`GraphSearcher::slots`] has the slots of the match.
     ///
     /// Condition: the start is above the haystack's length or on a character boundary.
     pub fn search(&mut self, haystack: &str, start: usize) -> Option<(usize, usize)>
@@ -78,8 +78,8 @@ impl<'g> Searcher<'g> {
     }
 
     /// Whether there is a match that starts at or after this offset. The search is over at the
-    /// first match that it comes to, and needs no memory. What [`Searcher::slots`] has then belongs
-    /// to no match.
+    /// first match that it comes to, and needs no memory. What [`GraphSearcher::slots`] has then
+    /// belongs to no match.
     ///
     /// Condition: the start is above the haystack's length or on a character boundary.
     pub fn search_any(&mut self, haystack: &str, start: usize) -> bool

@@ -18,7 +18,7 @@ use std::marker::Model;
 /// The graph of several patterns, and the memory in which each of them is searched for, haystack
 /// after haystack.
 #[derive(Drop)]
-pub struct SetSearcher<'g> {
+pub struct GraphSetSearcher<'g> {
     graph: &'g GraphList,
     /// Without a pattern nothing is searched for.
     kept: Option<Kept>,
@@ -26,7 +26,7 @@ pub struct SetSearcher<'g> {
     pass: Option<ListPass<'g>>,
 }
 
-impl<'g> Model for SetSearcher<'g> {
+impl<'g> Model for GraphSetSearcher<'g> {
     ghost use Rattle.regex_lite_engine.specs.Graph.StoredList.{StoredList};
     ghost use Rattle.std.specs.Prelude.{IfSome};
     ghost use Rattle.regex_lite_meta.specs.ListMatches.{IsReadyFor};
@@ -40,18 +40,18 @@ impl<'g> Model for SetSearcher<'g> {
         × IfSome searcher.pass (IsPassOf searcher.graph.now) };
 }
 
-impl<'g> SetSearcher<'g> {
+impl<'g> GraphSetSearcher<'g> {
     /// A searcher of this graph. All the memory that its searches need is asked for here.
     ///
     /// # Errors
     ///
     /// If memory runs out.
-    pub fn new(alloc: Global, graph: &'g GraphList) -> Result<SetSearcher<'g>, AllocError>
+    pub fn new(alloc: Global, graph: &'g GraphList) -> Result<GraphSetSearcher<'g>, AllocError>
         ensures { IfOk result (λ searcher. searcher ≡ graph.now) }
     {
         let kept = memory_for(alloc, graph)?;
         let pass = pass_for(alloc, graph)?;
-        Ok(SetSearcher { graph, kept, pass })
+        Ok(GraphSetSearcher { graph, kept, pass })
     }
 
     /// Tells of each pattern, by its number, whether it matches from a position at or after this

@@ -14,8 +14,8 @@ mod searched;
 mod wanted;
 
 pub(crate) use credit::{Credit, pays_in_one_pass};
-use searched::Beginning;
 pub(crate) use searched::Searched;
+use searched::Selectivity;
 pub(crate) use wanted::Wanted;
 
 /// From this number of bytes on a lazy automaton pays for one pattern, if no slots are kept. A
@@ -170,12 +170,12 @@ impl<'g> Searched<'g> {
             return false;
         }
         match self.beginning() {
-            Beginning::Often => !(wanted.is_later() && self.goes_depth_first(wanted, bytes)),
-            Beginning::InRange if wanted.is_each() => bytes >= LONG_BETWEEN_MATCHES,
-            Beginning::InRange | Beginning::Rarely => {
+            Selectivity::Often => !(wanted.is_later() && self.goes_depth_first(wanted, bytes)),
+            Selectivity::InRange if wanted.is_each() => bytes >= LONG_BETWEEN_MATCHES,
+            Selectivity::InRange | Selectivity::Rarely => {
                 !wanted.is_later() && bytes >= LONG_BETWEEN_MATCHES && self.branches()
             }
-            Beginning::Unread | Beginning::Indexed => false,
+            Selectivity::Unread | Selectivity::Indexed => false,
         }
     }
 
@@ -213,7 +213,7 @@ impl<'g> Searched<'g> {
     /// instead of 62. Where few match it costs its memory: `\b(q\w+)\b` took 3.0 instead of 2.1.
     fn pays_for_spans(&self) -> bool {
         let is_small = self.table.places() <= self.most_places();
-        is_small && !matches!(self.beginning(), Beginning::Indexed)
+        is_small && !matches!(self.beginning(), Selectivity::Indexed)
     }
 
     /// Whether one search for a match goes depth first.

@@ -1,12 +1,12 @@
 -- What an error of the code holds, as the refusal that it stands for, and back.
 use Rattle.std.specs.Prelude.{◌≡◌, refl}
-use Rattle.regex_lite_syntax.specs.declared.error.Fault.{Fault}
-use Rattle.regex_lite_syntax.specs.declared.error.Fault.TheVariants.{Syntax, Nesting, Groups}
-use Rattle.regex_lite_syntax.specs.declared.error.Fault.TheVariants.{Limit, Memory, Replace}
+use Rattle.regex_lite_syntax.specs.declared.error.Cause.{Cause}
+use Rattle.regex_lite_syntax.specs.declared.error.Cause.TheVariants.{Syntax, Nesting, Groups}
+use Rattle.regex_lite_syntax.specs.declared.error.Cause.TheVariants.{Limit, Memory, Replace}
 use Rattle.regex_lite_syntax.specs.Errors.{Refusal, syntax_error, too_deep, too_many_groups}
 use Rattle.regex_lite_syntax.specs.Errors.{passed_limit, out_of_memory, refused_replacement}
 
-abbrev pub refusal_of : Fault → Refusal
+abbrev pub refusal_of : Cause → Refusal
 refusal_of (Syntax rule) = syntax_error rule
 refusal_of Nesting = too_deep
 refusal_of Groups = too_many_groups
@@ -14,7 +14,7 @@ refusal_of (Limit limit) = passed_limit limit
 refusal_of Memory = out_of_memory
 refusal_of Replace = refused_replacement
 
-abbrev pub fault_of : Refusal → Fault
+abbrev pub fault_of : Refusal → Cause
 fault_of (syntax_error rule) = Syntax rule
 fault_of too_deep = Nesting
 fault_of too_many_groups = Groups
@@ -23,7 +23,7 @@ fault_of out_of_memory = Memory
 fault_of refused_replacement = Replace
 
 -- the refusal names the fault
-pub fault_back : (fault : Fault) → fault_of (refusal_of fault) ≡ fault
+pub fault_back : (fault : Cause) → fault_of (refusal_of fault) ≡ fault
 fault_back (Syntax rule) = refl
 fault_back Nesting = refl
 fault_back Groups = refl

@@ -51,7 +51,7 @@ pub enum LimitFault {
 
 /// What an [`Error`] holds.
 #[derive(Clone, Copy, PartialEq, Eq, Debug)]
-pub(crate) enum Fault {
+pub(crate) enum Cause {
     Syntax(SyntaxFault),
     Nesting,
     Groups,
@@ -63,7 +63,7 @@ pub(crate) enum Fault {
 /// A refusal. Its text is what `Display` writes.
 #[derive(Clone, PartialEq, Eq, Debug, Drop)]
 pub struct Error {
-    fault: Fault,
+    fault: Cause,
 }
 
 impl Model for Error {
@@ -88,14 +88,14 @@ impl Error {
         ensures { result ≡ kind_of self.now }
     {
         match self.fault {
-            Fault::Syntax(_) => ErrorKind::Syntax,
-            Fault::Nesting => ErrorKind::Nesting,
-            Fault::Groups => ErrorKind::Groups,
-            Fault::Limit(LimitFault::Size) => ErrorKind::Size,
-            Fault::Limit(LimitFault::Places) => ErrorKind::Places,
-            Fault::Limit(LimitFault::Slots) => ErrorKind::Slots,
-            Fault::Memory => ErrorKind::Memory,
-            Fault::Replace => ErrorKind::Replace,
+            Cause::Syntax(_) => ErrorKind::Syntax,
+            Cause::Nesting => ErrorKind::Nesting,
+            Cause::Groups => ErrorKind::Groups,
+            Cause::Limit(LimitFault::Size) => ErrorKind::Size,
+            Cause::Limit(LimitFault::Places) => ErrorKind::Places,
+            Cause::Limit(LimitFault::Slots) => ErrorKind::Slots,
+            Cause::Memory => ErrorKind::Memory,
+            Cause::Replace => ErrorKind::Replace,
         }
     }
 
@@ -105,7 +105,7 @@ impl Error {
             (λ fault. self.now ≡ syntax_error fault) }
     {
         match self.fault {
-            Fault::Syntax(fault) => Some(fault),
+            Cause::Syntax(fault) => Some(fault),
             _ => None,
         }
     }
@@ -115,7 +115,7 @@ impl Error {
         ensures { result ≡ too_deep }
     {
         Error {
-            fault: Fault::Nesting,
+            fault: Cause::Nesting,
         }
     }
 
@@ -124,7 +124,7 @@ impl Error {
         ensures { result ≡ too_many_groups }
     {
         Error {
-            fault: Fault::Groups,
+            fault: Cause::Groups,
         }
     }
 
@@ -133,7 +133,7 @@ impl Error {
         ensures { result ≡ out_of_memory }
     {
         Error {
-            fault: Fault::Memory,
+            fault: Cause::Memory,
         }
     }
 
@@ -142,7 +142,7 @@ impl Error {
         ensures { result ≡ refused_replacement }
     {
         Error {
-            fault: Fault::Replace,
+            fault: Cause::Replace,
         }
     }
 
@@ -151,14 +151,14 @@ impl Error {
         ensures { result.now ≡ text_of self.now }
     {
         match self.fault {
-            Fault::Syntax(fault) => fault.text(),
-            Fault::Nesting => "pattern has too much nesting",
-            Fault::Groups => "too many capture groups",
-            Fault::Limit(LimitFault::Size) => "compiled regex exceeded size limit",
-            Fault::Limit(LimitFault::Places) => "exhausted state IDs, too many states",
-            Fault::Limit(LimitFault::Slots) => "capture group slots exhausted",
-            Fault::Memory => "out of memory",
-            Fault::Replace => "replacement refused",
+            Cause::Syntax(fault) => fault.text(),
+            Cause::Nesting => "pattern has too much nesting",
+            Cause::Groups => "too many capture groups",
+            Cause::Limit(LimitFault::Size) => "compiled regex exceeded size limit",
+            Cause::Limit(LimitFault::Places) => "exhausted state IDs, too many states",
+            Cause::Limit(LimitFault::Slots) => "capture group slots exhausted",
+            Cause::Memory => "out of memory",
+            Cause::Replace => "replacement refused",
         }
     }
 }
@@ -178,7 +178,7 @@ impl From<SyntaxFault> for Error {
 
     fn from(fault: SyntaxFault) -> Error {
         Error {
-            fault: Fault::Syntax(fault),
+            fault: Cause::Syntax(fault),
         }
     }
 }
@@ -188,7 +188,7 @@ impl From<LimitFault> for Error {
 
     fn from(fault: LimitFault) -> Error {
         Error {
-            fault: Fault::Limit(fault),
+            fault: Cause::Limit(fault),
         }
     }
 }

@@ -1,7 +1,7 @@
 //! Why the program ends without an answer.
 ghost use Rattle.std.specs.Prelude.{is_ok};
-ghost use Rattle.rxl.specs.declared.fault.Fault.{Fault};
-ghost use Rattle.rxl.specs.declared.fault.Fault.TheVariants.{Refused};
+ghost use Rattle.rxl.specs.declared.fault.Failure.{Failure};
+ghost use Rattle.rxl.specs.declared.fault.Failure.TheVariants.{Refused};
 ghost use Rattle.rxl.specs.Faults.{IsReadFault, IsReportedAs, line_of_fault};
 ghost use Rattle.rxl.specs.Output.{IsWritten};
 
@@ -13,7 +13,7 @@ use std::io::Write;
 
 /// What goes wrong in a run.
 #[derive(Debug, Drop)]
-pub(crate) enum Fault {
+pub(crate) enum Failure {
     /// The arguments aren't a complete command.
     Usage,
     /// The bytes of standard input aren't valid UTF-8.
@@ -26,14 +26,14 @@ pub(crate) enum Fault {
     Refused(Error),
 }
 
-impl Fault {
+impl Failure {
     /// What a failed read of standard input is reported as.
-    pub(crate) fn of_read(error: io::Error) -> Fault
+    pub(crate) fn of_read(error: io::Error) -> Failure
         ensures { IsReadFault result }
     {
         match error.kind() {
-            io::ErrorKind::OutOfMemory => Fault::Refused(Error::memory()),
-            _ => Fault::Unreadable,
+            io::ErrorKind::OutOfMemory => Failure::Refused(Error::memory()),
+            _ => Failure::Unreadable,
         }
     }
 
@@ -44,26 +44,26 @@ impl Fault {
     ///
     /// A write failed, and a beginning of the line was written.
     pub(crate) fn report<W: Write>(self, alloc: Global, out: &mut W) -> io::Result<()>
-        ensures { (named : Fault) × IsReportedAs self named
+        ensures { (named : Failure) × IsReportedAs self named
             × IsWritten (W.contents out.old) (W.contents out.new) (line_of_fault named)
             (is_ok result) }
     {
         match self {
-            Fault::Usage => write_line(
+            Failure::Usage => write_line(
                 out,
                 "usage: rxl is-match|find|captures|split|replace|escape PATTERN [TEXT]",
             ),
-            Fault::NotUtf8 => write_line(out, "standard input is not UTF-8"),
-            Fault::Unreadable => write_line(out, "standard input cannot be read"),
-            Fault::Unwritten => write_line(out, "standard output cannot be written"),
-            Fault::Refused(error) => report_refusal(error, alloc, out),
+            Failure::NotUtf8 => write_line(out, "standard input is not UTF-8"),
+            Failure::Unreadable => write_line(out, "standard input cannot be read"),
+            Failure::Unwritten => write_line(out, "standard output cannot be written"),
+            Failure::Refused(error) => report_refusal(error, alloc, out),
         }
     }
 }
 
 /// Writes the text of the error and a line feed, or that memory ran out.
 fn report_refusal<W: Write>(error: Error, alloc: Global, out: &mut W) -> io::Result<()>
-    ensures { (named : Fault) × IsReportedAs (Refused error) named
+    ensures { (named : Failure) × IsReportedAs (Refused error) named
         × IsWritten (W.contents out.old) (W.contents out.new) (line_of_fault named)
         (is_ok result) }
 {
@@ -73,25 +73,25 @@ fn report_refusal<W: Write>(error: Error, alloc: Global, out: &mut W) -> io::Res
     }
 }
 
-impl From<Error> for Fault {
+impl From<Error> for Failure {
     ghost use Rattle.std.specs.Prelude.{◌≡◌};
-    ghost use Rattle.rxl.specs.declared.fault.Fault.TheVariants.{Refused};
+    ghost use Rattle.rxl.specs.declared.fault.Failure.TheVariants.{Refused};
 
     ghost from_gives = { λ error fault. fault ≡ Refused error };
 
-    fn from(error: Error) -> Fault {
-        Fault::Refused(error)
+    fn from(error: Error) -> Failure {
+        Failure::Refused(error)
     }
 }
 
-impl From<io::Error> for Fault {
+impl From<io::Error> for Failure {
     ghost use Rattle.std.specs.Prelude.{◌≡◌};
-    ghost use Rattle.rxl.specs.declared.fault.Fault.TheVariants.{Unwritten};
+    ghost use Rattle.rxl.specs.declared.fault.Failure.TheVariants.{Unwritten};
 
     ghost from_gives = { λ _ fault. fault ≡ Unwritten };
 
     /// What a failed write of standard output is reported as.
-    fn from(_: io::Error) -> Fault {
-        Fault::Unwritten
+    fn from(_: io::Error) -> Failure {
+        Failure::Unwritten
     }
 }

@@ -10,7 +10,7 @@ mod fault;
 mod output;
 mod program;
 
-use fault::Fault;
+use fault::Failure;
 use program::run;
 use std::env::Env;
 use std::process::ExitCode;
@@ -46,6 +46,6 @@ fn arguments<R: Env + AllocGlobal>(rt: &R) -> io::Result<Vec<String>> {
 
 /// Prints how the program is used, where there are no arguments to run on.
 fn misused(rt: &HostRuntime) -> ExitCode {
-    let _ = Fault::Usage.report(rt.alloc(), &mut rt.stderr());
+    let _ = Failure::Usage.report(rt.alloc(), &mut rt.stderr());
     ExitCode::from(2)
 }

@@ -2,11 +2,11 @@
 ghost use Rattle.std.specs.Prelude.{◌≡◌, ◌≤◌, ◌++◌, ℕ, List, [], drop, length};
 ghost use Rattle.std.specs.Prelude.{Option, IfErr, IfOk, false, is_ok, codes};
 ghost use Rattle.std.specs.Fmt.{decimal};
-ghost use Rattle.rxl.specs.declared.fault.Fault.TheVariants.{Unwritten};
+ghost use Rattle.rxl.specs.declared.fault.Failure.TheVariants.{Unwritten};
 ghost use Rattle.regex_lite.specs.Errors.{out_of_memory};
 ghost use Rattle.rxl.specs.Output.{IsPrinted, IsWritten, Puts};
 
-use crate::fault::Fault;
+use crate::fault::Failure;
 use regex_lite::Error;
 use std::alloc::Global;
 use std::io;
@@ -87,14 +87,14 @@ impl Output {
     /// # Errors
     ///
     /// `Unwritten` where a write failed, now or before.
-    pub fn finish<W: Write>(self, out: &mut W) -> Result<(), Fault>
+    pub fn finish<W: Write>(self, out: &mut W) -> Result<(), Failure>
         ensures written { (before : Option (List ℕ)) → (text : List ℕ)
             → IsPrinted before (W.contents out.old) self text
             → IsWritten before (W.contents out.new) text (is_ok result) }
         ensures refused { IfErr result (λ fault. fault ≡ Unwritten) }
     {
         if self.has_failed {
-            return Err(Fault::Unwritten);
+            return Err(Failure::Unwritten);
         }
         write_all(out, self.waiting.as_slice())?;
         out.flush()?;

@@ -6,8 +6,8 @@ ghost use Rattle.rxl.specs.Faults.{Ends, IsFaultOf, IsQuestionFault, IsReadFault
 ghost use Rattle.regex_lite.specs.Expression.{IsAccepted};
 ghost use Rattle.regex_lite.specs.Settings.{default_settings};
 ghost use Rattle.regex_lite.specs.Errors.{out_of_memory};
-ghost use Rattle.rxl.specs.declared.fault.Fault.{Fault};
-ghost use Rattle.rxl.specs.declared.fault.Fault.TheVariants.{NotUtf8, Usage};
+ghost use Rattle.rxl.specs.declared.fault.Failure.{Failure};
+ghost use Rattle.rxl.specs.declared.fault.Failure.TheVariants.{NotUtf8, Usage};
 ghost use Rattle.rxl.specs.Commands.{AskForNone};
 ghost use Rattle.rxl.specs.Output.{PutsSome};
 ghost use Rattle.rxl.specs.Printed.{Prints};
@@ -16,7 +16,7 @@ ghost use Rattle.rxl.specs.Program.{IsQuestionAnswered, TakesInput, status_of};
 
 use crate::command::{Command, Question};
 use crate::commands::{print_captures, print_escaped, print_matches, print_pieces, print_replaced};
-use crate::fault::Fault;
+use crate::fault::Failure;
 use crate::output::Output;
 use regex_lite::{Error, Regex};
 use std::alloc::Global;
@@ -41,7 +41,7 @@ pub(crate) fn run<R: Read, O: Write, E: Write>(
     ensures done { result < 2 → IsDone args.now (R.remaining input.old)
         (O.contents out.old) (O.contents out.new) result }
     ensures silent { result < 2 → err.new ≡ err.old }
-    ensures fault { result ≡ 2 → (fault : Fault) × Ends fault args.now (R.remaining input.old)
+    ensures fault { result ≡ 2 → (fault : Failure) × Ends fault args.now (R.remaining input.old)
         (O.contents out.old) (O.contents out.new)
         × IsReported fault (E.contents err.old) (E.contents err.new) }
     ensures usage { AskForNone args.now → (result ≡ 2) × (input.new ≡ input.old)
@@ -66,7 +66,7 @@ fn print_answer<R: Read, W: Write>(
     args: &[&str],
     input: &mut R,
     out: &mut W,
-) -> Result<bool, Fault>
+) -> Result<bool, Failure>
     ensures ok { IfOk result (λ found. IsDone args.now (R.remaining input.old)
         (W.contents out.old) (W.contents out.new) (status_of found)) }
     ensures refused { IfErr result (λ fault. Ends fault args.now (R.remaining input.old)
@@ -77,7 +77,7 @@ fn print_answer<R: Read, W: Write>(
     ensures kept { (text : List ℕ) × Appends (W.contents out.old) (W.contents out.new) text }
 {
     let Some(command) = Command::of(args) else {
-        return Err(Fault::Usage);
+        return Err(Failure::Usage);
     };
     let mut output = Output::new(alloc)?;
     let answer = answer(alloc, command, input, &mut output, out);
@@ -94,7 +94,7 @@ fn answer<R: Read, W: Write>(
     input: &mut R,
     output: &mut Output,
     out: &mut W,
-) -> Result<bool, Fault>
+) -> Result<bool, Failure>
     ensures ok { IfOk result (λ found.
         PutsSome (IsCommandAnswered command.entry (R.remaining input.old) found)
         output.old (W.contents out.old) output.new (W.contents out.new)) }
@@ -118,7 +118,7 @@ fn ask<R: Read, W: Write>(
     input: &mut R,
     output: &mut Output,
     out: &mut W,
-) -> Result<bool, Fault>
+) -> Result<bool, Failure>
     ensures ok { IfOk result (λ found.
         PutsSome (IsQuestionAnswered question.entry pattern.now (R.remaining input.old) found)
         output.old (W.contents out.old) output.new (W.contents out.new)) }
@@ -159,7 +159,7 @@ fn print_question<W: Write>(
 }
 
 /// All bytes that the reader still has.
-fn read_all<R: Read>(alloc: Global, input: &mut R) -> Result<Vec<u8>, Fault>
+fn read_all<R: Read>(alloc: Global, input: &mut R) -> Result<Vec<u8>, Failure>
     ensures ok { IfOk result
         (λ bytes. IfSome (R.remaining input.old) (λ known. bytes.items ≡ known)) }
     ensures refused { IfErr result IsReadFault }
@@ -167,17 +167,17 @@ fn read_all<R: Read>(alloc: Global, input: &mut R) -> Result<Vec<u8>, Fault>
     let mut bytes = Vec::new(alloc);
     match input.read_to_end(&mut bytes) {
         Ok(_) => Ok(bytes),
-        Err(error) => Err(Fault::of_read(error)),
+        Err(error) => Err(Failure::of_read(error)),
     }
 }
 
 /// The bytes as a text.
-fn text_of(bytes: &[u8]) -> Result<&str, Fault>
+fn text_of(bytes: &[u8]) -> Result<&str, Failure>
     ensures ok { IfOk result (λ text. (text.now ≡ bytes.now) × IsUtf8 bytes.now) }
     ensures refused { IfErr result (λ fault. (fault ≡ NotUtf8) × ¬ (IsUtf8 bytes.now)) }
 {
     match str::from_utf8(bytes) {
         Ok(text) => Ok(text),
-        Err(_) => Err(Fault::NotUtf8),
+        Err(_) => Err(Failure::NotUtf8),
     }
 }

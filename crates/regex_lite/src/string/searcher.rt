@@ -18,7 +18,7 @@ use std::marker::Model;
 #[derive(Drop)]
 pub(crate) struct Searcher<'r> {
     regex: &'r Regex,
-    inner: regex_lite_meta::Searcher<'r>,
+    inner: regex_lite_meta::GraphSearcher<'r>,
 }
 
 impl<'r> Model for Searcher<'r> {
@@ -44,7 +44,7 @@ impl<'r> Searcher<'r> {
         ensures refused { IfErr result (λ error. error ≡ out_of_memory) }
     {
         let graph = &regex.compiled.graph;
-        let inner = regex_lite_meta::Searcher::new(regex.alloc, graph, slots, bytes)?;
+        let inner = regex_lite_meta::GraphSearcher::new(regex.alloc, graph, slots, bytes)?;
         Ok(Searcher { regex, inner })
     }
 

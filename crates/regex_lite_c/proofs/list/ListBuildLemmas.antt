@@ -16,7 +16,7 @@ use Rattle.regex_lite.specs.RegexList.{IsDueToLowest}
 use Rattle.regex_lite.specs.Settings.{Settings}
 use Rattle.regex_lite.proofs.ListBuildLemmas.{memory_or_not}
 use Rattle.regex_lite_c.specs.ListBuilding.{AreTexts, IsDueAt, IsEachAccepted, all_len}
-use Rattle.regex_lite_c.specs.declared.list.patterns.Source.{Source}
+use Rattle.regex_lite_c.specs.declared.list.patterns.PatternSource.{PatternSource}
 use Rattle.regex_lite_c.specs.declared.list.types.ListPattern.{ListPattern}
 use Rattle.regex_lite_c.specs.declared.types.Options.{Options}
 use Rattle.regex_lite_syntax.proofs.LookupLemmas.{get_left, get_seam}
@@ -37,7 +37,7 @@ no_options = record {
 abbrev pub no_pattern : ListPattern
 no_pattern = record { len = 0; options = no_options }
 
-abbrev pub no_source : Source
+abbrev pub no_source : PatternSource
 no_source = record {
   text = record { ref_ptr = (0, 0); now = [] };
   options = record { ref_ptr = (0, 0); now = no_options };
@@ -61,7 +61,7 @@ len_step patterns k own less there =
 
 -- this many of the patterns were cut out of the bytes
 pub record IsCut (bytes : List ℕ) (patterns : List ListPattern) (rest : List ℕ) (index : ℕ)
-    (sources : List Source) : Type 0 where
+    (sources : List PatternSource) : Type 0 where
   pub joined : map settings_of_source sources ++ settings_of_all rest (drop index patterns)
       ≡ settings_of_all bytes patterns
   pub texts : AreTexts (map settings_of_source sources)
@@ -79,7 +79,7 @@ texts_more (y ∷ ys) x are is (suc k) own there =
 
 -- one more was
 pub cut_more : (bytes : List ℕ) (patterns : List ListPattern) (rest later : List ℕ) (k : ℕ)
-    (sources new : List Source) (own : ListPattern) (source : Source)
+    (sources new : List PatternSource) (own : ListPattern) (source : PatternSource)
     → IsCut bytes patterns rest k sources → k < length patterns → own ≡ get_or patterns k no_pattern
     → settings_of_source source ≡ settings_of (take own.len rest) own.options
     → IsUtf8 (take own.len rest) → later ≡ drop own.len rest
@@ -111,7 +111,7 @@ cut_more bytes patterns rest later k sources new own source is less there same t
 
 -- the next is no UTF-8
 pub first_other : (bytes : List ℕ) (patterns : List ListPattern) (rest : List ℕ) (k : ℕ)
-    (sources : List Source) (own : ListPattern)
+    (sources : List PatternSource) (own : ListPattern)
     → IsCut bytes patterns rest k sources → k < length patterns → own ≡ get_or patterns k no_pattern
     → (IsUtf8 (take own.len rest) → ⊥)
     → IsFirstOtherBytes (settings_of_all bytes patterns) (length sources)
@@ -215,7 +215,7 @@ refused_together all number error is each texts refuses =
     together (inr (inr passed)) = inr passed
 
 -- the settings of a source that is there
-pub source_at : (sources : List Source) (k : ℕ) → k < length sources
+pub source_at : (sources : List PatternSource) (k : ℕ) → k < length sources
     → slice_get (map settings_of_source sources) k
     ≡ Some (settings_of_source (get_or sources k no_source))
 source_at sources k less =

@@ -4,7 +4,7 @@ use Rattle.regex_lite_c.proofs.Common.{length, slice_set, Some, Option, chars, u
 use Rattle.regex_lite_c.proofs.Common.{ap, ◌∙◌, subst, append-nil, arith, length-append, length-map}
 use Rattle.regex_lite_c.proofs.Common.{map-append, Found, IsAnswerOf, found_span, span_of}
 use Rattle.regex_lite_c.proofs.Common.{AreWritten, ended_of, Span}
-use Rattle.regex_lite_c.specs.declared.types.Walk.{Walk}
+use Rattle.regex_lite_c.specs.declared.types.MatchWalk.{MatchWalk}
 use Rattle.regex_lite.specs.Ahead.{Ahead, IsOver, Passes}
 use Rattle.regex_lite_c.specs.Cuts.{ArePiecesListed, last_end, pieces_before, rest_after, spans_in}
 use Rattle.regex_lite_c.specs.declared.types.Cut.{Cut}
@@ -34,10 +34,10 @@ length_before ended (own ∷ spans) = ap suc (length_before (Some own.1) spans)
 -- where a cut stands: what is ahead, where the caller goes on, and what the room holds
 pub record Stage : Type 0 where
   pub ahead : Ahead
-  pub walk : Walk
+  pub walk : MatchWalk
   pub spans : List Span
 
-abbrev pub cut_stage : Ahead → Walk → List Span → Stage
+abbrev pub cut_stage : Ahead → MatchWalk → List Span → Stage
 cut_stage ahead walk spans = record { ahead = ahead; walk = walk; spans = spans }
 
 -- since the start the pieces before this many matches were written, the first of those ahead there

@@ -11,7 +11,7 @@ ghost use Rattle.regex_lite_c.specs.ListBuilding.{settings_of_all, settings_of_s
 use crate::answer::{BAD_OFFSET, NOT_TEXT, YES, number_of};
 use crate::build::{regex_of, write_message};
 use crate::handle::{Holds, ListHandle};
-use crate::list::patterns::{Source, are_all_bytes, sources};
+use crate::list::patterns::{PatternSource, are_all_bytes, sources};
 use crate::list::types::{ListPattern, ListRefusal};
 use regex_lite::{Error, ErrorKind, RegexList, RegexListBuilder};
 use std::alloc::Global;
@@ -92,7 +92,7 @@ fn built(
 }
 
 /// The list of these patterns, on the heap.
-fn boxed(alloc: Global, sources: &[Source<'_>]) -> Result<Box<RegexList, Global>, Error>
+fn boxed(alloc: Global, sources: &[PatternSource<'_>]) -> Result<Box<RegexList, Global>, Error>
     ensures ok { IfOk result
         (λ list. list.value ≡ map expression_of (map settings_of_source sources.now)) }
     ensures accepted { IfOk result (λ _. AreAccepted (map settings_of_source sources.now)) }
@@ -104,7 +104,7 @@ fn boxed(alloc: Global, sources: &[Source<'_>]) -> Result<Box<RegexList, Global>
 }
 
 /// The list of these patterns.
-fn list_of(alloc: Global, sources: &[Source<'_>]) -> Result<RegexList, Error>
+fn list_of(alloc: Global, sources: &[PatternSource<'_>]) -> Result<RegexList, Error>
     ensures { BuildsList (map settings_of_source sources.now) result }
 {
     let mut builder = RegexListBuilder::new(alloc);
@@ -115,7 +115,7 @@ fn list_of(alloc: Global, sources: &[Source<'_>]) -> Result<RegexList, Error>
 }
 
 /// Adds a pattern under its settings.
-fn push(builder: &mut RegexListBuilder, source: &Source<'_>) -> Result<(), Error>
+fn push(builder: &mut RegexListBuilder, source: &PatternSource<'_>) -> Result<(), Error>
     ensures ok { IfOk result (λ _. builder.new.patterns
         ≡ builder.old.patterns ++ (settings_of_source source.now ∷ [])) }
     ensures refused { IfErr result (λ error. error ≡ out_of_memory) }
@@ -134,7 +134,7 @@ fn push(builder: &mut RegexListBuilder, source: &Source<'_>) -> Result<(), Error
 
 /// Why these patterns, which can't be built for this reason, are refused. If one is refused by
 /// itself, it is named.
-fn why_refused(alloc: Global, sources: &[Source<'_>], error: Error) -> Refused
+fn why_refused(alloc: Global, sources: &[PatternSource<'_>], error: Error) -> Refused
     requires texts { AreTexts (map settings_of_source sources.now) }
     requires refused { BuildsList (map settings_of_source sources.now) (Err error) }
     ensures { IsRefusedAs (map settings_of_source sources.now) result }
@@ -147,7 +147,7 @@ fn why_refused(alloc: Global, sources: &[Source<'_>], error: Error) -> Refused
 
 /// The number of the first pattern that is refused by itself, and why; or the number of patterns,
 /// if memory runs out before that.
-fn lowest_refused(alloc: Global, sources: &[Source<'_>]) -> Option<(usize, Error)>
+fn lowest_refused(alloc: Global, sources: &[PatternSource<'_>]) -> Option<(usize, Error)>
     ensures { MatchOption result (IsEachAccepted (map settings_of_source sources.now))
         (λ told. IsDueAt (map settings_of_source sources.now) told.0 told.1
         × (AreAccepted (map settings_of_source sources.now) → told.1 ≡ out_of_memory)) }

@@ -6,7 +6,7 @@ use crate::answer::NOTHING_HELD;
 use crate::group_walk::captures_all;
 use crate::handle::{Holds, ListHandle};
 use crate::list::types::ListGroups;
-use crate::types::{Span, Walk};
+use crate::types::{MatchWalk, Span};
 use std::alloc::Global;
 
 /// The groups of the next matches of the patterns in a text, as many as there is room for: 1 with
@@ -24,7 +24,7 @@ pub extern "C" fn regex_lite_list_captures_all(
     alloc: Global,
     handle: &mut ListHandle,
     text: &[u8],
-    walk: &mut Walk,
+    walk: &mut MatchWalk,
     told: &mut [ListGroups],
     spans: &mut [Span],
     count: &mut usize,

@@ -11,7 +11,7 @@ use std::alloc::Global;
 
 /// One of several patterns, and its settings.
 #[derive(Clone, Copy)]
-pub(crate) struct Source<'a> {
+pub(crate) struct PatternSource<'a> {
     /// The pattern.
     pub(crate) text: &'a str,
     /// The settings under which it is built.
@@ -37,7 +37,7 @@ pub(crate) fn sources<'a>(
     alloc: Global,
     bytes: &'a [u8],
     patterns: &'a [ListPattern],
-) -> Result<Vec<Source<'a>>, Refused>
+) -> Result<Vec<PatternSource<'a>>, Refused>
     requires { AreAllBytes patterns.now bytes.now }
     ensures ok { IfOk result (λ sources.
         map settings_of_source sources.items ≡ settings_of_all bytes.now patterns.now) }
@@ -54,7 +54,7 @@ pub(crate) fn sources<'a>(
             return Err(Refused::NotText(sources.len()));
         };
         let options = &pattern.options;
-        if sources.push(Source { text, options }).is_err() {
+        if sources.push(PatternSource { text, options }).is_err() {
             return Err(Refused::By(patterns.len(), Error::memory()));
         }
         rest = later;

@@ -4,7 +4,7 @@ use crate::answer::OUT_OF_MEMORY;
 use crate::group_walk::fill_groups;
 use crate::list::types::{ListGroups, ListSpan};
 use crate::sought::{GroupsAhead, Sought, Spans};
-use crate::types::{Cost, Span, Walk};
+use crate::types::{Cost, MatchWalk, Span};
 use crate::walk::fill;
 use regex_lite::{Captures, Error, ListCaptureMatches, ListMatches, RegexList};
 
@@ -87,7 +87,7 @@ impl Sought for RegexList {
     fn write_groups_after(
         &self,
         text: &str,
-        walk: &mut Walk,
+        walk: &mut MatchWalk,
         told: &mut [ListGroups],
         spans: &mut [Span],
     ) -> (u32, usize) {

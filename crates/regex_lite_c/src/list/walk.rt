@@ -5,7 +5,7 @@ ghost use Rattle.regex_lite_c.specs.Walks.{IsListWalkAnswer, walk_room};
 use crate::answer::NOTHING_HELD;
 use crate::handle::{Holds, ListHandle};
 use crate::list::types::ListSpan;
-use crate::types::Walk;
+use crate::types::MatchWalk;
 use crate::walk::find_all;
 use std::alloc::Global;
 
@@ -21,7 +21,7 @@ pub extern "C" fn regex_lite_list_find_all(
     alloc: Global,
     handle: &mut ListHandle,
     text: &[u8],
-    walk: &mut Walk,
+    walk: &mut MatchWalk,
     spans: &mut [ListSpan],
     count: &mut usize,
 ) -> u32

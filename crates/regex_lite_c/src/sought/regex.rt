@@ -3,7 +3,7 @@
 use crate::answer::OUT_OF_MEMORY;
 use crate::group_walk::fill_groups;
 use crate::sought::{GroupsAhead, Sought, Spans};
-use crate::types::{Cost, Span, Walk};
+use crate::types::{Cost, MatchWalk, Span};
 use crate::walk::fill;
 use regex_lite::{CaptureMatches, Captures, Error, Matches, Regex};
 
@@ -79,7 +79,7 @@ impl Sought for Regex {
     fn write_groups_after(
         &self,
         text: &str,
-        walk: &mut Walk,
+        walk: &mut MatchWalk,
         told: &mut [usize],
         spans: &mut [Span],
     ) -> (u32, usize) {

@@ -2,7 +2,7 @@
 use Rattle.regex_lite_engine.proofs.Common.{◌≡◌, ℕ, ◌+◌, ◌≤◌, List, [], ◌∷◌, length, Some, None}
 use Rattle.regex_lite_engine.proofs.Common.{Option, sym, refl, ◌∙◌, subst, arith, searching}
 use Rattle.regex_lite_engine.proofs.Common.{Unwinds, kept_back_with, position_at}
-use Rattle.regex_lite_engine.specs.declared.backtrack.walk.Walk.{Walk}
+use Rattle.regex_lite_engine.specs.declared.backtrack.walk.Backtracker.{Backtracker}
 use Rattle.regex_lite_engine.specs.Backtrack.Machine.{Frame, explore}
 use Rattle.regex_lite_engine.specs.Backtrack.Room.{explores, with_frames, work, left_of}
 use Rattle.regex_lite_engine.specs.Backtrack.Room.{FramesBelow, GoesOn, Went}
@@ -14,7 +14,7 @@ use Rattle.regex_lite_engine.proofs.backtrack.UnwindLemmas.{unwinds_explores, un
 use Rattle.regex_lite_engine.proofs.backtrack.WalkLemmas.{walk_unwinds}
 
 module _ (table : List (Place ℕ)) (haystack : List ℕ) where
-  pub goes_further : (a b c : Walk) (end : Option ℕ) → GoesOn table haystack a b None
+  pub goes_further : (a b c : Backtracker) (end : Option ℕ) → GoesOn table haystack a b None
       → GoesOn table haystack b c end → GoesOn table haystack a c end
   goes_further a b c end one more = record {
     walks = λ s from i w.
@@ -37,7 +37,7 @@ module _ (table : List (Place ℕ)) (haystack : List ℕ) where
   }
 
   -- it ends with a match
-  pub found : (walk walk' walk'' : Walk) (s start at : ℕ)
+  pub found : (walk walk' walk'' : Backtracker) (s start at : ℕ)
       → GoesOn table haystack (with_frames walk (explore s start ∷ [])) walk' None
       → Went table haystack walk' walk'' (Some at)
       → Explores table haystack s start walk walk'' (Some at)
@@ -65,13 +65,13 @@ module _ (table : List (Place ℕ)) (haystack : List ℕ) where
       }
 
   -- frames came off
-  pub record IsBack (walk walk' : Walk) : Type 0 where
+  pub record IsBack (walk walk' : Backtracker) : Type 0 where
     pub on : GoesOn table haystack walk walk' None
     pub fit : IsFit table haystack walk'
     pub less : work table haystack walk' ≤ work table haystack walk
 
   -- the last that was left for later is taken up
-  pub went_back : (walk walk' : Walk) (next : Option (ℕ × ℕ))
+  pub went_back : (walk walk' : Backtracker) (next : Option (ℕ × ℕ))
       → Unwinds walk.stack.row walk.stack.frames next walk'.stack.row walk'.stack.frames
       → walk' ≡ record walk { stack = walk'.stack }
       → length walk'.stack.row ≡ length walk.stack.row → walk'.stack.room ≡ walk.stack.room
@@ -85,7 +85,7 @@ module _ (table : List (Place ℕ)) (haystack : List ℕ) where
       let fewer : length frames ≤ length walk.stack.frames =
       unwinds_fewer next walk'.stack.row walk'.stack.frames walk.stack.row walk.stack.frames back in
       let few_tries = fit.few_tries in let stack_room = fit.stack_room in
-      subst (λ (z : Walk). IsBack walk (with_frames z frames)) (sym same) (record {
+      subst (λ (z : Backtracker). IsBack walk (with_frames z frames)) (sym same) (record {
         on = record {
           walks = λ s from i w.
               walk_unwinds table
@@ -115,7 +115,7 @@ module _ (table : List (Place ℕ)) (haystack : List ℕ) where
       })
 
   -- no frame was left: all ways from the start were followed
-  pub ended : (walk walk' walk'' : Walk) (s start : ℕ)
+  pub ended : (walk walk' walk'' : Backtracker) (s start : ℕ)
       → GoesOn table haystack (with_frames walk (explore s start ∷ [])) walk' None
       → Unwinds walk'.stack.row walk'.stack.frames None walk''.stack.row walk''.stack.frames
       → IsBack walk' walk'' → Explores table haystack s start walk walk'' None

@@ -6,7 +6,7 @@ use Rattle.regex_lite_engine.proofs.Common.{arith, Pairs, pair_number, was_enter
 use Rattle.regex_lite_engine.proofs.Common.{searching, SearchFrom, place_of, place_with}
 use Rattle.regex_lite_engine.proofs.Common.{IsNumberedOutcome, offset, IsOffset, position_at}
 use Rattle.regex_lite_engine.proofs.Common.{IsDeadAt}
-use Rattle.regex_lite_engine.specs.declared.backtrack.walk.Walk.{Walk}
+use Rattle.regex_lite_engine.specs.declared.backtrack.walk.Backtracker.{Backtracker}
 use Rattle.regex_lite_engine.specs.declared.nfa.place.Place as code
 use Rattle.regex_lite_engine.specs.Backtrack.Entering.{Enters}
 use Rattle.regex_lite_engine.specs.Backtrack.Machine.{explore}
@@ -35,7 +35,8 @@ module _ (bytes : List ℕ) (utf8 : IsUtf8 bytes) where
       positions_order (chars bytes) (position_at bytes at) (position_at bytes to) here.0
       (omega (arith, here.1, there.1, le))
 
-  module _ (table : List (Place ℕ)) (walk : Walk) (all : AreAll table bytes walk.visited) (q at : ℕ)
+  module _ (table : List (Place ℕ)) (walk : Backtracker)
+      (all : AreAll table bytes walk.visited) (q at : ℕ)
       (inside : q < length table) (low : walk.visited.first ≤ at)
       (edge : IsCharBoundary bytes at) where
     abbrev position : ℕ
@@ -50,7 +51,7 @@ module _ (bytes : List ℕ) (utf8 : IsUtf8 bytes) where
     is_offset : IsOffset (chars bytes) position at
     is_offset = position_is bytes at utf8 edge
 
-    abbrev before : Walk
+    abbrev before : Backtracker
     before = with_frames walk (explore q at ∷ walk.stack.frames)
 
     -- what was entered before is passed over
@@ -88,13 +89,13 @@ module _ (bytes : List ℕ) (utf8 : IsUtf8 bytes) where
         told true w = w
 
   -- the start at position r is taken up, where those between lead to no end
-  module _ (table : List (Place ℕ)) (s start p r at : ℕ) (walk walk' : Walk)
+  module _ (table : List (Place ℕ)) (s start p r at : ℕ) (walk walk' : Backtracker)
       (begins : walk.visited.first ≡ start) (later : p ≤ r) (low : position_at bytes start ≤ r)
       (is_offset : IsOffset (chars bytes) r at)
       (dead : (k : ℕ) → p ≤ k → k < r → IsDeadAt table (chars bytes) s k)
       (u : IsWalking table (searching table bytes s (position_at bytes start) p 0) walk.visited
       (record walk.stack { frames = [] })) where
-    abbrev begun : Walk
+    abbrev begun : Backtracker
     begun = with_frames walk (explore s at ∷ [])
 
     led_on : (end : Option ℕ) → WalksTo table bytes begun (with_frames walk' []) end

@@ -8,7 +8,7 @@ use Rattle.regex_lite_engine.proofs.Common.{characters_left, lone, CanCount, IsO
 use Rattle.regex_lite_engine.proofs.Common.{IsHere, IsDeadAt, Here}
 use Rattle.std.proofs.lemmas.List.{length-drop}
 use Rattle.std.proofs.lemmas.Str.{IsUtf8-drop}
-use Rattle.regex_lite_engine.specs.declared.backtrack.walk.Walk.{Walk}
+use Rattle.regex_lite_engine.specs.declared.backtrack.walk.Backtracker.{Backtracker}
 use Rattle.regex_lite_engine.specs.Backtrack.Machine.{explore}
 use Rattle.regex_lite_engine.specs.Backtrack.Room.{explores, HasRoom, left_of}
 use Rattle.regex_lite_engine.specs.Backtrack.Searching.{Explores, IsFresh, IsUnderWay}
@@ -57,7 +57,7 @@ module _ (table : List (Place ℕ)) (haystack : List ℕ) (utf8 : IsUtf8 haystac
       omega (arith, few, same, size)
 
   -- where all is left
-  all_left : (walk : Walk) → IsFresh table haystack start walk → (f : Place ℕ → ℕ)
+  all_left : (walk : Backtracker) → IsFresh table haystack start walk → (f : Place ℕ → ℕ)
       → left_of table haystack f walk.visited ≡ sum_by f table * (left + 1)
   all_left walk fresh f =
       left_blank table haystack f walk.visited (length table * (bytes_left + 1)) fresh.none
@@ -68,7 +68,7 @@ module _ (table : List (Place ℕ)) (haystack : List ℕ) (utf8 : IsUtf8 haystac
   kept_fits kept = let few = few_left in mul-le-mul_left kept (omega (arith, few))
 
   -- a search that has not begun
-  pub begun : (walk : Walk) → CanCount table 1 left → IsFresh table haystack start walk
+  pub begun : (walk : Backtracker) → CanCount table 1 left → IsFresh table haystack start walk
       → IsUnderWay table haystack start s first walk
   begun walk counts fresh =
       let inside = (position_is haystack start utf8 edge).0 in
@@ -106,7 +106,7 @@ module _ (table : List (Place ℕ)) (haystack : List ℕ) (utf8 : IsUtf8 haystac
       }
 
   -- from position p it comes to position q
-  module _ (p : ℕ) (walk : Walk) (on : IsUnderWay table haystack start s p walk) (q at : ℕ)
+  module _ (p : ℕ) (walk : Backtracker) (on : IsUnderWay table haystack start s p walk) (q at : ℕ)
       (later : p ≤ q) (is : IsOffset (chars haystack) q at) where
     low : first ≤ q
     low = let from = on.low in omega (arith, from, later)
@@ -139,7 +139,7 @@ module _ (table : List (Place ℕ)) (haystack : List ℕ) (utf8 : IsUtf8 haystac
         }
 
     -- the next start comes, where no way from it leads to a match
-    pub went_on : (walk' : Walk)
+    pub went_on : (walk' : Backtracker)
         → ((k : ℕ) → p ≤ k → k < q → IsDeadAt table (chars haystack) s k)
         → Explores table haystack s at walk walk' None
         → IsUnderWay table haystack start s (q + 1) walk'

@@ -6,7 +6,7 @@ use Rattle.regex_lite_engine.proofs.Common.{chars, sym, refl, ap, ◌∙◌, sub
 use Rattle.regex_lite_engine.proofs.Common.{set-get_or, Pairs, pair_number, was_entered, Held}
 use Rattle.regex_lite_engine.proofs.Common.{kept_back_with, arrow_count, place_of, LeadsBelow}
 use Rattle.regex_lite_engine.proofs.Common.{StepCounts, lone, position_at}
-use Rattle.regex_lite_engine.specs.declared.backtrack.walk.Walk.{Walk}
+use Rattle.regex_lite_engine.specs.declared.backtrack.walk.Backtracker.{Backtracker}
 use Rattle.regex_lite_engine.specs.declared.nfa.place.Place as code
 use Rattle.regex_lite_engine.specs.Backtrack.Entering.{Enters}
 use Rattle.regex_lite_engine.specs.Backtrack.Machine.{explore}
@@ -25,9 +25,9 @@ entered_again pairs q at was =
     ap (λ cells. record pairs { entered = cells })
     (ap (set pairs.entered pair) (sym was) ∙ set-get_or pairs.entered pair false)
 
-module _ (table : List (Place ℕ)) (haystack : List ℕ) (walk : Walk) (q at : ℕ)
+module _ (table : List (Place ℕ)) (haystack : List ℕ) (walk : Backtracker) (q at : ℕ)
     (fit : HasRoom table haystack walk (explore q at ∷ walk.stack.frames)) where
-  abbrev before : Walk
+  abbrev before : Backtracker
   before = with_frames walk (explore q at ∷ walk.stack.frames)
 
   -- the pair was entered before
@@ -146,9 +146,9 @@ module _ (table : List (Place ℕ)) (haystack : List ℕ) (walk : Walk) (q at : 
         }
 
 -- a walk that goes the same way and counts less
-module _ (table : List (Place ℕ)) (haystack : List ℕ) (before walk : Walk)
+module _ (table : List (Place ℕ)) (haystack : List ℕ) (before walk : Backtracker)
     (steps : StepCounts) where
-  abbrev counting_less : Walk
+  abbrev counting_less : Backtracker
   counting_less = record walk { steps = steps }
 
   walks_counting_less : (end : Option ℕ) → WalksTo table haystack before walk end
@@ -190,7 +190,7 @@ module _ (table : List (Place ℕ)) (haystack : List ℕ) (before walk : Walk)
 -- a walk by its parts
 pub same_walk : (pairs pairs' : Pairs) (held : Held) (steps steps' : StepCounts) → pairs ≡ pairs'
     → steps ≡ steps'
-    → ◌≡◌ {A = Walk} (record { visited = pairs; stack = held; steps = steps })
+    → ◌≡◌ {A = Backtracker} (record { visited = pairs; stack = held; steps = steps })
     (record { visited = pairs'; stack = held; steps = steps' })
 same_walk pairs pairs' held steps steps' of_pairs of_steps =
     ap (λ (z : Pairs). record { visited = z; stack = held; steps = steps }) of_pairs

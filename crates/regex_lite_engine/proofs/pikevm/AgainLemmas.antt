@@ -12,7 +12,7 @@ use Rattle.regex_lite_engine.specs.declared.nfa.place.Place as code
 use Rattle.regex_lite_engine.specs.declared.nfa.place.Place.TheVariants as stored
 use Rattle.regex_lite_engine.specs.Graph.Places.{Place}
 use Rattle.regex_lite_engine.specs.Pikevm.Entering.{Enters}
-use Rattle.regex_lite_engine.specs.Pikevm.Machine.{Frame, explore, restore, State}
+use Rattle.regex_lite_engine.specs.Pikevm.Machine.{Job, explore, restore, State}
 use Rattle.regex_lite_engine.specs.Pikevm.Room.{WalksAt}
 use Rattle.regex_lite_engine.specs.Pikevm.Walking.{IsWalking}
 use Rattle.regex_lite_engine.proofs.pikevm.EnterLemmas.{reads_none, walk_enters}
@@ -20,10 +20,10 @@ use Rattle.regex_lite_engine.proofs.pikevm.OwnPartLemmas.{told_within}
 use Rattle.regex_lite_engine.proofs.pikevm.WalkLemmas.{marked_in, walk_framed}
 
 -- the frames are the same but for slots that hold again what they held
-abbrev Loosens : (frames frames' : List Frame) → Type 0
+abbrev Loosens : (frames frames' : List Job) → Type 0
 Loosens frames frames' =
     (frames' ≡ frames)
-    ⊎ ((to : ℕ) × (slot : ℕ) × (old : Option ℕ) × (rest : List Frame) × (frames ≡ explore to ∷ rest)
+    ⊎ ((to : ℕ) × (slot : ℕ) × (old : Option ℕ) × (rest : List Job) × (frames ≡ explore to ∷ rest)
     × (frames' ≡ explore to ∷ (restore slot old ∷ rest)))
 
 module _ (here there : Here) (i : Told) (tell : Told → Told) (m : State) where
@@ -63,7 +63,7 @@ module _ (here there : Here) (i : Told) (tell : Told → Told) (m : State) where
   module _ (e : State) (done : Bool) where
     abbrev EntersAgain : code.Place → Type 0
     EntersAgain x =
-        (other : List Frame)
+        (other : List Job)
         × Enters there (tell i) x (state_retold tell m)
         (record (state_retold tell e) { frames = other }) done
         × Loosens other e.frames
@@ -134,10 +134,10 @@ module _ (here there : Here) (i : Told) (tell : Told → Told) (m : State) where
 
 module _ (table : List (Place ℕ)) (at : SearchAt) (m : State) (i : Told) (ways : List Thread)
     (best : Best) where
-  abbrev Walks : List Frame → Type 0
+  abbrev Walks : List Job → Type 0
   Walks frames = IsWalking table at (record m { row = []; frames = frames }) i ways best
 
-  loosened : (frames frames' : List Frame) → Loosens frames frames' → Walks frames → Walks frames'
+  loosened : (frames frames' : List Job) → Loosens frames frames' → Walks frames → Walks frames'
   loosened frames frames' (inl e) u = subst Walks (sym e) u
   loosened frames frames' (inr (to, slot, old, rest, e, e')) u =
       let u' = subst Walks e u in
@@ -146,7 +146,7 @@ module _ (table : List (Place ℕ)) (at : SearchAt) (m : State) (i : Told) (ways
       (explore to ∷ (restore slot old ∷ rest)) u'.frames_hold)
 
 -- so they are where nothing is left to do
-loose_if : (done : Bool) (frames frames' : List Frame) → Loosens frames frames'
+loose_if : (done : Bool) (frames frames' : List Job) → Loosens frames frames'
     → Loosens (if done then [] else frames) (if done then [] else frames')
 loose_if true frames frames' loose = inl refl
 loose_if false frames frames' loose = loose

@@ -16,7 +16,7 @@ use Rattle.regex_lite_engine.specs.declared.nfa.place.Place as code
 use Rattle.regex_lite_engine.specs.declared.nfa.place.Place.TheVariants as stored
 use Rattle.regex_lite_engine.specs.Graph.Places.{Place}
 use Rattle.regex_lite_engine.specs.Pikevm.Entering.{Enters}
-use Rattle.regex_lite_engine.specs.Pikevm.Machine.{Frame, explore, restore, State}
+use Rattle.regex_lite_engine.specs.Pikevm.Machine.{Job, explore, restore, State}
 use Rattle.regex_lite_engine.specs.Pikevm.Walking.{FramesHold, IsWalking}
 use Rattle.regex_lite_engine.proofs.search.MarkLemmas.{slots_set, slots_past}
 use Rattle.regex_lite_syntax.proofs.OptionLemmas.{not_there, same_some}
@@ -40,7 +40,7 @@ module _ (table : List (Place ℕ)) (at : SearchAt) (state : State) (i : Told) (
   abbrev Told_way : Row → Node → List ℕ → Type 0
   Told_way = WayTold table haystack at.entries i
 
-  abbrev Frames_hold : Row → List Frame → List (Offer Node) → Type 0
+  abbrev Frames_hold : Row → List Job → List (Offer Node) → Type 0
   Frames_hold = FramesHold table haystack at.entries p i
 
   abbrev step : ℕ → Option Node
@@ -106,7 +106,7 @@ module _ (table : List (Place ℕ)) (at : SearchAt) (state : State) (i : Told) (
           )
 
   -- one arrow that stays at the position
-  walk_single : (a : Arrow ℕ) (to : ℕ) (row : Row) (frames : List Frame)
+  walk_single : (a : Arrow ℕ) (to : ℕ) (row : Row) (frames : List Job)
       → place_with table q ≡ with_arrows (a ∷ []) → step 0 ≡ Some (to, p) →
       ((ms : Marks) → HasSlots haystack state.row ms
       → HasSlots haystack row (over (marked (mark_of (place_with table q) 0) p) ms)) →
@@ -216,7 +216,7 @@ module _ (table : List (Place ℕ)) (at : SearchAt) (state : State) (i : Told) (
         walk_blocked (arrow ∷ []) e (one_blocked table haystack q p arrow e hops)
 
     -- a slot is marked
-    walk_marked : (slot to : ℕ) (frames : List Frame)
+    walk_marked : (slot to : ℕ) (frames : List Job)
         → place_with table q ≡ with_arrows (go_marking slot to ∷ [])
         → ((os : List (Offer Node)) → Frames_hold state.row state.frames os
         → Frames_hold (slice_set state.row slot (Some here.at)) frames os)

@@ -14,7 +14,7 @@ use Rattle.regex_lite_engine.specs.declared.nfa.place.Place as code
 use Rattle.regex_lite_engine.specs.declared.nfa.place.Place.TheVariants as stored
 use Rattle.regex_lite_engine.specs.Graph.Places.{Place}
 use Rattle.regex_lite_engine.specs.Pikevm.Entering.{Enters}
-use Rattle.regex_lite_engine.specs.Pikevm.Machine.{Frame, explore, restore, State}
+use Rattle.regex_lite_engine.specs.Pikevm.Machine.{Job, explore, restore, State}
 use Rattle.regex_lite_engine.specs.Pikevm.Room.{left_of, explores, FramesBelow}
 use Rattle.regex_lite_engine.proofs.pikevm.EnterLemmas.{reads_none}
 use Rattle.regex_lite_syntax.proofs.OptionLemmas.{not_there, same_some}
@@ -52,7 +52,7 @@ left_most f (was ∷ entered) (x ∷ table) =
     let more = left_most f entered table in
     omega (arith, more, test_most was (f x), sum_by-cons f x table)
 
-explores-map : (qs : List ℕ) (fs : List Frame)
+explores-map : (qs : List ℕ) (fs : List Job)
     → explores (map (λ q. explore q) qs ++ fs) ≡ explores fs + length qs
 explores-map [] fs = omega arith
 explores-map (q ∷ qs) fs = let more = explores-map qs fs in omega (arith, more)
@@ -61,7 +61,7 @@ pub entries_kept : (qs : List ℕ) → length qs ≤ kept_back (with_arrows (map
 entries_kept [] = omega arith
 entries_kept (q ∷ qs) = omega (arith, length-map qs (λ (q : ℕ). go q))
 
-frames_all : (c width : ℕ) (qs : List ℕ) (fs : List Frame) → LeadBelow c (map (λ q. go q) qs)
+frames_all : (c width : ℕ) (qs : List ℕ) (fs : List Job) → LeadBelow c (map (λ q. go q) qs)
     → FramesBelow c width fs → FramesBelow c width (map (λ q. explore q) qs ++ fs)
 frames_all c width [] fs f within = within
 frames_all c width (q ∷ qs) fs f within = (f.0, frames_all c width qs fs f.1 within)
@@ -138,7 +138,7 @@ module _ (here : Here) (i : Told) (c : ℕ) (m : State)
   adds_look x to true inside few = adds_pushed x (to ∷ []) (inside, tt) few (omega arith)
   adds_look x to false inside few = adds_nothing x
 
-  adds_marked : (slot to : ℕ) (frames : List Frame) → to < c
+  adds_marked : (slot to : ℕ) (frames : List Job) → to < c
       → explores frames ≡ explores m.frames → length frames ≤ length m.frames + 1
       → FramesBelow c (length m.row) frames
       → Adds c (with_arrows (go_marking slot to ∷ [])) m (record m {

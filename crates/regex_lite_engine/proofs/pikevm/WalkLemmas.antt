@@ -8,7 +8,7 @@ use Rattle.regex_lite_engine.proofs.Common.{marked, over, mark_of, marks_along, 
 use Rattle.regex_lite_engine.proofs.Common.{numbered_step, is_end, StartsOf, Best, Node, Offer}
 use Rattle.regex_lite_engine.proofs.Common.{offset, HasSlots, Row, false, slice_index_or, true}
 use Rattle.regex_lite_engine.specs.Graph.Places.{Place}
-use Rattle.regex_lite_engine.specs.Pikevm.Machine.{Frame, explore, State}
+use Rattle.regex_lite_engine.specs.Pikevm.Machine.{Job, explore, State}
 use Rattle.regex_lite_engine.specs.Pikevm.Walking.{FramesHold, IsWalking}
 use Rattle.regex_lite_engine.proofs.laws.LeadsLemmas.{leads_append}
 use Rattle.regex_lite_engine.proofs.pikevm.InStepLemmas as deep
@@ -67,7 +67,7 @@ module _ (table : List (Place ℕ)) (at : SearchAt) (state : State) (i : Told) (
     (best : Best) where
   open at use {haystack, entries as s, first, last, p, from}
 
-  abbrev Walks : Row → List Frame → Type 0
+  abbrev Walks : Row → List Job → Type 0
   Walks row frames = IsWalking table at (record state { row = row; frames = frames }) i ways best
 
   abbrev In_step : (Node → Option (List ℕ)) → List (Offer Node) → List (Offer Node)
@@ -82,7 +82,7 @@ module _ (table : List (Place ℕ)) (at : SearchAt) (state : State) (i : Told) (
 
   -- what is left may be seen as other frames that hold the same offers
   pub walk_framed : (walking : IsWalking table at state i ways best) (j : Told) (row : Row)
-      (frames : List Frame) → FramesHold table haystack s p j row frames walking.under
+      (frames : List Job) → FramesHold table haystack s p j row frames walking.under
       → IsWalking table at (record state { row = row; frames = frames }) j ways best
   walk_framed walking j row frames hold = record {
     recorded = walking.recorded;
@@ -182,7 +182,7 @@ module _ (table : List (Place ℕ)) (at : SearchAt) (state : State) (i : Told) (
       listed w = offered_by table haystack (place_with table q) p w (width (q, p)) 0
 
       -- all its arrows stay at the position
-      pub walk_entered : (row : Row) (frames : List Frame)
+      pub walk_entered : (row : Row) (frames : List Job)
           → (IsTrue (is_end table haystack (q, p)) → ⊥)
           → ((a : ℕ) (l : Node) → step (q, p) a ≡ Some l → l.1 ≡ p)
           → ((w : List ℕ) (rest : List (Offer Node)) → WayTold table haystack s i state.row (q, p) w

@@ -13,7 +13,7 @@ use Rattle.regex_lite_engine.specs.declared.pikevm.enter.Onward.TheVariants as o
 use Rattle.regex_lite_engine.specs.declared.pikevm.walk.Walk.{Walk}
 use Rattle.regex_lite_engine.specs.Graph.Places.{Place}
 use Rattle.regex_lite_engine.specs.Pikevm.Entering.{completes, Enters}
-use Rattle.regex_lite_engine.specs.Pikevm.Machine.{Frame, explore, restore, State, unwound}
+use Rattle.regex_lite_engine.specs.Pikevm.Machine.{Job, explore, restore, State, unwound}
 use Rattle.regex_lite_engine.specs.Pikevm.Room.{explores, work, FramesBelow, IsFit, GoesOn, Went}
 use Rattle.regex_lite_engine.specs.Pikevm.Room.{HasRoom, with_frames}
 use Rattle.regex_lite_engine.specs.Search.Counting.{weight}
@@ -178,7 +178,7 @@ module _ (table : List (Place ℕ)) (here : Here) (i : Told) {S : Type 0} where
         spent_entries = omega (arith, entries, more_entries);
       }
 
-  abbrev back_at : Walk S → Row × List Frame → Walk S
+  abbrev back_at : Walk S → Row × List Job → Walk S
   back_at w left = record w { memory = record w.memory { row = left.0; frames = left.1 } }
 
   -- frames were taken off up to the next place
@@ -187,7 +187,7 @@ module _ (table : List (Place ℕ)) (here : Here) (i : Told) {S : Type 0} where
     pub on : GoesOn table here i w x false
     pub less : work table x.memory ≤ work table w.memory
 
-  went_restored : (w : Walk S) (slot : ℕ) (old : Option ℕ) (fs : List Frame)
+  went_restored : (w : Walk S) (slot : ℕ) (old : Option ℕ) (fs : List Job)
       → HasRoom table w (restore slot old ∷ fs)
       → IsBack (with_frames w (restore slot old ∷ fs))
       (back_at w (slice_set w.memory.row slot old, fs))
@@ -225,7 +225,7 @@ module _ (table : List (Place ℕ)) (here : Here) (i : Told) {S : Type 0} where
   stays_back : (w : Walk S) → IsFit table w → IsBack w w
   stays_back w fit = record { fit = fit; on = goes_nowhere w; less = omega arith }
 
-  went_back : (w : Walk S) (fs : List Frame) → HasRoom table w fs
+  went_back : (w : Walk S) (fs : List Job) → HasRoom table w fs
       → IsBack (with_frames w fs) (back_at w (unwound w.memory.row fs))
   went_back w [] fit = stays_back (with_frames w []) fit
   went_back w (explore q ∷ fs) fit = stays_back (with_frames w (explore q ∷ fs)) fit
@@ -242,7 +242,7 @@ module _ (table : List (Place ℕ)) (here : Here) (i : Told) {S : Type 0} where
       }
 
   -- this is left then
-  pub back_to : (w x : Walk S) (left : List Frame)
+  pub back_to : (w x : Walk S) (left : List Job)
       → unwound w.memory.row w.memory.frames ≡ (x.memory.row, left)
       → x.memory ≡ record w.memory { row = x.memory.row; frames = x.memory.frames }
       → x.steps ≡ w.steps → IsFit table w → IsBack w (with_frames x left)

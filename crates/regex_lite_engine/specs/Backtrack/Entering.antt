@@ -9,7 +9,7 @@ use Rattle.regex_lite_syntax.specs.Text.{Text, before, after}
 use Rattle.regex_lite_syntax.specs.Tree.Looks.{holds_between}
 use Rattle.regex_lite_engine.specs.declared.nfa.place.Place.{Place}
 use Rattle.regex_lite_engine.specs.declared.nfa.place.Place.TheVariants as stored
-use Rattle.regex_lite_engine.specs.declared.backtrack.enter.Onward.{Onward}
+use Rattle.regex_lite_engine.specs.declared.backtrack.enter.Continuation.{Continuation}
 use Rattle.regex_lite_engine.specs.Backtrack.Machine.{Frame, explore, restore, Held, onto}
 use Rattle.regex_lite_engine.specs.Backtrack.Machine.{completes}
 
@@ -21,7 +21,7 @@ module _ (at : ℕ) where
       if set c then explore to (at + len_utf8 c) ∷ frames else frames
 
   -- what comes next says so
-  abbrev pub IsReadOn : Set → (next : Option ℕ) → (to : ℕ) → Onward → Type 0
+  abbrev pub IsReadOn : Set → (next : Option ℕ) → (to : ℕ) → Continuation → Type 0
   IsReadOn set next to told =
       ((frames : List Frame) → onto told frames ≡ read_on set next to frames)
       × (completes told ≡ false)

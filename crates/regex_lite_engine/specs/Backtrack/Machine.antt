@@ -3,8 +3,9 @@ use Rattle.std.specs.Prelude.{◌+◌, ◌-◌, ◌*◌, ℕ, Bool, true, false,
 use Rattle.std.specs.Prelude.{◌∷◌, Option, Some, None, slice_index_or, if◌then◌else◌}
 use Rattle.regex_lite_engine.specs.declared.backtrack.frame.Frame as code
 use Rattle.regex_lite_engine.specs.declared.backtrack.frame.Frame.TheVariants as stored
-use Rattle.regex_lite_engine.specs.declared.backtrack.enter.Onward.{Onward}
-use Rattle.regex_lite_engine.specs.declared.backtrack.enter.Onward.TheVariants.{To, Back, Complete}
+use Rattle.regex_lite_engine.specs.declared.backtrack.enter.Continuation.{Continuation}
+use Rattle.regex_lite_engine.specs.declared.backtrack.enter.Continuation.TheVariants.{To, Back}
+use Rattle.regex_lite_engine.specs.declared.backtrack.enter.Continuation.TheVariants.{Complete}
 use Rattle.regex_lite_engine.specs.Search.Rows.{Row}
 
 -- What is left to do: to explore a place at an offset, or to restore what a slot held
@@ -18,19 +19,19 @@ frame_of (stored.Clear slot) = restore slot None
 frame_of (stored.Restore slot at) = restore slot (Some at)
 
 -- what is left to do, the place that comes next as the first
-abbrev pub onto : Onward → List Frame → List Frame
+abbrev pub onto : Continuation → List Frame → List Frame
 onto (To place at) frames = explore place at ∷ frames
 onto Back frames = frames
 onto Complete frames = frames
 
 -- a match is complete
-abbrev pub completes : Onward → Bool
+abbrev pub completes : Continuation → Bool
 completes (To place at) = false
 completes Back = false
 completes Complete = true
 
 -- where a match that is complete at the offset ends
-abbrev pub end_at : (at : ℕ) → Onward → Option ℕ
+abbrev pub end_at : (at : ℕ) → Continuation → Option ℕ
 end_at at told = if completes told then Some at else None
 
 -- the pairs of a place and an offset, of this many places, from the first offset on

@@ -2,7 +2,7 @@
 use Rattle.std.specs.Prelude.{◌≡◌, ◌+◌, ◌-◌, ◌*◌, ◌^◌, ◌≤◌, ◌<◌, ℕ, zero, suc}
 use Rattle.std.specs.Prelude.{Bool, false, List, [], ◌∷◌, length, chars, Option, Some, None}
 use Rattle.std.specs.Prelude.{IsCharBoundary, slice_index_or, if◌then◌else◌}
-use Rattle.regex_lite_engine.specs.declared.backtrack.walk.Walk.{Walk}
+use Rattle.regex_lite_engine.specs.declared.backtrack.walk.Backtracker.{Backtracker}
 use Rattle.regex_lite_engine.specs.Backtrack.Machine.{Frame, explore, restore, Pairs, pair_number}
 use Rattle.regex_lite_engine.specs.Backtrack.Walking.{IsWalking, SearchFrom}
 use Rattle.regex_lite_engine.specs.Graph.Places.{Place, kept_back_with}
@@ -25,7 +25,7 @@ explores (explore place at ∷ frames) = explores frames + 1
 explores (restore slot old ∷ frames) = explores frames
 
 -- the same walk with these frames to come
-abbrev pub with_frames : Walk → List Frame → Walk
+abbrev pub with_frames : Backtracker → List Frame → Backtracker
 with_frames walk frames = record walk { stack = record walk.stack { frames = frames } }
 
 module _ (table : List (Place ℕ)) (haystack : List ℕ) where
@@ -53,15 +53,15 @@ module _ (table : List (Place ℕ)) (haystack : List ℕ) where
       (slot < width) × FramesBelow first width frames
 
   -- how often the search has come to a place, or may still come to one from what is left
-  abbrev pub due_tries : Walk → ℕ
+  abbrev pub due_tries : Backtracker → ℕ
   due_tries walk =
       walk.steps.tried + (explores walk.stack.frames + left_of arrow_count walk.visited)
 
-  abbrev pub due_entries : Walk → ℕ
+  abbrev pub due_entries : Backtracker → ℕ
   due_entries walk = walk.steps.entered + left_of lone walk.visited
 
   -- how much is left to do from this start
-  abbrev pub work : Walk → ℕ
+  abbrev pub work : Backtracker → ℕ
   work walk = length walk.stack.frames + left_of weight walk.visited
 
   -- each pair of the search has a bit
@@ -71,7 +71,7 @@ module _ (table : List (Place ℕ)) (haystack : List ℕ) where
     pub all : length pairs.entered ≡ length table * (length haystack - pairs.first + 1)
 
   -- of what is left to do the first needs no room on the stack
-  pub record IsFit (walk : Walk) : Type 0 where
+  pub record IsFit (walk : Backtracker) : Type 0 where
     pub all : AreAll walk.visited
     pub below : FramesBelow walk.visited.first (length walk.stack.row) walk.stack.frames
     pub stack_room :
@@ -82,11 +82,11 @@ module _ (table : List (Place ℕ)) (haystack : List ℕ) where
     pub entered_tried : walk.steps.entered ≤ walk.steps.tried
     pub looked_entered : walk.steps.looked ≤ walk.steps.entered
 
-  abbrev pub HasRoom : Walk → List Frame → Type 0
+  abbrev pub HasRoom : Backtracker → List Frame → Type 0
   HasRoom walk frames = IsFit (with_frames walk frames)
 
   -- what a walk leaves as it is
-  pub record Keeps (walk walk' : Walk) : Type 0 where
+  pub record Keeps (walk walk' : Backtracker) : Type 0 where
     pub places : walk'.visited.places ≡ walk.visited.places
     pub first : walk'.visited.first ≡ walk.visited.first
     pub row : length walk'.stack.row ≡ length walk.stack.row
@@ -103,28 +103,29 @@ module _ (table : List (Place ℕ)) (haystack : List ℕ) where
   }
 
   -- what is known of a walk stays known, or a match that ends there is complete: it is the answer
-  abbrev pub IsWalkingOrDone : (entry first from start : ℕ) → Walk → (end : Option ℕ) → Type 0
+  abbrev pub IsWalkingOrDone : (entry first from start : ℕ) → Backtracker → (end : Option ℕ)
+      → Type 0
   IsWalkingOrDone entry first from start walk None =
       IsWalking table (searching entry first from start) walk.visited walk.stack
   IsWalkingOrDone entry first from start walk (Some end) =
       IsNumberedOutcome table (chars haystack) entry first (Some (start, end, walk.stack.row))
 
   -- from one state of a walk to a later one, or to a match that ends there
-  abbrev pub WalksTo : (walk walk' : Walk) → (end : Option ℕ) → Type 0
+  abbrev pub WalksTo : (walk walk' : Backtracker) → (end : Option ℕ) → Type 0
   WalksTo walk walk' end =
       (entry from start : ℕ)
       → IsWalkingOrDone entry (position_at haystack walk.visited.first) from start walk None
       → IsWalkingOrDone entry (position_at haystack walk.visited.first) from start walk' end
 
   -- a walk went on, or up to a match that ends there
-  pub record GoesOn (walk walk' : Walk) (end : Option ℕ) : Type 0 where
+  pub record GoesOn (walk walk' : Backtracker) (end : Option ℕ) : Type 0 where
     pub walks : WalksTo walk walk' end
     pub kept : Keeps walk walk'
     pub spent : due_tries walk' ≤ due_tries walk
     pub spent_entries : due_entries walk' ≤ due_entries walk
 
   -- a frame was popped, or a match that ends there is complete
-  pub record Went (walk walk' : Walk) (end : Option ℕ) : Type 0 where
+  pub record Went (walk walk' : Backtracker) (end : Option ℕ) : Type 0 where
     pub on : GoesOn walk walk' end
     pub fit : end ≡ None → IsFit walk'
     pub less : end ≡ None → work walk' < work walk
@@ -132,6 +133,7 @@ module _ (table : List (Place ℕ)) (haystack : List ℕ) where
     pub looked_entered : walk'.steps.looked ≤ walk'.steps.entered
 
   -- the same with these frames to come
-  abbrev pub TakesFrame : Walk → List Frame → Walk → List Frame → (end : Option ℕ) → Type 0
+  abbrev pub TakesFrame : Backtracker → List Frame → Backtracker → List Frame → (end : Option ℕ)
+      → Type 0
   TakesFrame walk frames walk' frames' end =
       Went (with_frames walk frames) (with_frames walk' frames') end

@@ -1,7 +1,7 @@
 -- A depth-first search, start by start.
 use Rattle.std.specs.Prelude.{◌≡◌, ◌+◌, ◌-◌, ◌*◌, ◌≤◌, ◌<◌, ℕ, false, List, [], ◌∷◌, length, chars}
 use Rattle.std.specs.Prelude.{replicate, slice_set, Option, Some, None, sum_by}
-use Rattle.regex_lite_engine.specs.declared.backtrack.walk.Walk.{Walk}
+use Rattle.regex_lite_engine.specs.declared.backtrack.walk.Backtracker.{Backtracker}
 use Rattle.regex_lite_engine.specs.Backtrack.Machine.{Frame, explore, restore}
 use Rattle.regex_lite_engine.specs.Backtrack.Room.{searching, with_frames, AreAll, GoesOn, HasRoom}
 use Rattle.regex_lite_engine.specs.Backtrack.Room.{due_entries, due_tries}
@@ -28,7 +28,7 @@ Unwinds row (restore slot old ∷ frames) next row' frames' =
 
 module _ (table : List (Place ℕ)) (haystack : List ℕ) where
   -- all ways from the start at this offset were followed, or a match ends at `end`
-  pub record Explores (entry start : ℕ) (walk walk' : Walk) (end : Option ℕ) : Type 0 where
+  pub record Explores (entry start : ℕ) (walk walk' : Backtracker) (end : Option ℕ) : Type 0 where
     pub on : GoesOn table haystack (with_frames walk (explore entry start ∷ []))
         (with_frames walk' []) end
     pub fit : end ≡ None → HasRoom table haystack walk' []
@@ -38,13 +38,13 @@ module _ (table : List (Place ℕ)) (haystack : List ℕ) where
 
   module _ (start : ℕ) where
     -- there is room for what all pairs leave for later
-    abbrev pub HasRoomForAll : Walk → Type 0
+    abbrev pub HasRoomForAll : Backtracker → Type 0
     HasRoomForAll walk =
         sum_by (kept_back_with (length walk.stack.row)) table * (length haystack - start + 1)
         ≤ walk.stack.room
 
     -- a search from this offset on has not begun
-    pub record IsFresh (walk : Walk) : Type 0 where
+    pub record IsFresh (walk : Backtracker) : Type 0 where
       pub all : AreAll table haystack walk.visited
       pub first : walk.visited.first ≡ start
       pub none : walk.visited.entered
@@ -58,7 +58,7 @@ module _ (table : List (Place ℕ)) (haystack : List ℕ) where
 
     -- all ways from the starts below position p were followed. Those that are left are counted with
     -- what is due
-    pub record IsUnderWay (entry p : ℕ) (walk : Walk) : Type 0 where
+    pub record IsUnderWay (entry p : ℕ) (walk : Backtracker) : Type 0 where
       pub low : position_at haystack start ≤ p
       pub first : walk.visited.first ≡ start
       pub fit : HasRoom table haystack walk []

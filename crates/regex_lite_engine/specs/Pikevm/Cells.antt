@@ -5,12 +5,12 @@ use Rattle.std.specs.Prelude.{length, map, None, slice_index, slice_index_or, ve
 use Rattle.std.specs.Global.{Vec}
 use Rattle.std.specs.List.{range_with_len}
 use Rattle.regex_lite_engine.specs.declared.pikevm.cell.Cell.{Cell}
-use Rattle.regex_lite_engine.specs.declared.pikevm.cell.Frame as code
-use Rattle.regex_lite_engine.specs.declared.pikevm.cell.Frame.TheVariants as stored
+use Rattle.regex_lite_engine.specs.declared.pikevm.cell.Job as code
+use Rattle.regex_lite_engine.specs.declared.pikevm.cell.Job.TheVariants as stored
 use Rattle.regex_lite_engine.specs.declared.pikevm.cell.Side.{Side}
 use Rattle.regex_lite_engine.specs.declared.pikevm.cell.Side.TheVariants.{First, Second}
 use Rattle.regex_lite_engine.specs.Search.Beginnings.{Told, untold}
-use Rattle.regex_lite_engine.specs.Pikevm.Machine.{Frame, explore, restore, Thread}
+use Rattle.regex_lite_engine.specs.Pikevm.Machine.{Job, explore, restore, Thread}
 use Rattle.regex_lite_engine.specs.Search.Rows.{Row}
 
 -- row k of rows of one width that lie one after the other
@@ -35,15 +35,15 @@ abbrev pub nth_row : List Row → ℕ → Row
 nth_row rows k = slice_index_or rows k []
 
 -- what is left to do
-abbrev pub frame_of : code.Frame → Frame
+abbrev pub frame_of : code.Job → Job
 frame_of (stored.Explore place) = explore place
 frame_of (stored.Restore slot old) = restore slot old
 
-abbrev pub frame_in : {S : Type 0} → Cell S → Frame
+abbrev pub frame_in : {S : Type 0} → Cell S → Job
 frame_in cell = frame_of cell.frame
 
 -- the frames of the first cells, the last one next
-abbrev pub frames_in : {S : Type 0} → List (Cell S) → (depth : ℕ) → List Frame
+abbrev pub frames_in : {S : Type 0} → List (Cell S) → (depth : ℕ) → List Job
 frames_in cells depth = reverse (take depth (map frame_in cells))
 
 abbrev pub other : Side → Side

@@ -11,10 +11,10 @@ use Rattle.regex_lite_engine.specs.declared.nfa.place.Place.TheVariants as store
 use Rattle.regex_lite_engine.specs.declared.pikevm.enter.Onward as code
 use Rattle.regex_lite_engine.specs.declared.pikevm.enter.Onward.TheVariants as onward
 use Rattle.regex_lite_engine.specs.declared.search.here.Here.{Here}
-use Rattle.regex_lite_engine.specs.Pikevm.Machine.{Frame, explore, restore, State, Thread}
+use Rattle.regex_lite_engine.specs.Pikevm.Machine.{Job, explore, restore, State, Thread}
 
 -- what is left to do, the place that comes next as the first
-abbrev pub onto : code.Onward → List Frame → List Frame
+abbrev pub onto : code.Onward → List Job → List Job
 onto (onward.To place) frames = explore place ∷ frames
 onto onward.Back frames = frames
 onto onward.Complete frames = frames
@@ -31,7 +31,7 @@ reads set None = false
 reads set (Some c) = set c
 
 -- these frames are to come first
-abbrev pub pushing : State → List Frame → State
+abbrev pub pushing : State → List Job → State
 pushing state more = record state { frames = more ++ state.frames }
 
 -- where the next character is read, the search goes on with this thread at the next position

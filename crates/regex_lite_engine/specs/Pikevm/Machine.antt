@@ -4,13 +4,13 @@ use Rattle.regex_lite_engine.specs.Search.Beginnings.{Told, untold}
 use Rattle.regex_lite_engine.specs.Search.Rows.{Row}
 
 -- What is left to do: to explore a place, or to restore what a slot held
-pub data Frame : Type 0 where
-  explore : (place : ℕ) → Frame
-  restore : (slot : ℕ) → (old : Option ℕ) → Frame
+pub data Job : Type 0 where
+  explore : (place : ℕ) → Job
+  restore : (slot : ℕ) → (old : Option ℕ) → Job
 
 -- What is left, and the row, once all that lies on the next place is popped: each slot holds again
 -- what it held
-abbrev pub unwound : Row → List Frame → Row × List Frame
+abbrev pub unwound : Row → List Job → Row × List Job
 unwound row [] = (row, [])
 unwound row (explore place ∷ frames) = (row, explore place ∷ frames)
 unwound row (restore slot old ∷ frames) = unwound (slice_set row slot old) frames
@@ -28,7 +28,7 @@ pub record State : Type 0 where
   -- whether each place was entered at this position
   pub entered : List Bool
   -- what is left to do, in that order
-  pub frames : List Frame
+  pub frames : List Job
   -- the row of the way that is followed
   pub row : Row
   -- the threads of this position, and those of the next

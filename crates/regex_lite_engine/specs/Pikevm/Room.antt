@@ -8,7 +8,7 @@ use Rattle.regex_lite_engine.specs.declared.pikevm.walk.Walk.{Walk}
 use Rattle.regex_lite_engine.specs.Graph.Places.{Place, kept_back, reading_count, reading_of}
 use Rattle.regex_lite_engine.specs.Graph.Renumbered.{arrow_count}
 use Rattle.regex_lite_engine.specs.Pikevm.Again.{AreAlike, state_retold}
-use Rattle.regex_lite_engine.specs.Pikevm.Machine.{Frame, explore, restore}
+use Rattle.regex_lite_engine.specs.Pikevm.Machine.{Job, explore, restore}
 use Rattle.regex_lite_engine.specs.Pikevm.Machine.{Thread, thread_at, State}
 use Rattle.regex_lite_engine.specs.Search.Counting.{lone, weight}
 use Rattle.regex_lite_engine.specs.Search.Standing.{IsHere}
@@ -22,12 +22,12 @@ left_of measure (was ∷ entered) [] = 0
 left_of measure (was ∷ entered) (place ∷ table) =
     (if was then 0 else measure place) + left_of measure entered table
 
-abbrev pub explores : List Frame → ℕ
+abbrev pub explores : List Job → ℕ
 explores [] = 0
 explores (explore place ∷ frames) = explores frames + 1
 explores (restore slot old ∷ frames) = explores frames
 
-abbrev pub FramesBelow : (places width : ℕ) → List Frame → Type 0
+abbrev pub FramesBelow : (places width : ℕ) → List Job → Type 0
 FramesBelow places width [] = Unit {0}
 FramesBelow places width (explore place ∷ frames) =
     (place < places) × FramesBelow places width frames
@@ -38,7 +38,7 @@ abbrev pub ThreadsBelow : (places : ℕ) → List Thread → Type 0
 ThreadsBelow places threads = (k : ℕ) → k < length threads → (thread_at threads k).0 < places
 
 -- the same walk with these frames to come
-abbrev pub with_frames : {S : Type 0} → Walk S → List Frame → Walk S
+abbrev pub with_frames : {S : Type 0} → Walk S → List Job → Walk S
 with_frames walk frames = record walk { memory = record walk.memory { frames = frames } }
 
 module _ (table : List (Place ℕ)) where
@@ -111,16 +111,16 @@ module _ (table : List (Place ℕ)) where
 
   -- The same with these frames to come
 
-  abbrev pub HasRoom : {S : Type 0} → Walk S → List Frame → Type 0
+  abbrev pub HasRoom : {S : Type 0} → Walk S → List Job → Type 0
   HasRoom walk frames = IsFit (with_frames walk frames)
 
-  abbrev pub TakesFrame : {S : Type 0} → Here → (told : Told) → Walk S → List Frame → Walk S
-      → List Frame → (done : Bool) → Type 0
+  abbrev pub TakesFrame : {S : Type 0} → Here → (told : Told) → Walk S → List Job → Walk S
+      → List Job → (done : Bool) → Type 0
   TakesFrame here told walk frames walk' frames' done =
       Went here told (with_frames walk frames) (with_frames walk' frames') done
 
   -- all frames were popped
-  abbrev pub Explores : {S : Type 0} → Here → (told : Told) → (walk walk' : Walk S) → List Frame
+  abbrev pub Explores : {S : Type 0} → Here → (told : Told) → (walk walk' : Walk S) → List Job
       → (done : Bool) → Type 0
   Explores here told walk walk' frames done =
       GoesOn here told (with_frames walk frames) (with_frames walk' []) done

@@ -9,7 +9,7 @@ use Rattle.regex_lite_engine.specs.Search.NumberedAnswer.{place_with, numbered_s
 use Rattle.regex_lite_engine.specs.Search.NumberedList.{IsEntry, StartsOf}
 use Rattle.regex_lite_engine.specs.Search.Offsets.{offset, HasSlots}
 use Rattle.regex_lite_engine.specs.Search.Beginnings.{Told, TellsStart}
-use Rattle.regex_lite_engine.specs.Pikevm.Machine.{Frame, explore, restore, Thread, State}
+use Rattle.regex_lite_engine.specs.Pikevm.Machine.{Job, explore, restore, Thread, State}
 use Rattle.regex_lite_engine.specs.Search.Rows.{Row}
 use Rattle.regex_lite_engine.specs.Pikevm.InStep.{IsInStep}
 use Rattle.regex_lite_engine.specs.Search.NumberedOutcomes.{Best}
@@ -30,7 +30,7 @@ module _ (table : List (Place ℕ)) (haystack : Text) where
 
     -- the frames hold the offers at position p, the first on top. The row of each is the one that
     -- stands when its frame is popped
-    abbrev pub FramesHold : (p : ℕ) → (told : Told) → Row → List Frame → List (Offer Node) → Type 0
+    abbrev pub FramesHold : (p : ℕ) → (told : Told) → Row → List Job → List (Offer Node) → Type 0
     FramesHold p told row [] offers = offers ≡ []
     FramesHold p told row (explore place ∷ frames) offers =
         (way : List ℕ) × (rest : List (Offer Node)) × (offers ≡ ((place, p), way) ∷ rest)

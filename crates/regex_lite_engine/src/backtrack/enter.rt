@@ -20,7 +20,7 @@ use regex_lite_syntax::Look;
 
 /// How a way goes on from a place.
 #[derive(Clone, Copy)]
-pub enum Onward {
+pub enum Continuation {
     /// To this place at this offset.
     To { place: u32, at: usize },
     /// To what is left on the stack.
@@ -31,7 +31,7 @@ pub enum Onward {
 
 /// Follows the first arrow of the place if it fits at this offset, and defers the others.
 #[inline(always)]
-pub fn enter(place: &Place, haystack: &str, at: usize, stack: &mut Stack) -> Onward
+pub fn enter(place: &Place, haystack: &str, at: usize, stack: &mut Stack) -> Continuation
     requires boundary { IsCharBoundary haystack.now at }
     requires room { length stack.old.frames
         + kept_back_with (length stack.old.row) (place_of place.now) ≤ stack.old.room }
@@ -41,26 +41,26 @@ pub fn enter(place: &Place, haystack: &str, at: usize, stack: &mut Stack) -> Onw
     ensures room { stack.new.room ≡ stack.old.room }
 {
     match place {
-        Place::Empty { to } => Onward::To { place: *to, at },
+        Place::Empty { to } => Continuation::To { place: *to, at },
         Place::Char { c, to } => read_char(*c, *to, haystack, at),
         Place::Class { to, set } => read_class(set, *to, haystack, at),
         Place::Look { look, to } => {
             if holds_at(*look, haystack, at) {
-                Onward::To { place: *to, at }
+                Continuation::To { place: *to, at }
             } else {
-                Onward::Back
+                Continuation::Back
             }
         }
         Place::Slot { slot, to } => {
             stack.mark(*slot, at);
-            Onward::To { place: *to, at }
+            Continuation::To { place: *to, at }
         }
         Place::Choice { first, second } => {
             stack.push(Frame::Explore { place: *second, at });
-            Onward::To { place: *first, at }
+            Continuation::To { place: *first, at }
         }
         Place::Branches(entries) => branch(entries, at, stack),
-        Place::Match => Onward::Complete,
+        Place::Match => Continuation::Complete,
     }
 }
 
@@ -79,39 +79,39 @@ fn holds_at(look: Look, haystack: &str, at: usize) -> bool
 
 /// Goes on after the next character if it is this one.
 #[inline(always)]
-fn read_char(c: char, to: u32, haystack: &str, at: usize) -> Onward
+fn read_char(c: char, to: u32, haystack: &str, at: usize) -> Continuation
     requires { IsCharBoundary haystack.now at }
     ensures { IsReadOn at (just c)
         (after (chars haystack.now) (position_at haystack.now at)) to result }
 {
     match next_char(haystack, at) {
-        Some((next, past)) if next == c => Onward::To {
+        Some((next, past)) if next == c => Continuation::To {
             place: to,
             at: past,
         },
-        _ => Onward::Back,
+        _ => Continuation::Back,
     }
 }
 
 /// Goes on after the next character if it is in the set.
 #[inline(always)]
-fn read_class(set: &MappedClass, to: u32, haystack: &str, at: usize) -> Onward
+fn read_class(set: &MappedClass, to: u32, haystack: &str, at: usize) -> Continuation
     requires { IsCharBoundary haystack.now at }
     ensures { IsReadOn at (in_ranges set.now)
         (after (chars haystack.now) (position_at haystack.now at)) to result }
 {
     match next_char(haystack, at) {
-        Some((next, past)) if set.contains(next) => Onward::To {
+        Some((next, past)) if set.contains(next) => Continuation::To {
             place: to,
             at: past,
         },
-        _ => Onward::Back,
+        _ => Continuation::Back,
     }
 }
 
 /// Goes on at the first of these places, and defers the others.
 #[inline(always)]
-fn branch(entries: &[u32], at: usize, stack: &mut Stack) -> Onward
+fn branch(entries: &[u32], at: usize, stack: &mut Stack) -> Continuation
     requires { length stack.old.frames + (length entries.now - 1) ≤ stack.old.room }
     ensures onto { onto result stack.new.frames
         ≡ map (λ q. explore q at) entries.now ++ stack.old.frames }
@@ -119,10 +119,10 @@ fn branch(entries: &[u32], at: usize, stack: &mut Stack) -> Onward
     ensures same { stack.new ≡ record stack.old { frames = stack.new.frames } }
 {
     match entries.split_first() {
-        None => Onward::Back,
+        None => Continuation::Back,
         Some((first, others)) => {
             stack.push_all(others, at);
-            Onward::To { place: *first, at }
+            Continuation::To { place: *first, at }
         }
     }
 }

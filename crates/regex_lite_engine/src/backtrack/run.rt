@@ -9,7 +9,7 @@ ghost use Rattle.regex_lite_engine.specs.Search.NumberedOutcomes.{IsNumberedOutc
 ghost use Rattle.regex_lite_engine.specs.Search.Counting.{CanCount};
 ghost use Rattle.regex_lite_engine.specs.Search.Standing.{IsHere};
 
-use crate::backtrack::walk::Walk;
+use crate::backtrack::walk::Backtracker;
 use crate::search::here::Here;
 use crate::search::one_pattern::OnePattern;
 
@@ -17,7 +17,7 @@ use crate::search::one_pattern::OnePattern;
 /// match starts and where it ends; its slots are those of the walk. With COUNTED it counts its
 /// steps.
 pub fn run<const COUNTED: bool>(
-    walk: &mut Walk,
+    walk: &mut Backtracker,
     pattern: &OnePattern<'_>,
     haystack: &str,
     first: Here,

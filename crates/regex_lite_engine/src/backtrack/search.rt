@@ -9,7 +9,7 @@ ghost use Rattle.regex_lite_engine.specs.Search.OutcomeOfOne.{TellsOfOne};
 use crate::backtrack::run::run;
 use crate::backtrack::stack::Stack;
 use crate::backtrack::visited::Visited;
-use crate::backtrack::walk::Walk;
+use crate::backtrack::walk::Backtracker;
 use crate::nfa::table::Table;
 use crate::search::one_pattern::OnePattern;
 use crate::search::outcome::Outcome;
@@ -41,7 +41,7 @@ impl<'g> OnePattern<'g> {
         };
         let mut walk = walk_for(self.table, alloc, haystack, first.at, slots)?;
         let found = run::<true>(&mut walk, self, haystack, first);
-        let Walk { stack, steps, .. } = walk;
+        let Backtracker { stack, steps, .. } = walk;
         Ok((outcome_of(found, stack), steps))
     }
 }
@@ -54,7 +54,7 @@ fn walk_for(
     haystack: &str,
     start: usize,
     slots: usize,
-) -> Result<Walk, AllocError>
+) -> Result<Backtracker, AllocError>
     requires places { 0 < length table.now.places }
     requires boundary { IsCharBoundary haystack.now start }
     ensures fresh { IfOk result (λ walk. IsFresh (places_of table.now) haystack.now start walk) }
@@ -66,7 +66,7 @@ fn walk_for(
     let room = kept_back.checked_mul(offsets).ok_or(AllocError)?;
     let visited = Visited::none(alloc, table.places(), start, haystack.len())?;
     let stack = Stack::blank(alloc, room, slots)?;
-    Ok(Walk {
+    Ok(Backtracker {
         visited,
         stack,
         steps: no_steps(),

@@ -11,7 +11,7 @@ ghost use Rattle.regex_lite_engine.specs.Search.NumberedOutcomes.{IsNumberedOutc
 use crate::backtrack::run::run;
 use crate::backtrack::stack::Stack;
 use crate::backtrack::visited::Visited;
-use crate::backtrack::walk::Walk;
+use crate::backtrack::walk::Backtracker;
 use crate::nfa::table::Table;
 use crate::search::here::Here;
 use crate::search::one_pattern::OnePattern;
@@ -21,7 +21,7 @@ use std::alloc::{AllocError, Global};
 /// Searches depth first in short haystacks, one after another, in the same memory.
 #[derive(Drop)]
 pub struct ShortSearcher {
-    walk: Walk,
+    walk: Backtracker,
     /// A search goes over at most this number of offsets, including the end's.
     offsets: usize,
 }
@@ -55,7 +55,7 @@ impl ShortSearcher {
             .kept_back(slots)
             .checked_mul(offsets)
             .ok_or(AllocError)?;
-        let walk = Walk {
+        let walk = Backtracker {
             visited: Visited::with_room(alloc, pairs)?,
             stack: Stack::blank(alloc, room, slots)?,
             steps: no_steps(),

@@ -6,7 +6,7 @@ ghost use Rattle.regex_lite_engine.specs.Backtrack.Room.{HasRoom, TakesFrame};
 ghost use Rattle.regex_lite_engine.specs.Graph.Stored.{places_of};
 ghost use Rattle.regex_lite_engine.specs.Search.Bounds.{StaysCounted};
 
-use crate::backtrack::enter::{Onward, enter};
+use crate::backtrack::enter::{Continuation, enter};
 use crate::backtrack::frame::Frame;
 use crate::backtrack::stack::Stack;
 use crate::backtrack::visited::Visited;
@@ -15,13 +15,13 @@ use crate::steps::Steps;
 
 /// What a search works in, and what it has counted.
 #[derive(Drop)]
-pub struct Walk {
+pub struct Backtracker {
     pub visited: Visited,
     pub stack: Stack,
     pub steps: Steps,
 }
 
-impl Walk {
+impl Backtracker {
     ghost use Rattle.regex_lite_engine.specs.Backtrack.Searching.{Explores, SlotsBelow, Unwinds};
 
     /// Follows the ways from the start at this offset, the most preferred first. Returns where the
@@ -45,12 +45,12 @@ impl Walk {
         let (mut place, mut at) = (entry, start);
         'ways: loop {
             match self.come_to::<COUNTED>(table, haystack, place, at) {
-                Onward::To {
+                Continuation::To {
                     place: to,
                     at: past,
                 } => (place, at) = (to, past),
-                Onward::Complete => return Some(at),
-                Onward::Back => (place, at) = self.go_back()?,
+                Continuation::Complete => return Some(at),
+                Continuation::Back => (place, at) = self.go_back()?,
             }
         }
     }
@@ -63,7 +63,7 @@ impl Walk {
         haystack: &str,
         place: u32,
         at: usize,
-    ) -> Onward
+    ) -> Continuation
         requires { HasRoom (places_of table.now) haystack.now self.old
             (explore place at ∷ self.old.stack.frames) }
         ensures taken { TakesFrame (places_of table.now) haystack.now self.old
@@ -77,7 +77,7 @@ impl Walk {
     {
         self.steps.count_try_if::<COUNTED>();
         if !self.visited.insert(place, at) {
-            return Onward::Back;
+            return Continuation::Back;
         }
         let found = table.look_on_entry::<COUNTED>(place, &mut self.steps);
         enter(found, haystack, at, &mut self.stack)

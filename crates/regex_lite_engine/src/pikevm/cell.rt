@@ -10,7 +10,7 @@ use std::mem::size_of;
 
 /// One thing that is left to do.
 #[derive(Clone, Copy)]
-pub enum Frame {
+pub enum Job {
     /// To explore a place.
     Explore(u32),
     /// To restore what a slot held, since the branch that marked it is abandoned.
@@ -30,7 +30,7 @@ pub enum Side {
 #[derive(Copy)]
 pub struct Cell<S: Beginning> {
     /// The frame with this number.
-    pub frame: Frame,
+    pub frame: Job,
     /// What is kept of where the ways of the threads with this number began, and where they go on.
     first_start: S,
     second_start: S,
@@ -76,7 +76,7 @@ impl<S: Beginning> Cell<S> {
     /// A cell of which nothing is known yet.
     fn blank() -> Cell<S> {
         Cell {
-            frame: Frame::Explore(0),
+            frame: Job::Explore(0),
             first_start: S::at(0, 0),
             second_start: S::at(0, 0),
             first_place: 0,

@@ -12,7 +12,7 @@ ghost use Rattle.regex_lite_engine.specs.Pikevm.Machine.{explore};
 use crate::nfa::class::MappedClass;
 use crate::nfa::place::Place;
 use crate::pikevm::beginning::Beginning;
-use crate::pikevm::cell::Frame;
+use crate::pikevm::cell::Job;
 use crate::pikevm::memory::Memory;
 use crate::pikevm::slot::Slot;
 use crate::search::here::Here;
@@ -63,7 +63,7 @@ pub fn enter<S: Beginning>(place: &Place, here: Here, start: S, memory: &mut Mem
             return Onward::To(*to);
         }
         Place::Choice { first, second } => {
-            memory.push(Frame::Explore(*second));
+            memory.push(Job::Explore(*second));
             return Onward::To(*first);
         }
         Place::Branches(entries) => return branch(entries, memory),
@@ -134,7 +134,7 @@ fn mark<S: Beginning>(slot: u32, at: usize, memory: &mut Memory<S>)
         // If nothing else is left to do, what the slot held isn't needed again.
         if !memory.is_done() {
             let old = row[slot as usize];
-            memory.push(Frame::Restore { slot, old });
+            memory.push(Job::Restore { slot, old });
         }
         memory.put(slot, Slot::marked(at));
     }

@@ -6,12 +6,12 @@ ghost use Rattle.regex_lite_engine.specs.Pikevm.Machine.{explore, unwound};
 ghost use Rattle.regex_lite_engine.specs.Pikevm.Room.{FramesBelow};
 
 use crate::pikevm::beginning::Beginning;
-use crate::pikevm::cell::{Frame, provide};
+use crate::pikevm::cell::{Job, provide};
 use crate::pikevm::memory::Memory;
 
 impl<S: Beginning> Memory<S> {
     /// Pushes the frame.
-    pub fn push(&mut self, frame: Frame)
+    pub fn push(&mut self, frame: Job)
         requires { length self.old.frames < length self.old.entered }
         ensures { self.new
             ≡ record self.old { frames = frame_of frame ∷ self.old.frames } }
@@ -28,12 +28,12 @@ impl<S: Beginning> Memory<S> {
             ≡ record self.old { frames = map explore places.now ++ self.old.frames } }
     {
         for i in (0..places.len()).rev() {
-            self.push(Frame::Explore(places[i]));
+            self.push(Job::Explore(places[i]));
         }
     }
 
     /// Pops the top frame.
-    pub fn pop(&mut self) -> Option<Frame>
+    pub fn pop(&mut self) -> Option<Job>
         ensures { MatchOption result
             ((self.old.frames ≡ []) × (self.new ≡ self.old))
             (λ frame. (self.old.frames ≡ frame_of frame ∷ self.new.frames)
@@ -60,8 +60,8 @@ impl<S: Beginning> Memory<S> {
     {
         'frames: while let Some(frame) = self.pop() {
             match frame {
-                Frame::Explore(place) => return Some(place),
-                Frame::Restore { slot, old } => self.put(slot, old),
+                Job::Explore(place) => return Some(place),
+                Job::Restore { slot, old } => self.put(slot, old),
             }
         }
         None

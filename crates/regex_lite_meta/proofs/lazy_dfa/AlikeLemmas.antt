@@ -6,7 +6,7 @@ use Rattle.regex_lite_meta.proofs.Common.{Intervals, interval_of, class_of, IsBo
 use Rattle.regex_lite_meta.proofs.Common.{IsBoundedPlace, character_bounds, look_bounds}
 use Rattle.regex_lite_meta.proofs.Common.{AreIntervalsOf, side_of, take, drop, ◌-◌}
 use Rattle.regex_lite_engine.specs.Graph.Places.{Place, go}
-use Rattle.regex_lite_meta.specs.declared.lazy_dfa.state.Side.{Side}
+use Rattle.regex_lite_meta.specs.declared.lazy_dfa.state.LookContext.{LookContext}
 use Rattle.std.proofs.Common.{◌&&◌, ◌||◌}
 use Rattle.regex_lite_syntax.specs.Ranges.{in_ranges}
 use Rattle.regex_lite_syntax.specs.Sets.{Set, just}
@@ -30,7 +30,7 @@ use Rattle.regex_lite_meta.specs.LazyDfa.Parts.{IsPartOf}
 use Rattle.regex_lite_meta.specs.declared.lazy_dfa.part.Part.{Part}
 
 -- the look, by what it sees of both neighbours
-abbrev holds_by : Look → Side → Side → Bool
+abbrev holds_by : Look → LookContext → LookContext → Bool
 holds_by Start b a = b.is_none
 holds_by End b a = a.is_none
 holds_by StartLF b a = b.is_none || b.is_line_feed
@@ -67,8 +67,8 @@ mutual
 pub same_look : (b b' a a' : Option ℕ) → side_of b ≡ side_of b' → side_of a ≡ side_of a'
     → (l : Look) → holds_between l b a ≡ holds_between l b' a'
 same_look b b' a a' eb ea l =
-    by_sides l b a ∙ ap (λ (z : Side). holds_by l z (side_of a)) eb
-    ∙ ap (λ (z : Side). holds_by l (side_of b') z) ea ∙ sym (by_sides l b' a')
+    by_sides l b a ∙ ap (λ (z : LookContext). holds_by l z (side_of a)) eb
+    ∙ ap (λ (z : LookContext). holds_by l (side_of b') z) ea ∙ sym (by_sides l b' a')
 
 same_word : (bs : List ℕ) (c d : ℕ) → interval_of bs c ≡ interval_of bs d
     → All (IsBoundary bs) look_bounds → is_word (Some c) ≡ is_word (Some d)
@@ -84,7 +84,7 @@ same_word bs c d e bounds =
     ∙ ap (λ x. (is_between 97 122 d || is_between 65 90 d) || x || c == 95) digits
     ∙ ap (λ x. (is_between 97 122 d || is_between 65 90 d) || is_between 48 57 d || x) low_line
 
-abbrev side_with : Bool → Bool → Bool → Side
+abbrev side_with : Bool → Bool → Bool → LookContext
 side_with feed carriage word =
     record { is_none = false; is_line_feed = feed; is_carriage_return = carriage; is_word = word }
 

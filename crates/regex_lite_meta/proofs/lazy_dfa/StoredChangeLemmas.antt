@@ -10,7 +10,7 @@ use Rattle.regex_lite_meta.specs.LazyDfa.Stored.{Agrees, LieWithin, is_known, kn
 use Rattle.regex_lite_meta.specs.LazyDfa.Stored.{states_in, AllAgree, HasNoWays}
 use Rattle.regex_lite_meta.specs.LazyDfa.Stored.{HasWays}
 use Rattle.std.proofs.Math.Seq.{drop-length, take-length, take-set-lt}
-use Rattle.regex_lite_meta.specs.declared.lazy_dfa.state.Side.{Side}
+use Rattle.regex_lite_meta.specs.declared.lazy_dfa.state.LookContext.{LookContext}
 use Rattle.regex_lite_meta.specs.LazyDfa.Automaton.{KeptOrigin, State}
 use Rattle.std.proofs.Common.{replicate, length-append, length-drop}
 use Rattle.std.proofs.lemmas.List.{length-replicate, take-append-le, drop-append-le}
@@ -356,7 +356,7 @@ extends_pending old new pending extends = record {
 
 -- and a state is the same
 pub is_state_pending : (automaton : Automaton) (pending all : List Way) (y : ℕ)
-    (searching : Bool) (before : Side) (hit : Option KeptOrigin) (restarts : Bool)
+    (searching : Bool) (before : LookContext) (hit : Option KeptOrigin) (restarts : Bool)
     → IsState automaton y all searching before hit restarts
     → IsState (record automaton { pending = pending }) y all searching before hit restarts
 is_state_pending automaton pending all y searching before hit restarts is = record {

@@ -2,7 +2,7 @@
 use Rattle.std.specs.Prelude.{◌≡◌, ◌+◌, ◌<◌, ◌≤◌, ◌==◌, ℕ, Bool, true, false, List, []}
 use Rattle.std.specs.Prelude.{map, length, slice_get, slice_index, IfSome, Option, Some, None}
 use Rattle.regex_lite_syntax.specs.Text.{Text}
-use Rattle.regex_lite_meta.specs.declared.lazy_dfa.state.Side.{Side}
+use Rattle.regex_lite_meta.specs.declared.lazy_dfa.state.LookContext.{LookContext}
 use Rattle.regex_lite_engine.specs.declared.search.here.Here.{Here}
 use Rattle.regex_lite_engine.specs.Graph.Parts.{IsOwnPart, row_of}
 use Rattle.regex_lite_engine.specs.Graph.Places.{Place, reading_of}
@@ -34,7 +34,7 @@ pub record State : Type 0 where
   -- whether there is no match yet
   pub searching : Bool
   -- what looks see of the character before
-  pub before : Side
+  pub before : LookContext
   -- where the way began by which a match was complete at the last position
   pub hit : Option KeptOrigin
   -- whether the last position is the first start from there on
@@ -110,7 +110,8 @@ Suits true best = best ≡ None
 Suits false best = best ≡ None → ⊥
 
 -- a search in this state sees a character of this class
-pub record Sees (intervals : Intervals) (before : Side) (class : ℕ) (there : Here) : Type 0 where
+pub record Sees (intervals : Intervals) (before : LookContext) (class : ℕ) (there : Here)
+    : Type 0 where
   pub ahead : class_of intervals.boundaries there.after ≡ class
   pub behind : intervals.looks ≡ true → side_of there.before ≡ before
 

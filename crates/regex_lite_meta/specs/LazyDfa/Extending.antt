@@ -1,13 +1,13 @@
 -- How the lazy automaton gets more states.
 use Rattle.std.specs.Prelude.{◌≡◌, ◌<◌, ℕ, Bool, List, Option, Some, slice_get, slice_index}
-use Rattle.regex_lite_meta.specs.declared.lazy_dfa.state.Side.{Side}
+use Rattle.regex_lite_meta.specs.declared.lazy_dfa.state.LookContext.{LookContext}
 use Rattle.regex_lite_meta.specs.LazyDfa.Automaton.{Automaton, KeptOrigin, State}
 use Rattle.regex_lite_meta.specs.LazyDfa.Automaton.{Way, unknown}
 use Rattle.regex_lite_meta.specs.LazyDfa.Intervals.{classes_in}
 
 -- the state with this number has these ways and properties
 pub record IsState (automaton : Automaton) (y : ℕ) (all : List Way) (goes_on : Bool)
-    (side : Side) (last : Option KeptOrigin) (anew : Bool) : Type 0 where
+    (side : LookContext) (last : Option KeptOrigin) (anew : Bool) : Type 0 where
   pub state : State
   pub is : slice_get automaton.states y ≡ Some state
   pub ways : state.ways ≡ all

@@ -7,7 +7,7 @@ use Rattle.regex_lite_syntax.specs.declared.class.ClassRange.{ClassRange}
 use Rattle.regex_lite_syntax.specs.Text.{the}
 use Rattle.regex_lite_syntax.specs.Tree.Looks.{is, is_word}
 use Rattle.regex_lite_meta.specs.declared.lazy_dfa.classes.Interval.{Interval}
-use Rattle.regex_lite_meta.specs.declared.lazy_dfa.state.Side.{Side}
+use Rattle.regex_lite_meta.specs.declared.lazy_dfa.state.LookContext.{LookContext}
 use Rattle.regex_lite_engine.specs.declared.nfa.place.Place as code
 use Rattle.regex_lite_engine.specs.declared.nfa.place.Place.TheVariants as stored
 use Rattle.regex_lite_engine.specs.declared.search.here.Here.{Here}
@@ -91,7 +91,7 @@ pub record AreIntervalsOf (places : List code.Place) (intervals : Intervals) : T
   pub sides : intervals.looks ≡ true → All (IsBoundary intervals.boundaries) look_bounds
 
 -- what looks see of a neighbour
-abbrev pub side_of : Option ℕ → Side
+abbrev pub side_of : Option ℕ → LookContext
 side_of c = record {
   is_none = is_none c;
   is_line_feed = is c (the "\n");

@@ -1,7 +1,7 @@
 //! What a lazy automaton remembers.
 ghost use Rattle.std.specs.Prelude.{◌≡◌, ◌+◌, ◌*◌, ◌≤◌, ◌<◌, ◌++◌, ◌∷◌, [], IfOk, IfSome};
-ghost use Rattle.std.specs.Prelude.{Option, Some, length, map, slice_get, slice_index, slice_set, ℕ};
-ghost use Rattle.std.specs.Prelude.{false, true};
+ghost use Rattle.std.specs.Prelude.{Option, Some, length, map, slice_get, slice_index, slice_set};
+ghost use Rattle.std.specs.Prelude.{ℕ, false, true};
 ghost use Rattle.regex_lite_meta.specs.LazyDfa.Automaton.{State, unknown};
 ghost use Rattle.regex_lite_meta.specs.LazyDfa.Extending.{Extends, IsState};
 ghost use Rattle.regex_lite_meta.specs.LazyDfa.Intervals.{classes_in};
@@ -13,7 +13,7 @@ use crate::lazy_dfa::lookup::Lookup;
 use crate::lazy_dfa::room::{MOST_STATES, Room};
 use crate::lazy_dfa::run::Progress;
 use crate::lazy_dfa::start_states::StartStates;
-use crate::lazy_dfa::state::{Effect, Hit, Side, StoredState, StoredWay, Target};
+use crate::lazy_dfa::state::{Effect, Hit, LookContext, StoredState, StoredWay, Target};
 use crate::strategy::BYTES_FOR_ONE;
 use std::alloc::{AllocError, Global};
 use std::marker::Model;
@@ -164,7 +164,13 @@ impl LazyDfa {
     }
 
     /// Adds a state with the pending ways and these properties. Returns whether there was memory.
-    pub(super) fn add(&mut self, searching: bool, before: Side, hit: Hit, restarts: bool) -> bool
+    pub(super) fn add(
+        &mut self,
+        searching: bool,
+        before: LookContext,
+        hit: Hit,
+        restarts: bool,
+    ) -> bool
         requires { length self.old.states < 256 }
         ensures state { result ≡ true → IsState self.new (length self.old.states)
             self.old.pending searching before (hit_in hit) restarts }

@@ -1,16 +1,9 @@
 //! Searches begin by known transitions: those that end there touch no memory of ordered sets.
-ghost use Rattle.std.specs.Prelude.{◌≡◌, [], ℕ, IfErr, IfOk, IsCharBoundary, None, chars};
-ghost use Rattle.std.specs.Prelude.{false, length, true};
-ghost use Rattle.regex_lite_meta.specs.LazyDfa.Automaton.{Remembers};
-ghost use Rattle.regex_lite_meta.specs.LazyDfa.Running.{Stands};
-ghost use Rattle.regex_lite_meta.specs.LazyDfa.Scanning.{ComesTo, best_told};
-ghost use Rattle.regex_lite_engine.specs.Search.Bounds.{characters_left};
-ghost use Rattle.regex_lite_engine.specs.Search.Counting.{CanCount};
-ghost use Rattle.regex_lite_engine.specs.Search.NumberedOutcomes.{IsFoundOf};
+ghost use Rattle.std.specs.Prelude.{◌≡◌, ℕ, None, chars, true};
+ghost use Rattle.regex_lite_meta.specs.LazyDfa.Scanning.{ComesTo};
+ghost use Rattle.regex_lite_meta.specs.LazyDfa.Starting.{CanGoOn, GoesOnFrom, HasGoneOn};
 ghost use Rattle.regex_lite_engine.specs.Search.Offsets.{position_at};
-ghost use Rattle.regex_lite_engine.specs.Search.Starts.{AreAllStarts, AreDeadAt, SkipsTo};
-ghost use Rattle.regex_lite_engine.specs.Pikevm.Searching.{IsBetween};
-ghost use Rattle.regex_lite_engine.specs.Pikevm.Turns.{best_of};
+ghost use Rattle.regex_lite_engine.specs.Search.Starts.{AreAllStarts};
 
 use crate::lazy_dfa::automaton::LazyDfa;
 use crate::lazy_dfa::run::Progress;
@@ -38,29 +31,10 @@ impl LazyDfa {
     ) -> Result<Option<(Origin, usize)>, Progress>
         requires all { AreAllStarts (P.table patterns.now) (P.entries patterns.now)
             (P.starts patterns.now) }
-        requires remembers { Remembers (P.table patterns.now) (P.entries patterns.now) self.old }
-        requires none_pending { self.old.pending ≡ [] }
-        requires between { IsBetween (P.table patterns.now) cache.old }
-        requires boundary { IsCharBoundary haystack.now from }
-        requires on { (s : ℕ) × SkipsTo (AreDeadAt (P.table patterns.now) (chars haystack.now)
-            (P.entries patterns.now)) haystack.now s from
-            × CanCount (P.table patterns.now) (length (P.entries patterns.now))
-            (characters_left (chars haystack.now) s) }
-        requires width { length cache.old.walk.memory.row ≡ 0 }
-        ensures found { (s : ℕ) → SkipsTo (AreDeadAt (P.table patterns.now) (chars haystack.now)
-            (P.entries patterns.now)) haystack.now s from
-            → IfOk result (λ found. IsFoundOf EARLIEST (P.table patterns.now) (chars haystack.now)
-            (P.entries patterns.now) s (best_told found)) }
-        ensures stands { (s : ℕ) → SkipsTo (AreDeadAt (P.table patterns.now) (chars haystack.now)
-            (P.entries patterns.now)) haystack.now s from
-            → IfErr result (λ at. Stands (P.table patterns.now) (chars haystack.now)
-            (P.entries patterns.now) s self.new at cache.new) }
-        ensures none { IfErr result (λ _. EARLIEST ≡ true → best_of cache.new.best ≡ None) }
-        ensures not_anew { IfErr result (λ at. at.anew ≡ false) }
-        ensures remembers { Remembers (P.table patterns.now) (P.entries patterns.now) self.new }
-        ensures none_pending { self.new.pending ≡ [] }
-        ensures between { IsBetween (P.table patterns.now) cache.new }
-        ensures width { length cache.new.walk.memory.row ≡ 0 }
+        requires on { CanGoOn (P.table patterns.now) (P.entries patterns.now) haystack.now from
+            self.old cache.old }
+        ensures { HasGoneOn (P.table patterns.now) (P.entries patterns.now) haystack.now from
+            EARLIEST result self.new cache.new }
     {
         let Some(state) = self.start_state(haystack, from) else {
             return self.search_anew::<_, EARLIEST>(patterns, cache, haystack, from);
@@ -78,7 +52,7 @@ impl LazyDfa {
         self.search_on::<_, EARLIEST>(patterns, cache, haystack, from, at)
     }
 
-    /// The same where `run` stopped there.
+    /// Goes on as `search` does, from where `run` stopped.
     #[inline(never)]
     fn search_on<P: Patterns, const EARLIEST: bool>(
         &mut self,
@@ -90,34 +64,15 @@ impl LazyDfa {
     ) -> Result<Option<(Origin, usize)>, Progress>
         requires all { AreAllStarts (P.table patterns.now) (P.entries patterns.now)
             (P.starts patterns.now) }
-        requires remembers { Remembers (P.table patterns.now) (P.entries patterns.now) self.old }
-        requires none_pending { self.old.pending ≡ [] }
-        requires between { IsBetween (P.table patterns.now) cache.old }
-        requires boundary { IsCharBoundary haystack.now from }
-        requires on { (s : ℕ) × SkipsTo (AreDeadAt (P.table patterns.now) (chars haystack.now)
-            (P.entries patterns.now)) haystack.now s from
-            × CanCount (P.table patterns.now) (length (P.entries patterns.now))
-            (characters_left (chars haystack.now) s) }
-        requires scanned { (s : ℕ) → SkipsTo (AreDeadAt (P.table patterns.now) (chars haystack.now)
-            (P.entries patterns.now)) haystack.now s from
+        requires on { CanGoOn (P.table patterns.now) (P.entries patterns.now) haystack.now from
+            self.old cache.old }
+        requires scanned { (s : ℕ)
+            → GoesOnFrom (P.table patterns.now) (P.entries patterns.now) haystack.now from s
             → ComesTo (P.table patterns.now) (P.entries patterns.now) (chars haystack.now) s
             (position_at haystack.now from) from self.old stopped }
         requires none { EARLIEST ≡ true → stopped.best ≡ None }
-        requires width { length cache.old.walk.memory.row ≡ 0 }
-        ensures found { (s : ℕ) → SkipsTo (AreDeadAt (P.table patterns.now) (chars haystack.now)
-            (P.entries patterns.now)) haystack.now s from
-            → IfOk result (λ found. IsFoundOf EARLIEST (P.table patterns.now) (chars haystack.now)
-            (P.entries patterns.now) s (best_told found)) }
-        ensures stands { (s : ℕ) → SkipsTo (AreDeadAt (P.table patterns.now) (chars haystack.now)
-            (P.entries patterns.now)) haystack.now s from
-            → IfErr result (λ at. Stands (P.table patterns.now) (chars haystack.now)
-            (P.entries patterns.now) s self.new at cache.new) }
-        ensures none { IfErr result (λ _. EARLIEST ≡ true → best_of cache.new.best ≡ None) }
-        ensures not_anew { IfErr result (λ at. at.anew ≡ false) }
-        ensures remembers { Remembers (P.table patterns.now) (P.entries patterns.now) self.new }
-        ensures none_pending { self.new.pending ≡ [] }
-        ensures between { IsBetween (P.table patterns.now) cache.new }
-        ensures width { length cache.new.walk.memory.row ≡ 0 }
+        ensures { HasGoneOn (P.table patterns.now) (P.entries patterns.now) haystack.now from
+            EARLIEST result self.new cache.new }
     {
         let mut to = stopped;
         if self.scan_on::<P, EARLIEST>(patterns, haystack, &mut to) {
@@ -130,7 +85,7 @@ impl LazyDfa {
         self.search_while_it_pays::<_, EARLIEST>(patterns, cache, haystack, at, 0)
     }
 
-    /// The same where the state in which it starts isn't known.
+    /// Does what `search` does where the state in which it starts isn't known.
     #[inline(never)]
     fn search_anew<P: Patterns, const EARLIEST: bool>(
         &mut self,
@@ -141,29 +96,10 @@ impl LazyDfa {
     ) -> Result<Option<(Origin, usize)>, Progress>
         requires all { AreAllStarts (P.table patterns.now) (P.entries patterns.now)
             (P.starts patterns.now) }
-        requires remembers { Remembers (P.table patterns.now) (P.entries patterns.now) self.old }
-        requires none_pending { self.old.pending ≡ [] }
-        requires between { IsBetween (P.table patterns.now) cache.old }
-        requires boundary { IsCharBoundary haystack.now from }
-        requires on { (s : ℕ) × SkipsTo (AreDeadAt (P.table patterns.now) (chars haystack.now)
-            (P.entries patterns.now)) haystack.now s from
-            × CanCount (P.table patterns.now) (length (P.entries patterns.now))
-            (characters_left (chars haystack.now) s) }
-        requires width { length cache.old.walk.memory.row ≡ 0 }
-        ensures found { (s : ℕ) → SkipsTo (AreDeadAt (P.table patterns.now) (chars haystack.now)
-            (P.entries patterns.now)) haystack.now s from
-            → IfOk result (λ found. IsFoundOf EARLIEST (P.table patterns.now) (chars haystack.now)
-            (P.entries patterns.now) s (best_told found)) }
-        ensures stands { (s : ℕ) → SkipsTo (AreDeadAt (P.table patterns.now) (chars haystack.now)
-            (P.entries patterns.now)) haystack.now s from
-            → IfErr result (λ at. Stands (P.table patterns.now) (chars haystack.now)
-            (P.entries patterns.now) s self.new at cache.new) }
-        ensures none { IfErr result (λ _. EARLIEST ≡ true → best_of cache.new.best ≡ None) }
-        ensures not_anew { IfErr result (λ at. at.anew ≡ false) }
-        ensures remembers { Remembers (P.table patterns.now) (P.entries patterns.now) self.new }
-        ensures none_pending { self.new.pending ≡ [] }
-        ensures between { IsBetween (P.table patterns.now) cache.new }
-        ensures width { length cache.new.walk.memory.row ≡ 0 }
+        requires on { CanGoOn (P.table patterns.now) (P.entries patterns.now) haystack.now from
+            self.old cache.old }
+        ensures { HasGoneOn (P.table patterns.now) (P.entries patterns.now) haystack.now from
+            EARLIEST result self.new cache.new }
     {
         restart(cache);
         let begun = Progress::begun(Here::at(haystack, from));

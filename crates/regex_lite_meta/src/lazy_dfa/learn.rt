@@ -15,7 +15,7 @@ ghost use Rattle.regex_lite_meta.specs.LazyDfa.Extending.{Extends, IsState};
 use crate::lazy_dfa::automaton::LazyDfa;
 use crate::lazy_dfa::lookup::{CELLS_FOR_ONE, hash_of};
 use crate::lazy_dfa::run::Progress;
-use crate::lazy_dfa::state::{Hit, Side, StoredWay, are_same};
+use crate::lazy_dfa::state::{Hit, LookContext, StoredWay, are_same};
 use regex_lite_engine::pikevm::beginning::Origin;
 use regex_lite_engine::pikevm::cache::Cache;
 use regex_lite_engine::pikevm::memory::Memory;
@@ -156,13 +156,13 @@ impl LazyDfa {
     }
 
     /// What looks see of the character, if there are looks.
-    pub(super) fn side(&self, c: Option<char>) -> Side
+    pub(super) fn side(&self, c: Option<char>) -> LookContext
         ensures { self.now.intervals.looks ≡ true → result ≡ side_of c }
     {
         if self.classes.looks() {
-            Side::of(c)
+            LookContext::of(c)
         } else {
-            Side::none()
+            LookContext::none()
         }
     }
 
@@ -172,7 +172,7 @@ impl LazyDfa {
     pub(crate) fn settle(
         &mut self,
         searching: bool,
-        before: Side,
+        before: LookContext,
         hit: Hit,
         restarts: bool,
     ) -> Option<u16>
@@ -205,7 +205,7 @@ impl LazyDfa {
     fn find_state(
         &self,
         searching: bool,
-        before: Side,
+        before: LookContext,
         hit: Hit,
         restarts: bool,
     ) -> Result<u16, usize>
@@ -227,7 +227,14 @@ impl LazyDfa {
 
     /// Whether the state with this number has the pending ways and these properties.
     #[tactic(auto, using(crate::proofs::lazy_dfa::StoredStateLemmas::length_states))]
-    fn is_state(&self, y: u16, searching: bool, before: Side, hit: Hit, restarts: bool) -> bool
+    fn is_state(
+        &self,
+        y: u16,
+        searching: bool,
+        before: LookContext,
+        hit: Hit,
+        restarts: bool,
+    ) -> bool
         ensures { result ≡ true
             → IsState self.now y self.now.pending searching before (hit_in hit) restarts }
     {

@@ -11,7 +11,7 @@ ghost use Rattle.regex_lite_engine.specs.Search.Offsets.{position_at};
 ghost use Rattle.regex_lite_engine.specs.Search.Standing.{IsHere};
 
 use crate::lazy_dfa::automaton::LazyDfa;
-use crate::lazy_dfa::state::{Hit, Side};
+use crate::lazy_dfa::state::{Hit, LookContext};
 use regex_lite_engine::pikevm::beginning::Origin;
 use regex_lite_engine::search::here::{Here, last_char};
 use regex_lite_engine::search::patterns::{Patterns, pass_over};
@@ -205,7 +205,7 @@ impl LazyDfa {
     }
 
     /// Whether looks, if there are any, see the same of both.
-    fn sees_alike(&self, side: Side, other: Side) -> bool
+    fn sees_alike(&self, side: LookContext, other: LookContext) -> bool
         ensures { result ≡ true → self.now.intervals.looks ≡ true → side ≡ other }
     {
         !self.classes.looks() || side.is(other)

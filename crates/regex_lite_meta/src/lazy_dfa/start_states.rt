@@ -1,7 +1,7 @@
 //! The states in which searches start.
 ghost use Rattle.std.specs.Prelude.{◌<◌};
 
-use crate::lazy_dfa::state::Side;
+use crate::lazy_dfa::state::LookContext;
 
 /// The numbers of the states without ways in which a match is searched for: one for each thing that
 /// looks may see of the character before. A number may be that of another state or of none, so
@@ -18,18 +18,18 @@ impl StartStates {
     }
 
     /// The state after a character of which looks see this.
-    pub(super) fn number(&self, before: Side) -> u16 {
+    pub(super) fn number(&self, before: LookContext) -> u16 {
         self.numbers[index(before)]
     }
 
     /// Puts the number of a state there.
-    pub(super) fn put(&mut self, before: Side, number: u16) {
+    pub(super) fn put(&mut self, before: LookContext, number: u16) {
         self.numbers[index(before)] = number;
     }
 }
 
 /// Where the number for this is. No character is seen as two of these.
-fn index(before: Side) -> usize
+fn index(before: LookContext) -> usize
     ensures { result < 5 }
 {
     if before.is_word {

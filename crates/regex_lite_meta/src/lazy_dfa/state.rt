@@ -37,7 +37,7 @@ pub(crate) struct StoredState {
     /// Whether the last position is the first start from there on, in place of an earlier one.
     pub restarts: bool,
     /// What looks see of the character before.
-    pub before: Side,
+    pub before: LookContext,
     /// Whether a match was complete at the last position.
     pub hit: Hit,
 }
@@ -125,7 +125,13 @@ impl StoredWay {
 
 impl StoredState {
     /// Whether it has these properties, whatever its ways.
-    pub(crate) fn is_like(&self, searching: bool, before: Side, hit: Hit, restarts: bool) -> bool
+    pub(crate) fn is_like(
+        &self,
+        searching: bool,
+        before: LookContext,
+        hit: Hit,
+        restarts: bool,
+    ) -> bool
         ensures searching { result ≡ true → self.now.searching ≡ searching }
         ensures before { result ≡ true → self.now.before ≡ before }
         ensures hit { result ≡ true → self.now.hit ≡ hit }
@@ -196,7 +202,7 @@ impl Hit {
 
 /// What looks see of the character before or after a position.
 #[derive(Clone, Copy)]
-pub(crate) struct Side {
+pub(crate) struct LookContext {
     /// Whether there is none.
     pub is_none: bool,
     pub is_line_feed: bool,
@@ -204,15 +210,15 @@ pub(crate) struct Side {
     pub is_word: bool,
 }
 
-impl Side {
+impl LookContext {
     /// What they see of this one.
-    pub(crate) fn of(c: Option<char>) -> Side
+    pub(crate) fn of(c: Option<char>) -> LookContext
         ensures { result ≡ side_of c }
     {
         let Some(c) = c else {
-            return Side::none();
+            return LookContext::none();
         };
-        Side {
+        LookContext {
             is_none: false,
             is_line_feed: c == '\n',
             is_carriage_return: c == '\r',
@@ -221,10 +227,10 @@ impl Side {
     }
 
     /// What they see where there is no character.
-    pub(crate) fn none() -> Side
+    pub(crate) fn none() -> LookContext
         ensures { result ≡ side_of None }
     {
-        Side {
+        LookContext {
             is_none: true,
             is_line_feed: false,
             is_carriage_return: false,
@@ -233,7 +239,7 @@ impl Side {
     }
 
     /// Whether they see the same of both.
-    pub(crate) fn is(self, other: Side) -> bool
+    pub(crate) fn is(self, other: LookContext) -> bool
         ensures { IsTrue result ↔ (self ≡ other) }
     {
         self.is_none == other.is_none

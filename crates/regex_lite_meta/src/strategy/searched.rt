@@ -23,7 +23,7 @@ enum HeadsOf<'g> {
 
 /// How a match begins.
 #[derive(Clone, Copy)]
-pub(super) enum Beginning {
+pub(super) enum Selectivity {
     /// With one of many characters.
     Often,
     /// With a character of a range, which is looked for.
@@ -62,16 +62,16 @@ impl<'g> Searched<'g> {
 
     /// How a match begins.
     #[inline(always)]
-    pub(super) fn beginning(&self) -> Beginning {
+    pub(super) fn beginning(&self) -> Selectivity {
         match self.heads {
             HeadsOf::One(PatternFilter::Whole(filter)) => self.beginning_by(filter),
             // One that begins with two characters that are known is mostly passed over.
-            HeadsOf::One(PatternFilter::Literal(_)) => Beginning::Indexed,
+            HeadsOf::One(PatternFilter::Literal(_)) => Selectivity::Indexed,
             HeadsOf::Several(heads) => {
                 if heads.begin_often() {
-                    Beginning::Often
+                    Selectivity::Often
                 } else {
-                    Beginning::Indexed
+                    Selectivity::Indexed
                 }
             }
         }
@@ -79,18 +79,18 @@ impl<'g> Searched<'g> {
 
     /// How a match of one pattern begins.
     #[inline(always)]
-    fn beginning_by(&self, filter: &Filter) -> Beginning {
+    fn beginning_by(&self, filter: &Filter) -> Selectivity {
         if filter.whole_words().is_some() {
-            return Beginning::Indexed;
+            return Selectivity::Indexed;
         }
         if filter.words().is_some() {
-            return Beginning::Rarely;
+            return Selectivity::Rarely;
         }
         match filter.prefilter() {
-            None if self.table.reading() == 0 => Beginning::Unread,
-            None => Beginning::Often,
-            Some(Prefilter::Range(_, _)) => Beginning::InRange,
-            Some(_) => Beginning::Rarely,
+            None if self.table.reading() == 0 => Selectivity::Unread,
+            None => Selectivity::Often,
+            Some(Prefilter::Range(_, _)) => Selectivity::InRange,
+            Some(_) => Selectivity::Rarely,
         }
     }
 

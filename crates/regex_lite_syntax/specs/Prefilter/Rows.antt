@@ -7,7 +7,7 @@ use Rattle.std.specs.Int.{bit_at}
 use Rattle.std.specs.List.{range_with_len}
 use Rattle.regex_lite_syntax.specs.AsciiMaps.{bit_of_words}
 use Rattle.regex_lite_syntax.specs.declared.prefilter.heads.Heads.{Heads}
-use Rattle.regex_lite_syntax.specs.declared.prefilter.list_heads.rows.Rows.{Rows}
+use Rattle.regex_lite_syntax.specs.declared.prefilter.list_heads.rows.BitRows.{BitRows}
 use Rattle.regex_lite_syntax.specs.declared.prefilter.starts.Starts.{Starts}
 use Rattle.regex_lite_syntax.specs.Prefilter.Starts.{begins_with}
 
@@ -34,7 +34,7 @@ is_in_column test base width row =
     not (nat_lt row base) && (nat_lt row (base + width) && test (row - base))
 
 -- the pattern with this number is in the row
-abbrev pub has : Rows → (row number : ℕ) → Bool
+abbrev pub has : BitRows → (row number : ℕ) → Bool
 has rows row number = bit_of_words rows.words.items (64 * (row * rows.width) + number) == 1
 
 -- the second character may be this one. If the second characters aren't known, it may be any
@@ -54,7 +54,7 @@ one_belongs None row = false
 one_belongs (Some part) row = belongs part row
 
 -- each row has a bit for each number from 0 to below the count, in as few words as serve
-pub record IsSized (rows : Rows) (count : ℕ) : Type 0 where
+pub record IsSized (rows : BitRows) (count : ℕ) : Type 0 where
   pub all : length rows.words.items ≡ row_count * rows.width
   pub enough : count ≤ 64 * rows.width
   pub few : 64 * rows.width < count + 64

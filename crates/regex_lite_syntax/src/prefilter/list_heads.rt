@@ -24,7 +24,7 @@ use crate::hir::as_hir::AsHir;
 use crate::prefilter::heads::Heads;
 use crate::prefilter::starts::Starts;
 use ascii_set::AsciiSet;
-use rows::{AT_START, Rows, SECOND};
+use rows::{AT_START, BitRows, SECOND};
 use std::alloc::{AllocError, Global};
 pub use thirds::Thirds;
 
@@ -39,7 +39,7 @@ pub struct ListHeads {
     pub any: Starts,
     /// How many trees there are.
     pub count: usize,
-    pub(crate) rows: Rows,
+    pub(crate) rows: BitRows,
     /// For each ASCII character, those that can come second in a match that begins with it.
     pub(crate) pairs: Vec<AsciiSet>,
     /// The characters that can come third in matches of each.
@@ -86,7 +86,7 @@ impl ListHeads {
         Ok(ListHeads {
             any: Starts::nowhere(),
             count,
-            rows: Rows::blank(alloc, count)?,
+            rows: BitRows::blank(alloc, count)?,
             pairs: vec![in alloc; AsciiSet::empty(); 128]?,
             thirds: Thirds::none(alloc),
         })

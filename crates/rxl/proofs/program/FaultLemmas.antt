@@ -8,9 +8,9 @@ use Rattle.regex_lite.specs.Errors.{out_of_memory}
 use Rattle.regex_lite.specs.Replacing.{Begins}
 use Rattle.rxl.specs.declared.command.Command.{Command}
 use Rattle.rxl.specs.declared.command.Command.TheVariants.{Ask, Escape}
-use Rattle.rxl.specs.declared.fault.Fault.{Fault}
-use Rattle.rxl.specs.declared.fault.Fault.TheVariants.{Usage, NotUtf8, Unreadable}
-use Rattle.rxl.specs.declared.fault.Fault.TheVariants.{Unwritten, Refused}
+use Rattle.rxl.specs.declared.fault.Failure.{Failure}
+use Rattle.rxl.specs.declared.fault.Failure.TheVariants.{Usage, NotUtf8, Unreadable}
+use Rattle.rxl.specs.declared.fault.Failure.TheVariants.{Unwritten, Refused}
 use Rattle.rxl.specs.Faults.{Ends, IsCutShort, IsFaultOf, IsReported, IsReportedAs, line_of_fault}
 use Rattle.rxl.specs.Output.{IsWritten}
 
@@ -21,7 +21,7 @@ no_text None bytes whole broken = tt
 no_text (Some known) bytes whole broken = subst (λ b. IsUtf8 b → ⊥) whole broken
 
 -- a failed write ends the run
-pub ends_cut_short : (fault : Fault) (args : List (Bor (List ℕ)))
+pub ends_cut_short : (fault : Failure) (args : List (Bor (List ℕ)))
     (input before now : Option (List ℕ)) → fault ≡ Unwritten → IsCutShort args input before now
     → Ends fault args input before now
 ends_cut_short fault args input before now is cut =
@@ -34,7 +34,7 @@ wanting (Ask question pattern) input = (inl tt, λ _. refl)
 wanting (Escape text) input = refl
 
 -- what is reported instead of a fault that occurred, occurred too
-so_as_reported : (fault named : Fault) (args : List (Bor (List ℕ)))
+so_as_reported : (fault named : Failure) (args : List (Bor (List ℕ)))
     (input before now : Option (List ℕ)) → IsReportedAs fault named
     → Ends fault args input before now → Ends named args input before now
 so_as_reported Usage named args input before now is so =
@@ -59,11 +59,11 @@ begun text before now true w =
 begun text before now false w = (w.written, w.told, w.appended)
 
 -- a fault that is so was reported
-pub reported : (fault : Fault) (args : List (Bor (List ℕ))) (input before now : Option (List ℕ))
+pub reported : (fault : Failure) (args : List (Bor (List ℕ))) (input before now : Option (List ℕ))
     (told tells : Option (List ℕ)) (all : Bool) → Ends fault args input before now
-    → ((named : Fault) × IsReportedAs fault named
+    → ((named : Failure) × IsReportedAs fault named
     × IsWritten told tells (line_of_fault named) all)
-    → (named : Fault) × Ends named args input before now × IsReported named told tells
+    → (named : Failure) × Ends named args input before now × IsReported named told tells
 reported fault args input before now told tells all so report = (
   report.0,
   so_as_reported fault report.0 args input before now report.1 so,
@@ -71,13 +71,13 @@ reported fault args input before now told tells all so report = (
 )
 
 -- the fault of a refused result
-abbrev pub fault_of : {T : Type 0} → Result T Fault → Fault
+abbrev pub fault_of : {T : Type 0} → Result T Failure → Failure
 fault_of (Ok value) = Usage
 fault_of (Err fault) = fault
 
 -- where no command is asked for the line on the usage was reported
-pub usage_reported : (fault : Fault) (told tells : Option (List ℕ)) (all : Bool) → fault ≡ Usage
-    → ((named : Fault) × IsReportedAs fault named
+pub usage_reported : (fault : Failure) (told tells : Option (List ℕ)) (all : Bool) → fault ≡ Usage
+    → ((named : Failure) × IsReportedAs fault named
     × IsWritten told tells (line_of_fault named) all)
     → IsReported Usage told tells
 usage_reported fault told tells all is report =

@@ -21,7 +21,7 @@ use std::marker::Model;
 #[derive(Drop)]
 pub(super) struct ListSearcher<'r> {
     list: &'r RegexList,
-    inner: regex_lite_meta::ListSearcher<'r>,
+    inner: regex_lite_meta::GraphListSearcher<'r>,
 }
 
 impl<'r> Model for ListSearcher<'r> {
@@ -46,7 +46,7 @@ impl<'r> ListSearcher<'r> {
         ensures refused { IfErr result (λ error. error ≡ out_of_memory) }
     {
         let graph = &list.compiled.graph;
-        let inner = regex_lite_meta::ListSearcher::new(list.alloc, graph, slots, bytes)?;
+        let inner = regex_lite_meta::GraphListSearcher::new(list.alloc, graph, slots, bytes)?;
         Ok(ListSearcher { list, inner })
     }
 

@@ -13,7 +13,7 @@ use std::marker::Model;
 #[derive(Drop)]
 pub(super) struct SetSearcher<'r> {
     list: &'r RegexList,
-    inner: regex_lite_meta::SetSearcher<'r>,
+    inner: regex_lite_meta::GraphSetSearcher<'r>,
 }
 
 impl<'r> Model for SetSearcher<'r> {
@@ -35,7 +35,7 @@ impl<'r> SetSearcher<'r> {
         ensures refused { IfErr result (λ error. error ≡ out_of_memory) }
     {
         let graph = &list.compiled.graph;
-        let inner = regex_lite_meta::SetSearcher::new(list.alloc, graph)?;
+        let inner = regex_lite_meta::GraphSetSearcher::new(list.alloc, graph)?;
         Ok(SetSearcher { list, inner })
     }
 

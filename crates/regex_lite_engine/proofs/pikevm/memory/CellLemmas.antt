@@ -7,11 +7,11 @@ use Rattle.regex_lite_engine.proofs.Common.{frame_in, other, place_on, start_on,
 use Rattle.regex_lite_engine.proofs.Common.{Thread, Row, Cell}
 use Rattle.std.proofs.Math.Seq.{map-set_same}
 use Rattle.std.proofs.lemmas.List.{length-reverse, reverse-append, take_more, take_more_set}
-use Rattle.regex_lite_engine.specs.declared.pikevm.cell.Frame as code
+use Rattle.regex_lite_engine.specs.declared.pikevm.cell.Job as code
 use Rattle.regex_lite_engine.specs.declared.pikevm.cell.Side.{Side}
 use Rattle.regex_lite_engine.specs.declared.pikevm.cell.Side.TheVariants.{First, Second}
 use Rattle.regex_lite_engine.specs.Pikevm.Cells.{frames_in, with_thread}
-use Rattle.regex_lite_engine.specs.Pikevm.Machine.{Frame, State}
+use Rattle.regex_lite_engine.specs.Pikevm.Machine.{Job, State}
 
 -- a cell with a thread more
 module _ {S : Type 0} (place : ℕ) (start : S) (x : Cell S) where
@@ -105,7 +105,7 @@ frames_long cells depth le =
     ∙ length-take-le depth (map frame_in cells) (omega (arith, le, length-map cells frame_in))
 
 -- a state in which these parts are the same
-pub state_with : (m : State) {frames : List Frame} {row : Row} {threads next : List Thread}
+pub state_with : (m : State) {frames : List Job} {row : Row} {threads next : List Thread}
     → frames ≡ m.frames → row ≡ m.row → threads ≡ m.threads → next ≡ m.next →
     record m { frames = frames; row = row; threads = threads; next = next } ≡ m
 state_with m {row = row} {threads} {next} ef ew et en =
@@ -115,7 +115,7 @@ state_with m {row = row} {threads} {next} ef ew et en =
     ∙ ap (λ z. record m { next = z }) en
 
 -- what a cell whose frame is written over keeps of its threads
-pub with_frame : {S : Type 0} (s : Side) (x : Cell S) (frame : code.Frame)
+pub with_frame : {S : Type 0} (s : Side) (x : Cell S) (frame : code.Job)
     → (place_on s (record x { frame = frame }) ≡ place_on s x)
     × (start_on s (record x { frame = frame }) ≡ start_on s x)
 with_frame First x frame = (refl, refl)

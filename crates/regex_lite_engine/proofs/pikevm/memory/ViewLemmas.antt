@@ -6,7 +6,7 @@ use Rattle.regex_lite_engine.proofs.Common.{[], row_on, threads_on, Thread}
 use Rattle.regex_lite_engine.specs.declared.pikevm.cell.Side.{Side}
 use Rattle.regex_lite_engine.specs.declared.pikevm.memory.Memory.TheInside.{Inside}
 use Rattle.regex_lite_engine.specs.Pikevm.Cells.{frames_in, with_thread, Continues, HoldTogether}
-use Rattle.regex_lite_engine.specs.Pikevm.Machine.{Frame, State}
+use Rattle.regex_lite_engine.specs.Pikevm.Machine.{Job, State}
 use Rattle.regex_lite_engine.proofs.pikevm.memory.CellLemmas.{back, frames_long}
 use Rattle.regex_lite_engine.proofs.pikevm.memory.CellLemmas.{state_with}
 use Rattle.regex_lite_engine.proofs.pikevm.memory.ListLemmas.{list_grown, list_kept, threads_kept}
@@ -70,7 +70,7 @@ module _ {S : Type 0} (told : S → Told) (i : Inside S) {m : State} (is : stand
     -- and one of them is written over, which has the threads that it had
     pub stands_set : (k : ℕ) {x : Cell S} (y : Cell S) → x ≡ slice_index_or cells' k x
         → ((s : Side) → (place_on s y ≡ place_on s x) × (start_on s y ≡ start_on s x))
-        → (depth' : ℕ) {frames' : List Frame} → frames_in (set cells' k y) depth' ≡ frames'
+        → (depth' : ℕ) {frames' : List Job} → frames_in (set cells' k y) depth' ≡ frames'
         → record (stands told i) {
           frames = frames_in (set cells' k y) depth';
           threads = threads_in (set cells' k y) i.rows;

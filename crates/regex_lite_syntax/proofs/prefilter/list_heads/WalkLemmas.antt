@@ -12,7 +12,7 @@ use Rattle.std.proofs.lemmas.Bool.{and_right}
 use Rattle.std.proofs.lemmas.List.{append-nil, length-append}
 use Rattle.std.proofs.lemmas.Nat.Bits.{bit_at-lt, bit_at_and, bit_at_or}
 use Rattle.std.proofs.Math.Bool.{and_self}
-use Rattle.regex_lite_syntax.specs.declared.prefilter.list_heads.rows.Rows.{Rows}
+use Rattle.regex_lite_syntax.specs.declared.prefilter.list_heads.rows.BitRows.{BitRows}
 use Rattle.regex_lite_syntax.specs.Prefilter.ListHeads.{IsWalkable}
 use Rattle.regex_lite_syntax.specs.Prefilter.Pairs.{NeverBeginsWith}
 use Rattle.regex_lite_syntax.proofs.prefilter.list_heads.NumberLemmas.{filter_none}
@@ -34,7 +34,7 @@ bit_of_either a b i =
     rw bit_at_or (grind (arith, nat_tests))
 
 -- a bit of a word of the row
-pub bit_in_row : (rows : Rows) (row k n word : ℕ)
+pub bit_in_row : (rows : BitRows) (row k n word : ℕ)
     → word ≡ slice_index rows.words.items (row * rows.width + k) → 64 * k ≤ n → n < 64 * (k + 1)
     → (bit_at word (n - 64 * k) == 1) ≡ has rows row n
 bit_in_row rows row k n word is low high =

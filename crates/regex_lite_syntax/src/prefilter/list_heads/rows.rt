@@ -1,4 +1,4 @@
-//! Rows of bits with a bit for each pattern.
+//! BitRows of bits with a bit for each pattern.
 ghost use Rattle.std.specs.Prelude.{◌≡◌, ◌==◌, ◌&&◌, ◌||◌, ◌+◌, ◌*◌, ◌<◌, ◌≤◌};
 ghost use Rattle.std.specs.Prelude.{ℕ, IfOk, false, length, slice_index, true};
 ghost use Rattle.regex_lite_syntax.specs.Prefilter.Rows.{first_row, has, is_in_column, second_row};
@@ -23,23 +23,23 @@ const ROWS: usize = AT_START + 1;
 
 /// A bit for each pattern in each row.
 #[derive(Drop)]
-pub(crate) struct Rows {
+pub(crate) struct BitRows {
     /// One row after another, the lowest number first.
     words: Vec<u64>,
     /// How many words a row has.
     width: usize,
 }
 
-impl Rows {
-    /// Rows for this number of patterns, with no pattern in them yet.
-    pub(crate) fn blank(alloc: Global, count: usize) -> Result<Rows, AllocError>
+impl BitRows {
+    /// BitRows for this number of patterns, with no pattern in them yet.
+    pub(crate) fn blank(alloc: Global, count: usize) -> Result<BitRows, AllocError>
         ensures sized { IfOk result (λ rows. IsSized rows count) }
         ensures none { IfOk result (λ rows. (row number : ℕ) → has rows row number ≡ false) }
     {
         let width = count.div_ceil(64);
         let len = width.checked_mul(ROWS).ok_or(AllocError)?;
         let words = vec![in alloc; 0; len]?;
-        Ok(Rows { words, width })
+        Ok(BitRows { words, width })
     }
 
     /// Puts the pattern with this number into the row.

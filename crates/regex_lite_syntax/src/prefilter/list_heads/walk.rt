@@ -61,27 +61,6 @@ impl ListHeads {
         }
     }
 
-    /// Whether the pattern with this number may start at a position, by the character before it and
-    /// the two after it.
-    ///
-    /// Conditions: [`ListHeads::of`] made the index, and there is such a pattern.
-    pub fn may_start(
-        &self,
-        before: Option<char>,
-        first: char,
-        second: Option<char>,
-        number: usize,
-    ) -> bool
-        requires walkable { IsWalkable self.now }
-        requires number { number < self.now.count }
-        ensures { result ≡ may_start self.now before (Some first) second number }
-    {
-        let first = first_row(first);
-        let second = row_after(first, second);
-        let word = self.word(before, first, second, number / 64);
-        word >> (number % 64) & 1 == 1
-    }
-
     /// Those of 64 patterns that may start, by the rows of both characters.
     fn word(&self, before: Option<char>, first: usize, second: usize, k: usize) -> u64
         requires walkable { IsWalkable self.now }

@@ -1,6 +1,6 @@
 use Rattle.std.proofs.Common.{◌++◌, ◌∙◌, inl, inr, codes, is_ok, refl, subst}
 use Rattle.regex_lite.specs.Errors.{out_of_memory}
-use Rattle.rxl.specs.declared.fault.Fault.TheVariants.{Refused}
+use Rattle.rxl.specs.declared.fault.Failure.TheVariants.{Refused}
 use Rattle.rxl.specs.Output.{IsWritten}
 use Rattle.rxl.proofs.fault.report_refusal.Goals as goal
 

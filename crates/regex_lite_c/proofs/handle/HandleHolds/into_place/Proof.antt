@@ -12,7 +12,7 @@ use Rattle.std.proofs.RcSteps.{Ptr-Good}
 use Rattle.regex_lite.proofs.PointerLemmas.{run_with_one, word_had, word_made}
 use Rattle.regex_lite_c.proofs.place.PlaceLemmas.{stated}
 use Rattle.regex_lite.specs.contracts.string.regex.Regex as stored
-use Rattle.regex_lite_c.specs.contracts.place.Place as place
+use Rattle.regex_lite_c.specs.contracts.place.HeapPlace as place
 use Rattle.regex_lite_c.specs.contracts.handle.Handle as handle
 use Rattle.regex_lite_c.specs.contracts.handle.HandleHolds.into_place as f
 use Rattle.regex_lite_c.proofs.handle.HandleHolds.into_place.Statement.{statement}

@@ -12,7 +12,7 @@ use Rattle.std.proofs.RcSteps.{Ptr-Good}
 use Rattle.regex_lite.proofs.PointerLemmas.{run_with_one, word_had, word_made}
 use Rattle.regex_lite_c.proofs.place.PlaceLemmas.{stated}
 use Rattle.regex_lite.specs.contracts.string.list.RegexList as stored
-use Rattle.regex_lite_c.specs.contracts.place.Place as place
+use Rattle.regex_lite_c.specs.contracts.place.HeapPlace as place
 use Rattle.regex_lite_c.specs.contracts.handle.ListHandle as handle
 use Rattle.regex_lite_c.specs.contracts.handle.ListHandleHolds.from_place as f
 use Rattle.regex_lite_c.proofs.handle.ListHandleHolds.from_place.Statement.{statement}

@@ -5,7 +5,7 @@ use Rattle.regex_lite_engine.proofs.Common.{false, List, inl, inr, Some, refl, �
 use Rattle.regex_lite_engine.proofs.Common.{StepCounts}
 use Rattle.regex_lite_engine.specs.declared.pikevm.enter.Onward as code
 use Rattle.regex_lite_engine.specs.Pikevm.Entering.{completes, onto, Enters, pushing, reading_on}
-use Rattle.regex_lite_engine.specs.Pikevm.Machine.{explore, State, Frame, Thread}
+use Rattle.regex_lite_engine.specs.Pikevm.Machine.{explore, State, Job, Thread}
 use Rattle.regex_lite_engine.specs.Pikevm.Room.{TakesFrame}
 use Rattle.regex_lite_engine.proofs.search.CountLemmas.{counted_all, entered_once, tried_once}
 use Rattle.regex_lite_engine.proofs.pikevm.RoomLemmas.{left_room}
@@ -99,7 +99,7 @@ reading_width : (b : Bool) (m : State) (thread : Thread)
 reading_width true m thread = refl
 reading_width false m thread = refl
 
-looking_width : (b : Bool) (m : State) (more : List Frame)
+looking_width : (b : Bool) (m : State) (more : List Job)
     → length (if b then pushing m more else m).row ≡ length m.row
 looking_width true m more = refl
 looking_width false m more = refl

@@ -1,6 +1,6 @@
 use Rattle.regex_lite_engine.proofs.Common.{true, false, List, [], ◌∷◌, refl, ◌∙◌, subst, arith}
 use Rattle.regex_lite_engine.proofs.Common.{length, places_of}
-use Rattle.regex_lite_engine.specs.Pikevm.Machine.{explore, Frame}
+use Rattle.regex_lite_engine.specs.Pikevm.Machine.{explore, Job}
 use Rattle.regex_lite_engine.specs.Pikevm.Room.{with_frames, GoesOn, IsFit}
 use Rattle.regex_lite_engine.proofs.search.CountLemmas.{counted_at_first, still_counted}
 use Rattle.regex_lite_engine.proofs.pikevm.StateLemmas.{keeps_threads}
@@ -70,7 +70,7 @@ returns-in-Complete-clause-explored g c =
     let first = with_frames a.self.now (explore a.first ∷ a.self.now.memory.frames) in
     let here = with_frames w (explore c.places.place ∷ w.memory.frames) in
     let went = c.in-Complete.ensures.taken in
-    subst (λ (fs : List Frame). GoesOn table a.here told first (with_frames x fs) true)
+    subst (λ (fs : List Job). GoesOn table a.here told first (with_frames x fs) true)
     {x = x.memory.frames} (went.cleared refl)
     (goes_further table a.here told first here x true c.places.invariant.on went.on)
 
@@ -100,7 +100,7 @@ next_place-requires g c =
 pub returns-in-Complete-clause-room : goal.returns-in-Complete-clause-room
 returns-in-Complete-clause-room g c =
     let a = c.args in let x = c.come_to.new.self in let went = c.in-Complete.ensures.taken in
-    subst (λ (fs : List Frame). IsFit (places_of a.table.now) (with_frames x fs))
+    subst (λ (fs : List Job). IsFit (places_of a.table.now) (with_frames x fs))
     {x = x.memory.frames} (went.cleared refl) went.fit
 
 pub returns-in-Complete-clause-counts : goal.returns-in-Complete-clause-counts

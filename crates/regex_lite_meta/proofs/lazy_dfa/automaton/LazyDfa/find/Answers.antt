@@ -43,5 +43,12 @@ returns-in-Ok-clause-found g c =
 pub search-requires-clause-on : goal.search-requires-clause-on
 search-requires-clause-on g c =
     let bs = c.args.haystack.now in
-    let s = position_at bs c.args.from in
-    (s, λ here same is. stays (chars bs) s here is, c.requires.on)
+    record {
+      remembers = c.requires.remembers;
+      none_pending = c.requires.none_pending;
+      between = c.requires.between;
+      boundary = c.requires.boundary;
+      counted =
+          (position_at bs c.args.from, λ here same is. stays (chars bs) _ here is, c.requires.on);
+      width = c.requires.width;
+    }

@@ -7,12 +7,6 @@ pub pass_over-from-requires : goal.pass_over-from-requires
 pass_over-from-requires g c =
     (position_at c.args.haystack.now c.args.start, c.at-from.ensures.here)
 
-pub search-told-requires-clause-boundary : goal.search-told-requires-clause-boundary
-search-told-requires-clause-boundary g c =
-    passed_edge c.args.haystack.now c.utf8.haystack
-    (c.pass_over-from.ensures (position_at c.args.haystack.now c.args.start)
-    c.at-from.ensures.here)
-
 pub search-told-requires-clause-all : goal.search-told-requires-clause-all
 search-told-requires-clause-all g c =
     let told = c.entries-entries.ensures in
@@ -20,12 +14,16 @@ search-told-requires-clause-all g c =
 
 pub search-told-requires-clause-on : goal.search-told-requires-clause-on
 search-told-requires-clause-on g c =
-    let s = position_at c.args.haystack.now c.args.start in (
-      s,
-      skips_there c.args.haystack.now c.utf8.haystack
-          (c.pass_over-from.ensures s c.at-from.ensures.here),
-      c.requires.counts,
-    )
+    let s = position_at c.args.haystack.now c.args.start in
+    let passed = c.pass_over-from.ensures s c.at-from.ensures.here in
+    record {
+      remembers = c.requires.remembers.remembers;
+      none_pending = c.requires.remembers.none_pending;
+      between = c.requires.between;
+      boundary = passed_edge c.args.haystack.now c.utf8.haystack passed;
+      counted = (s, skips_there c.args.haystack.now c.utf8.haystack passed, c.requires.counts);
+      width = c.requires.width;
+    }
 
 pub returns-clause-found : goal.returns-clause-found
 returns-clause-found g c =

@@ -1,5 +1,5 @@
-use Rattle.regex_lite_meta.proofs.Common.{ℕ, chars, sym, ◌∙◌, Stands, AreDeadAt}
-use Rattle.regex_lite_engine.specs.Search.Starts.{SkipsTo}
+use Rattle.regex_lite_meta.proofs.Common.{ℕ, chars, sym, ◌∙◌, Stands}
+use Rattle.regex_lite_meta.specs.LazyDfa.Starting.{GoesOnFrom}
 use Rattle.regex_lite_meta.proofs.lazy_dfa.BeginLemmas.{begun_as}
 use Rattle.regex_lite_meta.proofs.lazy_dfa.automaton.LazyDfa.search_anew.Given as given
 use Rattle.regex_lite_meta.proofs.lazy_dfa.automaton.LazyDfa.search_anew.Goals as goal
@@ -7,33 +7,39 @@ use Rattle.regex_lite_meta.proofs.lazy_dfa.automaton.LazyDfa.search_anew.Goals.{
 
 -- the search stands at its beginning
 begun : (g : given.Over) (c : After-begun-begun g) (s : ℕ)
-    → SkipsTo (AreDeadAt (g.P.Patterns.table c.args.patterns.now) (chars c.args.haystack.now)
-    (g.P.Patterns.entries c.args.patterns.now)) c.args.haystack.now s c.args.from
+    → GoesOnFrom (g.P.Patterns.table c.args.patterns.now) (g.P.Patterns.entries c.args.patterns.now)
+    c.args.haystack.now c.args.from s
     → Stands (g.P.Patterns.table c.args.patterns.now) (chars c.args.haystack.now)
     (g.P.Patterns.entries c.args.patterns.now) s c.args.self.now c.begun-begun.result
     c.restart.new.cache
 begun g c s skips =
     let table = g.P.Patterns.table c.args.patterns.now in
-    let fresh = c.restart.ensures.fresh table c.requires.between in
+    let fresh = c.restart.ensures.fresh table c.requires.on.between in
     begun_as table (chars c.args.haystack.now) (g.P.Patterns.entries c.args.patterns.now) s
     c.at.result (skips c.at.result c.at.ensures.at c.at.ensures.here) c.args.self.now
     c.begun-begun.result c.restart.new.cache
     c.begun-begun.ensures.is fresh
-    (sym fresh.between.best_width ∙ c.restart.ensures.width ∙ c.requires.between.best_width
-    ∙ c.requires.width)
+    (sym fresh.between.best_width ∙ c.restart.ensures.width ∙ c.requires.on.between.best_width
+    ∙ c.requires.on.width)
 
 pub search_while_it_pays-requires-clause-stands : goal.search_while_it_pays-requires-clause-stands
 search_while_it_pays-requires-clause-stands g c =
-    let on = c.requires.on in
+    let on = c.requires.on.counted in
     let at = goal.at.search_while_it_pays-requires-clause-stands g c in
     (on.0, on.2, begun g at.After-begun-begun on.0 on.1)
 
-pub returns-clause-found : goal.returns-clause-found
-returns-clause-found g c = λ s skips.
-    let at = goal.at.returns-clause-found g c in
-    c.search_while_it_pays.ensures.found s (begun g at.After-begun-begun s skips)
-
-pub returns-clause-stands : goal.returns-clause-stands
-returns-clause-stands g c = λ s skips.
-    let at = goal.at.returns-clause-stands g c in
-    c.search_while_it_pays.ensures.stands s (begun g at.After-begun-begun s skips)
+pub returns : goal.returns
+returns g c =
+    let at = goal.at.returns g c in
+    record {
+      found = λ s skips.
+          c.search_while_it_pays.ensures.found s (begun g at.After-begun-begun s skips);
+      stands = λ s skips.
+          c.search_while_it_pays.ensures.stands s (begun g at.After-begun-begun s skips);
+      none = c.search_while_it_pays.ensures.none;
+      not_anew = c.search_while_it_pays.ensures.not_anew;
+      remembers = c.search_while_it_pays.ensures.remembers;
+      none_pending = c.search_while_it_pays.ensures.none_pending;
+      between = c.search_while_it_pays.ensures.between;
+      width = c.search_while_it_pays.ensures.width;
+    }

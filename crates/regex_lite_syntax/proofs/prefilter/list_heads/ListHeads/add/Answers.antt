@@ -4,7 +4,7 @@ use Rattle.regex_lite_syntax.proofs.Common.{belongs, IsUnionOf, Heads, ListHeads
 use Rattle.std.proofs.lemmas.List.{map-append}
 use Rattle.regex_lite_syntax.specs.Prefilter.Rows.{IsSized}
 use Rattle.regex_lite_syntax.specs.Prefilter.Starts.{IsUnion}
-use Rattle.regex_lite_syntax.specs.declared.prefilter.list_heads.rows.Rows.{Rows}
+use Rattle.regex_lite_syntax.specs.declared.prefilter.list_heads.rows.BitRows.{BitRows}
 use Rattle.regex_lite_syntax.proofs.prefilter.heads.UnionLemmas.{any_with, union_with}
 use Rattle.regex_lite_syntax.proofs.prefilter.list_heads.IndexLemmas.{belongs_with}
 use Rattle.regex_lite_syntax.proofs.prefilter.list_heads.ListHeads.add.Goals as goal
@@ -32,7 +32,7 @@ returns-clause-added c parts all w =
       sized = returns-clause-sized c;
       bits = λ row n row_in n_in. (
           let inside : n < 64 * old.rows.width =
-          omega (arith, n_in, v.width, ap (λ (z : Rows). z.width) rows_kept) in
+          omega (arith, n_in, v.width, ap (λ (z : BitRows). z.width) rows_kept) in
           ap (λ z. has z row n) rows_kept
           ∙ v.set row n row_in inside
           ∙ ap (λ k. has old.rows row n || (n == k && belongs part row)) (sym all)

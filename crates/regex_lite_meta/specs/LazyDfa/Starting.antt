@@ -1,0 +1,47 @@
+-- A search that goes on at an offset, by the transitions that an automaton knows, and where it knows
+-- none by ordered sets.
+use Rattle.std.specs.Prelude.{◌≡◌, ℕ, Bool, false, true, List, [], length, chars}
+use Rattle.std.specs.Prelude.{IfErr, IfOk, IsCharBoundary, Option, None, Result}
+use Rattle.regex_lite_meta.specs.declared.lazy_dfa.run.Progress.{Progress}
+use Rattle.regex_lite_engine.specs.declared.pikevm.beginning.Origin.{Origin}
+use Rattle.regex_lite_engine.specs.declared.pikevm.cache.Cache.{Cache}
+use Rattle.regex_lite_engine.specs.Graph.Places.{Place}
+use Rattle.regex_lite_meta.specs.LazyDfa.Automaton.{Automaton, Remembers}
+use Rattle.regex_lite_meta.specs.LazyDfa.Running.{Stands}
+use Rattle.regex_lite_meta.specs.LazyDfa.Scanning.{best_told}
+use Rattle.regex_lite_engine.specs.Pikevm.Searching.{IsBetween}
+use Rattle.regex_lite_engine.specs.Pikevm.Turns.{best_of}
+use Rattle.regex_lite_engine.specs.Search.Bounds.{characters_left}
+use Rattle.regex_lite_engine.specs.Search.Counting.{CanCount}
+use Rattle.regex_lite_engine.specs.Search.NumberedOutcomes.{IsFoundOf}
+use Rattle.regex_lite_engine.specs.Search.Starts.{AreDeadAt, SkipsTo}
+
+module _ (table : List (Place ℕ)) (entries : List ℕ) (haystack : List ℕ) (from : ℕ) where
+  -- no match begins at position s or later, but before the offset
+  abbrev pub GoesOnFrom : (s : ℕ) → Type 0
+  GoesOnFrom s = SkipsTo (AreDeadAt table (chars haystack) entries) haystack s from
+
+  -- a search that does so can be made in this automaton and in this memory of ordered sets
+  pub record CanGoOn {S : Type 0} (automaton : Automaton) (cache : Cache S) : Type 0 where
+    pub remembers : Remembers table entries automaton
+    pub none_pending : automaton.pending ≡ []
+    pub between : IsBetween table cache
+    pub boundary : IsCharBoundary haystack from
+    pub counted : (s : ℕ) × GoesOnFrom s
+        × CanCount table (length entries) (characters_left (chars haystack) s)
+    pub width : length cache.walk.memory.row ≡ 0
+
+  -- it has found what a search from each such position finds, or it stands where it gave up
+  pub record HasGoneOn {S : Type 0} (earliest : Bool)
+      (result : Result (Option (Origin × ℕ)) Progress) (automaton : Automaton) (cache : Cache S)
+      : Type 0 where
+    pub found : (s : ℕ) → GoesOnFrom s → IfOk result
+        (λ found. IsFoundOf earliest table (chars haystack) entries s (best_told found))
+    pub stands : (s : ℕ) → GoesOnFrom s → IfErr result
+        (λ at. Stands table (chars haystack) entries s automaton at cache)
+    pub none : IfErr result (λ _. earliest ≡ true → best_of cache.best ≡ None)
+    pub not_anew : IfErr result (λ at. at.anew ≡ false)
+    pub remembers : Remembers table entries automaton
+    pub none_pending : automaton.pending ≡ []
+    pub between : IsBetween table cache
+    pub width : length cache.walk.memory.row ≡ 0
