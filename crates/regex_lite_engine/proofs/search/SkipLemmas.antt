@@ -101,16 +101,22 @@ skips_as Passed Other bs p None each none = none
 skips_as Passed Other bs p (Some at) each skips = λ here same is.
     passes_as Passed Other (chars bs) p here each (skips here same is)
 
--- no word stands at the positions that a search passes over, since none does at their offsets
+-- no word stands at a position, if none does at its offset
+pub none_stands_in : (words : List (List Letter)) (bs : List ℕ) (i : ℕ) → IsUtf8 bs
+    → ¬ AnyStandsAt words bs (offset (chars bs) i) → NoneStandsIn words (chars bs) i
+none_stands_in words bs i utf8 none stands =
+    none (subst (λ (rest : List ℕ). AnyStandsAt words rest 0) (sym rest) stands)
+  where
+    rest : drop (offset (chars bs) i) bs ≡ encode_utf8_all (drop i (chars bs))
+    rest = ap (drop (offset (chars bs) i)) (sym (encodes-chars bs utf8)) ∙ rest_at (chars bs) i
+
+-- nor does any where a search passes over positions, since none does at their offsets
 pub passes_words : (words : List (List Letter)) (bs : List ℕ) {p at q : ℕ} {y : Here} → IsUtf8 bs
     → IsOffset (chars bs) p at → IsHere (chars bs) q y → at ≤ y.at → NoneStands words bs at y.at
     → PassesTo (NoneStandsIn words (chars bs)) (chars bs) p y
 passes_words words bs utf8 is js le none =
-    passes_where is js le (λ i within from below stands. none (offset (chars bs) i) from below
-    (subst (λ (rest : List ℕ). AnyStandsAt words rest 0) (sym (rest i)) stands))
-  where
-    rest : (i : ℕ) → drop (offset (chars bs) i) bs ≡ encode_utf8_all (drop i (chars bs))
-    rest i = ap (drop (offset (chars bs) i)) (sym (encodes-chars bs utf8)) ∙ rest_at (chars bs) i
+    passes_where is js le (λ i within from below. none_stands_in words bs i utf8
+    (none (offset (chars bs) i) from below))
 
 -- a bound up to a position holds up to a later one
 pub bound_later : (a p q s m : ℕ) → p ≤ q → a ≤ m * (p - s) → a ≤ m * (q - s)

@@ -88,8 +88,8 @@ impl<'g> Patterns for OnePattern<'g> {
     }
 
     #[inline(always)]
-    fn come_to(&mut self, _: &str, here: Here) {
-        self.may_start = self.filter.may_begin(here);
+    fn come_to(&mut self, haystack: &str, here: Here) {
+        self.may_start = self.filter.may_start(haystack, here);
     }
 
     #[inline(always)]

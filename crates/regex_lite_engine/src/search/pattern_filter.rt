@@ -39,6 +39,37 @@ impl<'g> PatternFilter<'g> {
         }
     }
 
+    /// Whether a match can begin here, judging by the next character, and by the words of which
+    /// each match begins with one, if there are such words.
+    #[inline(always)]
+    pub(crate) fn may_start(self, haystack: &str, here: Here) -> bool
+        requires { (p : ℕ) × IsHere (chars haystack.now) p here }
+        ensures { result ≡ false → (p : ℕ) → IsHere (chars haystack.now) p here
+            → NeverStarts (facts_of self.entry) (chars haystack.now) p }
+    {
+        if !self.may_begin(here) {
+            return false;
+        }
+        self.may_stand(haystack, here)
+    }
+
+    /// Whether one of the words may stand here of which each match begins with one, if there are
+    /// such words.
+    #[inline(always)]
+    fn may_stand(self, haystack: &str, here: Here) -> bool
+        requires { (p : ℕ) × IsHere (chars haystack.now) p here }
+        ensures { result ≡ false → (p : ℕ) → IsHere (chars haystack.now) p here
+            → NeverStarts (facts_of self.entry) (chars haystack.now) p }
+    {
+        match self {
+            PatternFilter::Whole(filter) => match filter.words() {
+                None => true,
+                Some(words) => words.may_stand(haystack.as_bytes(), here.at),
+            },
+            PatternFilter::Literal(_) => true,
+        }
+    }
+
     /// The next position after this one at which a match can begin, or the haystack's end. None if
     /// one may begin here.
     #[inline(always)]

@@ -10,6 +10,7 @@ pub mod MarkLemmas
 pub mod WordListLemmas
 pub mod RowLemmas
 pub mod WordWalkLemmas
+pub mod WordPassLemmas
 pub mod LeadLemmas
 pub mod NeededRowLemmas
 pub mod NeededWalkLemmas

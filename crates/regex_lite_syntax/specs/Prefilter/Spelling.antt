@@ -4,7 +4,6 @@ use Rattle.regex_lite_syntax.specs.Tree.{Tree, Trees}
 use Rattle.regex_lite_syntax.specs.declared.prefilter.words.letter.Letter.{Letter}
 use Rattle.regex_lite_syntax.specs.Prefilter.WholeWords.{AreBytes, AreSpelled, IsItsWords}
 use Rattle.regex_lite_syntax.specs.Prefilter.WholeWords.{IsSpelled}
-use Rattle.regex_lite_syntax.specs.Prefilter.WholeWords.{IsWholeWord}
 use Rattle.regex_lite_syntax.specs.Prefilter.WordLists.{ListOfWords}
 use Rattle.regex_lite_syntax.specs.Prefilter.Words.{AreWordsOfTree}
 
@@ -18,17 +17,13 @@ pub record AddsLetters (Are : List Letter → Type 0) (before after : ListOfWord
 abbrev pub AddsBytes : (bytes : List ℕ) → (before after : ListOfWords) → Type 0
 AddsBytes bytes = AddsLetters (AreBytes bytes)
 
--- the tree is a character, or a letter in any case: its letters
+-- the tree is a word and nothing else: its letters
 abbrev pub AddsSpelled : Tree → (before after : ListOfWords) → Type 0
 AddsSpelled tree = AddsLetters (IsSpelled tree)
 
 -- the parts are such trees in a row: the letters of all
 abbrev pub AddsRow : Trees → (before after : ListOfWords) → Type 0
 AddsRow parts = AddsLetters (AreSpelled parts)
-
--- the tree is a word and nothing else: its letters
-abbrev pub AddsWord : Tree → (before after : ListOfWords) → Type 0
-AddsWord tree = AddsLetters (IsWholeWord tree)
 
 -- each match of the tree begins with one of the words and, if that is said, the tree is one of them
 -- and nothing else

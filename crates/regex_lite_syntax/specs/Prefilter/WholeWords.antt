@@ -1,7 +1,8 @@
--- Patterns that are their words: a row of characters and of letters in any case, or an alternation
--- of such rows.
-use Rattle.std.specs.Prelude.{◌≡◌, ◌⊎◌, ◌+◌, ◌<◌, ◌≤◌, ℕ, List, [], ◌∷◌, ◌++◌, IsTrue, length}
-use Rattle.std.specs.Prelude.{Option, IsCharBoundary, MatchOption, encode_utf8}
+-- Patterns that are their words: a row of characters and of letters in any case, in which parts
+-- may stand a fixed number of times, or an alternation of such rows.
+use Rattle.std.specs.Prelude.{◌≡◌, ◌⊎◌, ◌+◌, ◌<◌, ◌≤◌, ℕ, zero, suc, List, [], ◌∷◌, ◌++◌}
+use Rattle.std.specs.Prelude.{IsTrue, length, Option, Some, IsCharBoundary, MatchOption}
+use Rattle.std.specs.Prelude.{encode_utf8}
 use Rattle.regex_lite_syntax.specs.Ranges.{in_ranges}
 use Rattle.regex_lite_syntax.specs.Tree.{Tree, Trees, empty, character, class, look, repetition}
 use Rattle.regex_lite_syntax.specs.Tree.{capture, concat, alternation, none, more}
@@ -24,30 +25,35 @@ pub record HasCases (set : ℕ → Type 0) (letter : Letter) : Type 0 where
   pub has : (c : ℕ) → set c → IsLetter letter c
   pub no_others : (c : ℕ) → IsLetter letter c → set c
 
--- the tree is a character, or a letter in any case, and its bytes are these letters
-abbrev pub IsSpelled : Tree → (letters : List Letter) → Type 0
-IsSpelled (character c) letters = AreBytes (encode_utf8 c) letters
-IsSpelled (class ranges) letters =
-    (letter : Letter) × (letters ≡ letter ∷ [])
-    × HasCases (λ c. IsTrue (in_ranges ranges c)) letter
-IsSpelled empty letters = ⊥
-IsSpelled (look test) letters = ⊥
-IsSpelled (repetition least most greedy body) letters = ⊥
-IsSpelled (capture index name body) letters = ⊥
-IsSpelled (concat parts) letters = ⊥
-IsSpelled (alternation branches) letters = ⊥
-
--- the parts are such trees, and their letters in a row make the word
-abbrev pub AreSpelled : Trees → (word : List Letter) → Type 0
-AreSpelled none word = word ≡ []
-AreSpelled (more part rest) word =
+-- the letters are those of so many such parts, one after another
+abbrev pub ArePasses : (IsPart : List Letter → Type 0) → ℕ → (word : List Letter) → Type 0
+ArePasses IsPart zero word = word ≡ []
+ArePasses IsPart (suc n) word =
     (letters : List Letter) × (others : List Letter) × (word ≡ letters ++ others)
-    × IsSpelled part letters × AreSpelled rest others
+    × IsPart letters × ArePasses IsPart n others
 
--- the tree is one such part or a row of them, and nothing but the word
-abbrev pub IsWholeWord : Tree → (word : List Letter) → Type 0
-IsWholeWord tree word =
-    IsSpelled tree word ⊎ ((parts : Trees) × (tree ≡ concat parts) × AreSpelled parts word)
+abbrev mutual
+  -- the tree is a character, a letter in any case, a row of such trees, or one of them a fixed
+  -- number of times, and nothing but this word
+  pub IsSpelled : Tree → (word : List Letter) → Type 0
+  IsSpelled (character c) word = AreBytes (encode_utf8 c) word
+  IsSpelled (class ranges) word =
+      (letter : Letter) × (word ≡ letter ∷ [])
+      × HasCases (λ c. IsTrue (in_ranges ranges c)) letter
+  IsSpelled (repetition least most greedy body) word =
+      (0 < least) × (most ≡ Some least) × ArePasses (IsSpelled body) least word
+  IsSpelled (concat parts) word = AreSpelled parts word
+  IsSpelled empty word = ⊥
+  IsSpelled (look test) word = ⊥
+  IsSpelled (capture index name body) word = ⊥
+  IsSpelled (alternation branches) word = ⊥
+
+  -- the parts are such trees, and their letters in a row make the word
+  pub AreSpelled : Trees → (word : List Letter) → Type 0
+  AreSpelled none word = word ≡ []
+  AreSpelled (more part rest) word =
+      (letters : List Letter) × (others : List Letter) × (word ≡ letters ++ others)
+      × IsSpelled part letters × AreSpelled rest others
 
 -- each branch is the word with its number
 abbrev pub AreWholeWords : Trees → (words : List (List Letter)) → Type 0
@@ -55,12 +61,12 @@ AreWholeWords none [] = Unit {0}
 AreWholeWords none (word ∷ words) = ⊥
 AreWholeWords (more branch rest) [] = ⊥
 AreWholeWords (more branch rest) (word ∷ words) =
-    IsWholeWord branch word × AreWholeWords rest words
+    IsSpelled branch word × AreWholeWords rest words
 
 -- the tree is one word, or an alternation of words, and has no others
 abbrev pub IsItsWords : Tree → (words : List (List Letter)) → Type 0
 IsItsWords tree words =
-    ((word : List Letter) × (words ≡ word ∷ []) × IsWholeWord tree word)
+    ((word : List Letter) × (words ≡ word ∷ []) × IsSpelled tree word)
     ⊎ ((branches : Trees) × (tree ≡ alternation branches) × AreWholeWords branches words)
 
 -- where the first of the words that stand at an offset starts and ends. A character begins there

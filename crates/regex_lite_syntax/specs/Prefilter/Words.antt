@@ -52,14 +52,18 @@ IsNextWord words bytes from next = MatchOption next
 abbrev pub IsLead : ℕ → Type 0
 IsLead byte = (byte < 128) ⊎ (192 ≤ byte)
 
--- the word has two letters at least, and begins where a character does
+-- the word has a letter at least, and begins where a character does
 pub record IsSuited (word : List Letter) : Type 0 where
-  pub long : 2 ≤ length word
+  pub some : 0 < length word
   pub lead : (byte : ℕ) (bytes : List ℕ) → StartsWith word (byte ∷ bytes) → IsLead byte
 
 -- so does each of these
 abbrev pub AreSuited : List (List Letter) → Type 0
 AreSuited words = (number : ℕ) → number < length words → IsSuited (word_at words number)
+
+-- each of these has two letters at least
+abbrev pub AreLong : List (List Letter) → Type 0
+AreLong words = (number : ℕ) → number < length words → 2 ≤ length (word_at words number)
 
 -- each match of the tree begins with one of the words
 abbrev pub AreWordsOfTree : Tree → List (List Letter) → Type 0

@@ -1,12 +1,12 @@
 //! Words of which one stands wherever a match begins, and searches for the next of them.
 ghost use Rattle.std.specs.Prelude.{◌≡◌, ◌↔◌, ◌<◌, ◌≤◌, ◌^◌, ℕ, IfOk, IfSome};
-ghost use Rattle.std.specs.Prelude.{IsCharBoundary, IsTrue, length};
+ghost use Rattle.std.specs.Prelude.{IsCharBoundary, IsTrue, false, length};
 ghost use Rattle.regex_lite_syntax.specs.Tree.Views.{tree_of};
 ghost use Rattle.regex_lite_syntax.specs.Prefilter.NumberedWords.{HavePatterns, TellsWhichStand};
 ghost use Rattle.regex_lite_syntax.specs.Prefilter.Spelling.{AreToldWords};
 ghost use Rattle.regex_lite_syntax.specs.Prefilter.WholeWords.{IsNextSpan};
 ghost use Rattle.regex_lite_syntax.specs.Prefilter.WordLists.{all_words};
-ghost use Rattle.regex_lite_syntax.specs.Prefilter.Words.{AnyStandsAt, AreSuited};
+ghost use Rattle.regex_lite_syntax.specs.Prefilter.Words.{AnyStandsAt, AreLong, AreSuited};
 ghost use Rattle.regex_lite_syntax.specs.Prefilter.Words.{IsLead};
 ghost use Rattle.regex_lite_syntax.specs.Prefilter.Words.{IsNextWord, NoneStands, word_at};
 
@@ -40,7 +40,8 @@ use word_list::WordList;
 /// More words aren't looked for.
 const MOST: usize = 10_000;
 
-/// How many letters a word has at least. One byte alone rules little out.
+/// How many letters each of several words has at least, and one with which matches of a longer
+/// pattern begin. One byte alone rules little out.
 const SHORTEST: usize = 2;
 
 /// Words in the order in which the pattern has them.
@@ -117,7 +118,7 @@ impl Words {
             let finder = WordSearch::Pair(Pair::of(list.word(0)));
             return Ok(Some(Words { list, finder }));
         }
-        if !leaps_pay(&list, shortest(&list)) {
+        if !are_long(&list) || !leaps_pay(&list, shortest(&list)) {
             return Ok(None);
         }
         let finder = WordSearch::Leaps(Leaps::of(alloc, &list)?);
@@ -140,6 +141,21 @@ impl Words {
                 Some((at, 0))
             }
             WordSearch::Leaps(leaps) => leaps.find(&self.list, bytes, from),
+        }
+    }
+
+    /// Whether a word may stand at this offset: of several words, whether one does. Where there is
+    /// one word, to compare it costs as much as to try what begins with it.
+    ///
+    /// Condition: the offset is at most the length.
+    #[inline(always)]
+    pub fn may_stand(&self, bytes: &[u8], at: usize) -> bool
+        requires { at ≤ length bytes.now }
+        ensures { result ≡ false → ¬ AnyStandsAt self.now bytes.now at }
+    {
+        match &self.finder {
+            WordSearch::Pair(_) => true,
+            WordSearch::Leaps(leaps) => leaps.stands_at(&self.list, bytes, at),
         }
     }
 
@@ -226,13 +242,25 @@ pub(super) fn may_have_words(hir: &Hir) -> bool {
     may_begin_word(hir) && may_pay(hir)
 }
 
-/// Whether each word has some letters, and begins with the first byte of a character.
+/// Whether each word has a letter, and begins with the first byte of a character.
 fn are_suited(list: &WordList) -> bool
     ensures { IsTrue result → AreSuited (all_words list.now) }
 {
     'words: for number in 0..list.len() {
         let word = list.word(number);
-        if word.len() < SHORTEST || !is_lead(word[0].byte) || !is_lead(word[0].other) {
+        if word.is_empty() || !is_lead(word[0].byte) || !is_lead(word[0].other) {
+            return false;
+        }
+    }
+    true
+}
+
+/// Whether each word has as many letters as one of several is to have.
+fn are_long(list: &WordList) -> bool
+    ensures { IsTrue result → AreLong (all_words list.now) }
+{
+    'words: for number in 0..list.len() {
+        if list.word(number).len() < SHORTEST {
             return false;
         }
     }

@@ -1,5 +1,5 @@
 -- The preference list of a tree that is its words: first comes the first word that stands there.
-use Rattle.regex_lite_engine.proofs.Common.{◌≡◌, ℕ, zero, suc, ◌+◌, ◌<◌, ◌≤◌, ◌⊎◌, Bool, true}
+use Rattle.regex_lite_engine.proofs.Common.{◌≡◌, ℕ, zero, suc, ◌+◌, ◌-◌, ◌<◌, ◌≤◌, ◌⊎◌, Bool, true}
 use Rattle.regex_lite_engine.proofs.Common.{false}
 use Rattle.regex_lite_engine.proofs.Common.{List, [], ◌∷◌, ◌++◌, length, drop, slice_get, Some}
 use Rattle.regex_lite_engine.proofs.Common.{None}
@@ -12,8 +12,10 @@ use Rattle.regex_lite_engine.proofs.Common.{offset, Marks, no_marks, over, Entry
 use Rattle.regex_lite_engine.proofs.Common.{onward}
 use Rattle.regex_lite_engine.proofs.Common.{stop, preference_list, HasReadingLoops, whole}
 use Rattle.regex_lite_engine.proofs.Common.{if◌then◌else◌, map, marked, ◌==◌, nat_tests, append-nil}
-use Rattle.regex_lite_engine.specs.Search.PreferenceList.{HaveReadingLoops, list_of_branches}
-use Rattle.regex_lite_engine.specs.Search.PreferenceList.{list_of_chain, marking, read}
+use Rattle.regex_lite_engine.specs.Search.PreferenceList.{further, HaveReadingLoops}
+use Rattle.regex_lite_engine.specs.Search.PreferenceList.{list_of_branches, list_of_chain}
+use Rattle.regex_lite_engine.specs.Search.PreferenceList.{marking, passes, read, ReadsInPasses}
+use Rattle.regex_lite_engine.specs.Search.PreferenceList.{up_to}
 use Rattle.std.proofs.lemmas.Bool.{false≢true}
 use Rattle.std.proofs.lemmas.List.{drop-drop}
 use Rattle.std.proofs.lemmas.Str.{char_from_byte, encode_ascii, encode_same, len_utf8_bounds}
@@ -21,9 +23,9 @@ use Rattle.std.proofs.lemmas.Str.{length-encode}
 use lib.Utf8.{encode, encodes}
 use Rattle.regex_lite_engine.proofs.OffsetLemmas.{offset_next, rest_at}
 use Rattle.regex_lite_engine.proofs.laws.list.ReadingLemmas.{is_inside}
-use Rattle.regex_lite_syntax.specs.Prefilter.WholeWords.{AreBytes, AreSpelled, AreWholeWords}
-use Rattle.regex_lite_syntax.specs.Prefilter.WholeWords.{HasCases}
-use Rattle.regex_lite_syntax.specs.Prefilter.WholeWords.{IsItsWords, IsSpelled, IsWholeWord}
+use Rattle.regex_lite_syntax.specs.Prefilter.WholeWords.{AreBytes, ArePasses, AreSpelled}
+use Rattle.regex_lite_syntax.specs.Prefilter.WholeWords.{AreWholeWords, HasCases, IsItsWords}
+use Rattle.regex_lite_syntax.specs.Prefilter.WholeWords.{IsSpelled}
 use Rattle.regex_lite_syntax.specs.Prefilter.Words.{IsFirstAt, IsLetter, WordStandsAt, StartsWith}
 use Rattle.regex_lite_syntax.specs.Prefilter.Words.{word_at}
 use Rattle.regex_lite_syntax.specs.declared.prefilter.words.letter.Letter.{Letter}
@@ -32,36 +34,35 @@ use Rattle.regex_lite_syntax.proofs.prefilter.words.StandLemmas.{back_stands, st
 use Rattle.regex_lite_syntax.proofs.prefilter.words.StandLemmas.{starts_with_front, start_length}
 
 -- such a tree has no loops
-no_loop : (tree : Tree) (word : List Letter) → IsSpelled tree word → HasReadingLoops tree
-no_loop (character c) word is = tt
-no_loop (class ranges) word is = tt
-no_loop empty word is = absurd is
-no_loop (look test) word is = absurd is
-no_loop (repetition least most greedy body) word is = absurd is
-no_loop (capture index name body) word is = absurd is
-no_loop (concat parts) word is = absurd is
-no_loop (alternation branches) word is = absurd is
+mutual
+  no_loop : (tree : Tree) (word : List Letter) → IsSpelled tree word → HasReadingLoops tree
+  no_loop (character c) word is = tt
+  no_loop (class ranges) word is = tt
+  no_loop (repetition zero most greedy body) word (some, exact, are) = absurd (omega (arith, some))
+  no_loop (repetition (suc n) most greedy body) word
+      (some, exact, (letters, others, both, is, are)) =
+      (subst (λ most. ReadsInPasses most body) (sym exact) tt, no_loop body letters is)
+  no_loop empty word is = absurd is
+  no_loop (look test) word is = absurd is
+  no_loop (capture index name body) word is = absurd is
+  no_loop (concat parts) word are = no_loops parts word are
+  no_loop (alternation branches) word is = absurd is
 
-no_loops : (parts : Trees) (word : List Letter) → AreSpelled parts word → HaveReadingLoops parts
-no_loops none word are = tt
-no_loops (more part rest) word (letters, others, both, is, are) =
-    (no_loop part letters is, no_loops rest others are)
-
-word_loops : (tree : Tree) (word : List Letter) → IsWholeWord tree word → HasReadingLoops tree
-word_loops tree word (inl is) = no_loop tree word is
-word_loops tree word (inr (parts, same, are)) =
-    subst HasReadingLoops (sym same) (no_loops parts word are)
+  no_loops : (parts : Trees) (word : List Letter) → AreSpelled parts word → HaveReadingLoops parts
+  no_loops none word are = tt
+  no_loops (more part rest) word (letters, others, both, is, are) =
+      (no_loop part letters is, no_loops rest others are)
 
 branch_loops : (branches : Trees) (words : List (List Letter)) → AreWholeWords branches words
     → HaveReadingLoops branches
 branch_loops none words are = tt
 branch_loops (more branch rest) [] are = absurd are
 branch_loops (more branch rest) (word ∷ words) (is, are) =
-    (word_loops branch word is, branch_loops rest words are)
+    (no_loop branch word is, branch_loops rest words are)
 
 pub words_loops : (tree : Tree) (words : List (List Letter)) → IsItsWords tree words
     → HasReadingLoops tree
-words_loops tree words (inl (word, one, is)) = word_loops tree word is
+words_loops tree words (inl (word, one, is)) = no_loop tree word is
 words_loops tree words (inr (branches, same, are)) =
     subst HasReadingLoops (sym same) (branch_loops branches words are)
 
@@ -216,19 +217,6 @@ module _ (h : Text) where
           none_read set (letter ∷ []) i d there off
           (λ stands. false≢true (sym off ∙ never (from i) bytes stands))
 
-  spelled_read : (a : Tree) (letters : List Letter) → IsSpelled a letters → (i : ℕ)
-      → IsRead letters i (preference_list h a i)
-  spelled_read (character c) letters is i = character_read c letters is i (after h i) refl
-  spelled_read (class ranges) letters (letter, one, cases) i =
-      subst (λ word. IsRead word i (read (in_ranges ranges) i (after h i))) (sym one)
-      (class_read (in_ranges ranges) letter cases i (after h i) refl)
-  spelled_read empty letters is i = absurd is
-  spelled_read (look test) letters is i = absurd is
-  spelled_read (repetition least most greedy body) letters is i = absurd is
-  spelled_read (capture index name body) letters is i = absurd is
-  spelled_read (concat parts) letters is i = absurd is
-  spelled_read (alternation branches) letters is i = absurd is
-
   -- what follows the word are the bytes from its end on
   rest_after : (word : List Letter) (i j : ℕ) → offset h j ≡ offset h i + length word
       → drop (length word) (from i) ≡ from j
@@ -237,59 +225,94 @@ module _ (h : Text) where
       ∙ drop-drop (length word) (offset h i) (encodes h)
       ∙ ap (λ n. drop n (encodes h)) (sym end) ∙ rest_at h j
 
-  -- one part, and then the others
-  chain_read : (parts : Trees) (word : List Letter) → AreSpelled parts word → (i : ℕ)
-      → i ≤ length h → IsRead word i (list_of_chain h parts i)
-  chain_read none word none_left i within = inl (record {
-    j = i;
-    marks = no_marks;
-    only = refl;
-    stands = subst (λ word. StartsWith word (from i)) (sym none_left) tt;
-    inside = within;
-    end = omega (arith, ap length none_left);
-  })
-  chain_read (more part rest) word (letters, others, both, is, are) i within =
-      subst (λ word. IsRead word i (list_of_chain h (more part rest) i)) (sym both)
-      (by_first (spelled_read part letters is i) (λ k inside. chain_read rest others are k inside))
+  -- one word, and then another
+  both_read : (front back : List Letter) (i : ℕ) (list : List Entry) (next : ℕ → List Entry)
+      → IsRead front i list → ((k : ℕ) → k ≤ length h → IsRead back k (next k))
+      → IsRead (front ++ back) i (onward list next)
+  both_read front back i list next (inr (nothing, never)) on = inr (
+    ap (λ list. onward list next) nothing,
+    λ stands. never (starts_with_front front back (from i) stands),
+  )
+  both_read front back i list next (inl first) on = later (on first.j first.inside)
     where
-      next : ℕ → List Entry
-      next = list_of_chain h rest
-
-      later : (first : Stands letters i (preference_list h part i)) → IsRead others first.j
-          (next first.j) → IsRead (letters ++ others) i (onward (preference_list h part i) next)
-      later first (inr (nothing, never)) = inr (
+      later : IsRead back first.j (next first.j) → IsRead (front ++ back) i (onward list next)
+      later (inr (nothing, never)) = inr (
         ap (λ list. onward list next) first.only
             ∙ ap (λ list. map (after_marks first.marks) list ++ []) nothing,
-        λ stands. never (subst (StartsWith others) (rest_after letters i first.j first.end)
-            (back_stands letters others (from i) stands)),
+        λ stands. never (subst (StartsWith back) (rest_after front i first.j first.end)
+            (back_stands front back (from i) stands)),
       )
-      later first (inl second) = inl (record {
+      later (inl second) = inl (record {
         j = second.j;
         marks = over second.marks first.marks;
         only = ap (λ list. onward list next) first.only
             ∙ ap (λ list. map (after_marks first.marks) list ++ []) second.only;
-        stands = starts_with_both letters others (from i) first.stands
-            (subst (StartsWith others) (sym (rest_after letters i first.j first.end))
-            second.stands);
+        stands = starts_with_both front back (from i) first.stands
+            (subst (StartsWith back) (sym (rest_after front i first.j first.end)) second.stands);
         inside = second.inside;
-        end = omega (arith, second.end, first.end, length-append letters others);
+        end = omega (arith, second.end, first.end, length-append front back);
       })
 
-      by_first : IsRead letters i (preference_list h part i)
-          → ((k : ℕ) → k ≤ length h → IsRead others k (next k))
-          → IsRead (letters ++ others) i (onward (preference_list h part i) next)
-      by_first (inr (nothing, never)) on = inr (
-        ap (λ list. onward list next) nothing,
-        λ stands. never (starts_with_front letters others (from i) stands),
-      )
-      by_first (inl first) on = later first (on first.j first.inside)
+  -- nothing is read
+  nothing_read : (word : List Letter) → word ≡ [] → (i : ℕ) → i ≤ length h
+      → IsRead word i (stop i)
+  nothing_read word no_letters i within = inl (record {
+    j = i;
+    marks = no_marks;
+    only = refl;
+    stands = subst (λ word. StartsWith word (from i)) (sym no_letters) tt;
+    inside = within;
+    end = omega (arith, ap length no_letters);
+  })
 
-  word_read : (tree : Tree) (word : List Letter) → IsWholeWord tree word → (i : ℕ)
-      → i ≤ length h → IsRead word i (preference_list h tree i)
-  word_read tree word (inl is) i within = spelled_read tree word is i
-  word_read tree word (inr (parts, same, are)) i within =
-      subst (λ t. IsRead word i (preference_list h t i)) (sym same)
-      (chain_read parts word are i within)
+  -- so many passes, and then nothing
+  passes_read : (IsPart : List Letter → Type 0) (body next : ℕ → List Entry)
+      → ((letters : List Letter) → IsPart letters → (i : ℕ) → i ≤ length h
+      → IsRead letters i (body i))
+      → ((i : ℕ) → next i ≡ stop i) → (n : ℕ) (word : List Letter) → ArePasses IsPart n word
+      → (i : ℕ) → i ≤ length h → IsRead word i (passes n body next i)
+  passes_read IsPart body next each ends zero word no_letters i within =
+      subst (IsRead word i) (sym (ends i)) (nothing_read word no_letters i within)
+  passes_read IsPart body next each ends (suc n) word (letters, others, both, is, are) i within =
+      subst (λ word. IsRead word i (passes (suc n) body next i)) (sym both)
+      (both_read letters others i (body i) (passes n body next) (each letters is i within)
+      (λ k inside. passes_read IsPart body next each ends n others are k inside))
+
+  -- no passes are left where there are as many at most as at least
+  none_further : (least : ℕ) (most : Option ℕ) (greedy : Bool) (body : ℕ → List Entry)
+      → most ≡ Some least → (i : ℕ) → further h least most greedy body i ≡ stop i
+  none_further least most greedy body exact i =
+      let none : least - least ≡ 0 = omega arith in
+      ap (λ most. further h least most greedy body i) exact
+      ∙ ap (λ n. up_to n greedy body i) none
+
+  mutual
+    word_read : (a : Tree) (word : List Letter) → IsSpelled a word → (i : ℕ) → i ≤ length h
+        → IsRead word i (preference_list h a i)
+    word_read (character c) word is i within = character_read c word is i (after h i) refl
+    word_read (class ranges) word (letter, one, cases) i within =
+        subst (λ word. IsRead word i (read (in_ranges ranges) i (after h i))) (sym one)
+        (class_read (in_ranges ranges) letter cases i (after h i) refl)
+    word_read (repetition least most greedy body) word (some, exact, are) i within =
+        passes_read (IsSpelled body) (preference_list h body)
+        (further h least most greedy (preference_list h body))
+        (λ letters is i within. word_read body letters is i within)
+        (none_further least most greedy (preference_list h body) exact) least word are i within
+    word_read (concat parts) word are i within = chain_read parts word are i within
+    word_read empty word is i within = absurd is
+    word_read (look test) word is i within = absurd is
+    word_read (capture index name body) word is i within = absurd is
+    word_read (alternation branches) word is i within = absurd is
+
+    -- one part, and then the others
+    chain_read : (parts : Trees) (word : List Letter) → AreSpelled parts word → (i : ℕ)
+        → i ≤ length h → IsRead word i (list_of_chain h parts i)
+    chain_read none word no_letters i within = nothing_read word no_letters i within
+    chain_read (more part rest) word (letters, others, both, is, are) i within =
+        subst (λ word. IsRead word i (list_of_chain h (more part rest) i)) (sym both)
+        (both_read letters others i (preference_list h part i) (list_of_chain h rest)
+        (word_read part letters is i within)
+        (λ k inside. chain_read rest others are k inside))
 
   -- this match comes first, and ends where the word does
   pub record IsHead (word : List Letter) (i : ℕ) (list : List Entry) : Type 0 where

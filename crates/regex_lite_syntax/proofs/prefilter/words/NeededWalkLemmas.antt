@@ -1,5 +1,5 @@
 -- How a word that each match has is found, kind by kind of tree.
-use Rattle.regex_lite_syntax.proofs.Common.{◌≡◌, ℕ, zero, suc, ◌<◌, ◌≤◌, Bool}
+use Rattle.regex_lite_syntax.proofs.Common.{◌≡◌, ℕ, suc, ◌+◌, ◌-◌, ◌<◌, ◌≤◌, Bool, Some}
 use Rattle.regex_lite_syntax.proofs.Common.{List, [], ◌++◌, length, drop, Option, Tree, Trees}
 use Rattle.regex_lite_syntax.proofs.Common.{Matches, Chain, Text, sym, ap, ◌∙◌}
 use Rattle.regex_lite_syntax.proofs.Common.{subst, arith, IsTrue, in_ranges, look, class, true}
@@ -25,7 +25,7 @@ use Rattle.regex_lite_syntax.proofs.prefilter.starts.ReadLemmas.{tree_left}
 use Rattle.regex_lite_syntax.proofs.prefilter.starts.StartLemmas.{grown_on}
 use Rattle.regex_lite_syntax.proofs.prefilter.words.LeadLemmas.{char_among}
 use Rattle.regex_lite_syntax.proofs.prefilter.words.NextLemmas.{any_stands}
-use Rattle.regex_lite_syntax.proofs.prefilter.words.RowLemmas.{char_first}
+use Rattle.regex_lite_syntax.proofs.prefilter.words.RowLemmas.{char_first, only_passes}
 use Rattle.regex_lite_syntax.proofs.prefilter.words.NeededRowLemmas.{found_ended, found_later}
 
 -- what reads nothing
@@ -112,29 +112,67 @@ finds_any tree before walk reads left = record {
   wider = left.wider;
 }
 
--- one pass at least, after which the row is ended
-pub finds_passes : (least : ℕ) (most : Option ℕ) (greedy : Bool) (body : Tree)
-    (before now after : NeededWalk) → 0 < least → FindsPast body before now → EndsRow now after
+-- what was found up to so many passes, where others may follow
+pub record FindsPasses (body : Tree) (count : ℕ) (before now : NeededWalk) : Type 0 where
+  pub finds : (h : Text) (bytes : List ℕ) (i j n left : ℕ) → n ≡ count + left
+      → HasFound bytes (encode_utf8_all (drop i h)) before → Passes (Matches h body) n i j
+      → (k : ℕ) × HasFound bytes (encode_utf8_all (drop k h)) now × Passes (Matches h body) left k j
+  pub reads : 0 < count → ReadsAmong body now.read
+  pub wider : IsWider before.read now.read
+
+pub no_pass_passed : (body : Tree) (walk : NeededWalk) → FindsPasses body 0 walk walk
+no_pass_passed body walk = record {
+  finds = λ h bytes i j n left total found passes.
+      (i, found, subst (λ n. Passes (Matches h body) n i j) (omega (arith, total)) passes);
+  reads = λ some. absurd (omega (arith, some));
+  wider = same_width walk.read;
+}
+
+pub pass_passed : (body : Tree) (count : ℕ) (before now next : NeededWalk)
+    → FindsPasses body count before now → FindsPast body now next
+    → FindsPasses body (count + 1) before next
+pass_passed body count before now next passes pass = record {
+  finds = λ h bytes i j n left total found all.
+      let (k, here, (m, first, rest)) =
+      passes.finds h bytes i j n (suc left) (omega (arith, total)) found all in
+      (m, pass.finds h bytes k m here first, rest);
+  reads = λ _. pass.reads;
+  wider = grown_on before.read now.read next.read passes.wider pass.wider;
+}
+
+-- there are never more passes than were passed
+pub all_passes_passed : (least : ℕ) (most : Option ℕ) (greedy : Bool) (body : Tree)
+    (before now : NeededWalk) → 0 < least → most ≡ Some least
+    → FindsPasses body least before now
+    → FindsPast (repetition least most greedy body) before now
+all_passes_passed least most greedy body before now some exact passes = record {
+  finds = λ h bytes i j found (n, low, high, all).
+      let few = only_passes least n most exact low high in
+      let (k, here, same) = passes.finds h bytes i j n 0 (omega (arith, few)) found all in
+      subst (λ m. HasFound bytes (encode_utf8_all (drop m h)) now) same here;
+  reads = reads_passes least most greedy body now.read (passes.reads some);
+  wider = passes.wider;
+}
+
+-- or there may be more, before which the row is ended
+pub finds_passes : (least : ℕ) (most : Option ℕ) (greedy : Bool) (body : Tree) (count : ℕ)
+    (before now after : NeededWalk) → 0 < count → count ≤ least
+    → FindsPasses body count before now → EndsRow now after
     → FindsPast (repetition least most greedy body) before after
-finds_passes least most greedy body before now walk some first ends = record {
-  finds = λ h bytes i j found (n, low, high, passes). by_passes h bytes i j found n low passes;
+finds_passes least most greedy body count before now walk some few first ends = record {
+  finds = λ h bytes i j found (n, low, high, passes).
+      let (k, here, rest) =
+      first.finds h bytes i j n (n - count) (omega (arith, few, low)) found passes in
+      found_later walk bytes h k j ends.row (ends.led ∙ sym ends.read)
+      (passes_forward h (Matches h body) (λ a b m. is_forward h body a b m) (n - count) k j rest).0
+      (passes_between body walk.read reads_body h (n - count) k j rest)
+      (found_ended bytes (encode_utf8_all (drop k h)) now walk ends here);
   reads = reads_passes least most greedy body walk.read reads_body;
   wider = subst (IsWider before.read) (sym ends.read) first.wider;
 }
   where
     reads_body : ReadsAmong body walk.read
-    reads_body = subst (ReadsAmong body) (sym ends.read) first.reads
-
-    by_passes : (h : Text) (bytes : List ℕ) (i j : ℕ)
-        → HasFound bytes (encode_utf8_all (drop i h)) before → (n : ℕ) → least ≤ n
-        → Passes (Matches h body) n i j → HasFound bytes (encode_utf8_all (drop j h)) walk
-    by_passes h bytes i j found zero low passes = absurd (omega (arith, low, some))
-    by_passes h bytes i j found (suc n) low (k, pass, passes) =
-        found_later walk bytes h k j ends.row (ends.led ∙ sym ends.read)
-        (passes_forward h (Matches h body) (λ a b m. is_forward h body a b m) n k j passes).0
-        (passes_between body walk.read reads_body h n k j passes)
-        (found_ended bytes (encode_utf8_all (drop k h)) now walk ends
-        (first.finds h bytes i k found pass))
+    reads_body = subst (ReadsAmong body) (sym ends.read) (first.reads some)
 
 -- what was found up to some part of a row, where the others follow
 pub record FindsParts (all left : Trees) (before now : NeededWalk) : Type 0 where

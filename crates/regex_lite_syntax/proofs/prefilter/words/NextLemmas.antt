@@ -126,7 +126,7 @@ pub suited_boundary : (word : List Letter) (bytes : List ℕ) (at : ℕ) → IsS
     → StartsWith word (drop at bytes) → IsCharBoundary bytes at
 suited_boundary word bytes at suited stands =
     let long = start_length word (drop at bytes) stands in
-    let inside : at < length bytes = omega (arith, long, length-drop at bytes, suited.long) in
+    let inside : at < length bytes = omega (arith, long, length-drop at bytes, suited.some) in
     let begins : StartsWith word (get_or bytes at 0 ∷ drop (suc at) bytes) =
     subst (λ rest. StartsWith word rest) (drop-cons bytes at 0 inside) stands in (
       omega arith,

@@ -1,7 +1,7 @@
 -- A match of a row of characters reads its letters, and one of a tree that is its words begins with
 -- one of them.
-use Rattle.regex_lite_syntax.proofs.Common.{◌≡◌, ℕ, zero, suc, ◌<◌, List, [], ◌∷◌, ◌++◌, length}
-use Rattle.regex_lite_syntax.proofs.Common.{drop}
+use Rattle.regex_lite_syntax.proofs.Common.{◌≡◌, ℕ, zero, suc, ◌<◌, ◌≤◌, List, [], ◌∷◌, ◌++◌}
+use Rattle.regex_lite_syntax.proofs.Common.{drop, length, Option}
 use Rattle.regex_lite_syntax.proofs.Common.{Some, Tree, Trees, Matches, Chain, SomeBranch, Text}
 use Rattle.regex_lite_syntax.proofs.Common.{inl, inr, sym, refl, ap, ◌∙◌, subst, arith}
 use Rattle.regex_lite_syntax.proofs.Common.{look, class, repetition, concat, more}
@@ -10,9 +10,10 @@ use Rattle.std.proofs.Common.{encode_utf8, encode_utf8_all}
 use Rattle.std.proofs.lemmas.List.{drop-drop, length-append}
 use Rattle.std.proofs.lemmas.Str.{encode_ascii}
 use Rattle.regex_lite_syntax.specs.Tree.{character, capture, empty, none}
-use Rattle.regex_lite_syntax.specs.Prefilter.WholeWords.{AreBytes, AreSpelled, AreWholeWords}
+use Rattle.regex_lite_syntax.specs.Tree.Matches.{AtMost, Passes}
+use Rattle.regex_lite_syntax.specs.Prefilter.WholeWords.{AreBytes, ArePasses, AreSpelled}
+use Rattle.regex_lite_syntax.specs.Prefilter.WholeWords.{AreWholeWords}
 use Rattle.regex_lite_syntax.specs.Prefilter.WholeWords.{HasCases, IsItsWords, IsSpelled}
-use Rattle.regex_lite_syntax.specs.Prefilter.WholeWords.{IsWholeWord}
 use Rattle.regex_lite_syntax.specs.Prefilter.Words.{AnyStandsAt, AreWordsOfTree, StartsWith}
 use Rattle.regex_lite_syntax.specs.Prefilter.Words.{word_at}
 use Rattle.regex_lite_syntax.proofs.OptionLemmas.{not_there, same_some}
@@ -62,51 +63,72 @@ is_low set letter c cases own = elim own [
   | inr e ↦ omega (arith, e, cases.other_ascii)
 ]
 
-pub reads_spelled : (tree : Tree) (letters : List Letter) → IsSpelled tree letters → (h : Text)
-    (i j : ℕ) → Matches h tree i j → ReadsLetters letters (rest_of h i) (rest_of h j)
-reads_spelled (character c) letters is h i j (there, next) =
-    subst (λ k. ReadsLetters letters (rest_of h i) (rest_of h k)) (sym next)
-    (subst (λ bytes. ReadsLetters letters (encode_utf8_all bytes) (rest_of h (suc i)))
-    (sym (char_first i h c there)) (reads_bytes (encode_utf8 c) letters (rest_of h (suc i)) is))
-reads_spelled (class ranges) letters (letter, one, cases) h i j (c, there, member, next) =
-    let own = cases.has c member in
-    let low = is_low _ letter c cases own in
-    let bytes = ap encode_utf8_all (char_first i h c there)
-    ∙ ap (λ b. b ++ rest_of h (suc i)) (encode_ascii c low) in
-    subst (λ k. ReadsLetters letters (rest_of h i) (rest_of h k)) (sym next)
-    (subst (λ word. ReadsLetters word (rest_of h i) (rest_of h (suc i))) (sym one)
-    (subst (λ b. ReadsLetters (letter ∷ []) b (rest_of h (suc i))) (sym bytes)
-    (record { stands = (own, tt); all = refl })))
-reads_spelled empty letters is h i j m = absurd is
-reads_spelled (look test) letters is h i j m = absurd is
-reads_spelled (repetition least most greedy body) letters is h i j m = absurd is
-reads_spelled (capture index name body) letters is h i j m = absurd is
-reads_spelled (concat parts) letters is h i j m = absurd is
-reads_spelled (alternation branches) letters is h i j m = absurd is
-
-pub reads_row : (parts : Trees) (word : List Letter) → AreSpelled parts word → (h : Text)
-    (i j : ℕ) → Chain h parts i j → ReadsLetters word (rest_of h i) (rest_of h j)
-reads_row none word is h i j same =
+-- passes of which each reads one of the parts of the letters
+reads_passes : (IsPart : List Letter → Type 0) (pass : ℕ → ℕ → Type 0) (h : Text)
+    → ((letters : List Letter) → IsPart letters → (i j : ℕ) → pass i j
+    → ReadsLetters letters (rest_of h i) (rest_of h j))
+    → (n : ℕ) (word : List Letter) → ArePasses IsPart n word → (i j : ℕ) → Passes pass n i j
+    → ReadsLetters word (rest_of h i) (rest_of h j)
+reads_passes IsPart pass h each zero word is i j same =
     subst (λ letters. ReadsLetters letters (rest_of h i) (rest_of h j)) (sym is)
     (record { stands = tt; all = ap (rest_of h) same })
-reads_row (more part rest) word (letters, others, same, one, are) h i j (k, first, chain) =
+reads_passes IsPart pass h each (suc n) word (letters, others, same, one, are) i j
+    (k, first, passes) =
     subst (λ word. ReadsLetters word (rest_of h i) (rest_of h j)) (sym same)
     (reads_both letters others (rest_of h i) (rest_of h k) (rest_of h j)
-    (reads_spelled part letters one h i k first)
-    (reads_row rest others are h k j chain))
+    (each letters one i k first)
+    (reads_passes IsPart pass h each n others are k j passes))
 
-reads_word : (tree : Tree) (word : List Letter) → IsWholeWord tree word → (h : Text) (i j : ℕ)
-    → Matches h tree i j → ReadsLetters word (rest_of h i) (rest_of h j)
-reads_word tree word (inl is) h i j m = reads_spelled tree word is h i j m
-reads_word tree word (inr (parts, same, are)) h i j m =
-    reads_row parts word are h i j (subst (λ t. Matches h t i j) same m)
+-- as many passes as there are at least and at most
+pub only_passes : (least n : ℕ) (most : Option ℕ) → most ≡ Some least → least ≤ n → AtMost n most
+    → n ≡ least
+only_passes least n most exact low high =
+    let few : n ≤ least = subst (AtMost n) exact high in omega (arith, low, few)
+
+mutual
+  pub reads_spelled : (tree : Tree) (letters : List Letter) → IsSpelled tree letters → (h : Text)
+      (i j : ℕ) → Matches h tree i j → ReadsLetters letters (rest_of h i) (rest_of h j)
+  reads_spelled (character c) letters is h i j (there, next) =
+      subst (λ k. ReadsLetters letters (rest_of h i) (rest_of h k)) (sym next)
+      (subst (λ bytes. ReadsLetters letters (encode_utf8_all bytes) (rest_of h (suc i)))
+      (sym (char_first i h c there)) (reads_bytes (encode_utf8 c) letters (rest_of h (suc i)) is))
+  reads_spelled (class ranges) letters (letter, one, cases) h i j (c, there, member, next) =
+      let own = cases.has c member in
+      let low = is_low _ letter c cases own in
+      let bytes = ap encode_utf8_all (char_first i h c there)
+      ∙ ap (λ b. b ++ rest_of h (suc i)) (encode_ascii c low) in
+      subst (λ k. ReadsLetters letters (rest_of h i) (rest_of h k)) (sym next)
+      (subst (λ word. ReadsLetters word (rest_of h i) (rest_of h (suc i))) (sym one)
+      (subst (λ b. ReadsLetters (letter ∷ []) b (rest_of h (suc i))) (sym bytes)
+      (record { stands = (own, tt); all = refl })))
+  reads_spelled (repetition least most greedy body) letters (some, exact, are) h i j
+      (n, low, high, passes) =
+      reads_passes (IsSpelled body) (Matches h body) h
+      (λ word is i j m. reads_spelled body word is h i j m) least letters are i j
+      (subst (λ n. Passes (Matches h body) n i j) (only_passes least n most exact low high) passes)
+  reads_spelled (concat parts) letters are h i j chain = reads_row parts letters are h i j chain
+  reads_spelled empty letters is h i j m = absurd is
+  reads_spelled (look test) letters is h i j m = absurd is
+  reads_spelled (capture index name body) letters is h i j m = absurd is
+  reads_spelled (alternation branches) letters is h i j m = absurd is
+
+  pub reads_row : (parts : Trees) (word : List Letter) → AreSpelled parts word → (h : Text)
+      (i j : ℕ) → Chain h parts i j → ReadsLetters word (rest_of h i) (rest_of h j)
+  reads_row none word is h i j same =
+      subst (λ letters. ReadsLetters letters (rest_of h i) (rest_of h j)) (sym is)
+      (record { stands = tt; all = ap (rest_of h) same })
+  reads_row (more part rest) word (letters, others, same, one, are) h i j (k, first, chain) =
+      subst (λ word. ReadsLetters word (rest_of h i) (rest_of h j)) (sym same)
+      (reads_both letters others (rest_of h i) (rest_of h k) (rest_of h j)
+      (reads_spelled part letters one h i k first)
+      (reads_row rest others are h k j chain))
 
 reads_branch : (branches : Trees) (words : List (List Letter)) → AreWholeWords branches words
     → (h : Text) (i j : ℕ) → SomeBranch h branches i j → AnyStandsAt words (rest_of h i) 0
 reads_branch none words are h i j never = absurd never
 reads_branch (more branch rest) [] are h i j m = absurd are
 reads_branch (more branch rest) (word ∷ words) (is, are) h i j (inl m) =
-    (0, omega arith, (reads_word branch word is h i j m).stands)
+    (0, omega arith, (reads_spelled branch word is h i j m).stands)
 reads_branch (more branch rest) (word ∷ words) (is, are) h i j (inr m) =
     let (n, inside, stands) = reads_branch rest words are h i j m in
     (suc n, omega (arith, inside), stands)
@@ -116,7 +138,7 @@ pub begins_with_own : (tree : Tree) (words : List (List Letter)) → IsItsWords 
     → AreWordsOfTree tree words
 begins_with_own tree words (inl (word, one, is)) = λ h i j m.
     subst (λ words. AnyStandsAt words (rest_of h i) 0) (sym one)
-    (0, omega arith, (reads_word tree word is h i j m).stands)
+    (0, omega arith, (reads_spelled tree word is h i j m).stands)
 begins_with_own tree words (inr (branches, same, are)) = λ h i j m.
     reads_branch branches words are h i j (subst (λ t. Matches h t i j) same m)
 
@@ -126,7 +148,7 @@ reads_only : (branches : Trees) (words : List (List Letter)) → AreWholeWords b
 reads_only none words are one h i j never = absurd never
 reads_only (more branch rest) [] are one h i j m = absurd are
 reads_only (more branch rest) (word ∷ words) (is, are) one h i j (inl m) =
-    reads_word branch word is h i j m
+    reads_spelled branch word is h i j m
 reads_only (more branch rest) (word ∷ words) (is, are) one h i j (inr m) =
     let (n, inside, stands) = reads_branch rest words are h i j m in
     absurd (omega (arith, inside, one))
@@ -137,6 +159,6 @@ pub reads_one : (tree : Tree) (words : List (List Letter)) → IsItsWords tree w
     → ReadsLetters (word_at words 0) (rest_of h i) (rest_of h j)
 reads_one tree words (inl (word, same, is)) one h i j m =
     subst (λ words. ReadsLetters (word_at words 0) (rest_of h i) (rest_of h j)) (sym same)
-    (reads_word tree word is h i j m)
+    (reads_spelled tree word is h i j m)
 reads_one tree words (inr (branches, same, are)) one h i j m =
     reads_only branches words are one h i j (subst (λ t. Matches h t i j) same m)

@@ -1,14 +1,16 @@
 -- How letters are added to a list of words, part by part and branch by branch.
-use Rattle.regex_lite_syntax.proofs.Common.{◌≡◌, ℕ, ◌+◌, ◌<◌, List, [], ◌∷◌, ◌++◌, length, take}
-use Rattle.regex_lite_syntax.proofs.Common.{get_or}
+use Rattle.regex_lite_syntax.proofs.Common.{◌≡◌, ℕ, zero, suc, ◌+◌, ◌<◌, List, [], ◌∷◌, ◌++◌}
+use Rattle.regex_lite_syntax.proofs.Common.{get_or, length, take}
 use Rattle.regex_lite_syntax.proofs.Common.{map, sym, ap, ◌∙◌, subst, refl, append-nil}
-use Rattle.regex_lite_syntax.proofs.Common.{append_assoc}
+use Rattle.regex_lite_syntax.proofs.Common.{add-one, append_assoc, eqb-true, false≢true, None}
+use Rattle.regex_lite_syntax.proofs.Common.{Option, Some, true}
+use Rattle.std.specs.Option.{option_eq}
+use lib.Dec.{eqb}
 use Rattle.regex_lite_syntax.proofs.Common.{Tree, trees, tree_of, Letter, Hir}
 use Rattle.std.proofs.lemmas.List.{map_more, take_more}
 use Rattle.regex_lite_syntax.specs.Prefilter.Spelling.{AddsLetters, AddsBytes, AddsRow, AddsSpelled}
-use Rattle.regex_lite_syntax.specs.Prefilter.Spelling.{AddsWord}
-use Rattle.regex_lite_syntax.specs.Prefilter.WholeWords.{AreBytes, AreSpelled, AreWholeWords}
-use Rattle.regex_lite_syntax.specs.Prefilter.WholeWords.{IsSpelled, IsWholeWord}
+use Rattle.regex_lite_syntax.specs.Prefilter.WholeWords.{AreBytes, ArePasses, AreSpelled}
+use Rattle.regex_lite_syntax.specs.Prefilter.WholeWords.{AreWholeWords, IsSpelled}
 use Rattle.regex_lite_syntax.specs.Prefilter.WordLists.{ListOfWords, all_words}
 
 abbrev with_last : ListOfWords → List Letter → ListOfWords
@@ -87,9 +89,31 @@ part_more hirs k part before now after inside is row spelled =
     (AreSpelled (trees (map tree_of (take k hirs) ++ tree_of part ∷ []))) before now after
     (λ front back. part_joined (map tree_of (take k hirs)) (tree_of part) front back) row spelled)
 
+-- a pass more
+pass_joined : (IsPart : List Letter → Type 0) (n : ℕ) (front back : List Letter)
+    → ArePasses IsPart n front → IsPart back → ArePasses IsPart (suc n) (front ++ back)
+pass_joined IsPart zero front back none is =
+    (back, [], ap (λ f. f ++ back) none ∙ sym (append-nil back), is, refl)
+pass_joined IsPart (suc n) front back (first, others, same, one, are) is = (
+  first,
+  others ++ back,
+  ap (λ f. f ++ back) same ∙ append_assoc first others back,
+  one,
+  pass_joined IsPart n others back are is,
+)
+
+pub pass_more : (body : Tree) (n : ℕ) (before now after : ListOfWords)
+    → AddsLetters (ArePasses (IsSpelled body) n) before now → AddsSpelled body now after
+    → AddsLetters (ArePasses (IsSpelled body) (n + 1)) before after
+pass_more body n before now after passes spelled =
+    subst (λ n. AddsLetters (ArePasses (IsSpelled body) n) before after) (sym (add-one n))
+    (both_added (ArePasses (IsSpelled body) n) (IsSpelled body)
+    (ArePasses (IsSpelled body) (suc n)) before now after
+    (λ front back. pass_joined (IsSpelled body) n front back) passes spelled)
+
 -- a branch more
 branch_joined : (branches : List Tree) (branch : Tree) (words : List (List Letter))
-    (word : List Letter) → AreWholeWords (trees branches) words → IsWholeWord branch word
+    (word : List Letter) → AreWholeWords (trees branches) words → IsSpelled branch word
     → AreWholeWords (trees (branches ++ branch ∷ [])) (words ++ word ∷ [])
 branch_joined [] branch [] word none is = (is, tt)
 branch_joined [] branch (w ∷ words) word none is = absurd none
@@ -99,8 +123,8 @@ branch_joined (b ∷ branches) branch (w ∷ words) word (one, are) is =
 
 -- what is added to the last word of a list, which is without letters, is the last word then
 word_added : (branch : Tree) (now after : ListOfWords) → now.last ≡ []
-    → AddsWord branch now after
-    → (word : List Letter) × IsWholeWord branch word × (all_words after ≡ now.done ++ word ∷ [])
+    → AddsSpelled branch now after
+    → (word : List Letter) × IsSpelled branch word × (all_words after ≡ now.done ++ word ∷ [])
 word_added branch now after none adds = (
   adds.letters,
   adds.are,
@@ -111,7 +135,7 @@ pub next_branch : (hirs : List Hir) (k : ℕ) (branch : Hir) (before now after :
     → k < length hirs → branch ≡ get_or hirs k branch
     → AreWholeWords (trees (map tree_of (take k hirs))) (all_words before)
     → now ≡ record { done = before.done ++ before.last ∷ []; last = [] }
-    → AddsWord (tree_of branch) now after
+    → AddsSpelled (tree_of branch) now after
     → AreWholeWords (trees (map tree_of (take (k + 1) hirs))) (all_words after)
 next_branch hirs k branch before now after inside is are begun adds =
     let (word, whole, same) = word_added (tree_of branch) now after
@@ -122,3 +146,9 @@ next_branch hirs k branch before now after inside is are begun adds =
     (subst (AreWholeWords (trees (map tree_of (take k hirs) ++ tree_of branch ∷ [])))
     (sym (same ∙ ap (λ (words : ListOfWords). words.done ++ word ∷ []) begun))
     (branch_joined (map tree_of (take k hirs)) (tree_of branch) (all_words before) word are whole))
+
+-- the limits of an operator, where the code finds them to be the same
+pub same_limits : (least : ℕ) (most : Option ℕ) → option_eq eqb most (Some least) ≡ true
+    → most ≡ Some least
+same_limits least None same = absurd (false≢true same)
+same_limits least (Some limit) same = ap Some (eqb-true limit least same)

@@ -1,16 +1,15 @@
 -- How the words of a tree grow, kind by kind of tree.
-use Rattle.regex_lite_syntax.proofs.Common.{◌≡◌, ℕ, zero, suc, ◌≤◌, ◌⊎◌, Bool, true, false}
-use Rattle.regex_lite_syntax.proofs.Common.{List, [], ◌∷◌, ◌++◌, length, drop, Option, Tree}
+use Rattle.regex_lite_syntax.proofs.Common.{◌≡◌, ℕ, suc, ◌⊎◌, Bool, true, false}
+use Rattle.regex_lite_syntax.proofs.Common.{List, [], ◌∷◌, ◌++◌, length, drop, Tree}
 use Rattle.regex_lite_syntax.proofs.Common.{Trees, Matches, Chain, SomeBranch, Text, after, inl}
 use Rattle.regex_lite_syntax.proofs.Common.{inr}
 use Rattle.regex_lite_syntax.proofs.Common.{sym, refl, ap, ◌∙◌, subst, arith, append-nil}
 use Rattle.regex_lite_syntax.proofs.Common.{false≢true}
-use Rattle.regex_lite_syntax.proofs.Common.{look, repetition, concat, more}
+use Rattle.regex_lite_syntax.proofs.Common.{look, concat, more}
 use Rattle.regex_lite_syntax.proofs.Common.{alternation, append_assoc, Look}
 use Rattle.regex_lite_syntax.proofs.Common.{trees}
 use Rattle.std.proofs.Common.{encode_utf8_all}
 use Rattle.regex_lite_syntax.specs.Tree.{empty, none}
-use Rattle.regex_lite_syntax.specs.Tree.Matches.{Passes}
 use Rattle.regex_lite_syntax.specs.declared.prefilter.words.letter.Letter.{Letter}
 use Rattle.regex_lite_syntax.specs.declared.prefilter.words.walk.WordWalk.{WordWalk}
 use Rattle.regex_lite_syntax.specs.Prefilter.WordLists.{all_words}
@@ -38,7 +37,7 @@ read_shut walk bytes rest others read = record {
   all = λ is_open. absurd (false≢true is_open);
 }
 
-none_made : (before after : WordWalk) → after.words.done ≡ before.words.done
+pub none_made : (before after : WordWalk) → after.words.done ≡ before.words.done
     → after.words.done ≡ before.words.done ++ []
 none_made before after same = same ∙ sym (append-nil before.words.done)
 
@@ -94,35 +93,13 @@ extends_spelled tree letters before after is_open added reads = record {
       });
 }
 
--- one pass at least
-pub extends_passes : (least : ℕ) (most : Option ℕ) (greedy : Bool) (body : Tree)
-    (before after : WordWalk) → (least ≡ 0 → ⊥) → GrowsBy body before after
-    → GrowsBy (repetition least most greedy body) before (closed after)
-extends_passes least most greedy body before walk some extends = record {
-  made = extends.made;
-  done = extends.done;
-  reads = λ h bytes i j read (n, low, high, passes). by_passes h bytes i j read n low passes;
-}
-  where
-    by_passes : (h : Text) (bytes : List ℕ) (i j : ℕ)
-        → HasRead bytes (encode_utf8_all (drop i h)) before → (n : ℕ) → least ≤ n
-        → Passes (Matches h body) n i j
-        → StartsWithAny extends.made bytes
-        ⊎ HasRead bytes (encode_utf8_all (drop j h)) (closed walk)
-    by_passes h bytes i j read zero low passes = absurd (some (omega (arith, low)))
-    by_passes h bytes i j read (suc n) low (k, first, rest) =
-        elim (extends.reads h bytes i k read first) [
-          | inl any ↦ inl any
-          | inr one ↦ inr (read_shut walk bytes _ _ one)
-        ]
-
-any_front : (words others : List (List Letter)) (bytes : List ℕ) → StartsWithAny words bytes
+pub any_front : (words others : List (List Letter)) (bytes : List ℕ) → StartsWithAny words bytes
     → StartsWithAny (words ++ others) bytes
 any_front [] others bytes any = absurd any
 any_front (word ∷ words) others bytes (inl stands) = inl stands
 any_front (word ∷ words) others bytes (inr any) = inr (any_front words others bytes any)
 
-any_back : (words others : List (List Letter)) (bytes : List ℕ) → StartsWithAny others bytes
+pub any_back : (words others : List (List Letter)) (bytes : List ℕ) → StartsWithAny others bytes
     → StartsWithAny (words ++ others) bytes
 any_back [] others bytes any = any
 any_back (word ∷ words) others bytes any = inr (any_back words others bytes any)
@@ -243,17 +220,18 @@ first_branch all left a before now next branches extends = record {
 }
 
 -- the walk, with a word more that begins with these letters
-abbrev pub begun : WordWalk → List Letter → WordWalk
-begun walk stem = record {
+abbrev pub begun : WordWalk → List Letter → (repeats : ℕ) → WordWalk
+begun walk stem repeats = record {
   words = record { done = walk.words.done ++ walk.words.last ∷ []; last = stem };
   is_open = true;
+  repeats = repeats;
 }
 
-pub next_branch : (all left : Trees) (a : Tree) (before now next : WordWalk)
+pub next_branch : (all left : Trees) (a : Tree) (repeats : ℕ) (before now next : WordWalk)
     → before.is_open ≡ true → ReadsBranches all (more a left) before now false
-    → GrowsBy a (begun now before.words.last) next
+    → GrowsBy a (begun now before.words.last repeats) next
     → ReadsBranches all left before (closed next) false
-next_branch all left a before now next is_open branches extends = record {
+next_branch all left a repeats before now next is_open branches extends = record {
   made = branches.made ++ (now.words.last ∷ extends.made);
   done = extends.done
       ∙ append_assoc now.words.done (now.words.last ∷ []) extends.made

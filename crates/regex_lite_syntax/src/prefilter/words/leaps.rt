@@ -1,12 +1,12 @@
 //! A search for several words by leaps.
-ghost use Rattle.std.specs.Prelude.{◌≡◌, ◌<◌, ◌≤◌, ◌+◌, ◌^◌, ℕ, List, IfOk, MatchOption, length};
-ghost use Rattle.std.specs.Prelude.{slice_index};
+ghost use Rattle.std.specs.Prelude.{◌≡◌, ◌↔◌, ◌<◌, ◌≤◌, ◌+◌, ◌^◌, ℕ, List, IfOk, IsTrue};
+ghost use Rattle.std.specs.Prelude.{MatchOption, length, slice_index};
 ghost use Rattle.regex_lite_syntax.specs.Prefilter.Finders.{AreLeapsOf};
 ghost use Rattle.regex_lite_syntax.specs.Prefilter.Leaps.{AreLeaps, AreLinks, LeadsToAllAt};
 ghost use Rattle.regex_lite_syntax.specs.Prefilter.Leaps.{NeverPasses};
 ghost use Rattle.regex_lite_syntax.specs.Prefilter.Leaps.{bucket_at, bucket_of, key_of, mixed};
 ghost use Rattle.regex_lite_syntax.specs.Prefilter.WordLists.{all_words};
-ghost use Rattle.regex_lite_syntax.specs.Prefilter.Words.{AnyStandsAt, AreSuited, IsFirstAt};
+ghost use Rattle.regex_lite_syntax.specs.Prefilter.Words.{AnyStandsAt, AreLong, IsFirstAt};
 ghost use Rattle.regex_lite_syntax.specs.Prefilter.Words.{IsNextWord, NoneStands, StartsWith};
 ghost use Rattle.regex_lite_syntax.specs.Prefilter.Words.{word_at};
 
@@ -51,7 +51,7 @@ impl Leaps {
     /// If memory runs out.
     pub(super) fn of(alloc: Global, words: &WordList) -> Result<Leaps, AllocError>
         requires few { length (all_words words.now) < 2 ^ 32 }
-        requires suited { AreSuited (all_words words.now) }
+        requires long { AreLong (all_words words.now) }
         ensures { IfOk result (AreLeapsOf (all_words words.now)) }
     {
         let reach = shortest(words).min(MOST_REACH);
@@ -88,6 +88,22 @@ impl Leaps {
             at = stop + 1;
         }
         None
+    }
+
+    /// Whether a word stands at this offset.
+    ///
+    /// Condition: the leaps are those of the words, and the offset is at most the length.
+    // Not inlined, as `find` isn't.
+    #[inline(never)]
+    pub(super) fn stands_at(&self, words: &WordList, bytes: &[u8], at: usize) -> bool
+        requires inside { at ≤ length bytes.now }
+        requires leaps { AreLeapsOf (all_words words.now) self.now }
+        ensures { IsTrue result ↔ AnyStandsAt (all_words words.now) bytes.now at }
+    {
+        if bytes.len() - at < self.reach {
+            return false;
+        }
+        self.first_at(words, bytes, at).is_some()
     }
 
     /// The first offset from this one on that no leap passes: no word stands before it.
@@ -151,7 +167,7 @@ impl Leaps {
 
 /// The number of letters of the shortest word.
 pub(super) fn shortest(words: &WordList) -> usize
-    requires { AreSuited (all_words words.now) }
+    requires { AreLong (all_words words.now) }
     ensures two { 2 ≤ result }
     ensures least { (number : ℕ) → number < length (all_words words.now)
         → result ≤ length (word_at (all_words words.now) number) }

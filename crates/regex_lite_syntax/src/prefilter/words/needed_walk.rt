@@ -1,6 +1,7 @@
 //! A word that each match of a tree has, found by one walk over it.
-ghost use Rattle.std.specs.Prelude.{◌≡◌, ◌<◌, ℕ, IfSome, encode_utf8, length, map, true};
-ghost use Rattle.regex_lite_syntax.specs.Tree.{class, concat, trees};
+ghost use Rattle.std.specs.Prelude.{◌≡◌, ◌<◌, ℕ, Bool, IfSome, encode_utf8, length, map};
+ghost use Rattle.std.specs.Prelude.{true};
+ghost use Rattle.regex_lite_syntax.specs.Tree.{class, concat, repetition, trees};
 ghost use Rattle.regex_lite_syntax.specs.Tree.Views.{tree_of};
 ghost use Rattle.regex_lite_syntax.specs.Prefilter.Needed.{IsNeededBy};
 ghost use Rattle.regex_lite_syntax.specs.Prefilter.NeededWalk.{EndsRow, FindsBytes, FindsLetter};
@@ -83,10 +84,14 @@ impl NeededWalk {
             Hir::Empty | Hir::Look(_) => {}
             Hir::Char(c) => self.push_char(*c),
             Hir::Class(set) => self.visit_class(set),
-            Hir::Repetition { least, body, .. } => {
+            Hir::Repetition {
+                least,
+                most,
+                body,
+                ..
+            } => {
                 if *least > 0 {
-                    self.visit(body);
-                    self.end_row();
+                    self.visit_passes(*least, *most, body);
                 } else {
                     self.leave(body);
                 }
@@ -108,6 +113,29 @@ impl NeededWalk {
                 return;
             }
             self.visit(part);
+        }
+    }
+
+    /// Goes over as many passes of the tree as there are at least, as long as each adds letters to
+    /// the row and it has room. It goes on behind them if there are never more passes.
+    ///
+    /// Condition: there is a pass at least.
+    #[cycle(visit)]
+    fn visit_passes(&mut self, least: u32, most: Option<u32>, body: &Hir)
+        requires { 0 < least }
+        ensures { (greedy : Bool)
+            → FindsPast (repetition least most greedy (tree_of body.now)) self.old self.new }
+    {
+        'passes: for _k in 0..least {
+            let len = self.row.len();
+            self.visit(body);
+            if self.row.len() <= len || self.row.is_full() {
+                self.end_row();
+                return;
+            }
+        }
+        if most != Some(least) {
+            self.end_row();
         }
     }
 

@@ -5,7 +5,7 @@ ghost use Rattle.regex_lite_syntax.specs.Prefilter.Words.{AnyStandsAt, IsLetter,
 
 use crate::prefilter::words::frequency::frequency;
 use crate::prefilter::words::letter::Letter;
-use crate::prefilter::words::standing::stands;
+use crate::prefilter::words::standing::wrong_letter;
 
 /// How many offsets are asked about at a time.
 const BLOCK: usize = 32;
@@ -13,8 +13,11 @@ const BLOCK: usize = 32;
 /// How many are where fewer are left.
 const SHORT_BLOCK: usize = 16;
 
-/// Among how many letters of a word the two rarest are looked for.
+/// Among how many letters of a word, and its last one, the two rarest are looked for.
 const LOOKED_AT: usize = 32;
+
+/// Of a word of more letters two different ones are looked for.
+const LONG: usize = 16;
 
 /// Where the two rarest letters of a word stand in it.
 #[derive(Clone, Copy)]
@@ -32,15 +35,21 @@ impl Pair {
         ensures first { result.first < length word.now }
         ensures second { result.second < length word.now }
     {
-        let len = word.len().min(LOOKED_AT);
-        let (mut first, mut second) = (0, len - 1);
-        let (mut lowest, mut next) = (rank_of(word[0]), rank_of(word[len - 1]));
-        'letters: for k in 1..len {
+        // In a long word the same letter twice may stand everywhere, if the word repeats itself.
+        let is_long = word.len() > LONG;
+        let last = word.len() - 1;
+        let (mut first, mut second) = (0, last);
+        let (mut lowest, mut next) = (rank_of(word[0]), rank_of(word[last]));
+        if next < lowest {
+            (first, second) = (last, 0);
+            (lowest, next) = (next, lowest);
+        }
+        'letters: for k in 1..last.min(LOOKED_AT) {
             let rank = rank_of(word[k]);
             if rank < lowest {
                 (second, next) = (first, lowest);
                 (first, lowest) = (k, rank);
-            } else if rank < next {
+            } else if rank < next && (!is_long || word[k].byte != word[first].byte) {
                 (second, next) = (k, rank);
             }
         }
@@ -146,11 +155,16 @@ impl Pair {
             × AnyStandsAt (word.now ∷ []) bytes.now at) }
     {
         let (a, b) = (word[self.first], word[self.second]);
+        // Where the word was last found not to stand.
+        let mut wrong = from;
         let mut at = from;
         'offsets: while at < end {
             let may_stand = a.is(bytes[at + self.first]) && b.is(bytes[at + self.second]);
-            if may_stand && stands(word, bytes, at) {
-                return Some(at);
+            if may_stand && (wrong < at || word[wrong - at].is(bytes[wrong])) {
+                match wrong_letter(word, bytes, at) {
+                    None => return Some(at),
+                    Some(k) => wrong = at + k,
+                }
             }
             at += 1;
         }

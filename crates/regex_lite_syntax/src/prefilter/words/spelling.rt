@@ -4,9 +4,10 @@ ghost use Rattle.std.specs.Prelude.{length, map, take, true};
 ghost use Rattle.regex_lite_syntax.specs.Ranges.{in_ranges};
 ghost use Rattle.regex_lite_syntax.specs.Tree.{trees};
 ghost use Rattle.regex_lite_syntax.specs.Tree.Views.{tree_of};
-ghost use Rattle.regex_lite_syntax.specs.Prefilter.Spelling.{AddsBytes, AddsRow, AddsSpelled};
-ghost use Rattle.regex_lite_syntax.specs.Prefilter.Spelling.{AddsWord};
-ghost use Rattle.regex_lite_syntax.specs.Prefilter.WholeWords.{AreWholeWords, HasCases, IsItsWords};
+ghost use Rattle.regex_lite_syntax.specs.Prefilter.Spelling.{AddsBytes, AddsLetters, AddsRow};
+ghost use Rattle.regex_lite_syntax.specs.Prefilter.Spelling.{AddsSpelled};
+ghost use Rattle.regex_lite_syntax.specs.Prefilter.WholeWords.{ArePasses, AreWholeWords, HasCases};
+ghost use Rattle.regex_lite_syntax.specs.Prefilter.WholeWords.{IsItsWords, IsSpelled};
 ghost use Rattle.regex_lite_syntax.specs.Prefilter.WordLists.{all_words};
 
 use crate::class::Class;
@@ -74,19 +75,67 @@ fn read_branches(list: &mut WordList, branches: &[Hir]) -> Result<bool, AllocErr
     Ok(true)
 }
 
-/// Adds the letters of a tree that is a word and nothing else. Returns whether it is.
+/// Adds the letters of a tree that is a word and nothing else. Returns whether it is, and isn't
+/// too long.
 ///
 /// # Errors
 ///
 /// If memory runs out.
-#[inline(always)]
+#[cycle(read_word)]
 fn read_word(list: &mut WordList, hir: &Hir) -> Result<bool, AllocError>
-    ensures { IfOk result (λ is. is ≡ true → AddsWord (tree_of hir.now) list.old list.new) }
+    ensures { IfOk result (λ is. is ≡ true → AddsSpelled (tree_of hir.now) list.old list.new) }
 {
     match hir {
-        Hir::Concat(parts) => Ok(read_row(list, parts)? == parts.len()),
+        Hir::Concat(parts) => read_parts(list, parts),
+        Hir::Repetition {
+            least,
+            most,
+            body,
+            ..
+        } if *least > 0 && *most == Some(*least) => read_passes(list, *least, body),
         _ => spell(list, hir),
     }
+}
+
+/// Adds the letters of parts each of which is a word. Returns whether they are.
+///
+/// # Errors
+///
+/// If memory runs out.
+#[cycle(read_word)]
+fn read_parts(list: &mut WordList, parts: &[Hir]) -> Result<bool, AllocError>
+    ensures { IfOk result
+        (λ are. are ≡ true → AddsRow (trees (map tree_of parts.now)) list.old list.new) }
+{
+    let read = read_row(list, parts)?;
+    'parts: for k in read..parts.len() {
+        if list.last().len() >= LONGEST || !read_word(list, &parts[k])? {
+            return Ok(false);
+        }
+    }
+    Ok(true)
+}
+
+/// Adds the letters of this tree so many times, if it is a word. Returns whether it is.
+///
+/// # Errors
+///
+/// If memory runs out.
+#[cycle(read_word)]
+fn read_passes(list: &mut WordList, passes: u32, body: &Hir) -> Result<bool, AllocError>
+    ensures { IfOk result (λ are. are ≡ true
+        → AddsLetters (ArePasses (IsSpelled (tree_of body.now)) passes) list.old list.new) }
+{
+    // So that nothing is read in vain.
+    if passes as usize > LONGEST {
+        return Ok(false);
+    }
+    'passes: for _k in 0..passes {
+        if list.last().len() >= LONGEST || !read_word(list, body)? {
+            return Ok(false);
+        }
+    }
+    Ok(true)
 }
 
 /// Adds the letters of the parts with which these begin that are characters, or letters in any

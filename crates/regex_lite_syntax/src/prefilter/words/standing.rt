@@ -1,5 +1,5 @@
 //! Where a word stands.
-ghost use Rattle.std.specs.Prelude.{◌≤◌, ◌↔◌, IsTrue, drop, length};
+ghost use Rattle.std.specs.Prelude.{◌≤◌, ◌<◌, ◌+◌, ◌↔◌, IsTrue, MatchOption, drop, length};
 ghost use Rattle.regex_lite_syntax.specs.Prefilter.Words.{StartsWith};
 
 use crate::prefilter::words::letter::Letter;
@@ -13,10 +13,23 @@ pub(crate) fn stands(word: &[Letter], bytes: &[u8], at: usize) -> bool
     if bytes.len() - at < word.len() {
         return false;
     }
+    wrong_letter(word, bytes, at).is_none()
+}
+
+/// The first letter of the word that isn't where it would be if the word stood at this offset.
+/// None if the word stands there.
+///
+/// Condition: there are as many bytes from the offset on as the word has letters.
+#[inline(always)]
+pub(crate) fn wrong_letter(word: &[Letter], bytes: &[u8], at: usize) -> Option<usize>
+    requires { at + length word.now ≤ length bytes.now }
+    ensures { MatchOption result (StartsWith word.now (drop at bytes.now))
+        (λ k. (k < length word.now) × ¬ StartsWith word.now (drop at bytes.now)) }
+{
     'letters: for k in 0..word.len() {
         if !word[k].is(bytes[at + k]) {
-            return false;
+            return Some(k);
         }
     }
-    true
+    None
 }

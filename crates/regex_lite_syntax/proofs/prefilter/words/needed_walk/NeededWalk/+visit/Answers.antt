@@ -1,13 +1,18 @@
-use Rattle.regex_lite_syntax.proofs.Common.{◌+◌, ap, arith, drop, drop_all, repetition, subst}
-use Rattle.regex_lite_syntax.proofs.Common.{sym, tree_of}
+use Rattle.regex_lite_syntax.proofs.Common.{◌≡◌, ◌+◌, ◌∙◌, Bool, false, true, false≢true, refl}
+use Rattle.regex_lite_syntax.proofs.Common.{ap, arith, drop, drop_all, repetition, subst, sym}
+use Rattle.regex_lite_syntax.proofs.Common.{tree_of}
+use Rattle.std.specs.Prelude.{not}
 use Rattle.regex_lite_syntax.specs.Prefilter.NeededWalk.{FindsPast}
 use Rattle.regex_lite_syntax.proofs.LeafLemmas.{tree_is-Char, tree_is-Repetition}
 use Rattle.regex_lite_syntax.proofs.TreeLemmas.{trees_more, trees_of}
 use Rattle.regex_lite_syntax.proofs.prefilter.starts.ReadLemmas.{reads_passes}
 use Rattle.regex_lite_syntax.proofs.prefilter.words.NeededWalkLemmas.{all_parts_passed, finds_any}
+use Rattle.regex_lite_syntax.proofs.prefilter.words.NeededWalkLemmas.{all_passes_passed}
+use Rattle.regex_lite_syntax.proofs.prefilter.words.NeededWalkLemmas.{FindsPasses, pass_passed}
 use Rattle.regex_lite_syntax.proofs.prefilter.words.NeededWalkLemmas.{finds_character}
 use Rattle.regex_lite_syntax.proofs.prefilter.words.NeededWalkLemmas.{finds_passes, FindsParts}
 use Rattle.regex_lite_syntax.proofs.prefilter.words.NeededWalkLemmas.{part_passed, parts_left}
+use Rattle.regex_lite_syntax.proofs.prefilter.words.SpellingLemmas.{same_limits}
 use Rattle.regex_lite_syntax.proofs.prefilter.words.needed_walk.NeededWalk.+visit.Goals as goal
 
 pub visit_parts-returns-then-self-eq0 : goal.visit_parts-returns-then-self-eq0
@@ -29,14 +34,43 @@ visit-returns-in-Alternation t c =
     finds_any (tree_of c.args.hir.now) c.args.self.now left.new.self left.ensures.reads
     left.ensures.left
 
+pub visit_passes-passes-preserved : goal.visit_passes-passes-preserved
+visit_passes-passes-preserved t c =
+    pass_passed (tree_of c.args.body.now) c.passes._k c.args.self.now c.passes.self
+    c.visit.new.self c.passes.invariant c.visit.ensures
+
+pub visit_passes-returns-then-len : goal.visit_passes-returns-then-len
+visit_passes-returns-then-len t c = λ greedy.
+    finds_passes c.args.least c.args.most greedy (tree_of c.args.body.now) (c.passes._k + 1)
+    c.args.self.now c.visit.new.self c.end_row.new.self (omega arith)
+    (omega (arith, c.passes-test.true))
+    (pass_passed (tree_of c.args.body.now) c.passes._k c.args.self.now c.passes.self
+    c.visit.new.self c.passes.invariant c.visit.ensures) c.end_row.ensures
+
+pub visit_passes-returns-then-ne : goal.visit_passes-returns-then-ne
+visit_passes-returns-then-ne t c = λ greedy.
+    finds_passes c.args.least c.args.most greedy (tree_of c.args.body.now) c.passes._k
+    c.args.self.now c.passes.self c.end_row-then-ne.new.self
+    (omega (arith, c.requires, c.passes-test.false)) c.passes.auto._k-end c.passes.invariant
+    c.end_row-then-ne.ensures
+
+is_sure : (b : Bool) → not b ≡ false → b ≡ true
+is_sure true never = refl
+is_sure false never = absurd (false≢true (sym never))
+
+pub visit_passes-returns-else-ne : goal.visit_passes-returns-else-ne
+visit_passes-returns-else-ne t c = λ greedy.
+    all_passes_passed c.args.least c.args.most greedy (tree_of c.args.body.now) c.args.self.now
+    c.passes.self c.requires
+    (same_limits c.args.least c.args.most (is_sure _ (sym c.ne.ensures ∙ c.if-ne.false)))
+    (subst (λ n. FindsPasses (tree_of c.args.body.now) n c.args.self.now c.passes.self)
+    (omega (arith, c.passes.auto._k-end, c.passes-test.false)) c.passes.invariant)
+
 pub visit-returns-then-least-gt0 : goal.visit-returns-then-least-gt0
 visit-returns-then-least-gt0 t c =
     let r = c.in-Repetition in
-    let body = c.deref-then-least-gt0 in
-    let walk = c.end_row.new.self in
-    subst (λ tree. FindsPast tree c.args.self.now walk) (sym (tree_is-Repetition r.is body.ensures))
-    (finds_passes r.least r.most r.greedy (tree_of body.result.now) c.args.self.now
-    c.visit.new.self walk c.if-least-gt0.true c.visit.ensures c.end_row.ensures)
+    subst (λ tree. FindsPast tree c.args.self.now c.visit_passes.new.self)
+    (sym (tree_is-Repetition r.is c.deref-then-least-gt0.ensures)) (c.visit_passes.ensures r.greedy)
 
 pub visit-returns-else-least-gt0 : goal.visit-returns-else-least-gt0
 visit-returns-else-least-gt0 t c =

@@ -1,8 +1,11 @@
 use Rattle.regex_lite_syntax.proofs.Common.{drop, map, tree_of, trees}
-use Rattle.regex_lite_syntax.proofs.prefilter.words.NeededWalkLemmas.{FindsParts}
+use Rattle.regex_lite_syntax.proofs.prefilter.words.NeededWalkLemmas.{FindsParts, FindsPasses}
 use Rattle.regex_lite_syntax.proofs.prefilter.words.needed_walk.NeededWalk.+visit.Given as goal
 
 abbrev pub invariant-visit_parts-loop-part : goal.invariant-visit_parts-loop-part
 invariant-visit_parts-loop-part l =
     FindsParts (trees (map tree_of l.parts)) (trees (map tree_of (drop l.part-index l.parts)))
     l.fn.self l.self
+
+abbrev pub invariant-visit_passes-passes : goal.invariant-visit_passes-passes
+invariant-visit_passes-passes l = FindsPasses (tree_of l.body) l._k l.fn.self l.self

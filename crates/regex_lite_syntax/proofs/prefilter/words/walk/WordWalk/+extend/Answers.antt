@@ -1,29 +1,22 @@
-use Rattle.regex_lite_syntax.proofs.Common.{◌+◌, ◌∙◌, ap, drop, false, map, subst, sym, take, trees}
+use Rattle.regex_lite_syntax.proofs.Common.{◌+◌, ◌∙◌, ap, arith, drop, false, map, subst}
+use Rattle.regex_lite_syntax.proofs.Common.{sym, take, trees}
 use Rattle.std.proofs.lemmas.List.{map-append, take-append-drop}
 use Rattle.regex_lite_syntax.proofs.Common.{drop_all, tree_of, Trees}
 use Rattle.regex_lite_syntax.specs.Prefilter.WordWalk.{GrowsBy}
-use Rattle.regex_lite_syntax.proofs.LeafLemmas.{tree_is-Repetition}
 use Rattle.regex_lite_syntax.proofs.TreeLemmas.{trees_more, trees_of}
 use Rattle.regex_lite_syntax.proofs.prefilter.words.WordWalkLemmas.{all_branches, begun}
-use Rattle.regex_lite_syntax.proofs.prefilter.words.WordWalkLemmas.{extends_passes, first_branch}
+use Rattle.regex_lite_syntax.proofs.prefilter.words.WordWalkLemmas.{first_branch}
 use Rattle.regex_lite_syntax.proofs.prefilter.words.WordWalkLemmas.{first_parts}
+use Rattle.regex_lite_syntax.proofs.prefilter.words.SpellingLemmas.{same_limits}
+use Rattle.regex_lite_syntax.proofs.prefilter.words.WordPassLemmas.{all_passes, pass_read}
 use Rattle.regex_lite_syntax.proofs.prefilter.words.WordWalkLemmas.{next_branch, part_read}
+use Rattle.regex_lite_syntax.proofs.prefilter.words.WordPassLemmas.{passes_shut, ReadsPasses}
 use Rattle.regex_lite_syntax.proofs.prefilter.words.WordWalkLemmas.{ReadsBranches, ReadsParts}
 use Rattle.regex_lite_syntax.proofs.prefilter.words.walk.WordWalk.+extend.Goals as goal
 use Rattle.regex_lite_syntax.proofs.prefilter.words.walk.WordWalk.+extend.Goals.{
   extend_by_branches-else-not-is_first-via-then-not-is_first+in_ok-begin_again+else-not-branch,
   extend_by_branches-else-not-is_first-via-else-not-is_first,
 }
-
-pub extend-returns-then-may : goal.extend-returns-then-may
-extend-returns-then-may t c = λ may.
-    let r = c.in-Repetition in
-    let body = tree_of c.deref.result.now in
-    subst (λ tree. GrowsBy tree c.args.self.now c.close-then-may.new.self)
-    (sym (tree_is-Repetition r.is c.deref.ensures))
-    (subst (GrowsBy _ c.args.self.now) (sym c.close-then-may.ensures)
-    (extends_passes r.least r.most r.greedy body c.args.self.now c.extend.new.self
-    c.if-least-eq0.false (c.in_ok-may-in-Repetition.ensures c.if-may.true)))
 
 pub extend_by_branches-loop-branch-preserved : goal.extend_by_branches-loop-branch-preserved
 extend_by_branches-loop-branch-preserved t c =
@@ -45,11 +38,11 @@ extend_by_branches-loop-branch-preserved t c =
       reads = subst (λ next. ReadsBranches all left before next false) (sym c.close-else-not-branch-2.ensures)
           (elim c.else-not-is_first.branch [
             | extend_by_branches-else-not-is_first-via-then-not-is_first+in_ok-begin_again+else-not-branch w ↦
-                next_branch all left (tree_of branch) before now c.extend.new.self v.all_read
+                next_branch all left (tree_of branch) _ before now c.extend.new.self v.all_read
                 (subst (ReadsBranches all _ before now) w.if-not-is_first.true reads)
                 (subst (λ walk. GrowsBy (tree_of branch) walk c.extend.new.self)
                 (w.self-is ∙ w.in_ok-begin_again.ensures w.if-not-branch.false
-                ∙ ap (begun now) (w.deref.ensures.value ∙ v.stem)) extends)
+                ∙ ap (λ stem. begun now stem _) (w.deref.ensures.value ∙ v.stem)) extends)
             | extend_by_branches-else-not-is_first-via-else-not-is_first w ↦
                 first_branch all left (tree_of branch) before now c.extend.new.self
                 (subst (ReadsBranches all _ before now) w.if-not-is_first.false reads)
@@ -89,3 +82,36 @@ extend_by_parts-parts-preserved t c =
     (subst (λ left. ReadsParts (trees_of hirs) left c.args.self.now c.parts.self) one
     c.parts.invariant)
     (c.in_ok-extend.ensures c.if-not-branch.false)
+
+pub extend_by_passes-passes-preserved : goal.extend_by_passes-passes-preserved
+extend_by_passes-passes-preserved t c =
+    pass_read (tree_of c.args.body.now) c.passes.pass c.if-pass-eq0.self c.args.self.now
+    c.passes.self c.extend.new.self c.passes.invariant
+    (c.in_ok-extend.ensures c.if-not-branch.false)
+
+pub extend_by_passes-returns-then-not-self : goal.extend_by_passes-returns-then-not-self
+extend_by_passes-returns-then-not-self t c = λ _ greedy.
+    let body = tree_of c.args.body.now in
+    let k = c.passes.pass in
+    subst (GrowsBy _ c.args.self.now) (sym c.close.ensures)
+    (passes_shut c.args.least c.args.most greedy body (k + 1) c.args.self.now
+    (record c.extend.new.self { repeats = c.if-pass-eq0.self })
+    (omega (arith, c.passes-test.true, c.min-passes.ensures))
+    (pass_read body k c.if-pass-eq0.self c.args.self.now c.passes.self c.extend.new.self
+    c.passes.invariant (c.in_ok-extend.ensures c.if-not-branch.false)))
+
+pub extend_by_passes-returns-then-eq : goal.extend_by_passes-returns-then-eq
+extend_by_passes-returns-then-eq t c = λ _ greedy.
+    let passes = c.min-passes.result in
+    all_passes c.args.least c.args.most greedy (tree_of c.args.body.now) passes c.args.self.now
+    c.passes.self (omega (arith, c.min-passes.ensures))
+    (same_limits passes c.args.most (sym c.eq.ensures ∙ c.if-eq.true))
+    (subst (λ n. ReadsPasses (tree_of c.args.body.now) n c.args.self.now c.passes.self)
+    (omega (arith, c.passes.auto.pass-end, c.passes-test.false)) c.passes.invariant)
+
+pub extend_by_passes-returns : goal.extend_by_passes-returns
+extend_by_passes-returns t c = λ _ greedy.
+    subst (GrowsBy _ c.args.self.now) (sym c.close-2.ensures)
+    (passes_shut c.args.least c.args.most greedy (tree_of c.args.body.now) c.passes.pass
+    c.args.self.now c.passes.self
+    (omega (arith, c.passes.auto.pass-end, c.min-passes.ensures)) c.passes.invariant)

@@ -1,5 +1,6 @@
 use Rattle.regex_lite_syntax.proofs.Common.{◌≡◌, drop, map, tree_of, trees, true}
 use Rattle.regex_lite_syntax.proofs.prefilter.words.WordWalkLemmas.{ReadsBranches, ReadsParts}
+use Rattle.regex_lite_syntax.proofs.prefilter.words.WordPassLemmas.{ReadsPasses}
 use Rattle.regex_lite_syntax.proofs.prefilter.words.walk.WordWalk.+extend.Given as goal
 
 abbrev pub invariant-extend_by_branches-loop-branch : goal.invariant-extend_by_branches-loop-branch
@@ -14,3 +15,6 @@ abbrev pub invariant-extend_by_parts-parts : goal.invariant-extend_by_parts-part
 invariant-extend_by_parts-parts l =
     ReadsParts (trees (map tree_of l.parts)) (trees (map tree_of (drop l.k l.parts)))
     l.fn.self l.self
+
+abbrev pub invariant-extend_by_passes-passes : goal.invariant-extend_by_passes-passes
+invariant-extend_by_passes-passes l = ReadsPasses (tree_of l.body) l.pass l.fn.self l.self

@@ -1,6 +1,6 @@
 use Rattle.regex_lite_syntax.proofs.Common.{ℕ, ◌+◌, ◌<◌, slice_index, slice_index_or, IsLetter}
 use Rattle.regex_lite_syntax.proofs.Common.{Letter}
-use Rattle.regex_lite_syntax.proofs.prefilter.words.standing.stands.Given as goal
+use Rattle.regex_lite_syntax.proofs.prefilter.words.standing.wrong_letter.Given as goal
 
 abbrev pub invariant-letters : goal.invariant-letters
 invariant-letters l = (past : Letter) (k : ℕ) → k < l.k
