@@ -1,11 +1,17 @@
 -- the definitions that most proofs cite
 pub mod Common
 -- lemmas that several modules use, and crates above
-pub mod StaticNumberLemmas
+pub mod AgreementLemmas
+pub mod AheadLemmas
+pub mod AnsweredLemmas
+pub mod ListBuildLemmas
+pub mod OneTreeLemmas
+pub mod PairedLemmas
 pub mod PointerLemmas
+pub mod ReplacementLemmas
+pub mod StaticNumberLemmas
+pub mod TextLemmas
 pub mod UnboxedLemmas
-pub use Rattle.regex_lite.proofs.string.AgreementLemmas
-pub use Rattle.regex_lite.proofs.string.AheadLemmas
-pub use Rattle.regex_lite.proofs.string.AnsweredLemmas
-pub use Rattle.regex_lite.proofs.string.ListBuildLemmas
-pub use Rattle.regex_lite.proofs.string.ReplacementLemmas
+-- lemmas of the engine on offsets and positions, for crates above
+pub use Rattle.regex_lite_engine.proofs.OffsetLemmas
+pub use Rattle.regex_lite_engine.proofs.PositionLemmas

@@ -3,7 +3,7 @@
 use Rattle.regex_lite.proofs.Common.{◌≡◌, ℕ, List, Some, None, Option, chars, sym, ap, ◌∙◌}
 use Rattle.regex_lite.proofs.Common.{static_captures_len, Expression, OfTree, Groups, TellsGroups}
 use Rattle.regex_lite_syntax.proofs.OptionLemmas.{not_there, same_some}
-use Rattle.regex_lite.proofs.string.OneTreeLemmas.{one_tree}
+use Rattle.regex_lite.proofs.OneTreeLemmas.{one_tree}
 
 pub static_number : (re : Expression) (haystack : List ℕ) (start : ℕ) (known : Option ℕ)
     (told : Option Groups) (groups : Groups) → OfTree re (λ tree. known ≡ static_captures_len tree)

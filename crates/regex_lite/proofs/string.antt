@@ -1,8 +1,5 @@
 -- lemmas that several proofs here share
 pub mod AcceptanceLemmas
-pub mod AgreementLemmas
-pub mod AheadLemmas
-pub mod AnsweredLemmas
 pub mod CapturedLemmas
 pub mod EqualityLemmas
 pub mod EscapedLemmas
@@ -11,7 +8,6 @@ pub mod GroupLemmas
 pub mod GroupNameLemmas
 pub mod KeptLemmas
 pub mod LawfulLemmas
-pub mod ListBuildLemmas
 pub mod ListGroupLemmas
 pub mod ListKeptLemmas
 pub mod ListLemmas
@@ -19,10 +15,7 @@ pub mod ListScanLemmas
 pub mod ListSlotLemmas
 pub mod ListToldLemmas
 pub mod NextLemmas
-pub mod OneTreeLemmas
-pub mod PairedLemmas
 pub mod PieceLemmas
-pub mod ReplacementLemmas
 pub mod ScanLemmas
 pub mod SlotLemmas
 pub mod ToldLemmas

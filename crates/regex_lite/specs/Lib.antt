@@ -1,7 +1,8 @@
 -- Where to begin: Headline has the whole promise on one page. Expression says what is built, what
 -- is refused and what a regex returns, and Searches what the searches return. RegexList and
 -- RegexListSearches say the same of several patterns at once. Templates says what a template gives
--- for the groups of a match, and Escapes which pattern is made of a text.
+-- for the groups of a match, and Escapes which pattern is made of a text. MatchOffsets says where
+-- in a haystack a pattern matches, whatever is searched for.
 pub mod Headline
 pub mod Settings
 pub mod Expression
@@ -24,6 +25,12 @@ pub mod Laws
 pub mod PieceLaws
 pub mod ListLaws
 pub mod RegexListLaws
+pub mod MatchOffsets
+pub mod OffsetLaws
+pub mod TreeLaws
+pub mod ResultLaws
+pub mod GroupLaws
+pub mod TextLaws
 pub mod CaptureNames
 pub use Rattle.regex_lite_syntax.specs.Errors
 pub use Rattle.regex_lite_syntax.specs.Text
@@ -31,6 +38,7 @@ pub use Rattle.regex_lite_syntax.specs.Grammar
 pub use Rattle.regex_lite_syntax.specs.Escaped
 pub use Rattle.regex_lite_syntax.specs.Limits
 pub use Rattle.regex_lite_syntax.specs.FaultPlaces
+pub use Rattle.regex_lite_syntax.specs.Tree
 pub use Rattle.regex_lite_syntax.specs.Tree.Matches
 pub use Rattle.regex_lite_syntax.specs.Tree.Properties
 pub use Rattle.regex_lite_engine.specs.Graph.PlaceCounts

@@ -1,20 +1,28 @@
-//! What this library is for, in two contracts, and laws of what searches return, of lists, pieces
-//! and replacements, of escaped texts and of equality. The function of a law does nothing: its
-//! contract is the law.
+//! What this library is for, in two contracts, and laws of what searches return and where patterns
+//! match, of trees, groups, lists, pieces and replacements, of escaped texts and of equality. The
+//! function of a law does nothing: its contract is the law.
 ghost use Rattle.std.specs.Cmp.{IsEquivalence};
+ghost use Rattle.regex_lite.specs.GroupLaws.{AllGroupsTakePart, GroupsHaveNames};
+ghost use Rattle.regex_lite.specs.GroupLaws.{GroupsHaveTheirSpans, ListMatchIsGroup0};
+ghost use Rattle.regex_lite.specs.GroupLaws.{MatchIsGroup0, OneNameList};
 ghost use Rattle.regex_lite.specs.Headline.{Headline, ListHeadline};
 ghost use Rattle.regex_lite.specs.Laws.{EnoughGroupsTakePart, EscapedTextsAreRefusedForSize};
 ghost use Rattle.regex_lite.specs.Laws.{EscapedTextsMatchThemselves, GroupsLieInside};
 ghost use Rattle.regex_lite.specs.Laws.{MatchesAreTheirSpans, SearchesAgree};
 ghost use Rattle.regex_lite.specs.ListLaws.{MatchesAreApart, OneMatchList};
 ghost use Rattle.regex_lite.specs.MatchViews.{is_same_match};
+ghost use Rattle.regex_lite.specs.OffsetLaws.{ListSearchesFindFirst, MatchesFromStart};
+ghost use Rattle.regex_lite.specs.OffsetLaws.{SearchesFindFirst};
 ghost use Rattle.regex_lite.specs.PieceLaws.{FixedTextIsTemplate};
 ghost use Rattle.regex_lite.specs.PieceLaws.{LentReplacersReplaceAlike, OnePieceList};
 ghost use Rattle.regex_lite.specs.PieceLaws.{PiecesAndMatches, WholeMatchesGiveHaystack};
 ghost use Rattle.regex_lite.specs.RegexListLaws.{EmptyListFindsNothing, ListAnswersAreAnswers};
 ghost use Rattle.regex_lite.specs.RegexListLaws.{ListOfOneAnswersAsItsRegex};
 ghost use Rattle.regex_lite.specs.RegexListLaws.{ListOfOneIsAcceptedAsItsRegex, ListSearchesAgree};
+ghost use Rattle.regex_lite.specs.ResultLaws.{EachListSearchShows, EachSearchShows};
 ghost use Rattle.regex_lite.specs.Searches.{CanStartAt};
+ghost use Rattle.regex_lite.specs.TextLaws.{TextsRefuseForMemory, TextsRewrite};
+ghost use Rattle.regex_lite.specs.TreeLaws.{OneTree, OneTreeList, TreesAreNumbered};
 
 use crate::{Captures, Error, RegexBuilder, RegexListBuilder, Replacer, Steps};
 
@@ -57,6 +65,51 @@ pub fn list_headline<'h>(
     list.captures_counted_at(haystack, start)
 }
 
+/// A pattern has one tree at most, and so has each of several patterns. These have the trees with
+/// their numbers.
+pub fn patterns_have_one_tree()
+    ensures one_tree { OneTree }
+    ensures one_list { OneTreeList }
+    ensures numbered { TreesAreNumbered }
+{}
+
+/// By the offsets at which the pattern matches, a search returns a match exactly if none begins
+/// before it, from the start on, and the pattern prefers it to the others that begin where it does.
+/// It returns nothing exactly if no match begins at the start or later. From offset 0 on the
+/// pattern matches exactly if a match begins anywhere.
+pub fn searches_find_the_first_match()
+    ensures first { SearchesFindFirst }
+    ensures anywhere { MatchesFromStart }
+{}
+
+/// The same for several patterns at once, by the offsets at which any of them matches. The number
+/// is that of the lowest pattern of which a match begins where this one does.
+pub fn list_searches_find_the_first_match()
+    ensures { ListSearchesFindFirst }
+{}
+
+/// What any one search returns shows whether the pattern matches from the start on, or one of
+/// several patterns. What a search that writes to locations returns is the match that the search
+/// for it returns.
+pub fn each_search_shows_whether_there_is_a_match()
+    ensures one { EachSearchShows }
+    ensures several { EachListSearchShows }
+{}
+
+/// Group 0 of the groups that a search returns is the match that the search for it returns, for one
+/// pattern and for several. The groups of each match that is ahead have its span.
+pub fn match_is_group_0()
+    ensures one { MatchIsGroup0 }
+    ensures several { ListMatchIsGroup0 }
+    ensures each { GroupsHaveTheirSpans }
+{}
+
+/// The groups of a pattern have one list of names, and the groups of each of its matches have it.
+pub fn groups_have_one_list_of_names()
+    ensures one_list { OneNameList }
+    ensures of_groups { GroupsHaveNames }
+{}
+
 /// The searches of a pattern in a haystack, from one offset on, agree on whether there is a match,
 /// and the match that is found is group 0.
 pub fn searches_agree()
@@ -64,10 +117,11 @@ pub fn searches_agree()
 {}
 
 /// The groups that a search returns lie inside the match, on character boundaries. At least as many
-/// of them took part as `static_captures_len` says of every match.
+/// of them took part as `static_captures_len` says of every match: all, if it is their number.
 pub fn groups_lie_inside()
     ensures inside { GroupsLieInside }
     ensures enough { EnoughGroupsTakePart }
+    ensures all { AllGroupsTakePart }
 {}
 
 /// The matches in a haystack don't overlap, their ends increase strictly, and there is at most one
@@ -94,6 +148,14 @@ pub fn whole_matches_give_the_haystack<R>()
 /// as a template. Here `R` is as above.
 pub fn fixed_text_is_template<R>()
     ensures { FixedTextIsTemplate R }
+{}
+
+/// What a text gives as a replacer, with a `$` or without, are the pieces of the haystack with what
+/// it gives as a template in the place of each match. It is refused only because memory runs out.
+/// Here `R` is as above.
+pub fn texts_rewrite_by_their_template<R>()
+    ensures rewritten { TextsRewrite R }
+    ensures refused { TextsRefuseForMemory R }
 {}
 
 /// A borrowed replacer behaves as the replacer itself. Here `L` is the type that borrows it, such

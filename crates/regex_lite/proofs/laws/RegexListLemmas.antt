@@ -22,9 +22,9 @@ use Rattle.regex_lite.specs.RegexListLaws.{AgreeOnList, AnswersAsItsRegex}
 use Rattle.regex_lite.specs.RegexListLaws.{FindsNothing, TellsAlike, of_the_only}
 use Rattle.regex_lite.specs.RegexListSearches.{IsWithinListCost, TellsAnswerOfList}
 use Rattle.regex_lite.specs.Searches.{IsWithinCost}
-use Rattle.regex_lite.proofs.string.AgreementLemmas.{same_truth}
+use Rattle.regex_lite.proofs.AgreementLemmas.{same_truth}
 use Rattle.regex_lite.proofs.string.FoundLemmas.{group_0}
-use Rattle.regex_lite.proofs.string.ListBuildLemmas.{one_list, pattern_tree, regular_trees}
+use Rattle.regex_lite.proofs.ListBuildLemmas.{one_list, pattern_tree, regular_trees}
 use Rattle.regex_lite.proofs.string.ListToldLemmas.{list_answer_told}
 
 -- a list of one is accepted where its pattern is
@@ -229,9 +229,10 @@ module _ (list : List Expression) (haystack : List ℕ) (start : ℕ) where
       × (option_map (λ told. span_of_match told.1) m
       ≡ option_and_then (λ told. group_span told.1 0) groups)
 
-  same_found : (m : Option (ℕ × Match)) (groups : Option (ℕ × Groups)) → is_some m ≡ is_some groups
-      → TellsMatchOfList list haystack start m → TellsGroupsOfList list haystack start groups
-      → AgreeOnSpan m groups
+  -- what is found is group 0, of one pattern
+  pub same_found : (m : Option (ℕ × Match)) (groups : Option (ℕ × Groups))
+      → is_some m ≡ is_some groups → TellsMatchOfList list haystack start m
+      → TellsGroupsOfList list haystack start groups → AgreeOnSpan m groups
   same_found None None same p q = (refl, refl)
   same_found None (Some groups) same p q = absurd (false≢true same)
   same_found (Some m) None same p q = absurd (false≢true (sym same))

@@ -34,7 +34,7 @@ module _ (re : Expression) (hay : List ℕ) (s : ℕ) (found : Found) (stands : 
       ∙ first_span (chars hay) found.marks _ (omega arith)
       ∙ ap (option_map (offsets (chars hay))) stands.whole
 
-  span_is : whole_span groups ≡ found_span (chars hay) found
+  pub span_is : whole_span groups ≡ found_span (chars hay) found
   span_is = ap (λ own. unwrap_or own (0, 0)) group_0_is
 
   text_is : unwrap_or (group_text groups 0) [] ≡ text_at hay (found_span (chars hay) found)

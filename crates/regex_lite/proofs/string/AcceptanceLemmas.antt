@@ -6,7 +6,7 @@ use Rattle.regex_lite.proofs.Common.{IsDue, Settings}
 use Rattle.regex_lite_syntax.specs.declared.error.LimitFault.TheVariants as limit
 use Rattle.regex_lite_engine.specs.Graph.Size.{Fits}
 use Rattle.regex_lite.specs.Expression.{IsReadAs, Builds}
-use Rattle.regex_lite.proofs.string.OneTreeLemmas.{one_tree}
+use Rattle.regex_lite.proofs.OneTreeLemmas.{one_tree}
 
 -- two trees that the pattern is read as are the same
 pub same_tree : (settings : Settings) (a b : Tree) → IsReadAs settings a → IsReadAs settings b

@@ -20,7 +20,7 @@ use Rattle.regex_lite_syntax.proofs.grammar.LiteralMatchLemmas.{literal_matches}
 use Rattle.regex_lite_syntax.proofs.CharacterLemmas.{chars_are}
 use Rattle.regex_lite.specs.Settings.{no_flags}
 use Rattle.regex_lite.specs.Laws.{escaped_settings, IsForSize, EscapedTextsMatchThemselves}
-use Rattle.regex_lite.proofs.string.OneTreeLemmas.{one_tree}
+use Rattle.regex_lite.proofs.OneTreeLemmas.{one_tree}
 
 -- characters in a row stand in nothing, and are in no group
 flat : (text : Text) → depth_of_list (trees (map character text)) ≡ 0

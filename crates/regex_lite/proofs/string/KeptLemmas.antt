@@ -17,7 +17,7 @@ use Rattle.regex_lite.specs.Searches.{CanRead}
 use Rattle.regex_lite.proofs.string.CapturedLemmas.{held_all}
 use Rattle.regex_lite.proofs.string.FoundLemmas.{first_told, length_spans, slots_told}
 use Rattle.regex_lite.proofs.string.LawfulLemmas.{regex_lawful}
-use Rattle.regex_lite.proofs.string.OneTreeLemmas.{one_tree}
+use Rattle.regex_lite.proofs.OneTreeLemmas.{one_tree}
 
 -- what is returned of the answer of a search is the match that the search returns
 pub match_answered : (re : Expression) (bytes : List ℕ) (start : ℕ) (slots : List (Option ℕ))

@@ -11,8 +11,8 @@ use Rattle.regex_lite_engine.proofs.laws.answer.AnswerLemmas.{one_answer}
 use Rattle.regex_lite_engine.proofs.laws.answer.ReachLemmas.{walk_inside}
 use Rattle.regex_lite_engine.proofs.laws.groups.SpanLemmas.{groups_inside}
 use Rattle.regex_lite_engine.proofs.laws.several.ListAnswerLemmas.{one_list_answer}
-use Rattle.regex_lite.proofs.string.ListBuildLemmas.{one_list, pattern_tree}
-use Rattle.regex_lite.proofs.string.OneTreeLemmas.{one_tree}
+use Rattle.regex_lite.proofs.ListBuildLemmas.{one_list, pattern_tree}
+use Rattle.regex_lite.proofs.OneTreeLemmas.{one_tree}
 
 pub found_within : (tree : Tree) (haystack : Text) (s : ℕ) (found : Found) → IsPatternTree tree
     → IsFound tree haystack s found → IsWithin haystack s found

@@ -14,7 +14,7 @@ use Rattle.regex_lite.specs.CompiledList.{IsBuiltList}
 use Rattle.regex_lite.specs.RegexListSearches.{AreOfPattern}
 use Rattle.regex_lite.proofs.string.CapturedLemmas.{AreAllSlots, captured, held_all}
 use Rattle.regex_lite.proofs.string.GroupNameLemmas.{are_names}
-use Rattle.regex_lite.proofs.string.ListBuildLemmas.{pattern_tree}
+use Rattle.regex_lite.proofs.ListBuildLemmas.{pattern_tree}
 use Rattle.regex_lite.proofs.string.ListSlotLemmas.{enough_kept, in_whole, most_at}
 use Rattle.regex_lite.proofs.string.ListToldLemmas.{of_pattern}
 use Rattle.regex_lite.proofs.string.ToldLemmas.{same_pair}

@@ -14,9 +14,9 @@ use Rattle.regex_lite.specs.RegexListSearches.{TellsLocationsOfList}
 use Rattle.regex_lite.specs.Scanning.{IsMatchWithSlots}
 use Rattle.regex_lite.proofs.string.CapturedLemmas.{held_all}
 use Rattle.regex_lite.proofs.string.FoundLemmas.{slots_told}
-use Rattle.regex_lite.proofs.string.ListBuildLemmas.{one_list, pattern_tree}
+use Rattle.regex_lite.proofs.ListBuildLemmas.{one_list, pattern_tree}
 use Rattle.regex_lite.proofs.string.ListSlotLemmas.{enough_kept, in_whole}
-use Rattle.regex_lite.proofs.string.PairedLemmas.{paired_length}
+use Rattle.regex_lite.proofs.PairedLemmas.{paired_length}
 
 -- what is returned of the answer of a search for several patterns, with these slots
 abbrev pub TellsListMatch : List Expression → (haystack : List ℕ) → (start : ℕ)

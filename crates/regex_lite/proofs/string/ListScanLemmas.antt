@@ -9,7 +9,7 @@ use Rattle.regex_lite.proofs.Common.{CompiledList, Match}
 use Rattle.regex_lite_syntax.proofs.OptionLemmas.{same_some}
 use Rattle.regex_lite.specs.CompiledList.{IsBuiltList}
 use Rattle.regex_lite.specs.Scanning.{IsMatchOfSearch}
-use Rattle.regex_lite.proofs.string.ListBuildLemmas.{one_list, own_tree}
+use Rattle.regex_lite.proofs.ListBuildLemmas.{one_list, own_tree}
 use Rattle.regex_lite.proofs.string.ListGroupLemmas.{found_groups, found_there}
 use Rattle.regex_lite.proofs.string.ListSlotLemmas.{width_kept}
 use Rattle.regex_lite.proofs.string.ScanLemmas.{whole_of_groups}

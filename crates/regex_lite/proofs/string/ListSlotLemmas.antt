@@ -5,7 +5,7 @@ use Rattle.regex_lite.proofs.Common.{arith, Tree, StoredGroups, Outcome, groups_
 use Rattle.regex_lite.proofs.Common.{kept_slots, all_slots, most_groups, Expression, AreTrees}
 use Rattle.regex_lite.proofs.Common.{AreSlotsForAllGroups, CompiledList}
 use Rattle.regex_lite.specs.CompiledList.{IsBuiltList}
-use Rattle.regex_lite.proofs.string.ListBuildLemmas.{one_list}
+use Rattle.regex_lite.proofs.ListBuildLemmas.{one_list}
 use Rattle.regex_lite_engine.specs.Graph.StoredList.{TellGroupsOf}
 
 -- a search has kept as many slots as were asked for

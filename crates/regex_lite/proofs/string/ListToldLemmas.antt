@@ -18,8 +18,8 @@ use Rattle.regex_lite.specs.Scanning.{SearchesForList, TellsListSpan, TellsOutco
 use Rattle.regex_lite.specs.RegexList.{OfTrees}
 use Rattle.regex_lite.specs.RegexListSearches.{TellsAnswerOfList}
 use Rattle.regex_lite.proofs.string.FoundLemmas.{found_lies}
-use Rattle.regex_lite.proofs.string.ListBuildLemmas.{one_list, own_tree, pattern_tree}
-use Rattle.regex_lite.proofs.string.ListBuildLemmas.{regular_trees}
+use Rattle.regex_lite.proofs.ListBuildLemmas.{one_list, own_tree, pattern_tree}
+use Rattle.regex_lite.proofs.ListBuildLemmas.{regular_trees}
 use Rattle.regex_lite.proofs.string.ToldLemmas.{same_pair}
 
 -- what is returned of a list is returned of the pattern with the number

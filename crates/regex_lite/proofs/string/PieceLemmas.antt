@@ -5,7 +5,7 @@ use Rattle.regex_lite.proofs.Common.{unwrap_or, sym, refl, ap, ◌∙◌, subst,
 use Rattle.regex_lite.proofs.Common.{IsOver, Passes, Expression, found_span}
 use Rattle.regex_lite.specs.Ahead.{whole}
 use Rattle.regex_lite.specs.Pieces.{ArePiecesWithin, IsCut, pieces}
-use Rattle.regex_lite.proofs.string.AheadLemmas.{ahead_cons, ahead_nil}
+use Rattle.regex_lite.proofs.AheadLemmas.{ahead_cons, ahead_nil}
 
 -- what stands before a match that was passed comes before the pieces after it
 pub cut_cons : (old new : Ahead) (from : ℕ) (found : Found) (span : ℕ × ℕ) (list : List (List ℕ))

@@ -17,7 +17,7 @@ use Rattle.regex_lite.specs.Scanning.{AreSlotsForGroups, IsMatchOfSearch}
 use Rattle.regex_lite.proofs.string.CapturedLemmas.{AreAllSlots, all_told, captured}
 use Rattle.regex_lite.proofs.string.FoundLemmas.{group_0}
 use Rattle.regex_lite.proofs.string.NextLemmas.{next_answer}
-use Rattle.regex_lite.proofs.string.OneTreeLemmas.{one_tree}
+use Rattle.regex_lite.proofs.OneTreeLemmas.{one_tree}
 
 -- what is returned is this answer of some search for the pattern, and these are its slots
 abbrev pub IsMatchOfRegex : Expression → (haystack : List ℕ) → (slots : List (Option ℕ)) → Found

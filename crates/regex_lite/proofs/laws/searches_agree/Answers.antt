@@ -1,4 +1,4 @@
-use Rattle.regex_lite.proofs.string.AgreementLemmas.{agree}
+use Rattle.regex_lite.proofs.AgreementLemmas.{agree}
 use Rattle.regex_lite.proofs.laws.searches_agree.Goals as goal
 
 pub returns : goal.returns

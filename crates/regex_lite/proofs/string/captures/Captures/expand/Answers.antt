@@ -4,7 +4,7 @@ use Rattle.std.proofs.lemmas.List.{append-nil}
 use Rattle.regex_lite_engine.specs.Interpolation.{piece_and_rest, nothing, piece_text}
 use Rattle.regex_lite_engine.specs.Interpolation.Pieces.{piece_of}
 use Rattle.regex_lite_engine.proofs.laws.templates.OneTextLemmas.{one_text}
-use Rattle.regex_lite.proofs.string.ReplacementLemmas.{handed_on}
+use Rattle.regex_lite.proofs.ReplacementLemmas.{handed_on}
 use Rattle.regex_lite.proofs.string.captures.Captures.expand.Goals as goal
 
 pub returns-in_err-push_piece-clause-begun : goal.returns-in_err-push_piece-clause-begun

@@ -1,6 +1,6 @@
 use Rattle.regex_lite.proofs.Common.{ap, arith, places_of_all, AreTrees, CompiledList}
 use Rattle.regex_lite_engine.proofs.ArrowBoundLemmas.{arrows_all_few}
-use Rattle.regex_lite.proofs.string.ListBuildLemmas.{one_list}
+use Rattle.regex_lite.proofs.ListBuildLemmas.{one_list}
 use Rattle.regex_lite.proofs.string.list.RegexList.arrows.Goals as goal
 
 pub returns-clause-few : goal.returns-clause-few

@@ -1,9 +1,9 @@
 use Rattle.regex_lite.proofs.Common.{map, length, sym, ap, ◌∙◌, subst, err_from_is_err_and, tree_of}
 use Rattle.regex_lite.proofs.Common.{AreRegularPatterns, expression_of}
 use Rattle.regex_lite.specs.RegexList.{IsAcceptedAs}
-use Rattle.regex_lite.proofs.string.ListBuildLemmas.{accepted_trees, each_fits, refused_before}
-use Rattle.regex_lite.proofs.string.ListBuildLemmas.{refused_together, regular_trees}
-use Rattle.regex_lite.proofs.string.PairedLemmas.{paired_length}
+use Rattle.regex_lite.proofs.ListBuildLemmas.{accepted_trees, each_fits, refused_before}
+use Rattle.regex_lite.proofs.ListBuildLemmas.{refused_together, regular_trees}
+use Rattle.regex_lite.proofs.PairedLemmas.{paired_length}
 use Rattle.regex_lite.proofs.string.list.RegexList.build.Goals as goal
 
 pub returns-in_err-hirs : goal.returns-in_err-hirs

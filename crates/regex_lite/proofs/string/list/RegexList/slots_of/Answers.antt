@@ -1,6 +1,6 @@
 use Rattle.regex_lite.proofs.Common.{◌*◌, length, chars, ap, ◌∙◌, arith, IsTree, AreTrees}
 use Rattle.regex_lite.proofs.Common.{CompiledList}
-use Rattle.regex_lite.proofs.string.PairedLemmas.{paired_length}
+use Rattle.regex_lite.proofs.PairedLemmas.{paired_length}
 use Rattle.regex_lite.proofs.string.list.RegexList.slots_of.Goals as goal
 
 pub groups-requires : goal.groups-requires

@@ -1,7 +1,7 @@
 use Rattle.regex_lite.proofs.Common.{[], ◌∷◌, map, refl, ap, ◌∙◌, err_from_is_err_and, tree_of}
 use Rattle.std.proofs.lemmas.List.{map-append}
 use Rattle.std.proofs.lemmas.Option.{slice_get_read}
-use Rattle.regex_lite.proofs.string.ListBuildLemmas.{accepted_more, lowest_fails}
+use Rattle.regex_lite.proofs.ListBuildLemmas.{accepted_more, lowest_fails}
 use Rattle.regex_lite.proofs.string.list.build.parse_all.Goals as goal
 
 pub returns-in_err-accepted_hir-clause-refused : goal.returns-in_err-accepted_hir-clause-refused

@@ -1,6 +1,6 @@
 use Rattle.regex_lite.proofs.Common.{◌≡◌, chars, ap, arith, IsTree, whole_places, IsBuilt, Compiled}
 use Rattle.regex_lite_engine.proofs.ArrowBoundLemmas.{arrows_few}
-use Rattle.regex_lite.proofs.string.OneTreeLemmas.{one_tree}
+use Rattle.regex_lite.proofs.OneTreeLemmas.{one_tree}
 use Rattle.regex_lite.proofs.string.regex.Regex.arrows.Goals as goal
 
 pub returns-clause-bounded : goal.returns-clause-bounded

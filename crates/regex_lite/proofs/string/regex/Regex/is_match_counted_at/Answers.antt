@@ -1,5 +1,5 @@
 use Rattle.regex_lite.proofs.Common.{sym, ap, subst, IsGraphOf}
-use Rattle.regex_lite.proofs.string.OneTreeLemmas.{has_told}
+use Rattle.regex_lite.proofs.OneTreeLemmas.{has_told}
 use Rattle.regex_lite.proofs.string.regex.Regex.is_match_counted_at.Goals as goal
 
 pub returns-clause-found : goal.returns-clause-found

@@ -3,9 +3,9 @@ use Rattle.regex_lite.proofs.Common.{ap, ◌∙◌, ahead_of, span_of_match, fou
 use Rattle.std.specs.declared.borrow.CowStr.TheVariants.{Borrowed}
 use Rattle.regex_lite.specs.Ahead.{whole}
 use Rattle.regex_lite.specs.Replacements.{IsReplacedBy}
-use Rattle.regex_lite.proofs.string.AnsweredLemmas.{begun_on, borrowed_where_over, owned_where_some}
-use Rattle.regex_lite.proofs.string.AnsweredLemmas.{so_finished}
-use Rattle.regex_lite.proofs.string.ReplacementLemmas.{passed_on, replaced_at_end}
+use Rattle.regex_lite.proofs.AnsweredLemmas.{begun_on, borrowed_where_over, owned_where_some}
+use Rattle.regex_lite.proofs.AnsweredLemmas.{so_finished}
+use Rattle.regex_lite.proofs.ReplacementLemmas.{passed_on, replaced_at_end}
 use Rattle.regex_lite.proofs.string.regex.Regex.replace_by.Goals as goal
 
 pub loop-found-preserved : goal.loop-found-preserved

@@ -1,7 +1,7 @@
 use Rattle.regex_lite.proofs.Common.{◌≡◌, string_bytes, unwrap_or, ahead_of}
 use Rattle.regex_lite.specs.Ahead.{whole}
-use Rattle.regex_lite.proofs.string.AnsweredLemmas.{IsBegun}
-use Rattle.regex_lite.proofs.string.ReplacementLemmas.{Continues}
+use Rattle.regex_lite.proofs.AnsweredLemmas.{IsBegun}
+use Rattle.regex_lite.proofs.ReplacementLemmas.{Continues}
 use Rattle.regex_lite.proofs.string.regex.Regex.replace_by.Given as goal
 
 abbrev pub invariant-loop-found : goal.invariant-loop-found

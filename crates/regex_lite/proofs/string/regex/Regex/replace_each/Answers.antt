@@ -3,11 +3,11 @@ use Rattle.regex_lite.proofs.Common.{ap, ◌∙◌, subst, inl, inr, position_at
 use Rattle.regex_lite.proofs.Common.{whole_span, RegexSearching, Scanning}
 use Rattle.std.specs.declared.borrow.CowStr.TheVariants.{Borrowed}
 use Rattle.regex_lite.specs.Replacements.{IsRefused, IsReplacedInTurn}
-use Rattle.regex_lite.proofs.string.AnsweredLemmas.{begun_on, borrowed_where_over}
-use Rattle.regex_lite.proofs.string.AnsweredLemmas.{owned_where_some, so_finished}
-use Rattle.regex_lite.proofs.string.ReplacementLemmas.{found_there, handed_on, in_turn_at_end}
-use Rattle.regex_lite.proofs.string.ReplacementLemmas.{haystack_kept, in_turn_passed}
-use Rattle.regex_lite.proofs.string.ReplacementLemmas.{in_turn_refused, of_passed, sought_kept}
+use Rattle.regex_lite.proofs.AnsweredLemmas.{begun_on, borrowed_where_over}
+use Rattle.regex_lite.proofs.AnsweredLemmas.{owned_where_some, so_finished}
+use Rattle.regex_lite.proofs.ReplacementLemmas.{found_there, handed_on, in_turn_at_end}
+use Rattle.regex_lite.proofs.ReplacementLemmas.{haystack_kept, in_turn_passed}
+use Rattle.regex_lite.proofs.ReplacementLemmas.{in_turn_refused, of_passed, sought_kept}
 use Rattle.regex_lite.proofs.string.regex.Regex.replace_each.Goals as goal
 
 pub take_back-requires : goal.take_back-requires

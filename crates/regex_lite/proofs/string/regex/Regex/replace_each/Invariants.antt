@@ -1,6 +1,6 @@
 use Rattle.regex_lite.proofs.Common.{◌≡◌, string_bytes, unwrap_or, ahead, most_ahead}
-use Rattle.regex_lite.proofs.string.AnsweredLemmas.{IsBegun}
-use Rattle.regex_lite.proofs.string.ReplacementLemmas.{ContinuesInTurn}
+use Rattle.regex_lite.proofs.AnsweredLemmas.{IsBegun}
+use Rattle.regex_lite.proofs.ReplacementLemmas.{ContinuesInTurn}
 use Rattle.regex_lite.proofs.string.regex.Regex.replace_each.Given as goal
 
 abbrev pub invariant-items : goal.invariant-items

@@ -1,5 +1,5 @@
 use Rattle.regex_lite.proofs.Common.{IsOwnedStr}
-use Rattle.regex_lite.proofs.string.AnsweredLemmas.{where_it_matches}
+use Rattle.regex_lite.proofs.AnsweredLemmas.{where_it_matches}
 use Rattle.regex_lite.proofs.string.regex.Regex.replacen.Goals as goal
 
 pub returns-in-Some-clause-owned : goal.returns-in-Some-clause-owned

@@ -1,6 +1,6 @@
 use Rattle.regex_lite.proofs.Common.{◌↔◌, IsTrue, inr, subst, IsCharBoundary-start, MatchesFrom}
 use Rattle.regex_lite.proofs.Common.{RegexSearching}
-use Rattle.regex_lite.proofs.string.OneTreeLemmas.{has_told}
+use Rattle.regex_lite.proofs.OneTreeLemmas.{has_told}
 use Rattle.regex_lite.proofs.string.searcher.Searcher.is_match.Goals as goal
 
 pub search_any-requires : goal.search_any-requires

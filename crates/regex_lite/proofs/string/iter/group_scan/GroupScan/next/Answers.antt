@@ -1,5 +1,5 @@
 use Rattle.regex_lite.proofs.Common.{rules}
-use Rattle.regex_lite.proofs.string.AnsweredLemmas.{not_over}
+use Rattle.regex_lite.proofs.AnsweredLemmas.{not_over}
 use Rattle.regex_lite.proofs.string.ScanLemmas.{groups_came, last_match}
 use Rattle.regex_lite.proofs.string.iter.group_scan.GroupScan.next.Goals as goal
 

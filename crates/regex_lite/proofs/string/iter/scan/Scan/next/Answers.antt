@@ -1,6 +1,6 @@
 use Rattle.regex_lite.proofs.Common.{◌<◌, ◌≤◌, ◌≢◌, length, Some, subst, rules, most_ahead}
 use Rattle.regex_lite.proofs.Common.{span_of_match, Scanning}
-use Rattle.regex_lite.proofs.string.AheadLemmas.{fewer_ahead}
+use Rattle.regex_lite.proofs.AheadLemmas.{fewer_ahead}
 use Rattle.regex_lite.proofs.string.iter.scan.Scan.next.Goals as goal
 
 pub returns-in-Some-clause-fewer : goal.returns-in-Some-clause-fewer

@@ -4,7 +4,7 @@ use Rattle.std.specs.Prelude.{Bool, ◌++◌}
 use Rattle.regex_lite_engine.proofs.Common.{take-append_seam, search_start}
 use Rattle.regex_lite_engine.specs.Search.AnswerOfList.{TellsWhich}
 use Rattle.regex_lite.specs.RegexListSearches.{TellsWhichMatch}
-use Rattle.regex_lite.proofs.string.PairedLemmas.{paired_length}
+use Rattle.regex_lite.proofs.PairedLemmas.{paired_length}
 use Rattle.regex_lite.proofs.string.list.set_searcher.SetSearcher.tell.Goals as goal
 
 pub search-requires-clause-all : goal.search-requires-clause-all

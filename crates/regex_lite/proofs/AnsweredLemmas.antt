@@ -13,7 +13,7 @@ use Rattle.regex_lite.specs.Ahead.{AheadOf, NoneIsAhead, PassesAnswer, whole}
 use Rattle.regex_lite.specs.Replacements.{limit_of}
 use Rattle.regex_lite.proofs.string.LawfulLemmas.{regex_lawful}
 use Rattle.regex_lite.proofs.string.ListLemmas.{one_next}
-use Rattle.regex_lite.proofs.string.OneTreeLemmas.{one_tree}
+use Rattle.regex_lite.proofs.OneTreeLemmas.{one_tree}
 
 -- a haystack of which a match was passed wasn't over
 pub not_over : {S A : Type 0} (found_of : A → Found)

@@ -12,7 +12,7 @@ use Rattle.regex_lite_syntax.proofs.OptionLemmas.{same_some}
 use Rattle.regex_lite.specs.Laws.{Agree}
 use Rattle.regex_lite.specs.Searches.{TellsEnd}
 use Rattle.regex_lite.proofs.string.FoundLemmas.{group_0}
-use Rattle.regex_lite.proofs.string.OneTreeLemmas.{matches_told, one_tree}
+use Rattle.regex_lite.proofs.OneTreeLemmas.{matches_told, one_tree}
 
 pub same_truth : (a b : Bool) (P : Type 0) → (IsTrue a ↔ P) → (IsTrue b ↔ P) → a ≡ b
 same_truth true true P p q = refl
@@ -36,7 +36,8 @@ module _ (re : Expression) (haystack : List ℕ) (start : ℕ) where
       (search_start haystack start) f is in
       (λ some. (tree, given, (f.start, f.end, own)), λ matches. refl)
 
-  same_whole : (m : Option Match) (groups : Option Groups) → is_some m ≡ is_some groups
+  -- the match is group 0
+  pub same_whole : (m : Option Match) (groups : Option Groups) → is_some m ≡ is_some groups
       → TellsMatch re haystack start m → TellsGroups re haystack start groups
       → option_map span_of_match m ≡ option_and_then (λ own. group_span own 0) groups
   same_whole None None same p q = refl

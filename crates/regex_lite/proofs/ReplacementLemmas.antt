@@ -10,7 +10,7 @@ use Rattle.regex_lite.specs.Compiled.{AreOfRegex}
 use Rattle.regex_lite.specs.Replacements.{AreGroupsOfEach, IsChain, IsRefused, IsRefusedAt}
 use Rattle.regex_lite.specs.Replacements.{IsReplacedBy, IsReplacedInTurn, replaced_by}
 use Rattle.regex_lite.specs.Replacing.{Answer}
-use Rattle.regex_lite.proofs.string.AheadLemmas.{ahead_cons, ahead_nil, first_cons}
+use Rattle.regex_lite.proofs.AheadLemmas.{ahead_cons, ahead_nil, first_cons}
 use Rattle.regex_lite.proofs.string.ScanLemmas.{of_regex}
 
 together : (a b c d : List ℕ) → ((a ++ b) ++ c) ++ d ≡ a ++ (b ++ c ++ d)

@@ -1,6 +1,6 @@
 -- Lists of which the elements belong together pairwise.
 use Rattle.regex_lite.proofs.Common.{◌≡◌, ℕ, zero, suc, List, [], ◌∷◌, ◌++◌, map, length, slice_get}
-use Rattle.regex_lite.proofs.Common.{Some, refl, ap}
+use Rattle.regex_lite.proofs.Common.{Some, refl, ap, arith}
 use Rattle.regex_lite_syntax.proofs.OptionLemmas.{same_some}
 use Rattle.regex_lite.specs.RegexList.{AllPaired}
 
@@ -27,6 +27,18 @@ module _ {A B : Type 0} (R : A → B → Type 0) where
   paired_back [] (y ∷ ys) k own p there = absurd p
   paired_back (x ∷ xs) (y ∷ ys) zero own (p, ps) there = (x, refl, rw (← same_some there) p)
   paired_back (x ∷ xs) (y ∷ ys) (suc k) own (p, ps) there = paired_back xs ys k own ps there
+
+  -- as many of both, of which those with one number belong together, are paired
+  pub paired_from : (xs : List A) (ys : List B) → length xs ≡ length ys
+      → ((k : ℕ) (x : A) (y : B) → slice_get xs k ≡ Some x → slice_get ys k ≡ Some y → R x y)
+      → AllPaired R xs ys
+  paired_from [] [] same each = tt
+  paired_from [] (y ∷ ys) same each = absurd cc
+  paired_from (x ∷ xs) [] same each = absurd cc
+  paired_from (x ∷ xs) (y ∷ ys) same each = (
+    each 0 x y refl refl,
+    paired_from xs ys (omega (arith, same)) (λ k. each (suc k)),
+  )
 
   -- one more pair after them
   pub paired_more : (xs : List A) (ys : List B) (x : A) (y : B) → AllPaired R xs ys → R x y

@@ -11,6 +11,13 @@ pub one_tree : (flags : Flags) (pattern : Text) (a b : Tree)
     → IsTree flags pattern a → IsTree flags pattern b → a ≡ b
 one_tree flags pattern a b p q = (grammar_once flags pattern a b p.0 q.0 p.1 q.1 p.2 q.2).0
 
+-- so two facts about the tree of a pattern are facts about one tree
+pub of_both : (re : Expression) (P Q : Tree → Type 0) → OfTree re P → OfTree re Q
+    → OfTree re (λ tree. P tree × Q tree)
+of_both re P Q (tree, given, p) (other, given_too, q) =
+    let one = one_tree re.flags (chars re.pattern) other tree given_too given in
+    (tree, given, (p, subst Q one q))
+
 -- the least end shows whether the pattern matches
 pub matches_told : (re : Expression) (haystack : List ℕ) (start : ℕ) (end : Option ℕ) (found : Bool)
     → found ≡ is_some end → TellsEnd re haystack start end

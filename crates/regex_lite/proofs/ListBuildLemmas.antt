@@ -1,21 +1,22 @@
 -- A list of patterns is accepted, or refused by the lowest that fails, or for all places together.
 use Rattle.regex_lite.proofs.Common.{◌≡◌, ℕ, zero, suc, ◌+◌, ◌<◌, ◌≤◌, ◌⊎◌, List, [], ◌∷◌, ◌++◌}
 use Rattle.regex_lite.proofs.Common.{map, length, get_or, take, slice_get, Some, Err, chars, sym}
-use Rattle.regex_lite.proofs.Common.{refl, ap, ◌∙◌, inl, inr, add-one, arith, slice_get-get_or}
-use Rattle.regex_lite.proofs.Common.{Refusal, syntax_error, too_deep, too_many_groups, passed_limit}
-use Rattle.regex_lite.proofs.Common.{out_of_memory, refused_replacement, kind_of, IsTree, Tree}
-use Rattle.regex_lite.proofs.Common.{Error, HasTree, AreRegularPatterns, places_of_all}
-use Rattle.regex_lite.proofs.Common.{IsPatternTree, Expression, expression_of, IsAccepted, IsDue}
-use Rattle.regex_lite.proofs.Common.{AreAcceptedAs, AreAccepted, AreTrees, Settings}
+use Rattle.regex_lite.proofs.Common.{refl, ap, ◌∙◌, subst, inl, inr, add-one, arith}
+use Rattle.regex_lite.proofs.Common.{slice_get-get_or, Refusal, syntax_error, too_deep}
+use Rattle.regex_lite.proofs.Common.{too_many_groups, passed_limit, out_of_memory}
+use Rattle.regex_lite.proofs.Common.{refused_replacement, kind_of, IsTree, Tree, Error, HasTree}
+use Rattle.regex_lite.proofs.Common.{AreRegularPatterns, places_of_all, IsPatternTree, Expression}
+use Rattle.regex_lite.proofs.Common.{expression_of, IsAccepted, IsDue, AreAcceptedAs, AreAccepted}
+use Rattle.regex_lite.proofs.Common.{AreTrees, Settings}
 use Rattle.std.proofs.Common.{◌^◌, All, take-suc, slice_index_or}
 use Rattle.regex_lite_syntax.specs.declared.error.ErrorKind.TheVariants.{Places}
 use Rattle.regex_lite_engine.specs.Graph.Size.{Fits}
 use Rattle.regex_lite_engine.proofs.laws.PatternTreeLemmas.{regular_tree}
-use Rattle.regex_lite.specs.RegexList.{BuildsList, IsAcceptedAs, IsDueToAll, IsDueToLowest}
+use Rattle.regex_lite.specs.RegexList.{BuildsList, IsAcceptedAs, IsDueToAll, IsDueToLowest, OfTrees}
 use Rattle.regex_lite.proofs.string.AcceptanceLemmas.{for_memory, same_tree}
-use Rattle.regex_lite.proofs.string.OneTreeLemmas.{one_tree}
-use Rattle.regex_lite.proofs.string.PairedLemmas.{paired_at, paired_back, paired_more}
-use Rattle.regex_lite.proofs.string.PairedLemmas.{paired_once, paired_so}
+use Rattle.regex_lite.proofs.OneTreeLemmas.{one_tree}
+use Rattle.regex_lite.proofs.PairedLemmas.{paired_at, paired_back, paired_more}
+use Rattle.regex_lite.proofs.PairedLemmas.{paired_once, paired_so}
 
 -- the trees of the settings are those of the patterns
 pub accepted_trees : (all : List Settings) (trees : List Tree) → AreAcceptedAs all trees
@@ -31,12 +32,18 @@ one_list list a b p q =
     paired_once (λ re tree. IsTree re.flags (chars re.pattern) tree) list a b
     (λ re x y r s. one_tree re.flags (chars re.pattern) x y r s) p q
 
+-- so two facts about the trees of several patterns are facts about one list of trees
+pub of_all_both : (list : List Expression) (P Q : List Tree → Type 0) → OfTrees list P
+    → OfTrees list Q → OfTrees list (λ trees. P trees × Q trees)
+of_all_both list P Q (trees, given, p) (others, given_too, q) =
+    (trees, given, (p, subst Q (one_list list others trees given_too given) q))
+
 pub one_accepted : (all : List Settings) (a b : List Tree) → AreAcceptedAs all a
     → AreAcceptedAs all b → a ≡ b
 one_accepted all a b p q =
     paired_once IsAcceptedAs all a b (λ settings x y r s. same_tree settings x y r.0 s.0) p q
 
--- the tree of a pattern that the list has
+-- the pattern of a tree of the list has the tree's number
 pub own_tree : (list : List Expression) (trees : List Tree) (number : ℕ) (tree : Tree)
     → AreTrees list trees → HasTree trees number tree
     → (re : Expression) × (slice_get list number ≡ Some re)
@@ -44,6 +51,13 @@ pub own_tree : (list : List Expression) (trees : List Tree) (number : ℕ) (tree
 own_tree list trees number tree given there =
     paired_back (λ re tree. IsTree re.flags (chars re.pattern) tree) list trees number tree given
     there
+
+-- and the tree of a pattern of the list has the pattern's
+pub numbered_tree : (list : List Expression) (trees : List Tree) (number : ℕ) (re : Expression)
+    → AreTrees list trees → slice_get list number ≡ Some re
+    → (tree : Tree) × HasTree trees number tree × IsTree re.flags (chars re.pattern) tree
+numbered_tree list trees number re given there =
+    paired_at (λ re tree. IsTree re.flags (chars re.pattern) tree) list trees number re given there
 
 pub pattern_tree : (list : List Expression) (trees : List Tree) → AreTrees list trees
     → (number : ℕ) (tree : Tree) → HasTree trees number tree → IsPatternTree tree

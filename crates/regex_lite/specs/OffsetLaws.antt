@@ -1,0 +1,63 @@
+-- Laws that say what searches return by the offsets at which patterns match.
+use Rattle.std.specs.Prelude.{◌≡◌, ◌≤◌, ◌↔◌, ℕ, List, IsUtf8, Some, None, chars}
+use Rattle.regex_lite_syntax.specs.Grammar.{HasTree}
+use Rattle.regex_lite.specs.declared.string.matches.Match.{Match}
+use Rattle.regex_lite.specs.Expression.{Expression}
+use Rattle.regex_lite.specs.Groups.{Groups, whole_span}
+use Rattle.regex_lite.specs.MatchOffsets.{HaveTrees, IsFirstMatch, IsFirstOfList}
+use Rattle.regex_lite.specs.MatchOffsets.{MatchesAt, MatchesIn, MatchesNowhere, NoneMatches}
+use Rattle.regex_lite.specs.MatchOffsets.{SomeMatches}
+use Rattle.regex_lite.specs.MatchViews.{haystack_of_match, span_of_match}
+use Rattle.regex_lite.specs.RegexListSearches.{AnyMatches, TellsGroupsOfList, TellsMatchOfList}
+use Rattle.regex_lite.specs.Searches.{CanStartAt, MatchesFrom, TellsGroups, TellsMatch}
+
+-- the searches of one pattern from this offset on, by the offsets at which it matches
+pub record FindsFirst (re : Expression) (haystack : List ℕ) (start : ℕ) : Type 0 where
+  -- it matches from there on exactly if a match begins there or later
+  pub matches :
+      MatchesFrom re haystack start ↔ ((at : ℕ) × (start ≤ at) × MatchesAt re haystack at)
+  -- what is returned is the first match, and the first match is what may be returned
+  pub found : (told : Match) → TellsMatch re haystack start (Some told)
+      ↔ ((haystack_of_match told ≡ haystack)
+      × IsFirstMatch re haystack start (span_of_match told))
+  -- nothing is returned where no match begins, of a pattern that has a tree
+  pub none : TellsMatch re haystack start None
+      ↔ (HasTree re.flags (chars re.pattern) × MatchesNowhere re haystack start)
+  -- the same of the search for groups
+  pub groups : (told : Groups) → TellsGroups re haystack start (Some told)
+      → IsFirstMatch re haystack start (whole_span told)
+  pub no_groups : TellsGroups re haystack start None
+      ↔ (HasTree re.flags (chars re.pattern) × MatchesNowhere re haystack start)
+
+abbrev pub SearchesFindFirst : Type 0
+SearchesFindFirst =
+    (re : Expression) (haystack : List ℕ) (start : ℕ) → IsUtf8 haystack
+    → CanStartAt haystack start → FindsFirst re haystack start
+
+-- from the haystack's start on it matches exactly if it matches somewhere
+abbrev pub MatchesFromStart : Type 0
+MatchesFromStart =
+    (re : Expression) (haystack : List ℕ) → IsUtf8 haystack
+    → MatchesFrom re haystack 0 ↔ MatchesIn re haystack
+
+-- the searches of several patterns from this offset on, in the same way
+pub record ListFindsFirst (list : List Expression) (haystack : List ℕ) (start : ℕ)
+    : Type 0 where
+  pub matches : AnyMatches list haystack start
+      ↔ (HaveTrees list × SomeMatches list haystack start)
+  pub found : (number : ℕ) (told : Match)
+      → TellsMatchOfList list haystack start (Some (number, told))
+      ↔ (HaveTrees list × (haystack_of_match told ≡ haystack)
+      × IsFirstOfList list haystack start number (span_of_match told))
+  pub none : TellsMatchOfList list haystack start None
+      ↔ (HaveTrees list × NoneMatches list haystack start)
+  pub groups : (number : ℕ) (told : Groups)
+      → TellsGroupsOfList list haystack start (Some (number, told))
+      → IsFirstOfList list haystack start number (whole_span told)
+  pub no_groups : TellsGroupsOfList list haystack start None
+      ↔ (HaveTrees list × NoneMatches list haystack start)
+
+abbrev pub ListSearchesFindFirst : Type 0
+ListSearchesFindFirst =
+    (list : List Expression) (haystack : List ℕ) (start : ℕ) → IsUtf8 haystack
+    → CanStartAt haystack start → ListFindsFirst list haystack start

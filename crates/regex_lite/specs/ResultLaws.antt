@@ -1,0 +1,52 @@
+-- Laws of what one search shows by itself.
+use Rattle.std.specs.Prelude.{◌≡◌, ◌↔◌, ℕ, Bool, false, IsTrue, List, Option, Some, is_some}
+use Rattle.std.specs.Prelude.{length, slice_get, slice_index_or}
+use Rattle.regex_lite.specs.declared.string.matches.Match.{Match}
+use Rattle.regex_lite.specs.Expression.{Expression}
+use Rattle.regex_lite.specs.Groups.{Groups}
+use Rattle.regex_lite.specs.MatchOffsets.{HaveTrees}
+use Rattle.regex_lite.specs.RegexListSearches.{AnyMatches, TellsGroupsOfList}
+use Rattle.regex_lite.specs.RegexListSearches.{TellsLocationsOfList, TellsMatchOfList}
+use Rattle.regex_lite.specs.RegexListSearches.{TellsWhichMatch}
+use Rattle.regex_lite.specs.Searches.{MatchesFrom, TellsEnd, TellsGroups, TellsLocations}
+use Rattle.regex_lite.specs.Searches.{TellsMatch}
+
+-- each search for a pattern shows whether the pattern matches from this offset on
+pub record EachShows (re : Expression) (haystack : List ℕ) (start : ℕ) : Type 0 where
+  pub match : (told : Option Match) → TellsMatch re haystack start told
+      → IsTrue (is_some told) ↔ MatchesFrom re haystack start
+  pub groups : (told : Option Groups) → TellsGroups re haystack start told
+      → IsTrue (is_some told) ↔ MatchesFrom re haystack start
+  pub end : (told : Option ℕ) → TellsEnd re haystack start told
+      → IsTrue (is_some told) ↔ MatchesFrom re haystack start
+  -- one that writes to locations returns the match
+  pub locations : (spans : List (Option (ℕ × ℕ))) (told : Option Match)
+      → TellsLocations re haystack start spans told → TellsMatch re haystack start told
+
+abbrev pub EachSearchShows : Type 0
+EachSearchShows =
+    (re : Expression) (haystack : List ℕ) (start : ℕ) → EachShows re haystack start
+
+-- for each of several patterns it is told whether the pattern matches from this offset on
+pub record IsToldOfEach (list : List Expression) (haystack : List ℕ) (start : ℕ)
+    (matched : List Bool) : Type 0 where
+  pub all : length matched ≡ length list
+  pub each : (number : ℕ) (re : Expression) → slice_get list number ≡ Some re
+      → IsTrue (slice_index_or matched number false) ↔ MatchesFrom re haystack start
+
+-- the same of the searches for several patterns
+pub record EachShowsOfList (list : List Expression) (haystack : List ℕ) (start : ℕ)
+    : Type 0 where
+  pub match : (told : Option (ℕ × Match)) → TellsMatchOfList list haystack start told
+      → IsTrue (is_some told) ↔ AnyMatches list haystack start
+  pub groups : (told : Option (ℕ × Groups)) → TellsGroupsOfList list haystack start told
+      → IsTrue (is_some told) ↔ AnyMatches list haystack start
+  pub which : (matched : List Bool) → TellsWhichMatch list haystack start matched
+      ↔ (HaveTrees list × IsToldOfEach list haystack start matched)
+  pub locations : (spans : List (Option (ℕ × ℕ))) (told : Option (ℕ × Match))
+      → TellsLocationsOfList list haystack start spans told
+      → TellsMatchOfList list haystack start told
+
+abbrev pub EachListSearchShows : Type 0
+EachListSearchShows =
+    (list : List Expression) (haystack : List ℕ) (start : ℕ) → EachShowsOfList list haystack start
