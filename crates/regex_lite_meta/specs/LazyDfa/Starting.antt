@@ -1,5 +1,5 @@
--- A search that goes on at an offset, by the transitions that an automaton knows, and where it knows
--- none by ordered sets.
+-- A search that goes on at an offset, by the transitions that an automaton knows, and by ordered
+-- sets where it knows none.
 use Rattle.std.specs.Prelude.{◌≡◌, ℕ, Bool, false, true, List, [], length, chars}
 use Rattle.std.specs.Prelude.{IfErr, IfOk, IsCharBoundary, Option, None, Result}
 use Rattle.regex_lite_meta.specs.declared.lazy_dfa.run.Progress.{Progress}
