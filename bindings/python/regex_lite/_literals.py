@@ -7,11 +7,12 @@ from typing import Optional
 
 from ._flags import IGNORECASE, VERBOSE
 
-# Characters without another meaning outside classes, and those that are written with a backslash:
-# by `escape`, or as a letter that stands for a control character.
-_LITERAL = re.compile(r'(?:[^\\.+*?()|\[\]{}^$]|\\[\\.+*?()|\[\]{}^$#&~afnrtv-])+')
+# Characters without another meaning outside classes, those that are written with a backslash, by
+# `escape` or as a letter that stands for a control character, and classes of one such character.
+_LITERAL = re.compile(r'(?:[^\\.+*?()|\[\]{}^$]|\\[\\.+*?()|\[\]{}^$#&~afnrtv-]'
+                      r'|\[[^\\\[\]^&~-]\])+')
 _CONTROLS = dict(zip('afnrtv', '\a\f\n\r\t\v'))
-_ESCAPED = re.compile(r'\\(.)')
+_WRITTEN = re.compile(r'\\(.)|\[(.)\]', re.DOTALL)
 
 
 def literal_of(pattern: str, flags: int) -> Optional[str]:
@@ -20,4 +21,4 @@ def literal_of(pattern: str, flags: int) -> Optional[str]:
     else."""
     if flags & (IGNORECASE | VERBOSE) or not _LITERAL.fullmatch(pattern):
         return None
-    return _ESCAPED.sub(lambda found: _CONTROLS.get(found[1], found[1]), pattern)
+    return _WRITTEN.sub(lambda found: found[2] or _CONTROLS.get(found[1], found[1]), pattern)

@@ -47,7 +47,7 @@ class Literals(unittest.TestCase):
     def test_characters(self) -> None:
         """One that means itself does so for the library too."""
         for character in map(chr, [*range(128), 0x85, 0xE9, 0x2028, 0x1F4A9]):
-            for pattern in (character, '\\' + character):
+            for pattern in (character, '\\' + character, f'[{character}]'):
                 found = literal_of(pattern, 0)
                 if found is not None:
                     self.assertEqual(found, CONTROLS.get(pattern, character))
@@ -58,9 +58,11 @@ class Literals(unittest.TestCase):
             self.assertEqual(literal_of(f'a{pattern}b', 0), f'a{character}b')
         for separator in ' ,;:\t\n-/=&#_':
             self.assertEqual(literal_of(separator, 0), separator)
+        for character in ' .+,':
+            self.assertEqual(literal_of(f'a[{character}]', 0), f'a{character}')
 
     def test_others(self) -> None:
-        for pattern in ('', 'a*', 'a|b', '.', '[a]', '(a)', '^a', 'a$', r'\d', r'\x0a', r'\b',
+        for pattern in ('', 'a*', 'a|b', '.', '[ab]', '(a)', '^a', 'a$', r'\d', r'\x0a', r'\b',
                         'a{2}', '(?i)a', r'\\\d', 'a.', r'\<'):
             self.assertIsNone(literal_of(pattern, 0), pattern)
         self.assertIsNone(literal_of('a b', regex_lite.X))
