@@ -1,5 +1,6 @@
 -- lemmas that several proofs here share
 pub mod AgainLemmas
+pub mod AnchoredLemmas
 pub mod BoundLemmas
 pub mod ComingLemmas
 pub mod EnterLemmas

@@ -1,9 +1,11 @@
 -- lemmas that several proofs here share
+pub mod AnchoredOutcomeLemmas
 pub mod BlockLemmas
 pub mod CountLemmas
 pub mod FirstByteLemmas
 pub mod FirstStartLemmas
 pub mod LaterStartLemmas
+pub mod ListAnchoredLemmas
 pub mod ListSkipLemmas
 pub mod MarkLemmas
 pub mod NeededLemmas

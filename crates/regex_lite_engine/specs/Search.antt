@@ -3,6 +3,7 @@ pub mod Preference
 pub mod Marks
 pub mod Answer
 pub mod AnswerOfList
+pub mod AnswerAt
 pub mod PreferenceList
 pub mod Offsets
 pub mod Outcomes

@@ -15,6 +15,7 @@ use Rattle.regex_lite_engine.specs.Search.Preference.{IsPreferred}
 use Rattle.regex_lite_engine.specs.Search.Marks.{marks_of_way, span, taking_part}
 use Rattle.regex_lite_engine.specs.Search.Answer.{Found, IsMatchFrom}
 use Rattle.regex_lite_engine.specs.Search.Answer.{HasMatchFrom, IsFound, IsAnswer}
+use Rattle.regex_lite_engine.specs.Search.AnswerAt.{IsAnswerAt}
 use Rattle.regex_lite_engine.specs.Search.PreferenceList.{Entry, preference_list, HasReadingLoops}
 
 -- of two different ways from one position, one is preferred to the other
@@ -67,6 +68,13 @@ AnswersAreMatches =
     → (IsSome answer ↔ HasMatchFrom tree haystack s)
     × ((found : Found) → answer ≡ Some found
     → IsMatchFrom tree haystack s found.start found.end)
+
+-- an anchored search finds something exactly if the search from there finds it, and it starts there
+abbrev pub AnchoredAnswersAreAnswers : Type 0
+AnchoredAnswersAreAnswers =
+    (tree : Tree) (haystack : Text) (s : ℕ) (found : Found)
+    → IsAnswerAt tree haystack s (Some found)
+    ↔ ((found.start ≡ s) × IsAnswer tree haystack s (Some found))
 
 -- the way is preferred to each of these
 abbrev pub IsBefore : List ℕ → List (List ℕ) → Type 0

@@ -7,7 +7,8 @@ ghost use Rattle.regex_lite_engine.specs.ListSearchLaws.{AtMostOneAnswerOfList, 
 ghost use Rattle.regex_lite_engine.specs.ListSearchLaws.{ListAnswersAreAnswers, NoneMatchNothing};
 ghost use Rattle.regex_lite_engine.specs.ListSearchLaws.{OneAnswersByItself, PatternsStandApart};
 ghost use Rattle.regex_lite_engine.specs.WayLaws.{MatchesAreWays};
-ghost use Rattle.regex_lite_engine.specs.SearchLaws.{AnswerIsHead, AnswersAreMatches};
+ghost use Rattle.regex_lite_engine.specs.SearchLaws.{AnchoredAnswersAreAnswers, AnswerIsHead};
+ghost use Rattle.regex_lite_engine.specs.SearchLaws.{AnswersAreMatches};
 ghost use Rattle.regex_lite_engine.specs.SearchLaws.{AnswersNeedNoLaterText};
 ghost use Rattle.regex_lite_engine.specs.SearchLaws.{AtMostOneAnswer, EnoughTakePart};
 ghost use Rattle.regex_lite_engine.specs.SearchLaws.{GroupsLieInside, HasAnswer, ListIsOfAllWays};
@@ -43,6 +44,12 @@ pub fn at_most_one_answer()
 /// what it finds is such a match.
 pub fn answers_are_matches()
     ensures { AnswersAreMatches }
+{}
+
+/// An anchored search finds something exactly if the search from there finds it, and it starts
+/// there.
+pub fn anchored_answers_are_answers()
+    ensures { AnchoredAnswersAreAnswers }
 {}
 
 /// If each pass of a repetition without a limit reads a character, the preference list is that of

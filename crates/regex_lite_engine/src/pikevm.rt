@@ -1,6 +1,8 @@
 //! The search by ordered sets: it goes over a haystack once, and keeps at each position the places
 //! that it can stand at, the most preferred first.
 
+pub mod anchored;
+mod anchored_search;
 pub mod beginning;
 pub mod best;
 pub mod cache;

@@ -2,5 +2,6 @@
 pub mod Common
 -- lemmas that several folders share
 pub mod EndLemmas
+pub mod AnchoredSpanLemmas
 pub mod AnyLemmas
 pub mod OneLemmas

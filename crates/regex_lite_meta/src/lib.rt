@@ -10,6 +10,7 @@
 //! that another search has found.
 #![tactic(auto)]
 
+mod anchored;
 mod lazy_dfa;
 mod list_matches;
 mod list_searcher;
@@ -23,6 +24,7 @@ mod slot_searcher;
 mod slots;
 mod strategy;
 
+pub use anchored::{search_anchored, search_any_anchored};
 pub use list_matches::{search_each, search_each_uncounted};
 pub use list_searcher::GraphListSearcher;
 pub use once::{

@@ -6,12 +6,16 @@ ghost use Rattle.regex_lite_engine.specs.Graph.SideBySide.{AreRegularPatterns};
 ghost use Rattle.regex_lite_engine.specs.Graph.StoredList.{IsGraphOfList};
 ghost use Rattle.regex_lite_engine.specs.Search.AnswerOfList.{AnyMatchesFrom};
 ghost use Rattle.regex_lite_engine.specs.Search.Offsets.{search_start};
+ghost use Rattle.regex_lite_engine.specs.Search.AnswerAt.{AnyMatchesAt};
+ghost use Rattle.regex_lite_engine.specs.Search.Outcomes.{IsSpanOutcomeAtOfList};
 ghost use Rattle.regex_lite_engine.specs.Search.Outcomes.{IsSpanOutcomeOfList};
 
+use crate::anchored::find_word_at;
 use crate::pattern_searcher::PatternSearcher;
 use crate::several_searcher::SeveralSearcher;
 use crate::strategy::SpanSearch;
 use regex_lite_engine::nfa::list::GraphList;
+use regex_lite_engine::pikevm::best::numbered;
 use regex_lite_syntax::prefilter::ListWords;
 use std::alloc::{AllocError, Global};
 use std::marker::Model;
@@ -147,6 +151,65 @@ impl<'g> GraphListSearcher<'g> {
             }
             Inner::Words(words) => words.find_span(haystack.as_bytes(), start).is_some(),
             Inner::Several(several) => several.find_end(self.graph, haystack, start).is_some(),
+        }
+    }
+
+    /// The match that starts at this offset, of the pattern with the lowest number that matches
+    /// there: that number, and where the most preferred match of the pattern starts and ends. It
+    /// takes no memory, and [`GraphListSearcher::slots`] has the slots of the match.
+    ///
+    /// Condition: the start is above the haystack's length or on a character boundary.
+    pub fn search_anchored(
+        &mut self,
+        haystack: &str,
+        start: usize,
+    ) -> Option<(usize, (usize, usize))>
+        requires { (length haystack.now < start) ⊎ IsCharBoundary haystack.now start }
+        ensures found { (trees : List Tree) → AreRegularPatterns trees
+            → IsGraphOfList trees self.old.graph
+            → IsSpanOutcomeAtOfList trees haystack.now start self.new.slots result }
+        ensures graph { self.new.graph ≡ self.old.graph }
+        ensures slots { length self.new.slots ≡ length self.old.slots }
+    {
+        if start > haystack.len() || self.graph.len() == 0 {
+            return None;
+        }
+        match &mut self.inner {
+            Inner::One(one) => {
+                let mut pattern = self.graph.pattern(0);
+                numbered(one.find_anchored::<false>(&mut pattern, haystack, start))
+            }
+            Inner::Words(words) => find_word_at(words, haystack, start),
+            Inner::Several(several) => several.find_anchored(self.graph, haystack, start),
+        }
+    }
+
+    /// Whether a match of any pattern starts at this offset. The search is over at the first match
+    /// that it comes to, and takes no memory. What [`GraphListSearcher::slots`] has then belongs to
+    /// no match.
+    ///
+    /// Condition: the start is above the haystack's length or on a character boundary.
+    pub fn search_any_anchored(&mut self, haystack: &str, start: usize) -> bool
+        requires { (length haystack.now < start) ⊎ IsCharBoundary haystack.now start }
+        ensures found { (trees : List Tree) → AreRegularPatterns trees
+            → IsGraphOfList trees self.old.graph → (IsTrue result
+            ↔ AnyMatchesAt trees (chars haystack.now) (search_start haystack.now start)) }
+        ensures graph { self.new.graph ≡ self.old.graph }
+        ensures slots { length self.new.slots ≡ length self.old.slots }
+    {
+        if start > haystack.len() || self.graph.len() == 0 {
+            return false;
+        }
+        match &mut self.inner {
+            Inner::One(one) => {
+                let mut pattern = self.graph.pattern(0);
+                one.find_anchored::<true>(&mut pattern, haystack, start)
+                    .is_some()
+            }
+            Inner::Words(words) => find_word_at(words, haystack, start).is_some(),
+            Inner::Several(several) => {
+                several.find_any_anchored(self.graph, haystack, start).is_some()
+            }
         }
     }
 

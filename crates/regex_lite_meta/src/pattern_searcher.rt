@@ -6,17 +6,20 @@ ghost use Rattle.regex_lite_meta.specs.Memories.{SearchesForOne};
 ghost use Rattle.regex_lite_engine.specs.Graph.Stored.{places_of};
 ghost use Rattle.regex_lite_engine.specs.Search.Filters.{facts_of};
 ghost use Rattle.regex_lite_engine.specs.Search.NumberedOutcomes.{IsNumberedEndOf, best_at};
+ghost use Rattle.regex_lite_engine.specs.Search.NumberedOutcomes.{IsFoundTo, best_kept};
 ghost use Rattle.regex_lite_engine.specs.Search.NumberedOutcomes.{IsNumberedOutcome};
 ghost use Rattle.regex_lite_engine.specs.Search.Offsets.{position_at};
 ghost use Rattle.regex_lite_engine.specs.Search.OutcomeOfOne.{ending_at};
 ghost use Rattle.regex_lite_engine.specs.Search.Starts.{DoWordsAnswer};
 ghost use Rattle.regex_lite_meta.specs.AnyOfOne.{HasMatchOfAny};
 
+use crate::anchored::find_anchored;
 use crate::lazy_dfa::automaton::LazyDfa;
 use crate::lazy_dfa::single::one::end_of;
 use crate::lazy_dfa::spans::SpanSearcher;
 use crate::slots::SlotCache;
 use crate::strategy::{Searched, Strategy, Wanted, choose};
+use regex_lite_engine::pikevm::beginning::Origin;
 use regex_lite_engine::pikevm::cache::{cache_for, restart};
 use regex_lite_engine::pikevm::run::advance;
 use regex_lite_engine::search::one_pattern::OnePattern;
@@ -187,6 +190,29 @@ impl PatternSearcher {
         };
         pattern.may_start = true;
         end_of(dfa.find::<_, true>(pattern, cache, haystack, first.at))
+    }
+
+    /// Where the most preferred match starts and ends that starts at this offset. It needs no
+    /// memory, and the row has the slots of the match. With EARLIEST only whether there is one is
+    /// known.
+    pub(crate) fn find_anchored<const EARLIEST: bool>(
+        &mut self,
+        pattern: &mut OnePattern<'_>,
+        haystack: &str,
+        start: usize,
+    ) -> Option<(Origin, usize)>
+        requires boundary { IsCharBoundary haystack.now start }
+        requires searches { SearchesForOne (places_of pattern.old.table.now) pattern.old.entry
+            self.old }
+        ensures found { IsFoundTo EARLIEST (places_of pattern.old.table.now) (chars haystack.now)
+            (pattern.old.entry ∷ []) (position_at haystack.now start)
+            (position_at haystack.now start) (best_kept result self.new.memory.cache.best.row) }
+        ensures searches { SearchesForOne (places_of pattern.old.table.now) pattern.old.entry
+            self.new }
+        ensures slots { length self.new.memory.cache.best.row
+            ≡ length self.old.memory.cache.best.row }
+    {
+        find_anchored::<_, EARLIEST>(&mut self.memory.cache, pattern, haystack, start)
     }
 
     /// The slots of the last match.

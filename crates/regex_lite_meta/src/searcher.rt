@@ -6,10 +6,12 @@ ghost use Rattle.regex_lite_syntax.specs.Tree.Regular.{IsRegular};
 ghost use Rattle.regex_lite_engine.specs.Graph.Renumbered.{IsGraphOf};
 ghost use Rattle.regex_lite_engine.specs.Search.Answer.{HasMatchFrom};
 ghost use Rattle.regex_lite_engine.specs.Search.Offsets.{search_start};
-ghost use Rattle.regex_lite_engine.specs.Search.Outcomes.{IsSpanOutcome};
+ghost use Rattle.regex_lite_engine.specs.Search.AnswerAt.{HasMatchAt};
+ghost use Rattle.regex_lite_engine.specs.Search.Outcomes.{IsSpanOutcome, IsSpanOutcomeAt};
 
 use crate::pattern_searcher::PatternSearcher;
 use regex_lite_engine::Graph;
+use regex_lite_engine::pikevm::best::span_of;
 use std::alloc::{AllocError, Global};
 use std::marker::Model;
 
@@ -95,6 +97,45 @@ impl<'g> GraphSearcher<'g> {
         }
         let mut pattern = self.graph.pattern();
         self.inner.find_any(&mut pattern, haystack, start)
+    }
+
+    /// Where the most preferred match starts and ends that starts at this offset. It needs no
+    /// memory, and [`GraphSearcher::slots`] has the slots of the match.
+    ///
+    /// Condition: the start is above the haystack's length or on a character boundary.
+    pub fn search_anchored(&mut self, haystack: &str, start: usize) -> Option<(usize, usize)>
+        requires { (length haystack.now < start) ⊎ IsCharBoundary haystack.now start }
+        ensures found { (tree : Tree) → IsRegular tree → IsGraphOf tree self.old.graph
+            → IsSpanOutcomeAt tree haystack.now start self.new.slots result }
+        ensures graph { self.new.graph ≡ self.old.graph }
+        ensures slots { length self.new.slots ≡ length self.old.slots }
+    {
+        if start > haystack.len() {
+            return None;
+        }
+        let mut pattern = self.graph.pattern();
+        span_of(self.inner.find_anchored::<false>(&mut pattern, haystack, start))
+    }
+
+    /// Whether a match starts at this offset. The search is over at the first match that it comes
+    /// to, and needs no memory. What [`GraphSearcher::slots`] has then belongs to no match.
+    ///
+    /// Condition: the start is above the haystack's length or on a character boundary.
+    pub fn search_any_anchored(&mut self, haystack: &str, start: usize) -> bool
+        requires { (length haystack.now < start) ⊎ IsCharBoundary haystack.now start }
+        ensures found { (tree : Tree) → IsRegular tree → IsGraphOf tree self.old.graph
+            → (IsTrue result
+            ↔ HasMatchAt tree (chars haystack.now) (search_start haystack.now start)) }
+        ensures graph { self.new.graph ≡ self.old.graph }
+        ensures slots { length self.new.slots ≡ length self.old.slots }
+    {
+        if start > haystack.len() {
+            return false;
+        }
+        let mut pattern = self.graph.pattern();
+        self.inner
+            .find_anchored::<true>(&mut pattern, haystack, start)
+            .is_some()
     }
 
     /// The slots of the last match that was found, none of them marked before the first. Slots 2k

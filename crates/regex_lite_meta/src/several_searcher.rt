@@ -7,8 +7,10 @@ ghost use Rattle.regex_lite_meta.specs.Slots.{FindsSlotsIn};
 ghost use Rattle.regex_lite_engine.specs.Graph.StoredList.{table_of_list};
 ghost use Rattle.regex_lite_engine.specs.Search.NumberedOutcomes.{IsBestOutcomeOf, numbered_at};
 ghost use Rattle.regex_lite_engine.specs.Search.NumberedOutcomes.{IsNumberedEndOf, best_kept};
+ghost use Rattle.regex_lite_engine.specs.Search.NumberedOutcomes.{IsAnyTo, IsBestOutcomeTo};
 ghost use Rattle.regex_lite_engine.specs.Search.NumberedOutcomes.{with_origin_kept};
 ghost use Rattle.regex_lite_engine.specs.Search.Offsets.{position_at};
+ghost use Rattle.regex_lite_engine.specs.Search.Rows.{Row};
 
 use crate::lazy_dfa::list_spans::ListSpanSearcher;
 use crate::slots::SlotCache;
@@ -99,6 +101,51 @@ impl<'g> SeveralSearcher<'g> {
             return numbered(Some(found));
         };
         find_slots(graph, slots, haystack, found)
+    }
+
+    /// The match that starts at this offset, of the pattern with the lowest number that matches
+    /// there: that number, and where the most preferred match of the pattern starts and ends. It
+    /// takes no memory, and the row has the slots of the match.
+    pub(crate) fn find_anchored(
+        &mut self,
+        graph: &GraphList,
+        haystack: &str,
+        start: usize,
+    ) -> Option<(usize, (usize, usize))>
+        requires some { 0 < length graph.now.entries }
+        requires boundary { IsCharBoundary haystack.now start }
+        requires searches { SearchesForSeveral graph.now self.old }
+        ensures found { IsBestOutcomeTo (table_of_list graph.now) (chars haystack.now)
+            graph.now.entries (position_at haystack.now start) (position_at haystack.now start)
+            (with_origin_kept (numbered_at result (row_of_several self.new))) }
+        ensures searches { SearchesForSeveral graph.now self.new }
+        ensures slots { length (row_of_several self.new) ≡ length (row_of_several self.old) }
+    {
+        let found = self.spans.find_anchored::<false>(graph, haystack, start)?;
+        let Some(slots) = &mut self.slots else {
+            return numbered(Some(found));
+        };
+        find_slots(graph, slots, haystack, found)
+    }
+
+    /// Whether a match of any pattern starts at this offset. The search is over at the first match
+    /// that it comes to, and takes no memory. What the row has then belongs to no match.
+    pub(crate) fn find_any_anchored(
+        &mut self,
+        graph: &GraphList,
+        haystack: &str,
+        start: usize,
+    ) -> Option<(Origin, usize)>
+        requires some { 0 < length graph.now.entries }
+        requires boundary { IsCharBoundary haystack.now start }
+        requires searches { SearchesForSeveral graph.now self.old }
+        ensures found { (row : Row) → IsAnyTo (table_of_list graph.now) (chars haystack.now)
+            graph.now.entries (position_at haystack.now start) (position_at haystack.now start)
+            (best_kept result row) }
+        ensures searches { SearchesForSeveral graph.now self.new }
+        ensures slots { length (row_of_several self.new) ≡ length (row_of_several self.old) }
+    {
+        self.spans.find_anchored::<true>(graph, haystack, start)
     }
 
     /// The least end of a match of any pattern that starts at or after this offset. The search is

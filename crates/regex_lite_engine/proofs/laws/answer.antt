@@ -1,4 +1,5 @@
 -- a search has one answer
+pub mod AnswerAtLemmas
 pub mod AnswerLemmas
 pub mod BestWayLemmas
 pub mod FreshLemmas

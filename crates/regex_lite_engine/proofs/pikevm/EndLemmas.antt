@@ -12,6 +12,7 @@ use Rattle.regex_lite_engine.proofs.Common.{StartsOf, Best, Node, Offer, StartsB
 use Rattle.std.proofs.Math.Nat.{mul-suc}
 use Rattle.regex_lite_engine.specs.Search.NumberedAnswer.{IsNumberedFound}
 use Rattle.regex_lite_engine.specs.Search.NumberedOutcomes.{IsBestOutcome, IsBestOutcomeOf}
+use Rattle.regex_lite_engine.specs.Search.NumberedOutcomes.{IsBestOutcomeTo}
 use Rattle.std.specs.Option.{IsSome}
 use Rattle.regex_lite_syntax.specs.Text.{before}
 use Rattle.regex_lite_engine.specs.Graph.Places.{Place}
@@ -69,11 +70,12 @@ step_onward haystack (with_arrows arrows) i k m e = go (slice_get arrows k) e
             subst (IsOnward haystack i) (ap (λ (z : Node). z.1) (same_some e))
             (taken_onward haystack a.condition i j t)
 
-module _ (table : List (Place ℕ)) (haystack : Text) (s : List ℕ) (first : ℕ) where
+module _ (table : List (Place ℕ)) (haystack : Text) (s : List ℕ) (first last : ℕ)
+    (within : last ≤ length haystack) where
   nothing_beyond : (p from : ℕ) (recorded : Node → Option (List ℕ)) (coming : List (Offer Node))
       (way : Option (List ℕ))
       → length haystack < p →
-      InStep table haystack s first (length haystack) p from recorded coming [] way →
+      InStep table haystack s first last p from recorded coming [] way →
       ((n : Node) (v : List ℕ) → recorded n ≡ Some v → n.1 < p) → p ≡ suc (length haystack)
       → coming ≡ []
   nothing_beyond p from recorded [] way past u before at = refl
@@ -81,10 +83,11 @@ module _ (table : List (Place ℕ)) (haystack : Text) (s : List ℕ) (first : �
       absurd (go (u.now_grown o.0 o.1 (inl (refl, refl))) (u.now_stands o.0 o.1 (inl (refl, refl))))
     where
       go : IsGrown Node (numbered_step table haystack) (is_end table haystack)
-          (StartsOf s first (length haystack)) recorded way o.0 o.1
+          (StartsOf s first last) recorded way o.0 o.1
           → o.0.1 ≡ p → ⊥
       go (inl (i, number, entry, low, high, is, e, at')) pos =
-          let same : o.0.1 ≡ i = ap (λ (z : Node). z.1) at' in omega (arith, high, past, pos, same)
+          let same : o.0.1 ≡ i = ap (λ (z : Node). z.1) at' in
+          omega (arith, high, within, past, pos, same)
       go (inr (m, v, k, r, hops, e)) pos =
           let below = before m v r in
           let le = (step_onward haystack (place_with table m.0) m.1 k o.0 hops).1
@@ -92,16 +95,16 @@ module _ (table : List (Place ℕ)) (haystack : Text) (s : List ℕ) (first : �
           omega (arith, le, past, pos)
 
   explored : (q from : ℕ) (recorded : Node → Option (List ℕ)) (way : Option (List ℕ))
-      → ((length haystack < from) ⊎ ((b : List ℕ) × (way ≡ Some b))) →
-      InStep table haystack s first (length haystack) q from recorded [] [] way
-      → IsOverOf table haystack s first recorded way
+      → ((last < from) ⊎ ((b : List ℕ) × (way ≡ Some b))) →
+      InStep table haystack s first last q from recorded [] [] way
+      → IsOverOf table haystack s first last recorded way
   explored q from recorded way enough u =
-      deep.in_step_over Node (numbered_step table haystack) (StartsOf s first (length haystack))
+      deep.in_step_over Node (numbered_step table haystack) (StartsOf s first last)
       (is_end table haystack) (λ x. x.1)
       (λ front n (i, number, entry, low, high, is, e, f). (i, number ∷ [], e)) (all enough) u
     where
-      all : ((length haystack < from) ⊎ ((b : List ℕ) × (way ≡ Some b)))
-          → ((front : List ℕ) (n : Node) → StartsOf s first (length haystack) front n
+      all : ((last < from) ⊎ ((b : List ℕ) × (way ≡ Some b)))
+          → ((front : List ℕ) (n : Node) → StartsOf s first last front n
           → StartsBelow from front) ⊎ ((b : List ℕ) × (way ≡ Some b))
       all (inl past) =
           inl (λ front n (i, number, entry, low, high, is, e, f).
@@ -110,11 +113,11 @@ module _ (table : List (Place ℕ)) (haystack : Text) (s : List ℕ) (first : �
 
   -- a search that is over has the answer
   pub answered : (best : Best) (recorded : Node → Option (List ℕ)) (way : Option (List ℕ))
-      → BestHolds table haystack s best way → IsOverOf table haystack s first recorded way
-      → IsBestOutcomeOf table haystack s first best
+      → BestHolds table haystack s best way → IsOverOf table haystack s first last recorded way
+      → IsBestOutcomeTo table haystack s first last best
   answered None recorded way e over =
-      list_answer_when_over table haystack s first recorded None None
-      (subst (λ z. IsOverOf table haystack s first recorded z) e over) refl
+      list_answer_when_over table haystack s first last within recorded None None
+      (subst (λ z. IsOverOf table haystack s first last recorded z) e over) refl
   answered (Some b) recorded way
       (w, e, (q, end, at_end, ends, (j, number, entry, ks, at, is, parts, along, has))) over =
       let found : Found = record {
@@ -124,27 +127,27 @@ module _ (table : List (Place ℕ)) (haystack : Text) (s : List ℕ) (first : �
       } in (
         number,
         found,
-        list_answer_when_over table haystack s first recorded (Some w) (Some (number, found))
-            (subst (λ z. IsOverOf table haystack s first recorded z) e over)
+        list_answer_when_over table haystack s first last within recorded (Some w) (Some (number, found))
+            (subst (λ z. IsOverOf table haystack s first last recorded z) e over)
             (number, entry, found, ks, q, refl, is, parts, along, refl),
         at,
         at_end,
         has,
       )
 
-  pub ended_all : (p : ℕ) (cur : List Thread) (best : Best) → first ≤ p → p ≤ length haystack →
-      ((p ≡ length haystack) ⊎ ((best ≡ None → ⊥) × (length cur ≡ 0)))
-      → IsComing table haystack s first (length haystack) (p + 1) cur best
-      → IsBestOutcomeOf table haystack s first best
-  ended_all p cur best low high over u = go over
+  -- it is over at the haystack's end, or where no thread is left and no match may start further on
+  pub ended_to : (p : ℕ) (cur : List Thread) (best : Best) → first ≤ p → p ≤ length haystack →
+      ((p ≡ length haystack) ⊎ ((length cur ≡ 0) × ((best ≡ None → ⊥) ⊎ (last ≤ p))))
+      → IsComing table haystack s first last (p + 1) cur best
+      → IsBestOutcomeTo table haystack s first last best
+  ended_to p cur best low high over u = go over
     where
-      with_none : u.coming ≡ [] → ((length haystack < u.from) ⊎ ((b : List ℕ) × (u.way ≡ Some b)))
-          → IsBestOutcomeOf table haystack s first best
+      with_none : u.coming ≡ [] → ((last < u.from) ⊎ ((b : List ℕ) × (u.way ≡ Some b)))
+          → IsBestOutcomeTo table haystack s first last best
       with_none e enough =
           answered best u.recorded u.way u.best_holds
           (explored (p + 1) u.from u.recorded u.way enough
-          (subst (λ z. InStep table haystack s first (length haystack) (p + 1) u.from u.recorded
-          z [] u.way) e
+          (subst (λ z. InStep table haystack s first last (p + 1) u.from u.recorded z [] u.way) e
           u.in_step))
 
       way_of : (b : Best) → BestHolds table haystack s b u.way → (b ≡ None → ⊥)
@@ -152,24 +155,51 @@ module _ (table : List (Place ℕ)) (haystack : Text) (s : List ℕ) (first : �
       way_of None e d = absurd (d refl)
       way_of (Some x) (w, e, held) d = (w, e)
 
-      at_end : (b : Best) → BestHolds table haystack s b u.way → FromIs (p + 1) u.from b
-          → p ≡ length haystack
-          → (length haystack < u.from) ⊎ ((w : List ℕ) × (u.way ≡ Some w))
-      at_end None e is same = inl (omega (arith, is, same))
-      at_end (Some x) (w, e, held) is same = inr (w, e)
+      past_last : (b : Best) → BestHolds table haystack s b u.way → FromIs (p + 1) u.from b
+          → last ≤ p → (last < u.from) ⊎ ((w : List ℕ) × (u.way ≡ Some w))
+      past_last None e is le = inl (omega (arith, is, le))
+      past_last (Some x) (w, e, held) is le = inr (w, e)
 
-      go : (p ≡ length haystack) ⊎ ((best ≡ None → ⊥) × (length cur ≡ 0))
-          → IsBestOutcomeOf table haystack s first best
+      enough : ((best ≡ None → ⊥) ⊎ (last ≤ p))
+          → (last < u.from) ⊎ ((w : List ℕ) × (u.way ≡ Some w))
+      enough (inl some) = inr (way_of best u.best_holds some)
+      enough (inr le) = past_last best u.best_holds u.from_is le
+
+      go : (p ≡ length haystack) ⊎ ((length cur ≡ 0) × ((best ≡ None → ⊥) ⊎ (last ≤ p)))
+          → IsBestOutcomeTo table haystack s first last best
       go (inl same) =
           with_none (nothing_beyond (p + 1) u.from u.recorded u.coming u.way (omega (arith, same))
-          u.in_step u.before (omega (arith, same))) (at_end best u.best_holds u.from_is same)
-      go (inr (some, empty)) =
+          u.in_step u.before (omega (arith, same)))
+          (past_last best u.best_holds u.from_is (omega (arith, same, within)))
+      go (inr (empty, why)) =
           with_none
           (none_held table haystack s (p + 1) u.coming
           (subst (λ ts. ThreadsHold table haystack s (p + 1) ts u.coming)
           (nil_from_length cur empty)
           u.hold))
-          (inr (way_of best u.best_holds some))
+          (enough why)
+
+module _ (table : List (Place ℕ)) (haystack : Text) (s : List ℕ) (first : ℕ) where
+  -- where a match may start up to the haystack's end, it may start anywhere
+  anywhere : (best : Best) → IsBestOutcomeTo table haystack s first (length haystack) best
+      → IsBestOutcomeOf table haystack s first best
+  anywhere None none = λ i k way q j m. none i k way q j m.is_match.inside m
+  anywhere (Some best) (number, found, (up_to, is), told, at, held) =
+      (number, found, is, told, at, held)
+
+  pub ended_all : (p : ℕ) (cur : List Thread) (best : Best) → first ≤ p → p ≤ length haystack →
+      ((p ≡ length haystack) ⊎ ((best ≡ None → ⊥) × (length cur ≡ 0)))
+      → IsComing table haystack s first (length haystack) (p + 1) cur best
+      → IsBestOutcomeOf table haystack s first best
+  ended_all p cur best low high over u =
+      anywhere best (ended_to table haystack s first (length haystack) (omega arith) p cur best low
+      high (go over) u)
+    where
+      go : (p ≡ length haystack) ⊎ ((best ≡ None → ⊥) × (length cur ≡ 0))
+          → (p ≡ length haystack)
+          ⊎ ((length cur ≡ 0) × ((best ≡ None → ⊥) ⊎ (length haystack ≤ p)))
+      go (inl same) = inl same
+      go (inr (some, empty)) = inr (empty, inl some)
 
 -- of one pattern
 pub one_best : (table : List (Place ℕ)) (haystack : Text) (s first : ℕ) (best : Best)

@@ -2,11 +2,11 @@
 use Rattle.regex_lite_engine.proofs.Common.{◌≡◌, ℕ, ◌+◌, ◌-◌, ◌*◌, ◌≤◌, List, length, sym, ap}
 use Rattle.regex_lite_engine.proofs.Common.{subst, inl, inr, arith, mul-le-mul_left, Text, row_of}
 use Rattle.regex_lite_engine.proofs.Common.{IsOwnPart, arrows_of, Thread, IsComing, IsBoundedBy}
-use Rattle.regex_lite_engine.proofs.Common.{Best, IsHere, Here}
+use Rattle.regex_lite_engine.proofs.Common.{Best, IsHere, Here, best_of}
 use Rattle.regex_lite_engine.specs.declared.pikevm.cache.Cache.{Cache}
 use Rattle.regex_lite_engine.specs.Graph.Places.{Place}
 use Rattle.regex_lite_engine.specs.Pikevm.Searching.{IsFresh}
-use Rattle.regex_lite_engine.specs.Pikevm.Passing.{GoesOnAt, IsUnderWay}
+use Rattle.regex_lite_engine.specs.Pikevm.Passing.{GoesOnAt, IsUnderWay, IsUnderWayTo}
 use Rattle.regex_lite_engine.specs.Pikevm.Passing.{Passes}
 use Rattle.regex_lite_engine.proofs.pikevm.EndLemmas.{bound_more}
 use Rattle.regex_lite_engine.proofs.search.SkipLemmas.{bound_later}
@@ -14,18 +14,18 @@ use Rattle.regex_lite_engine.proofs.pikevm.ComingLemmas.{jumped, none_coming}
 
 module _ (table : List (Place ℕ)) (haystack : Text) (entries : List ℕ) (s : ℕ) where
   -- a search that has not begun
-  pub begun : {S : Type 0} (cache : Cache S) → IsFresh table cache
-      → IsUnderWay table haystack entries s s cache
-  begun cache fresh =
+  pub begun_to : (last : ℕ) {S : Type 0} (cache : Cache S) → IsFresh table cache
+      → IsUnderWayTo table haystack entries s last s cache
+  begun_to last cache fresh =
       let none = fresh.no_threads in
       record {
         low = omega arith;
         ready = fresh.between;
         coming =
             subst
-            (λ z. IsComing table haystack entries s (length haystack) s cache.walk.memory.threads z)
+            (λ z. IsComing table haystack entries s last s cache.walk.memory.threads z)
             (sym fresh.none)
-            (none_coming table haystack entries s (length haystack) cache.walk.memory.threads none);
+            (none_coming table haystack entries s last cache.walk.memory.threads none);
         tries = omega (arith, fresh.no_tries, ap length none);
         entries = omega (arith, fresh.no_entries);
         own = λ low len part. record {
@@ -35,6 +35,10 @@ module _ (table : List (Place ℕ)) (haystack : Text) (entries : List ℕ) (s : 
         };
       }
 
+  pub begun : {S : Type 0} (cache : Cache S) → IsFresh table cache
+      → IsUnderWay table haystack entries s s cache
+  begun cache fresh = begun_to (length haystack) cache fresh
+
   -- a bound up to a position, and what one more position costs
   pub bound_on : (a b p q m : ℕ) → s ≤ p → p ≤ q → a ≤ m * (p - s) → b ≤ a + m
       → b ≤ m * (q + 1 - s)
@@ -43,8 +47,8 @@ module _ (table : List (Place ℕ)) (haystack : Text) (entries : List ℕ) (s : 
 
 -- a search that has gone over a position of the haystack
 module _ {S : Type 0} {table : List (Place ℕ)} {haystack : Text} {entries : List ℕ} {s q : ℕ}
-    {cache : Cache S} (low : s ≤ q) (high : q ≤ length haystack)
-    (on : IsUnderWay table haystack entries s (q + 1) cache) where
+    {last : ℕ} {cache : Cache S} (low : s ≤ q) (high : q ≤ length haystack)
+    (on : IsUnderWayTo table haystack entries s last (q + 1) cache) where
   bounded_by : (size ways : ℕ)
       → cache.walk.steps.tried + length cache.walk.memory.threads ≤ ways * (q + 1 - s)
       → cache.walk.steps.entered ≤ size * (q + 1 - s) → IsBoundedBy size ways haystack s
@@ -73,6 +77,33 @@ module _ {S : Type 0} {table : List (Place ℕ)} {haystack : Text} {entries : Li
   bounded_within begin len part =
       let own = on.own begin len part in
       bounded_by len (arrows_of (row_of table begin len) + length entries) own.tries own.entries
+
+-- a search that has passed over positions to a later one
+pub moved_on : {S : Type 0} {table : List (Place ℕ)} {haystack : Text} {entries : List ℕ}
+    {s last p q : ℕ} {cache : Cache S} → IsUnderWayTo table haystack entries s last p cache
+    → p ≤ q
+    → IsComing table haystack entries s last q cache.walk.memory.threads (best_of cache.best)
+    → IsUnderWayTo table haystack entries s last q cache
+moved_on {table} {entries} {s} {p} {q} {cache} on later coming =
+    let low = on.low in
+    let counted = cache.walk.steps.tried + length cache.walk.memory.threads in
+    let entered = cache.walk.steps.entered in
+    record {
+      low = omega (arith, low, later);
+      ready = on.ready;
+      coming = coming;
+      tries = bound_later counted p q s (arrows_of table + length entries) later on.tries;
+      entries = bound_later entered p q s (length table) later on.entries;
+      own = λ begin len part. (
+          let spent = on.own begin len part in
+          record {
+            tries =
+                bound_later counted p q s (arrows_of (row_of table begin len) + length entries)
+                later spent.tries;
+            entries = bound_later entered p q s len later spent.entries;
+            few = spent.few;
+          });
+    }
 
 -- what it did is said of the same patterns
 pub passed_as : {S : Type 0} {table table' : List (Place ℕ)} {haystack : Text}

@@ -33,6 +33,74 @@ module _ (table : List (Place ℕ)) (haystack : Text) where
       let rest = leads_onward ks l n along in
       (omega (arith, first, rest), λ low. rest.1 (first.1 low))
 
+  module _ (entries : List ℕ) (s last : ℕ) (within : last ≤ length haystack) where
+    -- a match that ends at the offset
+    pub record EndsWith (at : ℕ) : Type 0 where
+      pub start : ℕ
+      pub number : ℕ
+      pub way : List ℕ
+      pub place : ℕ
+      pub end : ℕ
+      pub up_to : start ≤ last
+      pub ends_at : at ≡ offset haystack end
+      pub is_match : IsMatchOfAny table haystack entries s start number way place end
+
+    -- the best match is one
+    pub best_matches : (p : ℕ) (threads : List Thread) (b : Told × ℕ × Row)
+        → IsComing table haystack entries s last p threads (Some b) → EndsWith b.1
+    best_matches p threads b u = by_way u.best_holds
+      where
+        by_way : BestHolds table haystack entries (Some b) u.way → EndsWith b.1
+        by_way (w, e, (q, j, at, ends, (i, number, entry, ks, from_at, is, parts, along, has))) =
+            let end = u.in_step.best_ends w e in
+            let starts = differ table haystack entries s last in
+            let t = traced Node (numbered_step table haystack) (is_end table haystack)
+            (StartsOf entries s last) u.recorded u.way u.in_step.grown end.0 w end.2 in
+            by_start t.front t.start t.is_start t.arrows (sym parts ∙ t.parts)
+            (recorded_once Node (numbered_step table haystack) (is_end table haystack)
+            (StartsOf entries s last) u.recorded u.way starts
+            u.in_step.grown end.0 w t.front t.arrows t.start t.is_start end.2 t.parts)
+          where
+            by_start : (front : List ℕ) (n : Node)
+                → StartsOf entries s last front n → (arrows : List ℕ)
+                → i ∷ (number ∷ ks) ≡ front ++ arrows
+                → NoneTwice Node (numbered_step table haystack) n arrows → EndsWith b.1
+            by_start front n (i', number', entry', low, high, is', front_is, n_is) arrows all once =
+                let whole : i ∷ (number ∷ ks) ≡ i' ∷ (number' ∷ arrows)
+                = all ∙ ap (λ z. z ++ arrows) front_is in
+                let same : i ≡ i' = same_head whole in
+                let rest : ks ≡ arrows = same_tail (same_tail whole) in
+                let own : entry ≡ entry' = same_some (sym is
+                ∙ ap (slice_get entries) (same_head (same_tail whole)) ∙ is') in
+                record {
+                  start = i;
+                  number = number;
+                  way = ks;
+                  place = q;
+                  end = j;
+                  up_to = omega (arith, high, same);
+                  ends_at = at;
+                  is_match = record {
+                    entry = entry;
+                    is_entry = is;
+                    is_match = record {
+                      from = omega (arith, low, same);
+                      inside = omega (arith, high, same, within);
+                      leads = record {
+                        is_way = (
+                          along,
+                          subst (λ z. NoneTwice Node (numbered_step table haystack) z ks)
+                              (n_is ∙ ap (λ (z : ℕ). (z, i')) (sym own)
+                              ∙ ap (λ (z : ℕ). (entry, z)) (sym same))
+                              (subst (λ z. NoneTwice Node (numbered_step table haystack) n z)
+                              (sym rest) once),
+                        );
+                        ends = ends;
+                      };
+                    };
+                  };
+                }
+
   module _ (entries : List ℕ) (s : ℕ) where
     abbrev Answered : (Node → Option (List ℕ)) → Option (List ℕ) → Node → List ℕ → Type 0
     Answered recorded best =
@@ -107,71 +175,6 @@ module _ (table : List (Place ℕ)) (haystack : Text) where
         (q, j) m.is_entry m.is_match.from m.is_match.inside u.from_is m.is_match.leads.is_way.0
         m.is_match.leads.ends
 
-    -- a match that ends at the offset
-    record EndsWith (at : ℕ) : Type 0 where
-      start : ℕ
-      number : ℕ
-      way : List ℕ
-      last : ℕ
-      end : ℕ
-      ends_at : at ≡ offset haystack end
-      is_match : IsMatchOfAny table haystack entries s start number way last end
-
-    -- the best match is one
-    best_matches : (p : ℕ) (threads : List Thread) (b : Told × ℕ × Row)
-        → Coming p threads (Some b) → EndsWith b.1
-    best_matches p threads b u = by_way u.best_holds
-      where
-        by_way : BestHolds table haystack entries (Some b) u.way → EndsWith b.1
-        by_way (w, e, (q, j, at, ends, (i, number, entry, ks, from_at, is, parts, along, has))) =
-            let end = u.in_step.best_ends w e in
-            let starts = differ table haystack entries s in
-            let t = traced Node (numbered_step table haystack) (is_end table haystack)
-            (StartsOf entries s (length haystack)) u.recorded u.way u.in_step.grown end.0 w end.2 in
-            by_start t.front t.start t.is_start t.arrows (sym parts ∙ t.parts)
-            (recorded_once Node (numbered_step table haystack) (is_end table haystack)
-            (StartsOf entries s (length haystack)) u.recorded u.way starts
-            u.in_step.grown end.0 w t.front t.arrows t.start t.is_start end.2 t.parts)
-          where
-            by_start : (front : List ℕ) (n : Node)
-                → StartsOf entries s (length haystack) front n → (arrows : List ℕ)
-                → i ∷ (number ∷ ks) ≡ front ++ arrows
-                → NoneTwice Node (numbered_step table haystack) n arrows → EndsWith b.1
-            by_start front n (i', number', entry', low, high, is', front_is, n_is) arrows all once =
-                let whole : i ∷ (number ∷ ks) ≡ i' ∷ (number' ∷ arrows)
-                = all ∙ ap (λ z. z ++ arrows) front_is in
-                let same : i ≡ i' = same_head whole in
-                let rest : ks ≡ arrows = same_tail (same_tail whole) in
-                let own : entry ≡ entry' = same_some (sym is
-                ∙ ap (slice_get entries) (same_head (same_tail whole)) ∙ is') in
-                record {
-                  start = i;
-                  number = number;
-                  way = ks;
-                  last = q;
-                  end = j;
-                  ends_at = at;
-                  is_match = record {
-                    entry = entry;
-                    is_entry = is;
-                    is_match = record {
-                      from = omega (arith, low, same);
-                      inside = omega (arith, high, same);
-                      leads = record {
-                        is_way = (
-                          along,
-                          subst (λ z. NoneTwice Node (numbered_step table haystack) z ks)
-                              (n_is ∙ ap (λ (z : ℕ). (z, i')) (sym own)
-                              ∙ ap (λ (z : ℕ). (entry, z)) (sym same))
-                              (subst (λ z. NoneTwice Node (numbered_step table haystack) n z)
-                              (sym rest) once),
-                        );
-                        ends = ends;
-                      };
-                    };
-                  };
-                }
-
     -- at the first position with a match, or at the end of the haystack
     pub shortest_known : (p at : ℕ) (threads threads' : List Thread) (best best' : Best) → s ≤ p
         → p ≤ length haystack → best ≡ None → at ≡ offset haystack p → EndsAt at best best'
@@ -196,10 +199,10 @@ module _ (table : List (Place ℕ)) (haystack : Text) where
             over (inl at_end) later inside = omega (arith, at_end, later, inside)
             over (inr found) later inside = found e
         by_best (Some b) e =
-            let found = best_matches (p + 1) threads' b
+            let found = best_matches entries s (length haystack) (omega arith) (p + 1) threads' b
             (subst (λ z. Coming (p + 1) threads' z) e after) in
             let m = found.is_match in
-            let inside = (leads_onward found.way (m.entry, found.start) (found.last, found.end)
+            let inside = (leads_onward found.way (m.entry, found.start) (found.place, found.end)
             m.is_match.leads.is_way.0).1 m.is_match.inside in
             let here : found.end ≡ p = same_position haystack found.end p inside high
             (sym found.ends_at ∙ ends_here ends ∙ is_at) in (
@@ -208,7 +211,7 @@ module _ (table : List (Place ℕ)) (haystack : Text) where
                 start = found.start;
                 number = found.number;
                 way = found.way;
-                last = found.last;
+                last = found.place;
                 is_match = m;
                 least = λ i k way q j n. (
                     let later = ends_later p threads none_before i k way q j n in

@@ -6,9 +6,9 @@ use Rattle.regex_lite_engine.proofs.Common.{IsComing, begun, ThreadsHold, Search
 use Rattle.regex_lite_engine.proofs.Common.{numbered_step, is_end, StartsOf, Best, Node, Offer}
 use Rattle.regex_lite_engine.proofs.Common.{StartsBelow, IsPreferred, Row, IsBlank, IsHere}
 use Rattle.regex_lite_engine.proofs.Common.{IsDeadAt, AreStartsAt, Here, Start, true, false}
-use Rattle.regex_lite_engine.proofs.Common.{slice_index_or}
+use Rattle.regex_lite_engine.proofs.Common.{slice_index_or, append-nil, Text}
 use Rattle.regex_lite_engine.specs.Pikevm.Turns.{Between, FromIs}
-use Rattle.regex_lite_engine.specs.Search.Starts.{IsAmong, AreFrom}
+use Rattle.regex_lite_engine.specs.Search.Starts.{IsAmong, AreFrom, AreStartsUpTo}
 use Rattle.regex_lite_engine.specs.Graph.Places.{Place}
 use Rattle.regex_lite_engine.specs.Search.Offers as offer
 use Rattle.regex_lite_engine.specs.Pikevm.Machine.{State}
@@ -19,6 +19,13 @@ use Rattle.regex_lite_engine.proofs.pikevm.ThreadLemmas.{Begun}
 use Rattle.regex_lite_engine.proofs.pikevm.InStepNextLemmas as deep
 use Rattle.regex_lite_engine.proofs.pikevm.WalkLemmas.{held_append, none_held}
 use Rattle.regex_lite_engine.proofs.pikevm.ComingLemmas.{In_step}
+
+-- where matches may start at the position, its starts are those up to the last
+pub starts_up_to : {table : List (Place ℕ)} {haystack : Text} {entries : List ℕ} {last p : ℕ}
+    {starts : List Start} → p ≤ last → AreStartsAt table haystack entries p starts
+    → AreStartsUpTo table haystack entries last p starts
+starts_up_to high are =
+    record { up_to = λ _. are; none_after = λ later. absurd (omega (arith, high, later)) }
 
 -- what the starts of a position offer
 abbrev begun_offers : (p : ℕ) → List Start → List (Offer Node)
@@ -69,12 +76,11 @@ pub record IsTurn (table : List (Place ℕ)) (at : SearchAt) (here : Here) (cur 
     (best : Best) (after : State) (best' : Best) : Type 0 where
   pub is : IsHere at.haystack at.p here
   pub low : at.first ≤ at.p
-  pub high : at.p ≤ at.last
   pub first_state : State
   pub new : (q : ℕ) → slice_index_or first_state.entered q false ≡ true → ⊥
   pub empty : first_state.next ≡ []
   pub starts : List Start
-  pub are : AreStartsAt table at.haystack at.entries at.p starts
+  pub are : AreStartsUpTo table at.haystack at.entries at.last at.p starts
   pub told : ℕ → Told
   pub tells : (number : ℕ) → TellsStart (told number) here.at number
   pub ways : List Thread
@@ -143,10 +149,29 @@ module _ (table : List (Place ℕ)) (at : SearchAt) (here : Here) (cur : List Th
     begun_held (suc start.number) blank blanks starts are.2,
   )
 
+  -- after the last start, where it has none
+  begun_after : (blank : Row) → turn.ways ≡ cur ++ begun turn.told blank turn.starts → last < p
+      → Coming None → Between table (record at { from = suc p }) turn.first_state turn.ways None
+  begun_after blank pushed later u =
+      begun_alone (suc p) None u
+      (subst (λ z. Steps (suc p) u.recorded u.coming [] z) (sym u.best_holds)
+      (deep.in_step_skip Node (numbered_step table haystack) (StartsOf s first last)
+      (is_end table haystack) (λ x. x.1) (omega arith) sooner
+      (subst (λ z. Steps z u.recorded u.coming [] None) u.from_is
+      (subst (λ z. Steps u.from u.recorded u.coming [] z) u.best_holds u.in_step))))
+      (pushed ∙ ap (λ z. cur ++ begun turn.told blank z) (turn.are.none_after later)
+      ∙ append-nil cur)
+    where
+      sooner : (front : List ℕ) (n : Node) → StartsOf s first last front n
+          → StartsBelow (suc p) front → StartsBelow p front ⊎ Dead n
+      sooner front n (i, number, entry, low, high, is, e, f) below =
+          inl (subst (StartsBelow p) (sym e) (omega (arith, high, later)))
+
   -- with its own starts
   begun_own : (blank : Row) → IsBlank blank → turn.ways ≡ cur ++ begun turn.told blank turn.starts
+      → p ≤ last → AreStartsAt table haystack s p turn.starts
       → Coming None → Between table (record at { from = suc p }) turn.first_state turn.ways None
-  begun_own blank blanks pushed u = record {
+  begun_own blank blanks pushed high are u = record {
     recorded = u.recorded;
     under = [];
     later = u.coming ++ begun_offers p turn.starts;
@@ -155,9 +180,9 @@ module _ (table : List (Place ℕ)) (at : SearchAt) (here : Here) (cur : List Th
     in_step =
         deep.in_step_begin Node (numbered_step table haystack) (StartsOf s first last)
         (is_end table haystack) (λ x. x.1) (begun_offers p turn.starts)
-        (λ m v i. (let r = begun_own_way table at 0 turn.starts turn.are.in_order turn.low turn.high
-        m v i in (r.0, r.1, r.2)))
-        (begun_ordered table at 0 turn.starts turn.are.in_order turn.low turn.high) offered u.before
+        (λ m v i. (let r = begun_own_way table at 0 turn.starts are.in_order turn.low high m v i in
+        (r.0, r.1, r.2)))
+        (begun_ordered table at 0 turn.starts are.in_order turn.low high) offered u.before
         (subst (λ z. Steps z u.recorded u.coming [] None) u.from_is
         (subst (λ z. Steps u.from u.recorded u.coming [] z) u.best_holds u.in_step));
     seen = λ r v e. absurd (let lt = u.before (r, p) v e in omega (arith, lt));
@@ -167,7 +192,7 @@ module _ (table : List (Place ℕ)) (at : SearchAt) (here : Here) (cur : List Th
         subst (λ ts. Holds p ts (u.coming ++ begun_offers p turn.starts)) (sym pushed)
         (held_append table haystack s p cur (begun turn.told blank turn.starts) u.coming
         (begun_offers p turn.starts) u.hold
-        (begun_held 0 blank blanks turn.starts turn.are.in_order));
+        (begun_held 0 blank blanks turn.starts are.in_order));
     coming_hold = none_next;
     best_holds = refl;
   }
@@ -180,7 +205,7 @@ module _ (table : List (Place ℕ)) (at : SearchAt) (here : Here) (cur : List Th
         | inr le ↦
             let own : i < suc p = subst (StartsBelow (suc p)) e below in
             let same : i ≡ p = omega (arith, own, le) in
-            inr (by_each same (turn.are.each number entry is))
+            inr (by_each same (are.each number entry is))
       ]
         where
           by_each : i ≡ p → IsAmong number entry turn.starts ⊎ IsDeadAt table haystack entry p
@@ -220,7 +245,10 @@ module _ (table : List (Place ℕ)) (at : SearchAt) (here : Here) (cur : List Th
 
       go : (b : Best) → Begun turn.starts turn.told b cur turn.ways → best ≡ b → Coming b → Turned
       go None (inl (none, (blank, blanks, pushed))) e u =
-          on (suc p) None e (omega arith) (begun_own blank blanks pushed u)
+          on (suc p) None e (omega arith) (elim (cases_lt last p) [
+            | inl later ↦ begun_after blank pushed later u
+            | inr high ↦ begun_own blank blanks pushed high (turn.are.up_to high) u
+          ])
       go None (inr (some, same)) e u = absurd (some refl)
       go (Some b) (inl (none, pushed)) e u = absurd (not_there (sym none))
       go (Some b) (inr (why, same)) e u =

@@ -32,11 +32,11 @@ module _ (table : List (Place ℕ)) (haystack : Text) (starts : List ℕ) (first
     pub entries : cache.walk.steps.entered ≤ len * (p - first)
     pub few : length cache.walk.memory.threads ≤ reading_of (row_of table low len)
 
-  -- a search from position `first` on has come to position p
-  pub record IsUnderWay {S : Type 0} (p : ℕ) (cache : Cache S) : Type 0 where
+  -- a search for matches that start from position `first` to `last` has come to position p
+  pub record IsUnderWayTo {S : Type 0} (last p : ℕ) (cache : Cache S) : Type 0 where
     pub low : first ≤ p
     pub ready : IsBetween table cache
-    pub coming : IsComing table haystack starts first (length haystack) p cache.walk.memory.threads
+    pub coming : IsComing table haystack starts first last p cache.walk.memory.threads
         (best_of cache.best)
     pub tries :
         cache.walk.steps.tried + length cache.walk.memory.threads
@@ -44,6 +44,10 @@ module _ (table : List (Place ℕ)) (haystack : Text) (starts : List ℕ) (first
     pub entries : cache.walk.steps.entered ≤ length table * (p - first)
     -- it stays in any part of its own
     pub own : (low len : ℕ) → IsOwnPart table starts low len → HasSpentWithin low len p cache
+
+  -- a search for matches that start from position `first` on has come to position p
+  abbrev pub IsUnderWay : {S : Type 0} → (p : ℕ) → Cache S → Type 0
+  IsUnderWay p cache = IsUnderWayTo (length haystack) p cache
 
   -- it has gone over a position that is not before p
   pub record Passes {S : Type 0} (p : ℕ) (cache cache' : Cache S) (here : Here) : Type 0 where

@@ -39,6 +39,14 @@ module _ (table : List (Place ℕ)) (haystack : Text) (entries : List ℕ) where
       (i k : ℕ) (way : List ℕ) (q j : ℕ) → IsMatchOfAny s i k way q j → ⊥
   IsNumberedAnswerOf s (Some told) = IsNumberedFoundOf s told.0 told.1
 
+  -- the answer of a search from position s on for matches that start at position `last` at the
+  -- latest
+  abbrev pub IsNumberedAnswerTo : (s last : ℕ) → Option (ℕ × Found) → Type 0
+  IsNumberedAnswerTo s last None =
+      (i k : ℕ) (way : List ℕ) (q j : ℕ) → i ≤ last → IsMatchOfAny s i k way q j → ⊥
+  IsNumberedAnswerTo s last (Some told) =
+      (told.1.start ≤ last) × IsNumberedFoundOf s told.0 told.1
+
   -- the least position at which a match of any pattern ends that starts at or after s
   pub record IsNumberedShortestOf (s end : ℕ) : Type 0 where
     pub start : ℕ

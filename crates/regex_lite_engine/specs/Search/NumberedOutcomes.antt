@@ -1,5 +1,5 @@
 -- What a search over a table of numbered places returns, by offsets.
-use Rattle.std.specs.Prelude.{◌≡◌, ℕ, Bool, true, false, List, Option, Some, None}
+use Rattle.std.specs.Prelude.{◌≡◌, ◌≤◌, ℕ, Bool, true, false, List, Option, Some, None}
 use Rattle.regex_lite_syntax.specs.Text.{Text}
 use Rattle.regex_lite_engine.specs.declared.pikevm.beginning.Origin.{Origin}
 use Rattle.regex_lite_engine.specs.declared.search.outcome.Outcome.{Outcome}
@@ -7,7 +7,8 @@ use Rattle.regex_lite_engine.specs.Graph.Places.{Place}
 use Rattle.regex_lite_engine.specs.Search.Answer.{Found}
 use Rattle.regex_lite_engine.specs.Search.Beginnings.{Told, IsTold, TellsStart}
 use Rattle.regex_lite_engine.specs.Search.NumberedAnswer.{IsNumberedAnswer}
-use Rattle.regex_lite_engine.specs.Search.NumberedList.{IsNumberedAnswerOf, IsNumberedShortestOf}
+use Rattle.regex_lite_engine.specs.Search.NumberedList.{IsMatchOfAny, IsNumberedAnswerOf}
+use Rattle.regex_lite_engine.specs.Search.NumberedList.{IsNumberedAnswerTo, IsNumberedShortestOf}
 use Rattle.regex_lite_engine.specs.Search.Offsets.{offset, HasSlots}
 use Rattle.regex_lite_engine.specs.Search.Rows.{Row}
 
@@ -75,6 +76,17 @@ IsBestOutcomeOf table haystack entries s (Some best) =
     × TellsStart best.0 (offset haystack found.start) number × (best.1 ≡ offset haystack found.end)
     × HasSlots haystack best.2 found.marks
 
+-- the same of a search for matches that start at position `last` at the latest
+abbrev pub IsBestOutcomeTo : List (Place ℕ) → Text → (entries : List ℕ) → (s last : ℕ) → Best
+    → Type 0
+IsBestOutcomeTo table haystack entries s last None =
+    IsNumberedAnswerTo table haystack entries s last None
+IsBestOutcomeTo table haystack entries s last (Some best) =
+    (number : ℕ) × (found : Found)
+    × IsNumberedAnswerTo table haystack entries s last (Some (number, found))
+    × TellsStart best.0 (offset haystack found.start) number × (best.1 ≡ offset haystack found.end)
+    × HasSlots haystack best.2 found.marks
+
 -- the match has all offsets of the answer
 abbrev pub IsNumberedOutcome : List (Place ℕ) → Text → (start s : ℕ) → Option (ℕ × ℕ × Row)
     → Type 0
@@ -95,3 +107,19 @@ abbrev pub IsFoundOf : (earliest : Bool) → List (Place ℕ) → Text → (entr
     → Best → Type 0
 IsFoundOf false table haystack entries s best = IsBestOutcomeOf table haystack entries s best
 IsFoundOf true table haystack entries s best = IsNumberedEndOf table haystack entries s best
+
+-- where a match is found it is known that one starts at position `last` at the latest, whatever is
+-- said of it
+abbrev pub IsAnyTo : List (Place ℕ) → Text → (entries : List ℕ) → (s last : ℕ) → Best → Type 0
+IsAnyTo table haystack entries s last None = IsNumberedAnswerTo table haystack entries s last None
+IsAnyTo table haystack entries s last (Some best) =
+    (i k : ℕ) × (way : List ℕ) × (q j : ℕ) × (i ≤ last)
+    × IsMatchOfAny table haystack entries s i k way q j
+
+-- what is asked of such a search is the most preferred match or, with `earliest`, whether there is
+-- one
+abbrev pub IsFoundTo : (earliest : Bool) → List (Place ℕ) → Text → (entries : List ℕ)
+    → (s last : ℕ) → Best → Type 0
+IsFoundTo false table haystack entries s last best =
+    IsBestOutcomeTo table haystack entries s last best
+IsFoundTo true table haystack entries s last best = IsAnyTo table haystack entries s last best

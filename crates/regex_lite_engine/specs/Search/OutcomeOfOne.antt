@@ -1,13 +1,16 @@
 -- What searches tell of one pattern, of a regex or of a list: its match, and what they did.
-use Rattle.std.specs.Prelude.{◌≡◌, ◌<◌, ◌∷◌, [], ℕ, List, Option, Some, None, IfSome, chars, length}
+use Rattle.std.specs.Prelude.{◌≡◌, ◌<◌, ◌∷◌, [], ℕ, Bool, IsTrue, List, Option, Some, None, IfSome}
+use Rattle.std.specs.Prelude.{chars, is_some, length}
 use Rattle.regex_lite_engine.specs.declared.search.outcome.Outcome.{Outcome}
 use Rattle.regex_lite_engine.specs.Graph.Places.{Place}
 use Rattle.regex_lite_engine.specs.Graph.Renumbered.{arrows_of}
 use Rattle.regex_lite_engine.specs.Search.Beginnings.{untold}
 use Rattle.regex_lite_engine.specs.Search.Bounds.{StepCounts, IsBounded}
 use Rattle.regex_lite_engine.specs.Search.NumberedOutcomes.{Best, IsNumberedEndOf, match_told}
-use Rattle.regex_lite_engine.specs.Search.NumberedOutcomes.{IsNumberedOutcome}
+use Rattle.regex_lite_engine.specs.Search.NumberedOutcomes.{IsAnyTo, IsBestOutcomeTo}
+use Rattle.regex_lite_engine.specs.Search.NumberedOutcomes.{IsNumberedOutcome, with_start_kept}
 use Rattle.regex_lite_engine.specs.Search.Offsets.{position_at}
+use Rattle.regex_lite_engine.specs.Search.Rows.{Row}
 
 -- a search from an offset on did no more than is allowed in the table
 abbrev pub IsWithinBounds : List (Place ℕ) → (haystack : List ℕ) → (start : ℕ) → StepCounts
@@ -16,14 +19,40 @@ IsWithinBounds table haystack start steps =
     IsBounded (length table) (arrows_of table) (chars haystack) (position_at haystack start)
     steps.tried steps.entered steps.looked
 
--- the match of the pattern that is entered there, with this many slots
-pub record TellsOfOne (table : List (Place ℕ)) (entry : ℕ) (haystack : List ℕ) (start width : ℕ)
-    (told : Option Outcome × StepCounts) : Type 0 where
-  pub found : IsNumberedOutcome table (chars haystack) entry (position_at haystack start)
-      (match_told told.0)
+-- the match that a search is for, with this many slots
+pub record TellsOfSearch (IsSought : Option (ℕ × ℕ × Row) → Type 0) (table : List (Place ℕ))
+    (haystack : List ℕ) (start width : ℕ) (told : Option Outcome × StepCounts) : Type 0 where
+  pub found : IsSought (match_told told.0)
   pub slots : IfSome told.0 (λ outcome. length outcome.slots.items ≡ width)
   pub cost : IsWithinBounds table haystack start told.1
   pub entered : IfSome told.0 (λ _. 0 < told.1.entered)
+
+-- the match of the pattern that is entered there
+abbrev pub TellsOfOne : (table : List (Place ℕ)) → (entry : ℕ) → (haystack : List ℕ)
+    → (start width : ℕ) → Option Outcome × StepCounts → Type 0
+TellsOfOne table entry haystack start =
+    TellsOfSearch
+    (IsNumberedOutcome table (chars haystack) entry (position_at haystack start)) table haystack
+    start
+
+-- its match among those that start at the offset
+abbrev pub TellsOfOneAt : (table : List (Place ℕ)) → (entry : ℕ) → (haystack : List ℕ)
+    → (start width : ℕ) → Option Outcome × StepCounts → Type 0
+TellsOfOneAt table entry haystack start =
+    TellsOfSearch
+    (λ told. IsBestOutcomeTo table (chars haystack) (entry ∷ []) (position_at haystack start)
+    (position_at haystack start) (with_start_kept told))
+    table haystack start
+
+-- whether there is one
+pub record TellsAnyOfOneAt (table : List (Place ℕ)) (entry : ℕ) (haystack : List ℕ) (start : ℕ)
+    (told : Bool × StepCounts) : Type 0 where
+  pub best : Best
+  pub found : IsAnyTo table (chars haystack) (entry ∷ []) (position_at haystack start)
+      (position_at haystack start) best
+  pub is_some : told.0 ≡ is_some best
+  pub cost : IsWithinBounds table haystack start told.1
+  pub entered : IsTrue told.0 → 0 < told.1.entered
 
 -- a match that ends there, of which nothing else is known
 abbrev pub ending_at : Option ℕ → Best

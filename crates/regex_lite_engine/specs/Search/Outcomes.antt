@@ -6,6 +6,7 @@ use Rattle.regex_lite_engine.specs.declared.search.outcome.Outcome.{Outcome}
 use Rattle.regex_lite_engine.specs.Graph.PlaceCounts.{whole_places, whole_arrows}
 use Rattle.regex_lite_engine.specs.Search.Answer.{Found, IsAnswer, IsShortest}
 use Rattle.regex_lite_engine.specs.Graph.SideBySide.{places_of_all, tries_of_all}
+use Rattle.regex_lite_engine.specs.Search.AnswerAt.{IsAnswerAt, IsAnswerAtOfList}
 use Rattle.regex_lite_engine.specs.Search.AnswerOfList.{IsAnswerOfList}
 use Rattle.regex_lite_engine.specs.Search.Bounds.{StepCounts, IsBounded, IsBoundedBy}
 use Rattle.regex_lite_engine.specs.Search.Offsets.{offset, search_start, HasSlots}
@@ -17,20 +18,36 @@ pub record TellsFound (haystack : Text) (found : Found) (span : ℕ × ℕ) (hel
   pub end : span.1 ≡ offset haystack found.end
   pub slots : HasSlots haystack held found.marks
 
--- the span that a search from an offset on finds, and its slots, are the answer's
+-- the span that a search finds, and its slots, are those of an answer
+abbrev pub IsSpanOf : (Answers : Option Found → Type 0) → (haystack : List ℕ)
+    → (slots : List (Option ℕ)) → Option (ℕ × ℕ) → Type 0
+IsSpanOf Answers haystack slots None = Answers None
+IsSpanOf Answers haystack slots (Some span) =
+    (found : Found) × Answers (Some found) × TellsFound (chars haystack) found span slots
+
+-- the answer is that from an offset on
 abbrev pub IsSpanOutcome : Tree → (haystack : List ℕ) → (start : ℕ) → (slots : List (Option ℕ))
     → Option (ℕ × ℕ) → Type 0
-IsSpanOutcome tree haystack start slots None =
-    IsAnswer tree (chars haystack) (search_start haystack start) None
-IsSpanOutcome tree haystack start slots (Some span) =
-    (found : Found) × IsAnswer tree (chars haystack) (search_start haystack start) (Some found)
-    × TellsFound (chars haystack) found span slots
+IsSpanOutcome tree haystack start =
+    IsSpanOf (IsAnswer tree (chars haystack) (search_start haystack start)) haystack
+
+-- or that of an anchored search at an offset
+abbrev pub IsSpanOutcomeAt : Tree → (haystack : List ℕ) → (start : ℕ)
+    → (slots : List (Option ℕ)) → Option (ℕ × ℕ) → Type 0
+IsSpanOutcomeAt tree haystack start =
+    IsSpanOf (IsAnswerAt tree (chars haystack) (search_start haystack start)) haystack
 
 -- the outcome of a search is the answer's
 abbrev pub IsOutcome : Tree → (haystack : List ℕ) → (start : ℕ) → Option Outcome → Type 0
 IsOutcome tree haystack start None = IsSpanOutcome tree haystack start [] None
 IsOutcome tree haystack start (Some outcome) =
     IsSpanOutcome tree haystack start outcome.slots.items (Some (outcome.start, outcome.end))
+
+-- the outcome of an anchored search is its answer's
+abbrev pub IsOutcomeAt : Tree → (haystack : List ℕ) → (start : ℕ) → Option Outcome → Type 0
+IsOutcomeAt tree haystack start None = IsSpanOutcomeAt tree haystack start [] None
+IsOutcomeAt tree haystack start (Some outcome) =
+    IsSpanOutcomeAt tree haystack start outcome.slots.items (Some (outcome.start, outcome.end))
 
 -- the outcome of a search for the shortest match is the answer's: the offset where it ends
 abbrev pub IsEndOutcome : Tree → (haystack : List ℕ) → (start : ℕ) → Option ℕ → Type 0
@@ -46,16 +63,27 @@ HasCost tree haystack start steps =
     IsBounded (whole_places tree) (whole_arrows tree) (chars haystack)
     (search_start haystack start) steps.tried steps.entered steps.looked
 
--- the number and the span that a search for several patterns finds, and its slots, are the answer's
--- of the list: the number of a pattern, and what was found of it
+-- the number and the span that a search for several patterns finds, and its slots, are those of an
+-- answer of the list: the number of a pattern, and what was found of it
+abbrev pub IsNumberedSpanOf : (Answers : Option (ℕ × Found) → Type 0) → (haystack : List ℕ)
+    → (slots : List (Option ℕ)) → Option (ℕ × (ℕ × ℕ)) → Type 0
+IsNumberedSpanOf Answers haystack slots None = Answers None
+IsNumberedSpanOf Answers haystack slots (Some told) =
+    (found : Found) × Answers (Some (told.0, found))
+    × TellsFound (chars haystack) found told.1 slots
+
+-- the answer is that from an offset on
 abbrev pub IsSpanOutcomeOfList : List Tree → (haystack : List ℕ) → (start : ℕ)
     → (slots : List (Option ℕ)) → Option (ℕ × (ℕ × ℕ)) → Type 0
-IsSpanOutcomeOfList trees haystack start slots None =
-    IsAnswerOfList trees (chars haystack) (search_start haystack start) None
-IsSpanOutcomeOfList trees haystack start slots (Some told) =
-    (found : Found)
-    × IsAnswerOfList trees (chars haystack) (search_start haystack start) (Some (told.0, found))
-    × TellsFound (chars haystack) found told.1 slots
+IsSpanOutcomeOfList trees haystack start =
+    IsNumberedSpanOf (IsAnswerOfList trees (chars haystack) (search_start haystack start)) haystack
+
+-- or that of an anchored search at an offset
+abbrev pub IsSpanOutcomeAtOfList : List Tree → (haystack : List ℕ) → (start : ℕ)
+    → (slots : List (Option ℕ)) → Option (ℕ × (ℕ × ℕ)) → Type 0
+IsSpanOutcomeAtOfList trees haystack start =
+    IsNumberedSpanOf (IsAnswerAtOfList trees (chars haystack) (search_start haystack start))
+    haystack
 
 -- the outcome of a search for several patterns is the answer's
 abbrev pub IsOutcomeOfList : List Tree → (haystack : List ℕ) → (start : ℕ) → Option (ℕ × Outcome)
@@ -63,6 +91,14 @@ abbrev pub IsOutcomeOfList : List Tree → (haystack : List ℕ) → (start : �
 IsOutcomeOfList trees haystack start None = IsSpanOutcomeOfList trees haystack start [] None
 IsOutcomeOfList trees haystack start (Some told) =
     IsSpanOutcomeOfList trees haystack start told.1.slots.items
+    (Some (told.0, (told.1.start, told.1.end)))
+
+-- the outcome of an anchored search for several patterns is its answer's
+abbrev pub IsOutcomeAtOfList : List Tree → (haystack : List ℕ) → (start : ℕ)
+    → Option (ℕ × Outcome) → Type 0
+IsOutcomeAtOfList trees haystack start None = IsSpanOutcomeAtOfList trees haystack start [] None
+IsOutcomeAtOfList trees haystack start (Some told) =
+    IsSpanOutcomeAtOfList trees haystack start told.1.slots.items
     (Some (told.0, (told.1.start, told.1.end)))
 
 -- a search of the graph of these trees did no more than is allowed

@@ -56,6 +56,13 @@ pub record AreStartsAt (table : List (Place ℕ)) (haystack : Text) (entries : L
   pub each : (number entry : ℕ) → IsEntry entries number entry
       → IsAmong number entry starts ⊎ IsDeadAt table haystack entry p
 
+-- up to the last position at which a match may start these are the starts, and there are none after
+-- it
+pub record AreStartsUpTo (table : List (Place ℕ)) (haystack : Text) (entries : List ℕ)
+    (last p : ℕ) (starts : List Start) : Type 0 where
+  pub up_to : p ≤ last → AreStartsAt table haystack entries p starts
+  pub none_after : last < p → starts ≡ []
+
 -- each pattern is one of these, in order
 pub record AreAllStarts (table : List (Place ℕ)) (entries : List ℕ) (starts : List Start) : Type 0
   where

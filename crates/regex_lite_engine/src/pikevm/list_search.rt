@@ -1,15 +1,18 @@
 //! Searches for several patterns at once.
-ghost use Rattle.std.specs.Prelude.{◌≡◌, ◌<◌, ◌⊎◌, ◌↔◌, List, IfOk, IfSome};
-ghost use Rattle.std.specs.Prelude.{IsTrue, IsCharBoundary, chars, length};
+ghost use Rattle.std.specs.Prelude.{◌≡◌, ◌<◌, ◌^◌, ◌⊎◌, ◌↔◌, ℕ, List, IfOk, IfSome};
+ghost use Rattle.std.specs.Prelude.{IsTrue, IsCharBoundary, IsUtf8, chars, length};
 ghost use Rattle.regex_lite_syntax.specs.Tree.{Tree};
 ghost use Rattle.regex_lite_engine.specs.Graph.SideBySide.{AreRegularPatterns};
-ghost use Rattle.regex_lite_engine.specs.Graph.StoredList.{IsGraphOfList};
+ghost use Rattle.regex_lite_engine.specs.Graph.StoredList.{IsGraphOfList, table_of_list};
+ghost use Rattle.regex_lite_engine.specs.Pikevm.Searching.{IsFresh};
 ghost use Rattle.regex_lite_engine.specs.Search.AnswerOfList.{AnyMatchesFrom};
+ghost use Rattle.regex_lite_engine.specs.Search.Bounds.{characters_left};
+ghost use Rattle.regex_lite_engine.specs.Search.Counting.{CanCount};
 ghost use Rattle.regex_lite_engine.specs.Search.Offsets.{search_start};
 ghost use Rattle.regex_lite_engine.specs.Search.Outcomes.{IsOutcomeOfList, HasCostOfList};
 
 use crate::nfa::list::GraphList;
-use crate::pikevm::beginning::{Origin, Unkept};
+use crate::pikevm::beginning::{Beginning, Origin, Unkept};
 use crate::pikevm::cache::{Cache, cache_for};
 use crate::pikevm::run::run;
 use crate::search::list_patterns::ListPatterns;
@@ -46,8 +49,7 @@ impl GraphList {
         if start > haystack.len() || self.len() == 0 {
             return Ok((None, no_steps()));
         }
-        let mut patterns = ListPatterns::new(alloc, self)?;
-        let mut cache = cache_for::<Origin>(alloc, self.table(), slots)?;
+        let (mut patterns, mut cache) = self.search_memory::<Origin>(alloc, slots)?;
         run::<_, _, false>(&mut cache, &mut patterns, haystack, start);
         let Cache { walk, best, .. } = cache;
         Ok((best.into_numbered(), walk.steps))
@@ -78,10 +80,37 @@ impl GraphList {
         if start > haystack.len() || self.len() == 0 {
             return Ok((false, no_steps()));
         }
-        let mut patterns = ListPatterns::new(alloc, self)?;
-        let mut cache = cache_for::<Unkept>(alloc, self.table(), 0)?;
+        let (mut patterns, mut cache) = self.search_memory::<Unkept>(alloc, 0)?;
         run::<_, _, true>(&mut cache, &mut patterns, haystack, start);
         let Cache { walk, best, .. } = cache;
         Ok((best.end().is_some(), walk.steps))
+    }
+    /// The patterns, none of which may start yet, and the memory of a search whose matches have
+    /// this number of slots. All of it is asked for here.
+    ///
+    /// Condition: there is a pattern.
+    ///
+    /// # Errors
+    ///
+    /// If memory runs out.
+    #[inline(always)]
+    pub(super) fn search_memory<S: Beginning>(
+        &self,
+        alloc: Global,
+        slots: usize,
+    ) -> Result<(ListPatterns<'_>, Cache<S>), AllocError>
+        requires { 0 < length self.now.entries }
+        ensures list { IfOk result (λ memory. memory.0.list.now ≡ self.now) }
+        ensures fresh { IfOk result (λ memory. IsFresh (table_of_list self.now) memory.1) }
+        ensures counts { IfOk result (λ _. (haystack : List ℕ) (s : ℕ) → IsUtf8 haystack
+            → length haystack < 2 ^ 63 → CanCount (table_of_list self.now)
+            (length self.now.entries) (characters_left (chars haystack) s)) }
+        ensures width { IfOk result (λ memory. length memory.1.best.row ≡ slots) }
+    {
+        // Each has a number of 32 bits, and a place, since there are no more.
+        let _entries = self.entries();
+        let patterns = ListPatterns::new(alloc, self)?;
+        let cache = cache_for::<S>(alloc, self.table(), slots)?;
+        Ok((patterns, cache))
     }
 }

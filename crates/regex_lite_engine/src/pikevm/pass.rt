@@ -1,11 +1,13 @@
 //! From position to position, past those at which no match can start.
-ghost use Rattle.std.specs.Prelude.{◌≡◌, ℕ, chars, length};
+ghost use Rattle.std.specs.Prelude.{◌≡◌, ◌+◌, ◌^◌, ◌≤◌, ◌<◌, ℕ, All, chars, length};
+ghost use Rattle.regex_lite_syntax.specs.Text.{Text};
 ghost use Rattle.regex_lite_engine.specs.Search.Bounds.{StaysCounted, characters_left};
 ghost use Rattle.regex_lite_engine.specs.Search.Counting.{CanCount};
-ghost use Rattle.regex_lite_engine.specs.Pikevm.Passing.{IsUnderWay, Passes};
+ghost use Rattle.regex_lite_engine.specs.Pikevm.Passing.{IsUnderWay, IsUnderWayTo, Passes};
 ghost use Rattle.regex_lite_engine.specs.Search.Standing.{IsHere};
 ghost use Rattle.regex_lite_engine.specs.Pikevm.Passing.{GoesOnAt};
-ghost use Rattle.regex_lite_engine.specs.Pikevm.Turns.{best_of};
+ghost use Rattle.regex_lite_engine.specs.Pikevm.Turns.{best_of, EndsAt};
+ghost use Rattle.regex_lite_engine.specs.Search.Starts.{AreStartsUpTo};
 
 use crate::pikevm::beginning::Beginning;
 use crate::pikevm::cache::Cache;
@@ -35,10 +37,36 @@ impl<S: Beginning> Cache<S> {
     {
         let here = self.next_start(patterns, haystack, here);
         patterns.come_to(haystack, here);
+        self.go_over(patterns, here);
+        here
+    }
+
+    /// Goes over the position, at which these patterns start.
+    #[inline(always)]
+    pub fn go_over<P: Patterns>(&mut self, patterns: &P, here: Here)
+        requires on { (haystack : Text) × (s last p : ℕ) × IsHere haystack p here
+            × CanCount (P.table patterns.now) (length (P.entries patterns.now))
+            (characters_left haystack s)
+            × IsUnderWayTo (P.table patterns.now) haystack (P.entries patterns.now) s last p
+            self.old }
+        requires inside { All (λ start. start.place < length (P.table patterns.now))
+            (P.starts patterns.now) }
+        requires few { length (P.starts patterns.now) ≤ length (P.entries patterns.now) }
+        requires countable { length (P.entries patterns.now) < 2 ^ 32 }
+        ensures on { (haystack : Text) (s last p : ℕ) → IsHere haystack p here
+            → AreStartsUpTo (P.table patterns.now) haystack (P.entries patterns.now) last p
+            (P.starts patterns.now)
+            → IsUnderWayTo (P.table patterns.now) haystack (P.entries patterns.now) s last p
+            self.old
+            → IsUnderWayTo (P.table patterns.now) haystack (P.entries patterns.now) s last (p + 1)
+            self.new }
+        ensures ends { EndsAt here.at (best_of self.old.best) (best_of self.new.best) }
+        ensures width { length self.new.best.row ≡ length self.old.best.row }
+        ensures counts { StaysCounted self.old.walk.steps self.new.walk.steps }
+    {
         // There is room for more ways than there are patterns.
         let _threads = self.walk.memory.threads();
         self.turn(patterns, here);
-        here
     }
 
     /// Where the search goes on: where it is while there is a thread or a match, and else at the

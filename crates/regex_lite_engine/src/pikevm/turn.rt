@@ -17,7 +17,7 @@ impl<S: Beginning> Cache<S> {
     ghost use Rattle.regex_lite_engine.specs.Search.Standing.{IsHere};
     ghost use Rattle.regex_lite_engine.specs.Pikevm.Room.{HasRoom};
     ghost use Rattle.regex_lite_engine.specs.Pikevm.Turns.{EndsAt, IsComing};
-    ghost use Rattle.regex_lite_engine.specs.Search.Starts.{AreStartsAt};
+    ghost use Rattle.regex_lite_engine.specs.Search.Starts.{AreStartsUpTo};
     ghost use Rattle.regex_lite_engine.specs.Graph.Parts.{IsOwnPart};
     ghost use Rattle.regex_lite_engine.specs.Pikevm.Searching.{ways_at, IsPlaced, Follows};
     ghost use Rattle.regex_lite_engine.specs.Pikevm.Searching.{FollowsAgain, IsHit, TurnsAgain};
@@ -43,8 +43,8 @@ impl<S: Beginning> Cache<S> {
             < 2 ^ 64 }
         ensures ready { IsBetween (P.table patterns.now) self.new }
         ensures comes { (haystack : Text) (entries : List ℕ) (p first last : ℕ)
-            → IsHere haystack p here → first ≤ p → p ≤ last
-            → AreStartsAt (P.table patterns.now) haystack entries p (P.starts patterns.now)
+            → IsHere haystack p here → first ≤ p
+            → AreStartsUpTo (P.table patterns.now) haystack entries last p (P.starts patterns.now)
             → IsComing (P.table patterns.now) haystack entries first last p
             self.old.walk.memory.threads (best_of self.old.best)
             → IsComing (P.table patterns.now) haystack entries first last (p + 1)
@@ -60,8 +60,8 @@ impl<S: Beginning> Cache<S> {
         ensures entries { self.new.walk.steps.entered
             ≤ self.old.walk.steps.entered + length (P.table patterns.now) }
         ensures own { (haystack : Text) (entries : List ℕ) (p first last low len : ℕ)
-            → IsHere haystack p here → first ≤ p → p ≤ last
-            → AreStartsAt (P.table patterns.now) haystack entries p (P.starts patterns.now)
+            → IsHere haystack p here → first ≤ p
+            → AreStartsUpTo (P.table patterns.now) haystack entries last p (P.starts patterns.now)
             → IsComing (P.table patterns.now) haystack entries first last p
             self.old.walk.memory.threads (best_of self.old.best)
             → IsOwnPart (P.table patterns.now) entries low len

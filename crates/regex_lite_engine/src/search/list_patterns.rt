@@ -15,7 +15,7 @@ use crate::nfa::list::GraphList;
 use crate::nfa::table::Table;
 use crate::search::here::Here;
 use crate::search::list_skip::skip_all;
-use crate::search::patterns::{Patterns, Start};
+use crate::search::patterns::{Anchored, Patterns, Start};
 use regex_lite_syntax::prefilter::ListHeads;
 use std::alloc::{AllocError, Global};
 
@@ -96,6 +96,12 @@ impl<'g> Patterns for ListPatterns<'g> {
             number,
             place: self.list.entries()[number as usize],
         }
+    }
+}
+
+impl<'g> Anchored for ListPatterns<'g> {
+    fn start_no_more(&mut self) {
+        self.numbers.clear();
     }
 }
 

@@ -8,7 +8,7 @@ ghost use Rattle.regex_lite_engine.specs.Search.Starts.{NoneBeginsAtEnd};
 use crate::nfa::table::Table;
 use crate::search::here::Here;
 use crate::search::pattern_filter::PatternFilter;
-use crate::search::patterns::{Patterns, Start};
+use crate::search::patterns::{Anchored, Patterns, Start};
 use regex_lite_syntax::prefilter::Words;
 
 /// A pattern of a graph, which may have others, and whether it may start at the position reached
@@ -103,5 +103,12 @@ impl<'g> Patterns for OnePattern<'g> {
             number: 0,
             place: self.entry,
         }
+    }
+}
+
+impl<'g> Anchored for OnePattern<'g> {
+    #[inline(always)]
+    fn start_no_more(&mut self) {
+        self.may_start = false;
     }
 }

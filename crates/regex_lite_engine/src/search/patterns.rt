@@ -1,5 +1,5 @@
 //! What is searched, and where patterns may start.
-ghost use Rattle.std.specs.Prelude.{◌≡◌, ◌≤◌, ◌<◌, ◌^◌, ℕ, List, All, IfSome};
+ghost use Rattle.std.specs.Prelude.{◌≡◌, ◌≤◌, ◌<◌, ◌^◌, ℕ, List, [], All, IfSome};
 ghost use Rattle.std.specs.Prelude.{chars, length, slice_get, Some};
 ghost use Rattle.regex_lite_engine.specs.Graph.Places.{Place};
 ghost use Rattle.regex_lite_engine.specs.Graph.Stored.{places_of};
@@ -65,6 +65,15 @@ pub trait Patterns {
     fn start(&self, k: usize) -> Start
         requires { k < length (starts self.now) }
         ensures { slice_get (starts self.now) k ≡ Some result };
+}
+
+/// Patterns that an anchored search may be for: they start at one position alone.
+pub trait Anchored: Patterns {
+    /// Has no pattern start from here on.
+    fn start_no_more(&mut self)
+        ensures table { Self.table self.new ≡ Self.table self.old }
+        ensures entries { Self.entries self.new ≡ Self.entries self.old }
+        ensures starts { Self.starts self.new ≡ [] };
 }
 
 /// The next position from here on at which a match of these patterns can begin, or the haystack's

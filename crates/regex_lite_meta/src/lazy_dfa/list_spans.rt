@@ -8,10 +8,11 @@ ghost use Rattle.regex_lite_meta.specs.LazyDfa.Scanning.{best_told};
 ghost use Rattle.regex_lite_engine.specs.Graph.StoredList.{table_of_list};
 ghost use Rattle.regex_lite_engine.specs.Search.Bounds.{characters_left};
 ghost use Rattle.regex_lite_engine.specs.Search.Counting.{CanCount};
-ghost use Rattle.regex_lite_engine.specs.Search.NumberedOutcomes.{IsFoundOf, best_kept};
+ghost use Rattle.regex_lite_engine.specs.Search.NumberedOutcomes.{IsFoundOf, IsFoundTo, best_kept};
 ghost use Rattle.regex_lite_engine.specs.Search.Offsets.{position_at};
 ghost use Rattle.regex_lite_engine.specs.Pikevm.Searching.{IsBetween};
 
+use crate::anchored::find_anchored;
 use crate::lazy_dfa::automaton::LazyDfa;
 use crate::strategy::SpanSearch;
 use regex_lite_engine::nfa::list::GraphList;
@@ -101,6 +102,31 @@ impl<'g> ListSpanSearcher<'g> {
         let here = Here::at(haystack, start);
         advance::<_, _, EARLIEST>(&mut self.cache, &mut self.patterns, haystack, here, None);
         self.cache.best.found()
+    }
+
+    /// Where the match starts and ends that starts at this offset, and the number of its pattern:
+    /// the lowest of those that match there. Its slots are in the row. With EARLIEST only whether
+    /// there is one is known. It takes no memory.
+    ///
+    /// Conditions: the list has a pattern, and the start is on a character boundary.
+    pub(crate) fn find_anchored<const EARLIEST: bool>(
+        &mut self,
+        list: &GraphList,
+        haystack: &str,
+        start: usize,
+    ) -> Option<(Origin, usize)>
+        requires some { 0 < length list.now.entries }
+        requires boundary { IsCharBoundary haystack.now start }
+        requires finds { FindsSpansInList list.now self.old }
+        ensures found { IsFoundTo EARLIEST (table_of_list list.now) (chars haystack.now)
+            list.now.entries (position_at haystack.now start) (position_at haystack.now start)
+            (best_kept result self.new.cache.best.row) }
+        ensures finds { FindsSpansInList list.now self.new }
+        ensures width { length self.new.cache.best.row ≡ length self.old.cache.best.row }
+    {
+        // Each has a number of 32 bits, since there are no more.
+        let _entries = list.entries();
+        find_anchored::<_, EARLIEST>(&mut self.cache, &mut self.patterns, haystack, start)
     }
 
     /// The slots of the last match, if they are kept.

@@ -4,8 +4,9 @@ use Rattle.regex_lite_engine.proofs.Common.{slice_get, Some, None, Option, sym, 
 use Rattle.regex_lite_engine.proofs.Common.{subst, inl, inr, arith, Text, Leads, Found, NotAfter}
 use Rattle.regex_lite_engine.proofs.Common.{marks_along, place_with, numbered_step, is_end}
 use Rattle.regex_lite_engine.proofs.Common.{IsNumberedWay, IsNumberedMatch, IsEntry, StartsOf}
-use Rattle.regex_lite_engine.proofs.Common.{IsMatchOfAny, IsNumberedAnswerOf, IsPreferred}
+use Rattle.regex_lite_engine.proofs.Common.{IsMatchOfAny, IsPreferred, cases_lt}
 use Rattle.regex_lite_engine.specs.Search.NumberedAnswer.{IsNumberedFound}
+use Rattle.regex_lite_engine.specs.Search.NumberedList.{IsNumberedAnswerTo}
 use Rattle.regex_lite_syntax.proofs.ListLemmas.{same_head, same_tail}
 use Rattle.regex_lite_engine.specs.Graph.Places.{Place}
 use Rattle.regex_lite_engine.proofs.laws.search.Explored.{StartsDiffer, IsWhole, IsFirst}
@@ -25,17 +26,17 @@ later i k j l a b (inr (inl less)) = inl less
 later i k j l a b (inr (inr (e, inl less))) = inr (e, inl less)
 later i k j l a b (inr (inr (e, inr (d, before)))) = inr (e, inr (d, inr before))
 
-module _ (table : List (Place ℕ)) (haystack : Text) (entries : List ℕ) (s : ℕ) where
+module _ (table : List (Place ℕ)) (haystack : Text) (entries : List ℕ) (s last : ℕ) where
   abbrev walks : ℕ × ℕ → ℕ → Option (ℕ × ℕ)
   walks = numbered_step table haystack
 
   abbrev Starts : List ℕ → ℕ × ℕ → Type 0
-  Starts = StartsOf entries s (length haystack)
+  Starts = StartsOf entries s last
 
   abbrev Whole : List ℕ → Type 0
   Whole = IsWhole (ℕ × ℕ) walks (is_end table haystack) Starts
 
-  -- a search from position s on is over
+  -- a search for matches that start from position s to `last` is over
   abbrev pub IsOverOf : (ℕ × ℕ → Option (List ℕ)) → (best : Option (List ℕ)) → Type 0
   IsOverOf = IsExplored (ℕ × ℕ) walks (is_end table haystack) Starts
 
@@ -69,50 +70,58 @@ module _ (table : List (Place ℕ)) (haystack : Text) (entries : List ℕ) (s : 
       )
 
   -- a way over numbers, with its start in front
-  whole_of : (i k : ℕ) (way : List ℕ) (q j : ℕ) → IsMatchOfAny table haystack entries s i k way q j
-      → Whole (i ∷ (k ∷ way))
-  whole_of i k way q j m = record {
+  whole_of : (i k : ℕ) (way : List ℕ) (q j : ℕ) → i ≤ last
+      → IsMatchOfAny table haystack entries s i k way q j → Whole (i ∷ (k ∷ way))
+  whole_of i k way q j up_to m = record {
     front = i ∷ (k ∷ []);
     arrows = way;
     parts = refl;
     start = (m.entry, i);
-    is_start = (i, k, m.entry, m.is_match.from, m.is_match.inside, m.is_entry, refl, refl);
+    is_start = (i, k, m.entry, m.is_match.from, up_to, m.is_entry, refl, refl);
     end = (q, j);
     ends = m.is_match.leads.ends;
     is_way = m.is_match.leads.is_way;
   }
 
   -- the first of all ways has the answer's number, start and end, and marks what it does
-  module _ (number entry : ℕ) (found : Found) (way : List ℕ) (q : ℕ)
-      (is_entry : IsEntry entries number entry)
+  module _ (inside : last ≤ length haystack) (number entry : ℕ) (found : Found) (way : List ℕ)
+      (q : ℕ) (is_entry : IsEntry entries number entry)
       (first : IsFirst (ℕ × ℕ) walks (is_end table haystack) Starts
       (Some (found.start ∷ (number ∷ way))))
       (along : Leads (ℕ × ℕ) walks (entry, found.start) way (q, found.end))
       (marks : found.marks
       ≡ marks_along haystack (place_with table) (Some (entry, found.start)) way) where
-    here : IsNumberedMatch table haystack entry s found.start way q found.end
-    here = by_start first.0.is_start
+    own_match : (found.start ≤ last)
+        × IsNumberedMatch table haystack entry s found.start way q found.end
+    own_match = by_start first.0.is_start
       where
-        by_start : Starts first.0.front first.0.start
-            → IsNumberedMatch table haystack entry s found.start way q found.end
+        by_start : Starts first.0.front first.0.start → (found.start ≤ last)
+            × IsNumberedMatch table haystack entry s found.start way q found.end
         by_start (i, k, x, low, high, p, e, f) =
             let all : found.start ∷ (number ∷ way) ≡ i ∷ (k ∷ first.0.arrows)
             = first.0.parts ∙ ap (λ z. z ++ first.0.arrows) e in
             let at : found.start ≡ i = same_head all in
-            let own = same_entry number k entry x (same_head (same_tail all)) is_entry p in record {
+            let own = same_entry number k entry x (same_head (same_tail all)) is_entry p in
+            (omega (arith, high, at), record {
               from = omega (arith, low, at);
-              inside = omega (arith, high, at);
+              inside = omega (arith, high, at, inside);
               leads = along_whole table haystack first.0 entry found.start way q found.end
                   (same_start entry x found.start i own at ∙ sym f) (same_tail (same_tail all))
                   along;
-            }
+            })
+
+    here : IsNumberedMatch table haystack entry s found.start way q found.end
+    here = own_match.1
 
     compared : (i k : ℕ) (other : List ℕ) (p j : ℕ)
         → IsMatchOfAny table haystack entries s i k other p j
         → Later found.start number i k way other
-    compared i k other p j m =
-        later found.start number i k way other
-        (first.1 (i ∷ (k ∷ other)) (whole_of i k other p j m))
+    compared i k other p j m = elim (cases_lt last i) [
+      | inl beyond ↦ inl (let up_to = own_match.0 in omega (arith, up_to, beyond))
+      | inr up_to ↦
+          later found.start number i k way other
+          (first.1 (i ∷ (k ∷ other)) (whole_of i k other p j up_to m))
+    ]
 
     of_own : (i : ℕ) (other : List ℕ) (p j : ℕ)
         → IsNumberedMatch table haystack entry s i other p j
@@ -161,26 +170,25 @@ module _ (table : List (Place ℕ)) (haystack : Text) (entries : List ℕ) (s : 
       marks = marks;
     }
 
-    first_found : IsNumberedAnswerOf table haystack entries s (Some (number, found))
-    first_found = record {
+    first_found : IsNumberedAnswerTo table haystack entries s last (Some (number, found))
+    first_found = (own_match.0, record {
       entry = entry;
       is_entry = is_entry;
       answer = found_is;
       first = λ i k other p j m. not_before i k other (compared i k other p j m);
-    }
+    })
 
-  pub list_answer_when_over : (recorded : ℕ × ℕ → Option (List ℕ)) (best : Option (List ℕ))
-      (answer : Option (ℕ × Found)) → IsOverOf recorded best
-      → IsOfWayOf best answer
-      → IsNumberedAnswerOf table haystack entries s answer
-  list_answer_when_over recorded None answer x e =
+  pub list_answer_when_over : last ≤ length haystack → (recorded : ℕ × ℕ → Option (List ℕ))
+      (best : Option (List ℕ)) (answer : Option (ℕ × Found)) → IsOverOf recorded best
+      → IsOfWayOf best answer → IsNumberedAnswerTo table haystack entries s last answer
+  list_answer_when_over inside recorded None answer x e =
       let none = search_law None differ x in
-      subst (λ a. IsNumberedAnswerOf table haystack entries s a) (sym e)
-      (λ i k way q j m. none (i ∷ (k ∷ way)) (whole_of i k way q j m))
-  list_answer_when_over recorded (Some best) answer x
+      subst (λ a. IsNumberedAnswerTo table haystack entries s last a) (sym e)
+      (λ i k way q j up_to m. none (i ∷ (k ∷ way)) (whole_of i k way q j up_to m))
+  list_answer_when_over inside recorded (Some best) answer x
       (number, entry, found, way, q, e, is_entry, best_is, along, marks) =
       let first = search_law (Some best) differ x in
       let moved = subst (λ w. IsFirst (ℕ × ℕ) walks (is_end table haystack) Starts (Some w)) best_is
       first in
-      subst (λ a. IsNumberedAnswerOf table haystack entries s a) (sym e)
-      (first_found number entry found way q is_entry moved along marks)
+      subst (λ a. IsNumberedAnswerTo table haystack entries s last a) (sym e)
+      (first_found inside number entry found way q is_entry moved along marks)

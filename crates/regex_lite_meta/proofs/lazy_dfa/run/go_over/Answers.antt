@@ -3,6 +3,7 @@ use Rattle.regex_lite_meta.proofs.Common.{arith, arrows_of}
 use Rattle.std.proofs.Math.Nat.{mul-le-mul_left}
 use Rattle.regex_lite_engine.proofs.pikevm.EndLemmas.{bound_more}
 use Rattle.regex_lite_engine.proofs.pikevm.PassLemmas.{bound_on}
+use Rattle.regex_lite_engine.proofs.pikevm.TurnLemmas.{starts_up_to}
 use Rattle.regex_lite_engine.proofs.search.list_patterns.ListStartLemmas.{starts_at}
 use Rattle.regex_lite_meta.proofs.lazy_dfa.run.go_over.Goals as goal
 
@@ -35,8 +36,8 @@ returns-clause-on g c = λ s from p is on.
       after = omega (arith, after);
       ready = c.turn.ensures.ready;
       coming =
-          c.turn.ensures.comes h entries p from (length h) is after is.inside (starts_at all h p)
-          on.coming;
+          c.turn.ensures.comes h entries p from (length h) is after
+          (starts_up_to is.inside (starts_at all h p)) on.coming;
       tries =
           bound_on table h entries s (old.walk.steps.tried + length old.walk.memory.threads)
           (new.walk.steps.tried + length new.walk.memory.threads) p p
@@ -49,8 +50,8 @@ returns-clause-on g c = λ s from p is on.
           ∙ on.width;
       spent = λ begin len part. (
           let own = on.spent begin len part in
-          let spends = c.turn.ensures.own h entries p from (length h) begin len is after is.inside
-          (starts_at all h p) on.coming part in
+          let spends = c.turn.ensures.own h entries p from (length h) begin len is after
+          (starts_up_to is.inside (starts_at all h p)) on.coming part in
           record {
             tries =
                 bound_on table h entries s

@@ -3,31 +3,19 @@ use Rattle.regex_lite_engine.proofs.Common.{◌∙◌, subst, arith, rules, plac
 use Rattle.regex_lite_engine.proofs.Common.{best_of, AnyMatchesFrom, position_at, search_start}
 use Rattle.regex_lite_engine.proofs.Common.{false, option_map}
 use Rattle.regex_lite_engine.proofs.search.ListOutcomeLemmas.{cost_of_list, any_told}
-use Rattle.regex_lite_engine.proofs.search.OutcomeLemmas.{can_count}
 use Rattle.std.proofs.lemmas.Grind.{common_steps}
 use Rattle.regex_lite_engine.proofs.nfa.BoundaryLemmas.{on_boundary}
 use Rattle.regex_lite_engine.proofs.nfa.list.GraphList.search_any.Goals as goal
 
-pub cache_for-requires : goal.cache_for-requires
-cache_for-requires c =
-    let some = c.len.ensures.places (omega (arith, c.if-len-eq0.false)) in
-    subst (λ places. 0 < length places) (ap (λ t. t.places) (sym c.table.ensures.same)) some
-
 pub run-requires : goal.run-requires
 run-requires c = record {
-  fresh =
-      rw (c.in_ok-patterns.ensures.list, ← ap places_of c.table.ensures.same)
-      c.in_ok-cache.ensures.fresh;
+  fresh = rw c.in_ok-patterns.ensures.list c.in_ok-patterns.ensures.fresh;
   counts =
       let haystack = c.args.haystack.now in
-      let list = c.args.self.now in
       let short : length haystack < 2 ^ 63 = search rules in
-      let few : length list.entries < 2 ^ 32 =
-      omega (arith, c.len.ensures.few, c.len.ensures.same) in
       rw c.in_ok-patterns.ensures.list
-      (can_count (table_of_list list) haystack (position_at haystack c.args.start) c.utf8.haystack
-      short (rw (ap places_of c.table.ensures.same) at c.in_ok-cache.ensures.countable)
-      (length list.entries) few);
+      (c.in_ok-patterns.ensures.counts haystack (position_at haystack c.args.start)
+      c.utf8.haystack short);
   boundary = on_boundary _ _ c.requires c.if-start-haystack.false;
 }
 

@@ -11,7 +11,7 @@ use Rattle.regex_lite_engine.proofs.pikevm.StateLemmas.{begins_position, turns_o
 use Rattle.regex_lite_engine.proofs.pikevm.RoundLemmas.{begins_with, fit_first, none_entered}
 use Rattle.regex_lite_engine.proofs.pikevm.RoundLemmas.{sum_lone, begun_len, start_begun}
 use Rattle.regex_lite_engine.proofs.pikevm.ThreadLemmas.{Begun}
-use Rattle.regex_lite_engine.proofs.pikevm.TurnLemmas.{turned_all, turned_within}
+use Rattle.regex_lite_engine.proofs.pikevm.TurnLemmas.{starts_up_to, turned_all, turned_within}
 use Rattle.regex_lite_engine.proofs.pikevm.cache.Cache.turn.Goals as goal
 
 -- a search at the position, before any start is offered there
@@ -80,7 +80,7 @@ returns-clause-entries g c =
     omega (arith, most, all, c.follow-hit.ensures.followed.spent_entries)
 
 pub returns-clause-comes : goal.returns-clause-comes
-returns-clause-comes g c = λ haystack entries p first last is low high are coming.
+returns-clause-comes g c = λ haystack entries p first last is low are coming.
     let a = c.args in let m = a.self.now.walk.memory in let r = c.requires in
     let n = c.begin_position.new.self in let round = begins_position m n c.begin_position.ensures in
     let starts = g.P.Patterns.starts a.patterns.now in let told = g.S.Beginning.told_of a.here.at in
@@ -91,7 +91,6 @@ returns-clause-comes g c = λ haystack entries p first last is low high are comi
     m.threads best f.walk.memory (best_of f.best) (record {
       is = is;
       low = low;
-      high = high;
       first_state = n;
       new = none_entered m n round;
       empty = round.next ∙ r.ready.none_next;
@@ -108,7 +107,7 @@ returns-clause-comes g c = λ haystack entries p first last is low high are comi
     }) coming)
 
 pub returns-clause-own : goal.returns-clause-own
-returns-clause-own g c = λ haystack entries p first last begin len is low high are coming part.
+returns-clause-own g c = λ haystack entries p first last begin len is low are coming part.
     let a = c.args in let m = a.self.now.walk.memory in let r = c.requires in
     let n = c.begin_position.new.self in let round = begins_position m n c.begin_position.ensures in
     let table = g.P.Patterns.table a.patterns.now in
@@ -122,7 +121,6 @@ returns-clause-own g c = λ haystack entries p first last begin len is low high 
     (best_of f.best) (record {
       is = is;
       low = low;
-      high = high;
       first_state = n;
       new = none_entered m n round;
       empty = round.next ∙ r.ready.none_next;
@@ -184,12 +182,11 @@ returns-clause-again g c =
     (state_retold tell f.walk.memory) found (record {
       is = is;
       low = low;
-      high = high;
       first_state = state_retold tell n;
       new = none_entered m n round;
       empty = ap (all_retold tell) round.next ∙ ap (all_retold tell) r.ready.none_next;
       starts = starts;
-      are = are;
+      are = starts_up_to high are;
       told = retells;
       tells = tells;
       ways = all_retold tell ws;

@@ -1,0 +1,57 @@
+//! An anchored search, position by position: all its ways begin at one start.
+ghost use Rattle.std.specs.Prelude.{◌≡◌, ◌+◌, ◌<◌, ℕ, IfOk, IfSome, IsCharBoundary, None};
+ghost use Rattle.std.specs.Prelude.{chars, length};
+ghost use Rattle.regex_lite_engine.specs.Graph.Renumbered.{arrows_of};
+ghost use Rattle.regex_lite_engine.specs.Search.Bounds.{IsBoundedBy, StaysCounted, characters_left};
+ghost use Rattle.regex_lite_engine.specs.Search.Offsets.{position_at};
+ghost use Rattle.regex_lite_engine.specs.Search.NumberedOutcomes.{IsFoundTo};
+ghost use Rattle.regex_lite_engine.specs.Pikevm.Searching.{IsFresh, IsBetween};
+ghost use Rattle.regex_lite_engine.specs.Search.Counting.{CanCount};
+ghost use Rattle.regex_lite_engine.specs.Pikevm.Turns.{best_of};
+
+use crate::pikevm::beginning::Beginning;
+use crate::pikevm::cache::Cache;
+use crate::pikevm::run::is_done;
+use crate::search::here::Here;
+use crate::search::patterns::Anchored;
+
+/// Goes from position to position until the match that starts at this offset is known: the most
+/// preferred one or, with EARLIEST, any. It is over as soon as no way is left that began there.
+///
+/// Condition: the start is on a character boundary, the cache has just been made for the table of
+/// the patterns or made ready for another search, and no count of the search can be too large.
+pub fn run_anchored<S: Beginning, P: Anchored, const EARLIEST: bool>(
+    cache: &mut Cache<S>,
+    patterns: &mut P,
+    haystack: &str,
+    start: usize,
+)
+    requires boundary { IsCharBoundary haystack.now start }
+    requires fresh { IsFresh (P.table patterns.old) cache.old }
+    requires counts { CanCount (P.table patterns.old) (length (P.entries patterns.old))
+        (characters_left (chars haystack.now) (position_at haystack.now start)) }
+    ensures found { IsFoundTo EARLIEST (P.table patterns.old) (chars haystack.now)
+        (P.entries patterns.old) (position_at haystack.now start) (position_at haystack.now start)
+        (best_of cache.new.best) }
+    ensures bounded { IsBoundedBy (length (P.table patterns.old))
+        (arrows_of (P.table patterns.old) + length (P.entries patterns.old)) (chars haystack.now)
+        (position_at haystack.now start) cache.new.walk.steps.tried
+        cache.new.walk.steps.entered cache.new.walk.steps.looked }
+    ensures entry { ¬ (best_of cache.new.best ≡ None) → 0 < cache.new.walk.steps.entered }
+    ensures counts { StaysCounted cache.old.walk.steps cache.new.walk.steps }
+    ensures width { length cache.new.best.row ≡ length cache.old.best.row }
+    ensures between { IsBetween (P.table patterns.old) cache.new }
+    ensures table { P.table patterns.new ≡ P.table patterns.old }
+    ensures entries { P.entries patterns.new ≡ P.entries patterns.old }
+{
+    let mut here = Here::at(haystack, start);
+    patterns.come_to(haystack, here);
+    'positions: loop {
+        cache.go_over(patterns, here);
+        if cache.walk.memory.threads() == 0 || is_done::<_, EARLIEST>(here, cache) {
+            return;
+        }
+        here = here.next(haystack);
+        patterns.start_no_more();
+    }
+}

@@ -1,0 +1,155 @@
+//! Anchored searches: for the match that starts where the search does.
+ghost use Rattle.std.specs.Prelude.{◌≡◌, ◌<◌, ◌⊎◌, ◌↔◌, List, IfOk, IfSome, IsCharBoundary, IsTrue};
+ghost use Rattle.std.specs.Prelude.{chars, false, length};
+ghost use Rattle.regex_lite_syntax.specs.Tree.{Tree};
+ghost use Rattle.regex_lite_engine.specs.Graph.SideBySide.{AreRegularPatterns};
+ghost use Rattle.regex_lite_engine.specs.Graph.Stored.{places_of};
+ghost use Rattle.regex_lite_engine.specs.Graph.StoredList.{IsGraphOfList};
+ghost use Rattle.regex_lite_engine.specs.Search.AnswerAt.{AnyMatchesAt};
+ghost use Rattle.regex_lite_engine.specs.Search.Offsets.{position_at, search_start};
+ghost use Rattle.regex_lite_engine.specs.Search.OutcomeOfOne.{TellsAnyOfOneAt, TellsOfOneAt};
+ghost use Rattle.regex_lite_engine.specs.Search.Outcomes.{HasCostOfList, IsOutcomeAtOfList};
+ghost use Rattle.regex_lite_engine.specs.Search.Starts.{IsDeadAt};
+
+use crate::nfa::list::GraphList;
+use crate::pikevm::anchored::run_anchored;
+use crate::pikevm::beginning::{Origin, Unkept};
+use crate::pikevm::cache::{Cache, cache_for};
+use crate::search::here::Here;
+use crate::search::one_pattern::OnePattern;
+use crate::search::outcome::Outcome;
+use crate::steps::{Steps, no_steps};
+use std::alloc::{AllocError, Global};
+
+impl<'g> OnePattern<'g> {
+    /// The most preferred match that starts at this offset, with this number of slots, and what the
+    /// search did.
+    ///
+    /// Condition: the start is on a character boundary.
+    ///
+    /// # Errors
+    ///
+    /// If memory runs out, which can happen only before the first step.
+    pub fn search_anchored(
+        &mut self,
+        alloc: Global,
+        haystack: &str,
+        start: usize,
+        slots: usize,
+    ) -> Result<(Option<Outcome>, Steps), AllocError>
+        requires { IsCharBoundary haystack.now start }
+        ensures { IfOk result (TellsOfOneAt (places_of self.old.table.now) self.old.entry
+            haystack.now start slots) }
+    {
+        if !self.may_start_at(haystack, start) {
+            return Ok((None, no_steps()));
+        }
+        let mut cache = cache_for::<usize>(alloc, self.table, slots)?;
+        run_anchored::<_, _, false>(&mut cache, self, haystack, start);
+        let Cache { walk, best, .. } = cache;
+        Ok((best.into_outcome(), walk.steps))
+    }
+
+    /// Whether a match starts at this offset, and what the search did. It stops at the first match
+    /// that it comes to.
+    ///
+    /// Condition: the start is on a character boundary.
+    ///
+    /// # Errors
+    ///
+    /// If memory runs out, which can happen only before the first step.
+    pub fn search_any_anchored(
+        &mut self,
+        alloc: Global,
+        haystack: &str,
+        start: usize,
+    ) -> Result<(bool, Steps), AllocError>
+        requires { IsCharBoundary haystack.now start }
+        ensures { IfOk result (TellsAnyOfOneAt (places_of self.old.table.now) self.old.entry
+            haystack.now start) }
+    {
+        if !self.may_start_at(haystack, start) {
+            return Ok((false, no_steps()));
+        }
+        let mut cache = cache_for::<Unkept>(alloc, self.table, 0)?;
+        run_anchored::<_, _, true>(&mut cache, self, haystack, start);
+        let Cache { walk, best, .. } = cache;
+        Ok((best.end().is_some(), walk.steps))
+    }
+
+    /// Whether a match may start at this offset. It is asked before any memory is.
+    fn may_start_at(&self, haystack: &str, start: usize) -> bool
+        requires { IsCharBoundary haystack.now start }
+        ensures { result ≡ false → IsDeadAt (places_of self.now.table.now) (chars haystack.now)
+            self.now.entry (position_at haystack.now start) }
+    {
+        self.filter.may_start(haystack, Here::at(haystack, start))
+    }
+}
+
+impl GraphList {
+    /// The match that starts at this offset, of the pattern with the lowest number that matches
+    /// there: that number, the most preferred match of the pattern, and what the search did. The
+    /// match has this number of slots.
+    ///
+    /// Condition: the start is above the haystack's length or on a character boundary.
+    ///
+    /// # Errors
+    ///
+    /// If memory runs out, which can happen only before the first step.
+    pub fn search_anchored(
+        &self,
+        alloc: Global,
+        haystack: &str,
+        start: usize,
+        slots: usize,
+    ) -> Result<(Option<(usize, Outcome)>, Steps), AllocError>
+        requires { (length haystack.now < start) ⊎ IsCharBoundary haystack.now start }
+        ensures found { IfOk result (λ told. (trees : List Tree) → AreRegularPatterns trees
+            → IsGraphOfList trees self.now → IsOutcomeAtOfList trees haystack.now start told.0) }
+        ensures slots { IfOk result (λ told. IfSome told.0
+            (λ found. length found.1.slots.items ≡ slots)) }
+        ensures cost { IfOk result (λ told. (trees : List Tree) → IsGraphOfList trees self.now
+            → HasCostOfList trees haystack.now start told.1) }
+        ensures entered { IfOk result (λ told. IfSome told.0 (λ _. 0 < told.1.entered)) }
+    {
+        if start > haystack.len() || self.len() == 0 {
+            return Ok((None, no_steps()));
+        }
+        let (mut patterns, mut cache) = self.search_memory::<Origin>(alloc, slots)?;
+        run_anchored::<_, _, false>(&mut cache, &mut patterns, haystack, start);
+        let Cache { walk, best, .. } = cache;
+        Ok((best.into_numbered(), walk.steps))
+    }
+
+    /// Whether a match of any pattern starts at this offset, and what the search did. It stops at
+    /// the first match that it comes to.
+    ///
+    /// Condition: the start is above the haystack's length or on a character boundary.
+    ///
+    /// # Errors
+    ///
+    /// If memory runs out, which can happen only before the first step.
+    pub fn search_any_anchored(
+        &self,
+        alloc: Global,
+        haystack: &str,
+        start: usize,
+    ) -> Result<(bool, Steps), AllocError>
+        requires { (length haystack.now < start) ⊎ IsCharBoundary haystack.now start }
+        ensures found { IfOk result (λ told. (trees : List Tree) → AreRegularPatterns trees
+            → IsGraphOfList trees self.now → (IsTrue told.0
+            ↔ AnyMatchesAt trees (chars haystack.now) (search_start haystack.now start))) }
+        ensures cost { IfOk result (λ told. (trees : List Tree) → IsGraphOfList trees self.now
+            → HasCostOfList trees haystack.now start told.1) }
+        ensures entered { IfOk result (λ told. IsTrue told.0 → 0 < told.1.entered) }
+    {
+        if start > haystack.len() || self.len() == 0 {
+            return Ok((false, no_steps()));
+        }
+        let (mut patterns, mut cache) = self.search_memory::<Unkept>(alloc, 0)?;
+        run_anchored::<_, _, true>(&mut cache, &mut patterns, haystack, start);
+        let Cache { walk, best, .. } = cache;
+        Ok((best.end().is_some(), walk.steps))
+    }
+}

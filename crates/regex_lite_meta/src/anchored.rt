@@ -1,0 +1,130 @@
+//! Anchored searches: for the match that starts where the search does. They go by ordered sets.
+ghost use Rattle.std.specs.Prelude.{◌≡◌, ◌<◌, ◌⊎◌, ◌↔◌, ◌^◌, ℕ, List, IfOk, IfSome};
+ghost use Rattle.std.specs.Prelude.{IsCharBoundary, IsTrue, [], chars, length};
+ghost use Rattle.regex_lite_syntax.specs.Tree.{Tree};
+ghost use Rattle.regex_lite_syntax.specs.Tree.Regular.{IsRegular};
+ghost use Rattle.regex_lite_engine.specs.Graph.Places.{Place};
+ghost use Rattle.regex_lite_engine.specs.Graph.Renumbered.{IsGraphOf};
+ghost use Rattle.regex_lite_engine.specs.Pikevm.Searching.{IsBetween};
+ghost use Rattle.regex_lite_engine.specs.Search.AnswerAt.{HasMatchAt};
+ghost use Rattle.regex_lite_engine.specs.Search.Counting.{IsCountable};
+ghost use Rattle.regex_lite_engine.specs.Search.NumberedOutcomes.{IsBestOutcomeTo, IsFoundTo};
+ghost use Rattle.regex_lite_engine.specs.Search.NumberedOutcomes.{best_kept, numbered_at};
+ghost use Rattle.regex_lite_engine.specs.Search.NumberedOutcomes.{with_origin_kept};
+ghost use Rattle.regex_lite_engine.specs.Search.NumberedWords.{AreAnsweredBy};
+ghost use Rattle.regex_lite_engine.specs.Search.Offsets.{position_at, search_start};
+ghost use Rattle.regex_lite_engine.specs.Search.Outcomes.{HasCost, IsOutcomeAt};
+
+use regex_lite_engine::pikevm::anchored::run_anchored;
+use regex_lite_engine::pikevm::beginning::Origin;
+use regex_lite_engine::pikevm::cache::{Cache, restart};
+use regex_lite_engine::search::outcome::Outcome;
+use regex_lite_engine::search::patterns::Anchored;
+use regex_lite_engine::steps::no_steps;
+use regex_lite_engine::{Graph, Steps};
+use regex_lite_syntax::prefilter::ListWords;
+use std::alloc::{AllocError, Global};
+
+/// The most preferred match that starts at this offset, with this number of slots, and what the
+/// search did. It is over as soon as no way is left that began there.
+///
+/// Condition: the start is above the haystack's length or on a character boundary.
+///
+/// # Errors
+///
+/// If memory runs out, which can happen only before the first step.
+pub fn search_anchored(
+    graph: &Graph,
+    alloc: Global,
+    haystack: &str,
+    start: usize,
+    slots: usize,
+) -> Result<(Option<Outcome>, Steps), AllocError>
+    requires { (length haystack.now < start) ⊎ IsCharBoundary haystack.now start }
+    ensures found { IfOk result (λ told. (tree : Tree) → IsRegular tree
+        → IsGraphOf tree graph.now → IsOutcomeAt tree haystack.now start told.0) }
+    ensures slots { IfOk result (λ told. IfSome told.0
+        (λ outcome. length outcome.slots.items ≡ slots)) }
+    ensures cost { IfOk result (λ told. (tree : Tree) → IsGraphOf tree graph.now
+        → HasCost tree haystack.now start told.1) }
+    ensures entered { IfOk result (λ told. IfSome told.0 (λ _. 0 < told.1.entered)) }
+{
+    if start > haystack.len() {
+        return Ok((None, no_steps()));
+    }
+    let mut pattern = graph.pattern();
+    pattern.search_anchored(alloc, haystack, start, slots)
+}
+
+/// Whether a match starts at this offset, and what the search did. It stops at the first match that
+/// it comes to.
+///
+/// Condition: the start is above the haystack's length or on a character boundary.
+///
+/// # Errors
+///
+/// If memory runs out, which can happen only before the first step.
+pub fn search_any_anchored(
+    graph: &Graph,
+    alloc: Global,
+    haystack: &str,
+    start: usize,
+) -> Result<(bool, Steps), AllocError>
+    requires { (length haystack.now < start) ⊎ IsCharBoundary haystack.now start }
+    ensures found { IfOk result (λ told. (tree : Tree) → IsRegular tree
+        → IsGraphOf tree graph.now → (IsTrue told.0
+        ↔ HasMatchAt tree (chars haystack.now) (search_start haystack.now start))) }
+    ensures cost { IfOk result (λ told. (tree : Tree) → IsGraphOf tree graph.now
+        → HasCost tree haystack.now start told.1) }
+    ensures entered { IfOk result (λ told. IsTrue told.0 → 0 < told.1.entered) }
+{
+    if start > haystack.len() {
+        return Ok((false, no_steps()));
+    }
+    let mut pattern = graph.pattern();
+    pattern.search_any_anchored(alloc, haystack, start)
+}
+
+/// Where the match starts and ends that starts at this offset, of the lowest of these patterns that
+/// match there, found in this memory, whose row has its slots. With EARLIEST only whether there is
+/// one is known.
+pub(crate) fn find_anchored<P: Anchored, const EARLIEST: bool>(
+    cache: &mut Cache<Origin>,
+    patterns: &mut P,
+    haystack: &str,
+    start: usize,
+) -> Option<(Origin, usize)>
+    requires boundary { IsCharBoundary haystack.now start }
+    requires between { IsBetween (P.table patterns.old) cache.old }
+    requires countable { IsCountable (P.table patterns.old) }
+    requires few { length (P.entries patterns.old) < 2 ^ 32 }
+    ensures found { IsFoundTo EARLIEST (P.table patterns.old) (chars haystack.now)
+        (P.entries patterns.old) (position_at haystack.now start) (position_at haystack.now start)
+        (best_kept result cache.new.best.row) }
+    ensures between { IsBetween (P.table patterns.old) cache.new }
+    ensures width { length cache.new.best.row ≡ length cache.old.best.row }
+    ensures table { P.table patterns.new ≡ P.table patterns.old }
+    ensures entries { P.entries patterns.new ≡ P.entries patterns.old }
+{
+    restart(cache);
+    run_anchored::<_, _, EARLIEST>(cache, patterns, haystack, start);
+    cache.best.found()
+}
+
+/// Of the first of these words that stands at this offset the number of its pattern, and where it
+/// starts and ends.
+pub(crate) fn find_word_at(
+    words: &ListWords,
+    haystack: &str,
+    start: usize,
+) -> Option<(usize, (usize, usize))>
+    requires { IsCharBoundary haystack.now start }
+    ensures { (table : List (Place ℕ)) (entries : List ℕ) → AreAnsweredBy table entries words.now
+        → IsBestOutcomeTo table (chars haystack.now) entries (position_at haystack.now start)
+        (position_at haystack.now start) (with_origin_kept (numbered_at result [])) }
+{
+    match words.find_span(haystack.as_bytes(), start) {
+        Some((number, span)) if span.0 == start => Some((number, span)),
+        _ => None,
+    }
+}
