@@ -1,6 +1,7 @@
 //! The graph of a pattern: numbered places with ordered arrows.
-ghost use Rattle.std.specs.Prelude.{◌≡◌, ◌^◌, ◌<◌, length, IfOk, IfErr};
+ghost use Rattle.std.specs.Prelude.{◌≡◌, ◌^◌, ◌<◌, length, not, IfOk, IfErr};
 ghost use Rattle.regex_lite_syntax.specs.Errors.{kind_of};
+ghost use Rattle.regex_lite_syntax.specs.Tree.Properties.{nullable};
 ghost use Rattle.regex_lite_syntax.specs.Tree.Regular.{IsRegular};
 ghost use Rattle.regex_lite_syntax.specs.Tree.Views.{tree_of};
 ghost use Rattle.regex_lite_engine.specs.Graph.Renumbered.{arrows_of, IsGraphOf, HasGroupsOf};
@@ -15,6 +16,7 @@ pub(crate) mod groups;
 pub(crate) mod kept_back;
 pub mod list;
 pub mod place;
+mod reads;
 pub mod table;
 mod write;
 
@@ -58,6 +60,7 @@ impl Model for Graph {
       arrows = graph.table.arrows;
       capture_names = graph.groups.capture_names;
       static_captures_len = graph.groups.static_captures_len;
+      reads = graph.reads;
     } };
 
     ghost invariant = { λ graph. (graph.start < length graph.table.places)
@@ -83,6 +86,7 @@ impl Graph {
         requires { IsRegular (tree_of hir.now) }
         ensures ok { IfOk result (λ graph. IsGraphOf (tree_of hir.now) graph) }
         ensures groups { IfOk result (λ graph. HasGroupsOf (tree_of hir.now) graph) }
+        ensures reads { IfOk result (λ graph. graph.reads ≡ not (nullable (tree_of hir.now))) }
         ensures fits { IfOk result (λ _. Fits size_limit (tree_of hir.now)) }
         ensures refused { IfErr result
             (λ error. IsDueToTree size_limit (tree_of hir.now) (kind_of error)) }

@@ -144,13 +144,20 @@ module _ (trees : List Tree) (list : StoredList) (is : IsGraphOfList trees list)
       list_any_at_told trees list is haystack start inside regular None none
   any_of_word (Some told) (number, found, (up_to, answer), tells, ends, held) =
       list_any_at_told trees list is haystack start inside regular
-      (with_origin_kept (numbered_at (Some told) []))
-      (found.start, number, answer.answer.way, answer.answer.last, found.end, up_to, record {
-        entry = answer.entry;
-        is_entry = answer.is_entry;
-        is_match = record {
-          from = answer.answer.from;
-          inside = answer.answer.inside;
-          leads = answer.answer.is_way;
-        };
-      })
+      (with_origin_kept (numbered_at (Some told) [])) (
+        found.start,
+        number,
+        answer.answer.way,
+        answer.answer.last,
+        found.end,
+        up_to,
+        record {
+          entry = answer.entry;
+          is_entry = answer.is_entry;
+          is_match = record {
+            from = answer.answer.from;
+            inside = answer.answer.inside;
+            leads = answer.answer.is_way;
+          };
+        },
+      )

@@ -208,7 +208,9 @@ impl<'g> GraphListSearcher<'g> {
             }
             Inner::Words(words) => find_word_at(words, haystack, start).is_some(),
             Inner::Several(several) => {
-                several.find_any_anchored(self.graph, haystack, start).is_some()
+                several
+                    .find_any_anchored(self.graph, haystack, start)
+                    .is_some()
             }
         }
     }

@@ -114,7 +114,10 @@ impl<'g> GraphSearcher<'g> {
             return None;
         }
         let mut pattern = self.graph.pattern();
-        span_of(self.inner.find_anchored::<false>(&mut pattern, haystack, start))
+        span_of(
+            self.inner
+                .find_anchored::<false>(&mut pattern, haystack, start),
+        )
     }
 
     /// Whether a match starts at this offset. The search is over at the first match that it comes

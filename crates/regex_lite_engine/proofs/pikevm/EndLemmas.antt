@@ -127,7 +127,8 @@ module _ (table : List (Place ℕ)) (haystack : Text) (s : List ℕ) (first last
       } in (
         number,
         found,
-        list_answer_when_over table haystack s first last within recorded (Some w) (Some (number, found))
+        list_answer_when_over table haystack s first last within recorded (Some w)
+            (Some (number, found))
             (subst (λ z. IsOverOf table haystack s first last recorded z) e over)
             (number, entry, found, ks, q, refl, is, parts, along, refl),
         at,

@@ -1,7 +1,7 @@
 -- What an anchored search returns: its answer, by offsets.
 use Rattle.regex_lite_engine.proofs.Common.{◌≡◌, ℕ, ◌<◌, ◌≤◌, ◌↔◌, List, [], ◌∷◌, length}
 use Rattle.regex_lite_engine.proofs.Common.{is_some, IsTrue, Some, None, Option, chars, sym, refl}
-use Rattle.regex_lite_engine.proofs.Common.{ap, ◌∙◌, subst, arith, Text, Tree, IsRegular}
+use Rattle.regex_lite_engine.proofs.Common.{subst, arith, Text, Tree, IsRegular}
 use Rattle.regex_lite_engine.proofs.Common.{table_of, Found}
 use Rattle.regex_lite_engine.proofs.Common.{IsMatchFrom, IsNumberedMatch, Best, IsDeadAt, Leads}
 use Rattle.regex_lite_engine.proofs.Common.{numbered_step}

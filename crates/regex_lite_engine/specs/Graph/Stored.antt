@@ -1,5 +1,5 @@
 -- Graphs as they are stored: a table of numbered places, and what is known of it.
-use Rattle.std.specs.Prelude.{◌≡◌, ℕ, ◌^◌, ◌<◌, List, [], ◌∷◌, map}
+use Rattle.std.specs.Prelude.{◌≡◌, ℕ, ◌^◌, ◌<◌, Bool, List, [], ◌∷◌, map}
 use Rattle.std.specs.Prelude.{length, slice_get, sum_by, Option, Some}
 use Rattle.std.specs.declared.alloc.Global.{Global}
 use Rattle.std.specs.declared.rc.RcStr.{RcStr}
@@ -26,6 +26,8 @@ pub record StoredGraph : Type 0 where
   -- by index
   pub capture_names : List (Option (RcStr Global))
   pub static_captures_len : Option ℕ
+  -- whether each match reads a character, as far as the tree tells without a haystack
+  pub reads : Bool
 
 -- the place that is stored
 abbrev pub place_of : code.Place → Place ℕ

@@ -1,5 +1,5 @@
 -- The graph of several patterns as it is stored, and what a search for them needs of it.
-use Rattle.std.specs.Prelude.{◌≡◌, ℕ, List, map, length, option_map}
+use Rattle.std.specs.Prelude.{◌≡◌, ℕ, Bool, List, map, length, option_map}
 use Rattle.std.specs.Prelude.{slice_get, slice_index_or, Option, Some, None}
 use Rattle.std.specs.declared.alloc.Global.{Global}
 use Rattle.std.specs.declared.rc.RcStr.{RcStr}
@@ -30,6 +30,8 @@ pub record StoredList : Type 0 where
   pub arrows : ℕ
   -- by the number of the pattern
   pub groups : List StoredGroups
+  -- of each pattern, by its number, whether each of its matches reads a character
+  pub reads : List Bool
 
 -- the places of the graph
 abbrev pub table_of_list : StoredList → List (Place ℕ)

@@ -52,7 +52,7 @@ pub struct GraphList {
     /// Where a match of each pattern can begin, by its number.
     filters: Vec<OwnFilter>,
     /// Whether each match of a pattern reads a character, by its number.
-    reads: Vec<bool>,
+    pub(super) reads: Vec<bool>,
     /// Which patterns may start at a position.
     heads: ListHeads,
     /// The numbers of those that may match without reading a character, in order.
@@ -78,6 +78,7 @@ impl Model for GraphList {
       entries = list.entries.items;
       arrows = list.table.arrows;
       groups = list.groups.items;
+      reads = list.reads.items;
     } };
 
     ghost invariant = { λ list.
@@ -126,6 +127,7 @@ impl GraphList {
         requires fit { All (λ tree. (limit : ℕ) × Fits limit tree) (map tree_of hirs.now) }
         ensures ok { IfOk result (λ list. IsGraphOfList (map tree_of hirs.now) list) }
         ensures groups { IfOk result (λ list. HasGroupsOfList (map tree_of hirs.now) list) }
+        ensures reads { IfOk result (λ list. TellReading (map tree_of hirs.now) list.reads) }
         ensures fits { IfOk result (λ _. places_of_all (map tree_of hirs.now) < 2 ^ 32) }
         ensures refused { IfErr result (λ error. (error ≡ out_of_memory)
             ⊎ ((kind_of error ≡ Places) × (2 ^ 32 ≤ places_of_all (map tree_of hirs.now)))) }

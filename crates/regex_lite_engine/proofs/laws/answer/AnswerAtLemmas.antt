@@ -1,6 +1,6 @@
 -- An anchored answer is the answer where that starts there.
 use Rattle.regex_lite_engine.proofs.Common.{◌≡◌, ℕ, ◌≤◌, List, sym, subst, arith, Text, Tree}
-use Rattle.regex_lite_engine.proofs.Common.{Found, IsFound, IsMatchFrom, HasTree}
+use Rattle.regex_lite_engine.proofs.Common.{Found, IsFound, IsMatchFrom}
 use Rattle.regex_lite_engine.specs.Search.AnswerAt.{HasMatchAt, IsFoundAt, IsFoundAtInList}
 use Rattle.regex_lite_engine.specs.Search.AnswerOfList.{IsFoundInList}
 use Rattle.regex_lite_engine.specs.Search.Marks.{marks_of_way}
@@ -14,7 +14,8 @@ match_at tree haystack s (inside, (j, m)) =
     (j, record { from = omega arith; inside = inside; matches = m })
 
 -- a match that starts from position s up to s starts there
-pub starts_at : (tree : Tree) (haystack : Text) (s i j : ℕ) → i ≤ s → IsMatchFrom tree haystack s i j
+pub starts_at : (tree : Tree) (haystack : Text) (s i j : ℕ) → i ≤ s
+    → IsMatchFrom tree haystack s i j
     → HasMatchAt tree haystack s
 starts_at tree haystack s i j up_to m =
     let low = m.from in

@@ -101,14 +101,16 @@ module _ (table : List (Place ℕ)) (haystack : Text) (entries : List ℕ) (s la
             let all : found.start ∷ (number ∷ way) ≡ i ∷ (k ∷ first.0.arrows)
             = first.0.parts ∙ ap (λ z. z ++ first.0.arrows) e in
             let at : found.start ≡ i = same_head all in
-            let own = same_entry number k entry x (same_head (same_tail all)) is_entry p in
-            (omega (arith, high, at), record {
-              from = omega (arith, low, at);
-              inside = omega (arith, high, at, inside);
-              leads = along_whole table haystack first.0 entry found.start way q found.end
-                  (same_start entry x found.start i own at ∙ sym f) (same_tail (same_tail all))
-                  along;
-            })
+            let own = same_entry number k entry x (same_head (same_tail all)) is_entry p in (
+              omega (arith, high, at),
+              record {
+                from = omega (arith, low, at);
+                inside = omega (arith, high, at, inside);
+                leads = along_whole table haystack first.0 entry found.start way q found.end
+                    (same_start entry x found.start i own at ∙ sym f) (same_tail (same_tail all))
+                    along;
+              },
+            )
 
     here : IsNumberedMatch table haystack entry s found.start way q found.end
     here = own_match.1
@@ -171,12 +173,15 @@ module _ (table : List (Place ℕ)) (haystack : Text) (entries : List ℕ) (s la
     }
 
     first_found : IsNumberedAnswerTo table haystack entries s last (Some (number, found))
-    first_found = (own_match.0, record {
-      entry = entry;
-      is_entry = is_entry;
-      answer = found_is;
-      first = λ i k other p j m. not_before i k other (compared i k other p j m);
-    })
+    first_found = (
+      own_match.0,
+      record {
+        entry = entry;
+        is_entry = is_entry;
+        answer = found_is;
+        first = λ i k other p j m. not_before i k other (compared i k other p j m);
+      },
+    )
 
   pub list_answer_when_over : last ≤ length haystack → (recorded : ℕ × ℕ → Option (List ℕ))
       (best : Option (List ℕ)) (answer : Option (ℕ × Found)) → IsOverOf recorded best

@@ -1,5 +1,5 @@
-use Rattle.regex_lite_engine.proofs.Common.{◌^◌, ◌<◌, length, sym, ap, subst, arith, rules}
-use Rattle.regex_lite_engine.proofs.Common.{places_of, table_of_list, position_at}
+use Rattle.regex_lite_engine.proofs.Common.{◌^◌, ◌<◌, length, arith, rules}
+use Rattle.regex_lite_engine.proofs.Common.{position_at}
 use Rattle.regex_lite_engine.proofs.search.ListOutcomeLemmas.{cost_of_list, outcome_told}
 use Rattle.std.proofs.lemmas.Grind.{common_steps}
 use Rattle.regex_lite_engine.proofs.nfa.BoundaryLemmas.{on_boundary}

@@ -1,5 +1,5 @@
-use Rattle.regex_lite_engine.proofs.Common.{◌^◌, ◌<◌, length, sym, ap, subst, arith, rules}
-use Rattle.regex_lite_engine.proofs.Common.{places_of, table_of_list, position_at}
+use Rattle.regex_lite_engine.proofs.Common.{◌^◌, ◌<◌, length, arith, rules}
+use Rattle.regex_lite_engine.proofs.Common.{position_at}
 use Rattle.regex_lite_engine.proofs.search.ListAnchoredLemmas.{list_outcome_at_told}
 use Rattle.regex_lite_engine.proofs.search.ListOutcomeLemmas.{cost_of_list}
 use Rattle.std.proofs.lemmas.Grind.{common_steps}
@@ -22,7 +22,8 @@ pub returns-clause-found : goal.returns-clause-found
 returns-clause-found c = λ trees regular is.
     list_outcome_at_told trees c.args.self.now is c.args.haystack.now c.args.start
     (omega (arith, c.if-start-haystack.false)) regular c.into_numbered.result
-    (rw (c.in_ok-patterns.ensures.list, c.into_numbered.ensures.told) at c.run_anchored.ensures.found)
+    (rw (c.in_ok-patterns.ensures.list, c.into_numbered.ensures.told) at
+    c.run_anchored.ensures.found)
 
 pub returns-clause-cost : goal.returns-clause-cost
 returns-clause-cost c = λ trees is.

@@ -1,5 +1,5 @@
 use Rattle.regex_lite_engine.proofs.Common.{◌^◌, ◌<◌, ◌↔◌, length, is_some, IsTrue, chars, sym, ap}
-use Rattle.regex_lite_engine.proofs.Common.{◌∙◌, subst, arith, rules, places_of, table_of_list}
+use Rattle.regex_lite_engine.proofs.Common.{◌∙◌, subst, arith, rules}
 use Rattle.regex_lite_engine.proofs.Common.{best_of, position_at, search_start}
 use Rattle.regex_lite_engine.proofs.Common.{false, option_map}
 use Rattle.regex_lite_engine.specs.Search.AnswerAt.{AnyMatchesAt}

@@ -1,5 +1,6 @@
 use Rattle.regex_lite_engine.proofs.Common.{◌^◌, ◌<◌, length, chars, arith, rules, places_of}
-use Rattle.regex_lite_engine.proofs.Common.{length-map, place_of, position_at, best_of, is_some, ap, ◌∙◌, IsTrue, subst}
+use Rattle.regex_lite_engine.proofs.Common.{length-map, place_of, position_at, best_of, is_some}
+use Rattle.regex_lite_engine.proofs.Common.{ap, ◌∙◌, IsTrue, subst}
 use Rattle.regex_lite_engine.proofs.Common.{option_map, false, refl, None, arrows_of}
 use Rattle.regex_lite_engine.proofs.search.AnchoredOutcomeLemmas.{none_from_dead}
 use Rattle.regex_lite_engine.proofs.search.FirstStartLemmas.{none_tried}
