@@ -1,7 +1,7 @@
 -- What anchored searches find, with what is kept of it.
-use Rattle.regex_lite_meta.proofs.Common.{◌≡◌, ◌<◌, ◌≤◌, ◌⊎◌, ℕ, List, [], ◌∷◌, Some, None, Option}
-use Rattle.regex_lite_meta.proofs.Common.{inl, inr, refl, sym, subst, ◌∙◌, arith, Text, Row, Origin}
-use Rattle.regex_lite_meta.proofs.Common.{IsBestOutcomeOf, best_at, best_kept, best_told, span_of}
+use Rattle.regex_lite_meta.proofs.Common.{◌≡◌, ◌<◌, ◌≤◌, ◌⊎◌, ℕ, List, [], Some, None, Option}
+use Rattle.regex_lite_meta.proofs.Common.{inl, inr, refl, sym, ◌∙◌, arith, Text, Row, Origin}
+use Rattle.regex_lite_meta.proofs.Common.{IsBestOutcomeOf, best_at, best_kept, span_of}
 use Rattle.regex_lite_meta.proofs.Common.{with_start_kept, chars, position_at, ap}
 use Rattle.regex_lite_meta.proofs.Common.{table_of_list, length}
 use Rattle.regex_lite_engine.specs.Search.Offsets.{offset, search_start}

@@ -7,13 +7,15 @@
 //! match, and a [`GraphSetSearcher`] does so again and again in the same memory. Each goes by a
 //! lazy automaton (`lazy_dfa`) where that pays, and otherwise by one of the two searches of
 //! `regex_lite_engine`. All of them return the same. A [`SlotSearcher`] finds the slots of matches
-//! that another search has found.
+//! that another search has found. [`search_listed`] and [`search_listed_any`] search for one of
+//! several patterns, which is given by its number.
 #![tactic(auto)]
 
 mod anchored;
 mod lazy_dfa;
 mod list_matches;
 mod list_searcher;
+mod listed;
 mod once;
 mod one;
 mod pattern_searcher;
@@ -27,6 +29,7 @@ mod strategy;
 pub use anchored::{search_anchored, search_any_anchored};
 pub use list_matches::{search_each, search_each_uncounted};
 pub use list_searcher::GraphListSearcher;
+pub use listed::{search_listed, search_listed_any};
 pub use once::{
     search, search_any, search_list, search_list_any, search_list_uncounted, search_shortest,
 };

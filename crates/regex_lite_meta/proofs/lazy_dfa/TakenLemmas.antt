@@ -1,8 +1,7 @@
 -- What a turn changes of where a scan stands, by the effect of its target.
 use Rattle.regex_lite_meta.proofs.Common.{◌≡◌, ℕ, Some, None, Option, sym, refl, ap, ◌∙◌, inl}
 use Rattle.regex_lite_meta.proofs.Common.{inr, Origin, Standing, Target, best_left, best_told}
-use Rattle.regex_lite_meta.proofs.Common.{subst, Row}
-use Rattle.regex_lite_engine.specs.Search.Beginnings.{Told}
+use Rattle.regex_lite_meta.proofs.Common.{subst}
 use Rattle.regex_lite_meta.specs.LazyDfa.Automaton.{KeptOrigin, State, first_left}
 use Rattle.regex_lite_meta.specs.declared.lazy_dfa.spot.Spot.{Spot}
 use Rattle.regex_lite_meta.specs.declared.lazy_dfa.state.Effect as code
@@ -10,7 +9,7 @@ use Rattle.regex_lite_meta.specs.declared.lazy_dfa.state.Effect.TheVariants as e
 use Rattle.regex_lite_meta.specs.LazyDfa.Spots.{EndsScan, IsTaken, Stays, Takes}
 use Rattle.regex_lite_meta.specs.LazyDfa.Spots.{TakesToNothing}
 use Rattle.regex_lite_meta.specs.LazyDfa.Stored.{HasEffect, is_restarting, known_hit, last_hit}
-use Rattle.regex_lite_syntax.proofs.OptionLemmas.{not_there, same_some}
+use Rattle.regex_lite_syntax.proofs.OptionLemmas.{not_there}
 
 -- a match that there is, is one
 pub told_some : (found : Option (Origin × ℕ)) → (found ≡ None → ⊥) → best_told found ≡ None → ⊥

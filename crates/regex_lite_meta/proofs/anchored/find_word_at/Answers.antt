@@ -1,7 +1,5 @@
-use Rattle.regex_lite_meta.proofs.Common.{ℕ, Some, None, Option, sym, ap, ◌∙◌, subst, false}
-use Rattle.regex_lite_meta.proofs.Common.{position_at}
+use Rattle.regex_lite_meta.proofs.Common.{Some, None, subst}
 use Rattle.regex_lite_syntax.specs.Prefilter.NumberedWords.{IsNextOfPatterns}
-use Rattle.regex_lite_engine.proofs.nfa.BoundaryLemmas.{on_boundary}
 use Rattle.regex_lite_meta.proofs.AnchoredSpanLemmas.{none_to, word_later, word_starts}
 use Rattle.regex_lite_meta.proofs.anchored.find_word_at.Goals as goal
 use Rattle.regex_lite_meta.proofs.anchored.find_word_at.Goals.{After-find_span}

@@ -1,4 +1,4 @@
-use Rattle.regex_lite_meta.proofs.Common.{[], chars, places_of, position_at, subst, table_of_list}
+use Rattle.regex_lite_meta.proofs.Common.{[], chars, places_of, position_at, table_of_list}
 use Rattle.regex_lite_engine.specs.Search.NumberedOutcomes.{IsBestOutcomeTo, numbered_at}
 use Rattle.regex_lite_engine.specs.Search.NumberedOutcomes.{with_origin_kept}
 use Rattle.regex_lite_engine.specs.Search.NumberedWords.{AreAnsweredBy}

@@ -1,8 +1,7 @@
 use Rattle.regex_lite_meta.proofs.Common.{Some, [], chars, ◌∙◌, subst, sym}
 use Rattle.regex_lite_meta.proofs.Common.{nil_from_length, table_of_list, position_at}
 use Rattle.regex_lite_meta.proofs.Common.{best_kept, best_told}
-use Rattle.regex_lite_engine.specs.Search.NumberedOutcomes.{IsBestOutcomeTo, numbered_at}
-use Rattle.regex_lite_engine.specs.Search.NumberedOutcomes.{with_origin_kept}
+use Rattle.regex_lite_engine.specs.Search.NumberedOutcomes.{IsBestOutcomeTo}
 use Rattle.regex_lite_syntax.proofs.OptionLemmas.{not_there}
 use Rattle.regex_lite_meta.proofs.AnchoredSpanLemmas.{from_to, still_to}
 use Rattle.regex_lite_meta.proofs.several_searcher.SeveralSearcher.find_anchored.Goals as goal

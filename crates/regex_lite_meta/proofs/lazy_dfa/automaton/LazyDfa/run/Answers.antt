@@ -1,4 +1,4 @@
-use Rattle.regex_lite_meta.proofs.Common.{◌≡◌, ◌+◌, ◌==◌, ℕ, not, chars, ap, ◌∙◌, arith, Some}
+use Rattle.regex_lite_meta.proofs.Common.{◌≡◌, ◌==◌, ℕ, not, chars, ap, ◌∙◌, arith, Some}
 use Rattle.regex_lite_meta.proofs.Common.{subst, refl, sym, rules, true, None, slice_get, best_told}
 use Rattle.regex_lite_meta.proofs.Common.{Standing, Target}
 use Rattle.regex_lite_meta.specs.LazyDfa.Automaton.{State}
