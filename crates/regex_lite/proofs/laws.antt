@@ -10,3 +10,4 @@ pub mod ResultLemmas
 pub mod GroupFactLemmas
 pub mod FirstMatchLemmas
 pub mod FirstOfListLemmas
+pub mod AnchoredLawLemmas

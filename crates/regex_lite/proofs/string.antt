@@ -1,5 +1,6 @@
 -- lemmas that several proofs here share
 pub mod AcceptanceLemmas
+pub mod AnchoredLemmas
 pub mod CapturedLemmas
 pub mod EqualityLemmas
 pub mod EscapedLemmas
@@ -8,6 +9,7 @@ pub mod GroupLemmas
 pub mod GroupNameLemmas
 pub mod KeptLemmas
 pub mod LawfulLemmas
+pub mod ListAnchoredLemmas
 pub mod ListGroupLemmas
 pub mod ListKeptLemmas
 pub mod ListLemmas

@@ -1,8 +1,9 @@
 -- Where to begin: Headline has the whole promise on one page. Expression says what is built, what
 -- is refused and what a regex returns, and Searches what the searches return. RegexList and
--- RegexListSearches say the same of several patterns at once. Templates says what a template gives
--- for the groups of a match, and Escapes which pattern is made of a text. MatchOffsets says where
--- in a haystack a pattern matches, whatever is searched for.
+-- RegexListSearches say the same of several patterns at once, and Anchored what anchored searches
+-- return of one pattern and of several. Templates says what a template gives for the groups of a
+-- match, and Escapes which pattern is made of a text. MatchOffsets says where in a haystack a
+-- pattern matches, whatever is searched for.
 pub mod Headline
 pub mod Settings
 pub mod Expression
@@ -12,6 +13,7 @@ pub mod MatchViews
 pub mod Searches
 pub mod RegexList
 pub mod RegexListSearches
+pub mod Anchored
 pub mod MatchList
 pub mod Ahead
 pub mod Items
@@ -27,6 +29,7 @@ pub mod ListLaws
 pub mod RegexListLaws
 pub mod MatchOffsets
 pub mod OffsetLaws
+pub mod AnchoredLaws
 pub mod TreeLaws
 pub mod ResultLaws
 pub mod GroupLaws

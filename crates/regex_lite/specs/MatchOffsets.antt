@@ -41,6 +41,12 @@ pub record IsFirstMatch (re : Expression) (haystack : List ℕ) (start : ℕ) (s
 abbrev pub MatchesNowhere : Expression → (haystack : List ℕ) → (start : ℕ) → Type 0
 MatchesNowhere re haystack start = (at : ℕ) → start ≤ at → MatchesAt re haystack at → ⊥
 
+-- one of these patterns has a match that begins at this offset
+abbrev pub SomeMatchesAt : List Expression → (haystack : List ℕ) → (at : ℕ) → Type 0
+SomeMatchesAt list haystack at =
+    (number : ℕ) × (re : Expression) × (slice_get list number ≡ Some re)
+    × MatchesAt re haystack at
+
 -- the grammar gives each of these patterns a tree
 abbrev pub HaveTrees : List Expression → Type 0
 HaveTrees list = (trees : List Tree) × AreTrees list trees

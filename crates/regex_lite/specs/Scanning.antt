@@ -82,6 +82,14 @@ pub record IsMatchWithSlots {A N : Type 0} (found_of : A → Found) (number_of :
   pub is_match : IsMatchOf haystack (found_of answer) told.1
   pub has_slots : HasSlots (chars haystack) slots (found_of answer).marks
 
+-- and for a search for several patterns from this offset on
+abbrev pub TellsListMatch : List Expression → (haystack : List ℕ) → (start : ℕ)
+    → (slots : List (Option ℕ)) → Option (ℕ × Match) → Type 0
+TellsListMatch list haystack start slots told =
+    TellsOfAnswer (IsAnswerOfPatterns list (chars haystack))
+    (IsMatchWithSlots (λ own. own.1) (λ own. own.0) haystack slots) (search_start haystack start)
+    told
+
 -- what is returned is this answer of some search of the haystack, and these are its slots
 abbrev pub IsMatchOfSearch : {A N : Type 0} → (found_of : A → Found) → (number_of : A → N)
     → (Answers : (s : ℕ) → Option A → Type 0) → (haystack : List ℕ)

@@ -2,6 +2,10 @@
 //! match, of trees, groups, lists, pieces and replacements, of escaped texts and of equality. The
 //! function of a law does nothing: its contract is the law.
 ghost use Rattle.std.specs.Cmp.{IsEquivalence};
+ghost use Rattle.regex_lite.specs.AnchoredLaws.{AnchoredListSearchesAreSearches};
+ghost use Rattle.regex_lite.specs.AnchoredLaws.{AnchoredListSearchesFindAt};
+ghost use Rattle.regex_lite.specs.AnchoredLaws.{AnchoredSearchesAreSearches};
+ghost use Rattle.regex_lite.specs.AnchoredLaws.{AnchoredSearchesFindAt};
 ghost use Rattle.regex_lite.specs.GroupLaws.{AllGroupsTakePart, GroupsHaveNames};
 ghost use Rattle.regex_lite.specs.GroupLaws.{GroupsHaveTheirSpans, ListMatchIsGroup0};
 ghost use Rattle.regex_lite.specs.GroupLaws.{MatchIsGroup0, OneNameList};
@@ -86,6 +90,23 @@ pub fn searches_find_the_first_match()
 /// is that of the lowest pattern of which a match begins where this one does.
 pub fn list_searches_find_the_first_match()
     ensures { ListSearchesFindFirst }
+{}
+
+/// An anchored search returns a match exactly if the search from there on returns it, and it starts
+/// there: for one pattern and for several, whether the match is returned, its groups, or where they
+/// lie.
+pub fn anchored_searches_find_what_starts_there()
+    ensures one { AnchoredSearchesAreSearches }
+    ensures several { AnchoredListSearchesAreSearches }
+{}
+
+/// By the offsets at which patterns match, an anchored search returns a match exactly if it starts
+/// where the search does and the pattern prefers it to the others that start there. It returns
+/// nothing exactly if no match starts there. Of several patterns the number is that of the lowest
+/// one that matches there.
+pub fn anchored_searches_find_the_match_there()
+    ensures one { AnchoredSearchesFindAt }
+    ensures several { AnchoredListSearchesFindAt }
 {}
 
 /// What any one search returns shows whether the pattern matches from the start on, or one of

@@ -1,4 +1,5 @@
 //! Regexes over haystacks that are `&str`, and the builder that makes them.
+mod anchored;
 mod builder;
 mod capture_names;
 mod captures;

@@ -1,6 +1,6 @@
 -- What anchored searches find, with what is kept of it.
 use Rattle.regex_lite_meta.proofs.Common.{◌≡◌, ◌<◌, ◌≤◌, ◌⊎◌, ℕ, List, [], Some, None, Option}
-use Rattle.regex_lite_meta.proofs.Common.{inl, inr, refl, sym, ◌∙◌, arith, Text, Row, Origin}
+use Rattle.regex_lite_meta.proofs.Common.{inl, inr, refl, sym, subst, ◌∙◌, arith, Text, Row, Origin}
 use Rattle.regex_lite_meta.proofs.Common.{IsBestOutcomeOf, best_at, best_kept, span_of}
 use Rattle.regex_lite_meta.proofs.Common.{with_start_kept, chars, position_at, ap}
 use Rattle.regex_lite_meta.proofs.Common.{table_of_list, length}
@@ -14,6 +14,10 @@ use Rattle.regex_lite_engine.specs.Search.AnswerAt.{AnyMatchesAt}
 use Rattle.regex_lite_engine.specs.Graph.Places.{Place}
 use Rattle.regex_lite_engine.specs.Search.Answer.{Found}
 use Rattle.regex_lite_engine.specs.Search.NumberedList.{IsNumberedAnswerTo, IsNumberedFoundOf}
+use Rattle.regex_lite_engine.specs.Search.NumberedList.{IsMatchOfAny}
+use Rattle.regex_lite_engine.specs.Search.NumberedWords.{IsEachAnsweredBy}
+use Rattle.regex_lite_syntax.specs.Prefilter.NumberedWords.{NumberedWords}
+use Rattle.regex_lite_syntax.specs.Prefilter.Words.{AnyStandsAt}
 use Rattle.regex_lite_engine.specs.Search.NumberedOutcomes.{Best, IsAnyTo, IsBestOutcomeTo}
 use Rattle.regex_lite_engine.specs.Search.NumberedOutcomes.{numbered_at, with_origin_kept}
 use Rattle.regex_lite_engine.proofs.PositionLemmas.{position_is, same_position}
@@ -98,6 +102,16 @@ module _ (table : List (Place ℕ)) (bytes : List ℕ) (utf8 : IsUtf8 bytes) (en
     (start : ℕ) (edge : IsCharBoundary bytes start) where
   abbrev s : ℕ
   s = position_at bytes start
+
+  -- no match starts where no word stands
+  pub none_stand : (words : NumberedWords) → IsEachAnsweredBy table entries words
+      → ¬ (AnyStandsAt words.words bytes start)
+      → IsNumberedAnswerTo table (chars bytes) entries s s None
+  none_stand words each none = λ i k way q j up_to m. (
+      let from = m.is_match.from in
+      let same : i ≡ s = omega (arith, from, up_to) in
+      none (each.stands bytes start k way q j utf8 edge
+      (subst (λ z. IsMatchOfAny table (chars bytes) entries s z k way q j) same m)))
 
   pub word_starts : (number : ℕ) (span : ℕ × ℕ) → span.0 ≡ start
       → IsBestOutcomeOf table (chars bytes) entries s

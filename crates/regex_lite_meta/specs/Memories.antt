@@ -6,7 +6,7 @@ use Rattle.regex_lite_meta.specs.declared.pattern_searcher.PatternSearcher.{Patt
 use Rattle.regex_lite_meta.specs.declared.several_searcher.SeveralSearcher.{SeveralSearcher}
 use Rattle.regex_lite_engine.specs.Graph.Places.{Place}
 use Rattle.regex_lite_engine.specs.Graph.StoredList.{StoredList, table_of_list}
-use Rattle.regex_lite_engine.specs.Search.NumberedWords.{AreAnsweredBy}
+use Rattle.regex_lite_engine.specs.Search.NumberedWords.{AreAnsweredBy, IsEachAnsweredBy}
 use Rattle.regex_lite_engine.specs.Search.Rows.{Row}
 use Rattle.regex_lite_meta.specs.LazyDfa.Remembering.{FindsSpansIn, FindsSpansInList}
 use Rattle.regex_lite_meta.specs.LazyDfa.Remembering.{IsRemembering}
@@ -42,5 +42,7 @@ row_of_list (Several several) = row_of_several several
 abbrev pub SearchesList : StoredList → Inner → Type 0
 SearchesList list (One one) =
     (entry : ℕ) × (list.entries ≡ entry ∷ []) × SearchesForOne (table_of_list list) entry one
-SearchesList list (Words words) = AreAnsweredBy (table_of_list list) list.entries words.now
+SearchesList list (Words words) =
+    AreAnsweredBy (table_of_list list) list.entries words.now
+    × IsEachAnsweredBy (table_of_list list) list.entries words.now
 SearchesList list (Several several) = SearchesForSeveral list several

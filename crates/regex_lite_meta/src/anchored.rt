@@ -11,7 +11,7 @@ ghost use Rattle.regex_lite_engine.specs.Search.Counting.{IsCountable};
 ghost use Rattle.regex_lite_engine.specs.Search.NumberedOutcomes.{IsBestOutcomeTo, IsFoundTo};
 ghost use Rattle.regex_lite_engine.specs.Search.NumberedOutcomes.{best_kept, numbered_at};
 ghost use Rattle.regex_lite_engine.specs.Search.NumberedOutcomes.{with_origin_kept};
-ghost use Rattle.regex_lite_engine.specs.Search.NumberedWords.{AreAnsweredBy};
+ghost use Rattle.regex_lite_engine.specs.Search.NumberedWords.{AreAnsweredBy, IsEachAnsweredBy};
 ghost use Rattle.regex_lite_engine.specs.Search.Offsets.{position_at, search_start};
 ghost use Rattle.regex_lite_engine.specs.Search.Outcomes.{HasCost, IsOutcomeAt};
 
@@ -120,10 +120,14 @@ pub(crate) fn find_word_at(
 ) -> Option<(usize, (usize, usize))>
     requires { IsCharBoundary haystack.now start }
     ensures { (table : List (Place ℕ)) (entries : List ℕ) → AreAnsweredBy table entries words.now
-        → IsBestOutcomeTo table (chars haystack.now) entries (position_at haystack.now start)
+        → IsEachAnsweredBy table entries words.now → IsBestOutcomeTo table (chars haystack.now) entries (position_at haystack.now start)
         (position_at haystack.now start) (with_origin_kept (numbered_at result [])) }
 {
-    match words.find_span(haystack.as_bytes(), start) {
+    let bytes = haystack.as_bytes();
+    if !words.may_stand(bytes, start) {
+        return None;
+    }
+    match words.find_span(bytes, start) {
         Some((number, span)) if span.0 == start => Some((number, span)),
         _ => None,
     }

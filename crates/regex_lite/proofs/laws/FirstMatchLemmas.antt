@@ -49,7 +49,7 @@ module _ (haystack : List ℕ) (utf8 : IsUtf8 haystack) (start : ℕ)
       (offset_most h i)
 
   -- a search that is asked for from above the length starts after all positions
-  starts_after : length haystack < start → length h < s
+  pub starts_after : length haystack < start → length h < s
   starts_after above =
       let whole = take_all start haystack (omega (arith, above)) in
       let all = ap (λ bytes. length (chars bytes)) whole in

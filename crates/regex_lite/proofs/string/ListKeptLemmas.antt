@@ -3,30 +3,22 @@ use Rattle.regex_lite.proofs.Common.{◌≡◌, ℕ, zero, suc, ◌*◌, ◌<◌
 use Rattle.regex_lite.proofs.Common.{Some, None, Option, option_map, chars, sym, refl, ap, ◌∙◌}
 use Rattle.regex_lite.proofs.Common.{subst, arith, length-take-le, IsTree, Tree, captures_len}
 use Rattle.regex_lite.proofs.Common.{HasTree, Found, IsFoundInList, offset, search_start, HasSlots}
-use Rattle.regex_lite.proofs.Common.{Expression, spans_of, resized, IsAnswerOfPatterns}
+use Rattle.regex_lite.proofs.Common.{Expression, spans_of, resized}
 use Rattle.regex_lite.proofs.Common.{span_of_match, AreTrees, TellsMatchOfList, most_captures}
 use Rattle.regex_lite.proofs.Common.{AreSlotsForAllGroups, spans_from, kept_slots, all_slots, Match}
 use Rattle.std.proofs.lemmas.Option.{slice_get_within}
 use Rattle.regex_lite_syntax.proofs.OptionLemmas.{same_some}
-use Rattle.regex_lite.specs.Answers.{TellsOfAnswer}
 use Rattle.regex_lite.specs.RegexList.{OfTrees}
 use Rattle.regex_lite.specs.RegexListSearches.{TellsLocationsOfList}
-use Rattle.regex_lite.specs.Scanning.{IsMatchWithSlots}
+use Rattle.regex_lite.specs.Scanning.{TellsListMatch}
 use Rattle.regex_lite.proofs.string.CapturedLemmas.{held_all}
 use Rattle.regex_lite.proofs.string.FoundLemmas.{slots_told}
 use Rattle.regex_lite.proofs.ListBuildLemmas.{one_list, pattern_tree}
 use Rattle.regex_lite.proofs.string.ListSlotLemmas.{enough_kept, in_whole}
 use Rattle.regex_lite.proofs.PairedLemmas.{paired_length}
 
--- what is returned of the answer of a search for several patterns, with these slots
-abbrev pub TellsListMatch : List Expression → (haystack : List ℕ) → (start : ℕ)
-    → (slots : List (Option ℕ)) → Option (ℕ × Match) → Type 0
-TellsListMatch list haystack start slots told =
-    TellsOfAnswer (IsAnswerOfPatterns list (chars haystack))
-    (IsMatchWithSlots (λ (own : ℕ × Found). own.1) (λ own. own.0) haystack slots)
-    (search_start haystack start) told
-
--- is the match that the search returns
+-- what is returned of the answer of a search for several patterns, with these slots, is the match
+-- that the search returns
 pub list_match : (list : List Expression) (bytes : List ℕ) (start : ℕ) (slots : List (Option ℕ))
     (told : Option (ℕ × Match)) → TellsListMatch list bytes start slots told
     → TellsMatchOfList list bytes start told

@@ -65,39 +65,25 @@ any_told list trees haystack start found given told = (
       (one_list list any.0 trees any.1 given) any.2),
 )
 
--- what a search of the graph returns holds for the patterns' trees
-module _ (list : List Expression) (compiled : CompiledList) (built : IsBuiltList compiled)
-    (given : AreTrees list built.trees) (bytes : List ℕ) (start : ℕ)
-    (told : Option (ℕ × Outcome)) where
-  pub outcome_given : (graph : StoredList) → graph ≡ compiled.graph
-      → ((trees : List Tree) → AreRegularPatterns trees → IsGraphOfList trees graph
-      → IsOutcomeOfList trees bytes start told)
-      → TellsOutcomeOfList list bytes start told
-  outcome_given graph same tells = (
-    built.trees,
-    given,
-    tells built.trees built.regular (subst (IsGraphOfList built.trees) (sym same) built.graph),
-  )
-
-  -- and they are those of which the list is built
-  pub outcome_built : (number : ℕ) (outcome : Outcome) → told ≡ Some (number, outcome)
-      → TellsOutcomeOfList list bytes start told
-      → IsOutcomeOfList built.trees bytes start (Some (number, outcome))
-  outcome_built number outcome is (trees, other, tells) =
-      subst (IsOutcomeOfList built.trees bytes start) is
-      (subst (λ own. IsOutcomeOfList own bytes start told)
-      (one_list list trees built.trees other given) tells)
+-- the patterns' trees are those of which the list is built
+pub outcome_built : (list : List Expression) (compiled : CompiledList)
+    (built : IsBuiltList compiled) → AreTrees list built.trees
+    → (bytes : List ℕ) (start : ℕ) (outcome : ℕ × Outcome)
+    → TellsOutcomeOfList list bytes start (Some outcome)
+    → IsOutcomeOfList built.trees bytes start (Some outcome)
+outcome_built list compiled built given bytes start outcome (trees, other, tells) =
+    subst (λ own. IsOutcomeOfList own bytes start (Some outcome))
+    (one_list list trees built.trees other given) tells
 
 -- what holds for the graph holds for the trees
 pub outcome_of_list : (compiled : CompiledList) (built : IsBuiltList compiled) (graph : StoredList)
-    (bytes : List ℕ) (start : ℕ) (told : Option (ℕ × Outcome)) (number : ℕ) (outcome : Outcome)
-    → graph ≡ compiled.graph
+    (Outcomes : List Tree → Option (ℕ × Outcome) → Type 0) (told : Option (ℕ × Outcome))
+    (outcome : ℕ × Outcome) → graph ≡ compiled.graph
     → ((trees : List Tree) → AreRegularPatterns trees → IsGraphOfList trees graph
-    → IsOutcomeOfList trees bytes start told)
-    → told ≡ Some (number, outcome)
-    → IsOutcomeOfList built.trees bytes start (Some (number, outcome))
-outcome_of_list compiled built graph bytes start told number outcome same tells is =
-    subst (IsOutcomeOfList built.trees bytes start) is
+    → Outcomes trees told)
+    → told ≡ Some outcome → Outcomes built.trees (Some outcome)
+outcome_of_list compiled built graph Outcomes told outcome same tells is =
+    subst (Outcomes built.trees) is
     (tells built.trees built.regular (subst (IsGraphOfList built.trees) (sym same) built.graph))
 
 -- what a searcher returns holds for the patterns' trees

@@ -1,6 +1,6 @@
 -- From the outcome of a search of the graph to what the search for the pattern returns.
-use Rattle.regex_lite.proofs.Common.{◌≡◌, ℕ, ◌≤◌, List, length, take, IfSome, Some, None, IsUtf8}
-use Rattle.regex_lite.proofs.Common.{Option, option_map, chars, sym, refl, ap, ◌∙◌, subst, arith}
+use Rattle.regex_lite.proofs.Common.{◌≡◌, ℕ, ◌≤◌, List, [], length, take, IfSome, Some, None}
+use Rattle.regex_lite.proofs.Common.{IsUtf8, Option, option_map, chars, sym, refl, ap, ◌∙◌, subst, arith}
 use Rattle.regex_lite.proofs.Common.{IsTree, Tree, captures_len, IsGraphOf, StoredGroups, Found}
 use Rattle.regex_lite.proofs.Common.{search_start, IsSpanOutcome, Outcome, IsBuilt, stored_groups}
 use Rattle.regex_lite.proofs.Common.{names_of, NamesGroups, groups_of, Expression, OfTree, LiesIn}
@@ -10,11 +10,10 @@ use Rattle.regex_lite.proofs.Common.{TellsGroups, TellsLocations, kept_slots, al
 use Rattle.regex_lite.proofs.Common.{Match}
 use Rattle.regex_lite_syntax.specs.Tree.Regular.{IsRegular}
 use Rattle.regex_lite_engine.specs.Graph.Stored.{StoredGraph}
-use Rattle.regex_lite_engine.specs.Search.Outcomes.{IsOutcome}
 use Rattle.regex_lite_meta.specs.Searching.{Searching}
 use Rattle.regex_lite_syntax.proofs.OptionLemmas.{not_there, same_some}
 use Rattle.regex_lite.specs.Compiled.{SearchesFor}
-use Rattle.regex_lite.specs.Scanning.{TellsSpan}
+use Rattle.regex_lite.specs.Scanning.{AreSlotsForGroups, TellsSpan}
 use Rattle.regex_lite.proofs.string.CapturedLemmas.{AreAllSlots, all_told, built_shares, captured}
 use Rattle.regex_lite.proofs.string.FoundLemmas.{first_told, found_lies, group_0, length_spans}
 use Rattle.regex_lite.proofs.OneTreeLemmas.{one_tree}
@@ -22,11 +21,13 @@ use Rattle.regex_lite.proofs.OneTreeLemmas.{one_tree}
 pub same_pair : {a b i j : ℕ} → a ≡ i → b ≡ j → ◌≡◌ {A = ℕ × ℕ} (a, b) (i, j)
 same_pair {a} {b} {i} {j} start end = rw (start, end) refl
 
--- what a search of the graph returns, whatever its tree: an outcome, or a span with its slots
-abbrev pub TellsOutcome : StoredGraph → (bytes : List ℕ) → (start : ℕ) → Option Outcome → Type 0
-TellsOutcome graph bytes start told =
-    (tree : Tree) → IsRegular tree → IsGraphOf tree graph → IsOutcome tree bytes start told
+-- what a search of the graph returns, whatever its tree
+abbrev pub TellsOutcome : StoredGraph → (Outcomes : Tree → Option Outcome → Type 0)
+    → Option Outcome → Type 0
+TellsOutcome graph Outcomes told =
+    (tree : Tree) → IsRegular tree → IsGraphOf tree graph → Outcomes tree told
 
+-- and what one returns that finds a span, with its slots
 abbrev pub TellsSpanOfGraph : StoredGraph → (bytes : List ℕ) → (start : ℕ)
     → (slots : List (Option ℕ)) → Option (ℕ × ℕ) → Type 0
 TellsSpanOfGraph graph bytes start slots told =
@@ -35,14 +36,15 @@ TellsSpanOfGraph graph bytes start slots told =
 
 -- what holds for a regex's graph holds for its tree
 pub outcome_of : (re : Expression) (compiled : Compiled) (built : IsBuilt compiled)
-    (graph : StoredGraph) (bytes : List ℕ) (start : ℕ) (told : Option Outcome) (outcome : Outcome)
+    (graph : StoredGraph) (Outcomes : Tree → Option Outcome → Type 0) (told : Option Outcome)
+    (outcome : Outcome)
     → IsTree re.flags (chars re.pattern) built.tree → graph ≡ compiled.graph
-    → TellsOutcome graph bytes start told → told ≡ Some outcome
-    → OfTree re (λ tree. IsOutcome tree bytes start (Some outcome))
-outcome_of re compiled built graph bytes start told outcome given same tells is = (
+    → TellsOutcome graph Outcomes told → told ≡ Some outcome
+    → OfTree re (λ tree. Outcomes tree (Some outcome))
+outcome_of re compiled built graph Outcomes told outcome given same tells is = (
   built.tree,
   given,
-  subst (IsOutcome built.tree bytes start) is
+  subst (Outcomes built.tree) is
       (tells built.tree built.regular (subst (IsGraphOf built.tree) (sym same) built.graph)),
 )
 
@@ -128,15 +130,24 @@ module _ (bytes : List ℕ) (utf8 : IsUtf8 bytes) (start : ℕ) (re : Expression
         )
 
 -- a search for the groups has as many slots as are kept for them
-pub slots_are : (re : Expression) (tree : Tree) (told : Option Outcome) (outcome : Outcome) (n : ℕ)
-    → IsTree re.flags (chars re.pattern) tree → OfTree re (λ own. n ≡ kept_slots (captures_len own))
+pub slots_are : (re : Expression) (told : Option Outcome) (outcome : Outcome) (n : ℕ)
+    → AreSlotsForGroups re n → IfSome told (λ o. length o.slots.items ≡ n) → told ≡ Some outcome
+    → AreSlotsForGroups re (length outcome.slots.items)
+slots_are re None outcome n enough len is = absurd (not_there is)
+slots_are re (Some o) outcome n (tree, given, enough) len is = (
+  tree,
+  given,
+  ap (λ (own : Outcome). length own.slots.items) (sym (same_some is)) ∙ len ∙ enough,
+)
+
+-- where none are kept there is room for those of the whole match
+pub room_of_whole : (told : Option Outcome) (outcome : Outcome) (n : ℕ) (whole : List (Option ℕ))
     → IfSome told (λ o. length o.slots.items ≡ n) → told ≡ Some outcome
-    → length outcome.slots.items ≡ kept_slots (captures_len tree)
-slots_are re tree None outcome n given enough len is = absurd (not_there is)
-slots_are re tree (Some o) outcome n given (own, given_too, enough) len is =
-    ap (λ (own : Outcome). length own.slots.items) (sym (same_some is)) ∙ len ∙ enough
-    ∙ ap (λ t. kept_slots (captures_len t))
-    (one_tree re.flags (chars re.pattern) own tree given_too given)
+    → (n ≡ 0 → length whole ≡ 2) → outcome.slots.items ≡ [] → length whole ≡ 2
+room_of_whole None outcome n whole len is room none = absurd (not_there is)
+room_of_whole (Some o) outcome n whole len is room none =
+    room (sym len ∙ ap (λ (own : Outcome). length own.slots.items) (same_some is)
+    ∙ ap length none)
 
 -- the regex has as many groups as it says
 pub room_told : (re : Expression) (bytes : List ℕ) (start n : ℕ) (told : Option Groups)

@@ -7,9 +7,8 @@ ghost use Rattle.regex_lite.specs.Searches.{MatchesFrom, TellsEnd, TellsGroups, 
 use crate::string::captures::Captures;
 use crate::string::matches::Match;
 use crate::string::regex::Regex;
-use crate::string::slots::{slots_with, whole_slots};
-use crate::string::source::Source;
-use regex_lite_engine::{Outcome, Steps};
+use crate::string::slots::whole_slots;
+use regex_lite_engine::Steps;
 use regex_lite_meta::{search, search_any, search_shortest};
 use regex_lite_syntax::Error;
 
@@ -89,12 +88,10 @@ impl Regex {
         let whole = whole_slots(self.alloc, count)?;
         let graph = &self.compiled.graph;
         let (outcome, steps) = search(graph, self.alloc, haystack, start, count)?;
-        let Some(Outcome { start, end, slots }) = outcome else {
+        let Some(outcome) = outcome else {
             return Ok((None, steps));
         };
-        let slots = slots_with(slots, whole, (start, end));
-        let source = Source::of_regex(self.compiled.clone()?);
-        let caps = Captures::new(haystack, slots, source);
+        let caps = self.captured(haystack, outcome, whole)?;
         Ok((Some(caps), steps))
     }
 

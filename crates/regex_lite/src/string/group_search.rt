@@ -1,8 +1,11 @@
 //! Searches for the groups of a match.
-ghost use Rattle.std.specs.Prelude.{◌≡◌, None, IfOk, IfErr, IfSome, length, replicate};
+ghost use Rattle.std.specs.Prelude.{◌≡◌, ℕ, [], None, Some, IfOk, IfErr, IfSome, length};
+ghost use Rattle.std.specs.Prelude.{replicate};
 ghost use Rattle.regex_lite_syntax.specs.Errors.{out_of_memory};
 ghost use Rattle.regex_lite_syntax.specs.Tree.Properties.{captures_len};
+ghost use Rattle.regex_lite_engine.specs.Search.Outcomes.{IsOutcome};
 ghost use Rattle.regex_lite.specs.Expression.{OfTree};
+ghost use Rattle.regex_lite.specs.Scanning.{AreSlotsForGroups};
 ghost use Rattle.regex_lite.specs.Searches.{AreOfMatch, CanRead, CanStartAt};
 ghost use Rattle.regex_lite.specs.Searches.{TellsGroups, TellsLocations};
 
@@ -10,6 +13,9 @@ use crate::string::captures::Captures;
 use crate::string::locations::CaptureLocations;
 use crate::string::matches::Match;
 use crate::string::regex::Regex;
+use crate::string::slots::slots_with;
+use crate::string::source::Source;
+use regex_lite_engine::Outcome;
 use regex_lite_syntax::Error;
 
 impl Regex {
@@ -133,6 +139,34 @@ impl Regex {
         let found = caps.get(0);
         caps.write(locs);
         Ok(found)
+    }
+
+    /// The groups of the match that a search of this haystack has found. If the search kept no
+    /// slots, `whole` is room for those of the whole match.
+    ///
+    /// # Errors
+    ///
+    /// `Memory` if memory runs out.
+    pub(super) fn captured<'h>(
+        &self,
+        haystack: &'h str,
+        outcome: Outcome,
+        whole: Vec<Option<usize>>,
+    ) -> Result<Captures<'h>, Error>
+        requires outcome { (start : ℕ)
+            × OfTree self.now (λ tree. IsOutcome tree haystack.now start (Some outcome)) }
+        requires slots { AreSlotsForGroups self.now (length outcome.slots.items) }
+        requires whole { outcome.slots.items ≡ [] → length whole.items ≡ 2 }
+        ensures found { (start : ℕ)
+            → OfTree self.now (λ tree. IsOutcome tree haystack.now start (Some outcome))
+            → IfOk result (λ caps. TellsGroups self.now haystack.now start (Some caps)) }
+        ensures of_match { IfOk result (AreOfMatch self.now) }
+        ensures refused { IfErr result (λ error. error ≡ out_of_memory) }
+    {
+        let Outcome { start, end, slots } = outcome;
+        let slots = slots_with(slots, whole, (start, end));
+        let source = Source::of_regex(self.compiled.clone()?);
+        Ok(Captures::new(haystack, slots, source))
     }
 
     /// Locations with as many groups as the regex has, none of which took part in a match yet.

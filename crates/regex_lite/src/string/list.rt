@@ -10,6 +10,7 @@ ghost use Rattle.regex_lite.specs.RegexList.{BuildsList, OfTrees};
 ghost use Rattle.regex_lite.specs.Settings.{default_settings};
 ghost use Rattle.regex_lite.specs.Slots.{kept_slots};
 
+mod anchored;
 mod build;
 pub(super) mod builder;
 pub(super) mod captures_iter;

@@ -41,7 +41,7 @@ pub(crate) const ENDLESS: usize = usize::MAX;
 /// The test `examples::many_haystacks` in tests/unit runs this example.
 #[derive(Drop)]
 pub struct RegexSearcher<'r> {
-    matches: Searcher<'r>,
+    pub(super) matches: Searcher<'r>,
     /// Finds the slots of all groups, where there are more than the whole match.
     groups: Option<SlotSearcher<'r>>,
 }
@@ -180,7 +180,12 @@ impl<'r> RegexSearcher<'r> {
     }
 
     /// Writes the groups of a match in the haystack to the locations: as many as those have.
-    fn read<'h>(&mut self, haystack: &'h str, found: &Match<'h>, locs: &mut CaptureLocations)
+    pub(super) fn read<'h>(
+        &mut self,
+        haystack: &'h str,
+        found: &Match<'h>,
+        locs: &mut CaptureLocations,
+    )
         requires few { CanRead self.old locs.old }
         requires found { (start : ℕ) × TellsMatch self.old haystack.now start (Some found.now) }
         ensures locations { (start : ℕ) → TellsMatch self.old haystack.now start (Some found.now)

@@ -1,8 +1,10 @@
 //! Searches, one after another, in the same memory.
 ghost use Rattle.std.specs.Prelude.{◌≡◌, ◌↔◌, IfOk, IfErr, IfSome, IsTrue, length};
 ghost use Rattle.regex_lite_syntax.specs.Errors.{out_of_memory};
+ghost use Rattle.regex_lite.specs.Anchored.{TellsMatchAt};
 ghost use Rattle.regex_lite.specs.Compiled.{AreOfRegex, SharesGroups};
-ghost use Rattle.regex_lite.specs.Searches.{MatchesFrom};
+ghost use Rattle.regex_lite.specs.MatchOffsets.{MatchesAt};
+ghost use Rattle.regex_lite.specs.Searches.{CanStartAt, MatchesFrom};
 
 use crate::string::captures::Captures;
 use crate::string::iter::finds::Finds;
@@ -62,6 +64,27 @@ impl<'r> Searcher<'r> {
         ensures slots { length self.new.slots ≡ length self.old.slots }
     {
         self.inner.search_any(haystack, 0)
+    }
+
+    /// [`Regex::is_match_anchored_at`], which is never refused here.
+    pub fn is_match_anchored_at(&mut self, haystack: &str, start: usize) -> bool
+        requires { CanStartAt haystack.now start }
+        ensures found { IsTrue result ↔ MatchesAt self.old.regex haystack.now start }
+        ensures regex { self.new.regex ≡ self.old.regex }
+        ensures slots { length self.new.slots ≡ length self.old.slots }
+    {
+        self.inner.search_any_anchored(haystack, start)
+    }
+
+    /// [`Regex::find_anchored_at`], which is never refused here.
+    pub fn find_anchored_at<'h>(&mut self, haystack: &'h str, start: usize) -> Option<Match<'h>>
+        requires { CanStartAt haystack.now start }
+        ensures found { TellsMatchAt self.old.regex haystack.now start result }
+        ensures regex { self.new.regex ≡ self.old.regex }
+        ensures slots { length self.new.slots ≡ length self.old.slots }
+    {
+        let (from, to) = self.inner.search_anchored(haystack, start)?;
+        Some(Match::new(haystack, from, to))
     }
 
     /// Those of the spare groups, or new ones with room for the slots that are kept.

@@ -91,6 +91,13 @@ module _ (trees : List Tree) (regular : AreRegularPatterns trees) (name : ℕ �
   any_of : (number at : ℕ) → StandsOf number at → AnyStandsAt words bytes at
   any_of number at is = (is.k, is.inside, is.stands)
 
+  -- where one matches from where the search starts, a word stands there
+  stands_here : (k : ℕ) (way : List ℕ) (q j : ℕ) → IsMatchOfAny table h entries s s k way q j
+      → AnyStandsAt words bytes from
+  stands_here k way q j m =
+      subst (AnyStandsAt words bytes) (sym here)
+      (any_of k (offset h s) (match_stands s k way q j m))
+
   after : (i k : ℕ) (way : List ℕ) (q j : ℕ) → IsMatchOfAny table h entries s i k way q j
       → from ≤ offset h i
   after i k way q j m =
@@ -287,6 +294,9 @@ each_word_of_list trees regular name table entries written are all numbered of_t
     match_of_number trees regular name table entries written are numbered of_trees bytes from utf8
         edge number,
   );
+  stands = λ bytes from k way q j utf8 edge.
+      stands_here trees regular name table entries written are numbered of_trees bytes from utf8
+      edge k way q j;
 }
 
 -- the same where they are known of the trees

@@ -3,6 +3,7 @@ use Rattle.std.specs.Prelude.{◌↔◌, ℕ, [], List, Option, IsCharBoundary, 
 use Rattle.regex_lite_syntax.specs.Text.{Text}
 use Rattle.regex_lite_syntax.specs.Prefilter.NumberedWords.{HavePatterns, IsNextOfPatterns}
 use Rattle.regex_lite_syntax.specs.Prefilter.NumberedWords.{NumberedWords, PatternStandsFrom}
+use Rattle.regex_lite_syntax.specs.Prefilter.Words.{AnyStandsAt}
 use Rattle.regex_lite_engine.specs.Graph.Places.{Place}
 use Rattle.regex_lite_engine.specs.Search.NumberedList.{IsMatchOfAny}
 use Rattle.regex_lite_engine.specs.Search.NumberedOutcomes.{IsBestOutcomeOf, numbered_at}
@@ -24,10 +25,16 @@ HasMatchOfNumber table haystack entries s number =
     (i : ℕ) × (way : List ℕ) × (q : ℕ) × (j : ℕ)
     × IsMatchOfAny table haystack entries s i number way q j
 
--- each word has a pattern, and wherever a search starts those patterns match of which a word stands
+-- Each word has a pattern, and wherever a search starts those patterns match of which a word
+-- stands. Where one matches, a word stands
 pub record IsEachAnsweredBy (table : List (Place ℕ)) (entries : List ℕ) (words : NumberedWords)
     : Type 0 where
   pub patterns : HavePatterns words (length entries)
   pub matches : (bytes : List ℕ) (from number : ℕ) → IsUtf8 bytes → IsCharBoundary bytes from
       → PatternStandsFrom words bytes from number
       ↔ HasMatchOfNumber table (chars bytes) entries (position_at bytes from) number
+  pub stands : (bytes : List ℕ) (from k : ℕ) (way : List ℕ) (q j : ℕ) → IsUtf8 bytes
+      → IsCharBoundary bytes from
+      → IsMatchOfAny table (chars bytes) entries (position_at bytes from) (position_at bytes from)
+      k way q j
+      → AnyStandsAt words.words bytes from

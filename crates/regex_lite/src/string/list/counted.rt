@@ -91,7 +91,10 @@ impl RegexList {
         let whole = whole_slots(self.alloc, count)?;
         let graph = &self.compiled.graph;
         let (told, steps) = search_list(graph, self.alloc, haystack, start, count)?;
-        let found = self.captured(haystack, told, whole)?;
-        Ok((found, steps))
+        let Some(found) = told else {
+            return Ok((None, steps));
+        };
+        let caps = self.captured(haystack, found, whole)?;
+        Ok((Some(caps), steps))
     }
 }

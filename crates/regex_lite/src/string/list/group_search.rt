@@ -1,5 +1,6 @@
 //! Searches for the groups of a match of one of several patterns.
-ghost use Rattle.std.specs.Prelude.{◌≡◌, ℕ, [], None, IfOk, IfErr, IfSome, length, max, replicate};
+ghost use Rattle.std.specs.Prelude.{◌≡◌, ℕ, [], None, Some, IfOk, IfErr, IfSome, length, max};
+ghost use Rattle.std.specs.Prelude.{replicate};
 ghost use Rattle.regex_lite_syntax.specs.Errors.{out_of_memory};
 ghost use Rattle.regex_lite.specs.RegexList.{OfTrees};
 ghost use Rattle.regex_lite.specs.RegexListSearches.{AreOfPattern, TellsGroupsOfList};
@@ -67,7 +68,11 @@ impl RegexList {
         let whole = whole_slots(self.alloc, count)?;
         let graph = &self.compiled.graph;
         let told = search_list_uncounted(graph, self.alloc, haystack, start, count)?;
-        self.captured(haystack, told, whole)
+        let Some(found) = told else {
+            return Ok(None);
+        };
+        let caps = self.captured(haystack, found, whole)?;
+        Ok(Some(caps))
     }
 
     /// The groups of the match that a search of this haystack has found, with the number of its
@@ -79,29 +84,25 @@ impl RegexList {
     pub(super) fn captured<'h>(
         &self,
         haystack: &'h str,
-        told: Option<(usize, Outcome)>,
+        found: (usize, Outcome),
         whole: Vec<Option<usize>>,
-    ) -> Result<Option<(usize, Captures<'h>)>, Error>
-        requires told { (start : ℕ) × TellsOutcomeOfList self.now haystack.now start told }
-        requires slots { IfSome told
-            (λ found. AreSlotsForAllGroups self.now (length found.1.slots.items)) }
-        requires whole { IfSome told
-            (λ found. found.1.slots.items ≡ [] → length whole.items ≡ 2) }
-        ensures found { (start : ℕ) → TellsOutcomeOfList self.now haystack.now start told
-            → IfOk result (TellsGroupsOfList self.now haystack.now start) }
-        ensures of_match { IfOk result (λ found. IfSome found (AreOfPattern self.now)) }
-        ensures none { told ≡ None → IfOk result (λ found. found ≡ None) }
+    ) -> Result<(usize, Captures<'h>), Error>
+        requires found { (start : ℕ)
+            × TellsOutcomeOfList self.now haystack.now start (Some found) }
+        requires slots { AreSlotsForAllGroups self.now (length found.1.slots.items) }
+        requires whole { found.1.slots.items ≡ [] → length whole.items ≡ 2 }
+        ensures found { (start : ℕ) → TellsOutcomeOfList self.now haystack.now start (Some found)
+            → IfOk result (λ told. TellsGroupsOfList self.now haystack.now start (Some told)) }
+        ensures of_match { IfOk result (AreOfPattern self.now) }
         ensures refused { IfErr result (λ error. error ≡ out_of_memory) }
     {
-        let Some((number, Outcome { start, end, slots })) = told else {
-            return Ok(None);
-        };
+        let (number, Outcome { start, end, slots }) = found;
         let mut slots = slots_with(slots, whole, (start, end));
         let source = Source::of_listed(self.compiled.clone()?, number);
         // A search keeps slots for the pattern with the most groups. This one may have fewer.
         slots.truncate(source.slots());
         let caps = Captures::new(haystack, slots, source);
-        Ok(Some((number, caps)))
+        Ok((number, caps))
     }
 
     /// Locations with as many groups as the pattern that has the most, none of which took part in a

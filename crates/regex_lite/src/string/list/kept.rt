@@ -38,9 +38,9 @@ use std::marker::Model;
 /// The test `examples::lists::many_haystacks` in tests/unit runs this example.
 #[derive(Drop)]
 pub struct RegexListSearcher<'r> {
-    matches: ListSearcher<'r>,
+    pub(super) matches: ListSearcher<'r>,
     /// With slots for all groups, where some pattern has more than the whole match.
-    groups: Option<ListSearcher<'r>>,
+    pub(super) groups: Option<ListSearcher<'r>>,
     /// What tells which patterns match.
     set: SetSearcher<'r>,
 }

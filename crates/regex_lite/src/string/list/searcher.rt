@@ -1,8 +1,11 @@
 //! Searches for several patterns, one after another, in the same memory.
-ghost use Rattle.std.specs.Prelude.{◌≡◌, ◌↔◌, None, IfOk, IfErr, IsTrue, length};
+ghost use Rattle.std.specs.Prelude.{◌≡◌, ◌↔◌, ℕ, List, None, Some, IfOk, IfErr, IfSome};
+ghost use Rattle.std.specs.Prelude.{IsTrue, length};
 ghost use Rattle.regex_lite_syntax.specs.Errors.{out_of_memory};
+ghost use Rattle.regex_lite.specs.Anchored.{TellsLocationsAtOfList, TellsMatchAtOfList};
+ghost use Rattle.regex_lite.specs.MatchOffsets.{SomeMatchesAt};
 ghost use Rattle.regex_lite.specs.RegexListSearches.{AnyMatches, TellsLocationsOfList};
-ghost use Rattle.regex_lite.specs.Scanning.{AreSlotsForAllGroups};
+ghost use Rattle.regex_lite.specs.Scanning.{AreSlotsForAllGroups, TellsListMatch};
 ghost use Rattle.regex_lite.specs.Searches.{CanStartAt};
 
 use crate::string::captures::Captures;
@@ -75,13 +78,74 @@ impl<'r> ListSearcher<'r> {
         ensures list { self.new.list ≡ self.old.list }
         ensures slots { length self.new.slots ≡ length self.old.slots }
     {
-        let (number, found) = match_at(self, haystack, start)?;
+        let last = match_at(self, haystack, start)?;
+        self.read(locs, &last);
+        Some(last)
+    }
+
+    /// Whether a match of any pattern starts at this offset.
+    pub fn is_match_anchored_at(&mut self, haystack: &str, start: usize) -> bool
+        requires { CanStartAt haystack.now start }
+        ensures found { IsTrue result ↔ SomeMatchesAt self.old.list haystack.now start }
+        ensures list { self.new.list ≡ self.old.list }
+        ensures slots { length self.new.slots ≡ length self.old.slots }
+    {
+        self.inner.search_any_anchored(haystack, start)
+    }
+
+    /// The match that starts at this offset, with the number of its pattern. Its slots are kept.
+    pub fn find_anchored_at<'h>(
+        &mut self,
+        haystack: &'h str,
+        start: usize,
+    ) -> Option<(usize, Match<'h>)>
+        requires { CanStartAt haystack.now start }
+        ensures found { TellsMatchAtOfList self.old.list haystack.now start result }
+        ensures kept { IfSome result (λ last.
+            TellsListMatch self.old.list haystack.now start self.new.slots (Some last)) }
+        ensures list { self.new.list ≡ self.old.list }
+        ensures slots { length self.new.slots ≡ length self.old.slots }
+    {
+        let (number, (from, to)) = self.inner.search_anchored(haystack, start)?;
+        Some((number, Match::new(haystack, from, to)))
+    }
+
+    /// The same, with the groups of the match written to the locations.
+    pub fn read_anchored_at<'h>(
+        &mut self,
+        locs: &mut CaptureLocations,
+        haystack: &'h str,
+        start: usize,
+    ) -> Option<(usize, Match<'h>)>
+        requires room { AreSlotsForAllGroups self.old.list (length self.old.slots) }
+        requires start { CanStartAt haystack.now start }
+        ensures found { TellsLocationsAtOfList self.old.list haystack.now start locs.new result }
+        ensures len { length locs.new ≡ length locs.old }
+        ensures none { result ≡ None → locs.new ≡ locs.old }
+        ensures list { self.new.list ≡ self.old.list }
+        ensures slots { length self.new.slots ≡ length self.old.slots }
+    {
+        let last = self.find_anchored_at(haystack, start)?;
+        self.read(locs, &last);
+        Some(last)
+    }
+
+    /// Writes the groups of the last match to the locations.
+    fn read(&self, locs: &mut CaptureLocations, last: &(usize, Match<'_>))
+        requires room { AreSlotsForAllGroups self.now.list (length self.now.slots) }
+        requires last { (haystack : List ℕ) × ((start : ℕ)
+            × TellsListMatch self.now.list haystack start self.now.slots (Some last.now)) }
+        ensures found { (haystack : List ℕ) (start : ℕ)
+            → TellsListMatch self.now.list haystack start self.now.slots (Some last.now)
+            → TellsLocationsOfList self.now.list haystack start locs.new (Some last.now) }
+        ensures len { length locs.new ≡ length locs.old }
+    {
+        let (number, found) = last;
         let whole = [Some(found.start()), Some(found.end())];
         let slots = or_whole(self.inner.slots(), &whole);
         // A search keeps slots for the pattern with the most groups. This one may have fewer.
-        let own = self.list.slots_of(number);
+        let own = self.list.slots_of(*number);
         locs.write(&slots[..own]);
-        Some((number, found))
     }
 }
 

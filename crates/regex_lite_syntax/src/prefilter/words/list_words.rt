@@ -1,11 +1,12 @@
 //! The words of several patterns, which are searched for at once.
 ghost use Rattle.std.specs.Prelude.{◌≡◌, ◌≤◌, ◌<◌, ◌++◌, IfOk, IfSome, IsTrue, length, map};
-ghost use Rattle.std.specs.Prelude.{replicate};
+ghost use Rattle.std.specs.Prelude.{false, replicate};
 ghost use Rattle.regex_lite_syntax.specs.Prefilter.NumberedWords.{AreWordsOfTrees};
 ghost use Rattle.regex_lite_syntax.specs.Prefilter.NumberedWords.{IsNextOfPatterns};
 ghost use Rattle.regex_lite_syntax.specs.Prefilter.NumberedWords.{AreGatheredFrom, HavePatterns};
 ghost use Rattle.regex_lite_syntax.specs.Prefilter.NumberedWords.{TellsWhichStand};
 ghost use Rattle.regex_lite_syntax.specs.Prefilter.WordLists.{all_words};
+ghost use Rattle.regex_lite_syntax.specs.Prefilter.Words.{AnyStandsAt};
 
 use crate::hir::as_hir::AsHir;
 use crate::prefilter::words::spelling::read_words;
@@ -68,6 +69,17 @@ impl ListWords {
         let (at, number) = self.words.find(bytes, from)?;
         let owner = self.owners[number] as usize;
         Some((owner, (at, at + self.words.len_of(number))))
+    }
+
+    /// Whether a word stands at this offset. It may say so of a single word that doesn't.
+    ///
+    /// Condition: the offset is at most the length.
+    #[inline(always)]
+    pub fn may_stand(&self, bytes: &[u8], at: usize) -> bool
+        requires { at ≤ length bytes.now }
+        ensures { result ≡ false → ¬ AnyStandsAt self.now.words bytes.now at }
+    {
+        self.words.may_stand(bytes, at)
     }
 
     /// Tells of each pattern, by its number, whether a word of it stands at this offset or after

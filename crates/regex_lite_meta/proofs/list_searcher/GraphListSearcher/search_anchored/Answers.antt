@@ -1,7 +1,6 @@
 use Rattle.regex_lite_meta.proofs.Common.{[], chars, places_of, position_at, table_of_list}
 use Rattle.regex_lite_engine.specs.Search.NumberedOutcomes.{IsBestOutcomeTo, numbered_at}
 use Rattle.regex_lite_engine.specs.Search.NumberedOutcomes.{with_origin_kept}
-use Rattle.regex_lite_engine.specs.Search.NumberedWords.{AreAnsweredBy}
 use Rattle.regex_lite_meta.specs.Memories.{row_of_several}
 use Rattle.regex_lite_engine.proofs.search.ListAnchoredLemmas.{list_span_at_told}
 use Rattle.regex_lite_meta.proofs.OneLemmas.{in_list, still_one}
@@ -33,12 +32,11 @@ returns-clause-found c = λ trees regular is.
           (with_origin_kept (numbered_at told row)))
           (rw (w.numbered.ensures row) at w.find_anchored.ensures.found)))
       | in-Words w ↦
-          let answers : AreAnsweredBy (table_of_list list) list.entries w.in-Words.words.now =
-          rw w.in-Words.is at c.self.invariant in
+          let (answers, each) = rw w.in-Words.is at c.self.invariant in
           rw (w.result-is, w.self-inside-is)
           (list_span_at_told trees list of_list haystack c.args.start c.if-start-haystack.false
           regular w.find_word_at.result []
-          (w.find_word_at.ensures (table_of_list list) list.entries answers))
+          (w.find_word_at.ensures (table_of_list list) list.entries answers each))
       | in-Several w ↦
           rw (w.result-is, w.self-inside-is)
           (list_span_at_told trees list of_list haystack c.args.start c.if-start-haystack.false

@@ -41,7 +41,7 @@ returns-clause-found c = λ trees regular is.
           let words = w.in-Words.words.now in
           let span = w.find_span.result in
           let answers : AreAnsweredBy (table_of_list list) list.entries words =
-          rw w.in-Words.is at c.self.invariant in
+          (rw w.in-Words.is at c.self.invariant).0 in
           let next : IsNextOfPatterns words haystack c.args.start span =
           subst (λ bytes. IsNextOfPatterns words bytes c.args.start span)
           w.as_bytes.ensures.value w.find_span.ensures in

@@ -3,7 +3,6 @@ use Rattle.regex_lite_meta.proofs.Common.{[], chars, places_of, position_at, sym
 use Rattle.regex_lite_meta.proofs.Common.{best_kept, table_of_list}
 use Rattle.regex_lite_engine.specs.Search.AnswerAt.{AnyMatchesAt}
 use Rattle.regex_lite_engine.specs.Search.NumberedOutcomes.{IsAnyTo}
-use Rattle.regex_lite_engine.specs.Search.NumberedWords.{AreAnsweredBy}
 use Rattle.regex_lite_engine.specs.Search.Offsets.{search_start}
 use Rattle.regex_lite_engine.proofs.search.ListAnchoredLemmas.{list_any_at_told}
 use Rattle.regex_lite_meta.proofs.AnchoredSpanLemmas.{some_kept, any_of_word}
@@ -38,14 +37,13 @@ returns-clause-found c = λ trees regular is.
           (λ table entries. IsAnyTo table (chars haystack) entries s s (best_kept found row))
           w.find_anchored.ensures.found))
       | in-Words w ↦
-          let answers : AreAnsweredBy (table_of_list list) list.entries w.in-Words.words.now =
-          rw w.in-Words.is at c.self.invariant in
+          let (answers, each) = rw w.in-Words.is at c.self.invariant in
           let told = w.find_word_at.result in
           subst (λ some. IsTrue some
           ↔ AnyMatchesAt trees (chars haystack) (search_start haystack c.args.start))
           (sym (w.result-is ∙ w.is_some-in-Words.ensures))
           (any_of_word trees list of_list haystack c.args.start inside regular told
-          (w.find_word_at.ensures (table_of_list list) list.entries answers))
+          (w.find_word_at.ensures (table_of_list list) list.entries answers each))
       | in-Several w ↦
           let found = w.find_any_anchored.result in
           subst (λ some. IsTrue some

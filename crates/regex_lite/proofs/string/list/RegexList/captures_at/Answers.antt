@@ -1,23 +1,35 @@
-use Rattle.regex_lite.proofs.Common.{ap, CompiledList}
+use Rattle.regex_lite.proofs.Common.{Some, ap, IsOutcomeOfList, CompiledList}
+use Rattle.regex_lite.specs.Scanning.{TellsOutcomeOfList}
 use Rattle.regex_lite.proofs.string.ListSlotLemmas.{room_kept, room_whole}
-use Rattle.regex_lite.proofs.string.ListToldLemmas.{outcome_given}
+use Rattle.regex_lite.proofs.string.ListToldLemmas.{outcome_of_list}
 use Rattle.regex_lite.proofs.string.list.RegexList.captures_at.Goals as goal
+use Rattle.regex_lite.proofs.string.list.RegexList.captures_at.Goals.{In-Some}
+
+-- what the search told of
+told : (c : In-Some)
+    → TellsOutcomeOfList c.args.self.now c.args.haystack.now c.args.start (Some c.in-Some.found)
+told c = (
+  c.self.invariant.trees,
+  rw (← c.self.view_is) c.self.invariant.given,
+  outcome_of_list c.self.inside.compiled c.self.invariant c.deref.result.now.graph
+      (λ trees. IsOutcomeOfList trees c.args.haystack.now c.args.start) c.in_ok-told.told
+      c.in-Some.found (ap (λ (compiled : CompiledList). compiled.graph) c.deref.ensures)
+      c.in_ok-told.ensures.found c.in-Some.is,
+)
 
 pub captured-requires : goal.captured-requires
 captured-requires c =
-    let told = c.in_ok-told in
-    let built = c.self.invariant in
+    let own = c.in_ok-told in
     let count = c.kept_slots-count in
     record {
-      told = (
-        c.args.start,
-        outcome_given c.args.self.now c.self.inside.compiled built
-            (rw (← c.self.view_is) built.given) c.args.haystack.now c.args.start told.told
-            c.deref.result.now.graph
-            (ap (λ (compiled : CompiledList). compiled.graph) c.deref.ensures)
-            told.ensures.found,
-      );
-      slots = room_kept count.result c.args.self.now told.told told.ensures.slots count.ensures;
-      whole = room_whole count.result c.in_ok-whole.whole.items told.told told.ensures.slots
-          c.in_ok-whole.ensures;
+      found = (c.args.start, told (goal.at.captured-requires c).In-Some);
+      slots = rw c.in-Some.is at
+          (room_kept count.result c.args.self.now own.told own.ensures.slots count.ensures);
+      whole = rw c.in-Some.is at
+          (room_whole count.result c.in_ok-whole.whole.items own.told own.ensures.slots
+          c.in_ok-whole.ensures);
     }
+
+pub returns-clause-found : goal.returns-clause-found
+returns-clause-found c =
+    c.in_ok-caps.ensures.found c.args.start (told (goal.at.returns-clause-found c).In-Some)

@@ -9,7 +9,8 @@ told : (c : In-Some) → IsOutcomeOfList c.self.invariant.trees c.args.haystack.
     (Some (c.in-Some.number, c.in-Some.outcome))
 told c =
     outcome_of_list c.self.inside.compiled c.self.invariant c.deref.result.now.graph
-    c.args.haystack.now c.args.start c.in_ok-told.told c.in-Some.number c.in-Some.outcome
+    (λ trees. IsOutcomeOfList trees c.args.haystack.now c.args.start) c.in_ok-told.told
+    (c.in-Some.number, c.in-Some.outcome)
     (ap (λ (compiled : CompiledList). compiled.graph) c.deref.ensures) c.in_ok-told.ensures.found
     c.in-Some.is
 

@@ -9,9 +9,9 @@ told : (c : In-Some) → OfTree c.args.self.now
     (λ tree. IsOutcome tree c.args.haystack.now c.args.start (Some c.in-Some.outcome))
 told c =
     outcome_of c.args.self.now c.self.inside.compiled c.self.invariant c.deref.result.now.graph
-    c.args.haystack.now c.args.start c.in_ok-outcome.outcome c.in-Some.outcome
-    (rw (← c.self.view_is) c.self.invariant.given) (ap (λ compiled. compiled.graph) c.deref.ensures)
-    c.in_ok-outcome.ensures.found c.in-Some.is
+    (λ tree. IsOutcome tree c.args.haystack.now c.args.start) c.in_ok-outcome.outcome
+    c.in-Some.outcome (rw (← c.self.view_is) c.self.invariant.given)
+    (ap (λ compiled. compiled.graph) c.deref.ensures) c.in_ok-outcome.ensures.found c.in-Some.is
 
 pub new-found-requires : goal.new-found-requires
 new-found-requires c =

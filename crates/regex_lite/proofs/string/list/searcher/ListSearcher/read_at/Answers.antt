@@ -1,54 +1,34 @@
-use Rattle.regex_lite.proofs.Common.{◌≡◌, length, take, sym, refl, ap, ◌∙◌, subst, arith}
-use Rattle.regex_lite.proofs.Common.{length-take-le, spans_of, resized, span_of_match, AreTrees}
-use Rattle.regex_lite.proofs.Common.{AreSlotsForAllGroups, all_slots}
-use Rattle.regex_lite.specs.Scanning.{ListSearching}
-use Rattle.regex_lite.proofs.string.ListKeptLemmas.{list_locations, number_within, own_within}
+use Rattle.regex_lite.proofs.Common.{List, length, Some, sym, ◌∙◌, subst, Expression}
+use Rattle.regex_lite.proofs.Common.{AreSlotsForAllGroups}
+use Rattle.regex_lite.specs.RegexListSearches.{TellsLocationsOfList}
+use Rattle.regex_lite.specs.Scanning.{TellsListMatch}
 use Rattle.regex_lite.proofs.string.list.searcher.ListSearcher.read_at.Goals as goal
-use Rattle.regex_lite.proofs.string.list.searcher.ListSearcher.read_at.Goals.{After-or_whole-slots}
 
--- the patterns are the same after the search, and the slots are those of the match
-searched : (c : After-or_whole-slots) → (c.self.inside.list.now ≡ c.args.self.now.list)
-    × AreSlotsForAllGroups c.args.self.now.list (length c.match_at.new.finder.slots)
-    × (c.or_whole-slots.result.now
-    ≡ all_slots c.match_at.new.finder.slots (span_of_match c.in_ok-number.found))
-searched c =
+pub read-requires : goal.read-requires
+read-requires c =
+    let a = c.args in
     let old = c.requires.room in
-    let span = span_of_match c.in_ok-number.found in (
-      ap (λ (own : ListSearching). own.list) c.self.view_is ∙ c.match_at.ensures.sought,
-      (old.0, old.1, c.match_at.ensures.slots ∙ old.2),
-      c.or_whole-slots.ensures span (rw (c.start.ensures, c.end.ensures) refl)
-          ∙ ap (λ slots. all_slots slots span)
-          (c.slots.ensures ∙ ap (λ (own : ListSearching). own.slots) c.self.view_is),
-    )
-
-pub slots_of-own-requires : goal.slots_of-own-requires
-slots_of-own-requires c =
-    let a = c.args in
-    let all = searched (goal.at.slots_of-own-requires c).After-or_whole-slots in
-    let less = number_within a.self.now.list a.haystack.now a.start c.match_at.new.finder.slots
-    all.1 c.in_ok-number.number c.in_ok-number.found c.in_ok-number.ensures.found in
-    omega (arith, less, ap (λ own. length own) all.0)
-
-pub slice_bounds-write-end : goal.slice_bounds-write-end
-slice_bounds-write-end c =
-    let a = c.args in
-    let own = c.slots_of-own.ensures in
-    let all = searched (goal.at.slice_bounds-write-end c).After-or_whole-slots in
-    let within = own_within a.self.now.list a.haystack.now a.start c.match_at.new.finder.slots
-    all.1 c.in_ok-number.number c.in_ok-number.found c.in_ok-number.ensures.found
-    c.slots_of-own.result (own.0, subst (λ list. AreTrees list own.0) all.0 own.1, own.2) in
-    sym (length-take-le c.slots_of-own.result c.or_whole-slots.result.now
-    (omega (arith, within, ap (λ slots. length slots) all.2)))
+    let slots = c.match_at.new.finder.slots in
+    let same = sym c.match_at.ensures.sought in
+    record {
+      room = subst (λ (list : List Expression). AreSlotsForAllGroups list (length slots)) same
+          (old.0, old.1, c.match_at.ensures.slots ∙ old.2);
+      last = (
+        a.haystack.now,
+        a.start,
+        subst (λ (list : List Expression). TellsListMatch list a.haystack.now a.start slots
+            (Some c.in_ok-last.last)) same c.in_ok-last.ensures.found,
+      );
+    }
 
 pub returns-clause-found : goal.returns-clause-found
 returns-clause-found c =
     let a = c.args in
-    let own = c.slots_of-own.ensures in
-    let all = searched (goal.at.returns-clause-found c).After-or_whole-slots in
-    let n = length a.locs.now in
-    let two = c.slots_of-own.result in
-    list_locations a.self.now.list a.haystack.now a.start c.match_at.new.finder.slots all.1
-    c.in_ok-number.number c.in_ok-number.found c.in_ok-number.ensures.found two
-    (own.0, subst (λ list. AreTrees list own.0) all.0 own.1, own.2) c.write.new.self n
-    c.write.ensures.len
-    (c.write.ensures.spans ∙ ap (λ slots. resized n (spans_of (take two slots))) all.2)
+    let slots = c.match_at.new.finder.slots in
+    let last = c.in_ok-last.last in
+    let same = c.match_at.ensures.sought in
+    subst (λ (list : List Expression). TellsLocationsOfList list a.haystack.now a.start
+    c.read.new.locs (Some last)) same
+    (c.read.ensures.found a.haystack.now a.start
+    (subst (λ (list : List Expression). TellsListMatch list a.haystack.now a.start slots
+    (Some last)) (sym same) c.in_ok-last.ensures.found))

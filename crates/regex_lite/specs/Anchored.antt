@@ -1,0 +1,81 @@
+-- What anchored searches return, by offsets: their matches start where the search does.
+use Rattle.std.specs.Prelude.{◌≡◌, ℕ, List, Option, chars, length}
+use Rattle.regex_lite_syntax.specs.Tree.{Tree}
+use Rattle.regex_lite_syntax.specs.Tree.Properties.{captures_len}
+use Rattle.regex_lite_engine.specs.Graph.SideBySide.{HasTree}
+use Rattle.regex_lite_engine.specs.Search.Answer.{Found}
+use Rattle.regex_lite_engine.specs.Search.AnswerAt.{IsAnswerAt, IsAnswerAtOfList}
+use Rattle.regex_lite_engine.specs.Search.Offsets.{search_start}
+use Rattle.regex_lite.specs.declared.string.matches.Match.{Match}
+use Rattle.regex_lite.specs.Answers.{TellsOfAnswer}
+use Rattle.regex_lite.specs.Expression.{Expression, OfTree}
+use Rattle.regex_lite.specs.Groups.{Groups, resized}
+use Rattle.regex_lite.specs.RegexList.{OfTrees}
+use Rattle.regex_lite.specs.Searches.{AreGroupsOf, IsMatchOf, spans_from}
+
+-- what an anchored search for the pattern at this offset returns: `None` if no match starts there,
+-- and otherwise a value of which `says` holds for what is found
+abbrev pub TellsAnswerAt : {A : Type 0} → (says : Tree → Found → A → Type 0)
+    → Expression → (haystack : List ℕ) → (start : ℕ) → Option A → Type 0
+TellsAnswerAt says re haystack start told =
+    OfTree re (λ tree. TellsOfAnswer (IsAnswerAt tree (chars haystack)) (says tree)
+    (search_start haystack start) told)
+
+-- it returns the match
+abbrev pub TellsMatchAt : Expression → (haystack : List ℕ) → (start : ℕ) → Option Match → Type 0
+TellsMatchAt re haystack start told =
+    TellsAnswerAt (λ tree. IsMatchOf haystack) re haystack start told
+
+-- it returns the groups
+abbrev pub TellsGroupsAt : Expression → (haystack : List ℕ) → (start : ℕ) → Option Groups → Type 0
+TellsGroupsAt re haystack start told =
+    TellsAnswerAt (λ tree. AreGroupsOf tree haystack) re haystack start told
+
+-- it returns the match, and these are the spans of its first groups
+abbrev pub TellsLocationsAt : Expression → (haystack : List ℕ) → (start : ℕ)
+    → List (Option (ℕ × ℕ)) → Option Match → Type 0
+TellsLocationsAt re haystack start spans told =
+    TellsAnswerAt (λ tree found m. IsMatchOf haystack found m
+    × (spans ≡ spans_from (chars haystack) found.marks 0 (length spans)))
+    re haystack start told
+
+-- what is returned of the answer of several patterns is its number, and a value of which `says`
+-- holds for the tree with this number and what was found of it
+pub record IsToldOfNumbered {A : Type 0} (says : Tree → Found → A → Type 0) (trees : List Tree)
+    (answer : ℕ × Found) (told : ℕ × A) : Type 0 where
+  pub number : told.0 ≡ answer.0
+  pub tree : Tree
+  pub numbered : HasTree trees answer.0 tree
+  pub value : says tree answer.1 told.1
+
+-- what an anchored search for the patterns at this offset returns: `None` if no match of any starts
+-- there, and otherwise the lowest number of a pattern that matches there, and a value of which
+-- `says` holds for what is found of it
+abbrev pub TellsAnswerAtOfList : {A : Type 0} → (says : Tree → Found → A → Type 0)
+    → List Expression → (haystack : List ℕ) → (start : ℕ) → Option (ℕ × A) → Type 0
+TellsAnswerAtOfList says list haystack start told =
+    OfTrees list (λ trees. TellsOfAnswer (IsAnswerAtOfList trees (chars haystack))
+    (IsToldOfNumbered says trees) (search_start haystack start) told)
+
+-- it returns the match, with the number of its pattern
+abbrev pub TellsMatchAtOfList : List Expression → (haystack : List ℕ) → (start : ℕ)
+    → Option (ℕ × Match) → Type 0
+TellsMatchAtOfList list haystack start told =
+    TellsAnswerAtOfList (λ tree. IsMatchOf haystack) list haystack start told
+
+-- it returns the groups, with the number of their pattern
+abbrev pub TellsGroupsAtOfList : List Expression → (haystack : List ℕ) → (start : ℕ)
+    → Option (ℕ × Groups) → Type 0
+TellsGroupsAtOfList list haystack start told =
+    TellsAnswerAtOfList (λ tree. AreGroupsOf tree haystack) list haystack start told
+
+-- it returns the match, with the number of its pattern, and these are the spans of that pattern's
+-- groups by index: those of its first groups where it has more than there are spans, and none after
+-- its last one where it has fewer
+abbrev pub TellsLocationsAtOfList : List Expression → (haystack : List ℕ) → (start : ℕ)
+    → List (Option (ℕ × ℕ)) → Option (ℕ × Match) → Type 0
+TellsLocationsAtOfList list haystack start spans told =
+    TellsAnswerAtOfList (λ tree found m. IsMatchOf haystack found m
+    × (spans ≡ resized (length spans)
+    (spans_from (chars haystack) found.marks 0 (captures_len tree))))
+    list haystack start told

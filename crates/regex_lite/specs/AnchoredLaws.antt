@@ -1,0 +1,106 @@
+-- Laws of what anchored searches return: by the searches that aren't anchored, and by the offsets
+-- at which patterns match.
+use Rattle.std.specs.Prelude.{◌≡◌, ◌≤◌, ◌↔◌, ℕ, List, IsUtf8, Option, Some, None, chars}
+use Rattle.std.specs.Prelude.{slice_get}
+use Rattle.regex_lite_syntax.specs.Grammar.{HasTree}
+use Rattle.regex_lite.specs.declared.string.matches.Match.{Match}
+use Rattle.regex_lite.specs.Anchored.{TellsGroupsAt, TellsGroupsAtOfList, TellsLocationsAt}
+use Rattle.regex_lite.specs.Anchored.{TellsLocationsAtOfList, TellsMatchAt, TellsMatchAtOfList}
+use Rattle.regex_lite.specs.Expression.{Expression}
+use Rattle.regex_lite.specs.Groups.{Groups, whole_span}
+use Rattle.regex_lite.specs.MatchOffsets.{HaveTrees, MatchesAt, MatchesSpan, PrefersSpan}
+use Rattle.regex_lite.specs.MatchOffsets.{SomeMatchesAt}
+use Rattle.regex_lite.specs.MatchViews.{haystack_of_match, span_of_match}
+use Rattle.regex_lite.specs.RegexListSearches.{TellsGroupsOfList, TellsLocationsOfList}
+use Rattle.regex_lite.specs.RegexListSearches.{TellsMatchOfList}
+use Rattle.regex_lite.specs.Searches.{CanStartAt, TellsGroups, TellsLocations, TellsMatch}
+
+-- an anchored search for a pattern at this offset returns what the search from there returns,
+-- exactly if that starts there
+pub record IsSearchAt (re : Expression) (haystack : List ℕ) (start : ℕ) : Type 0 where
+  pub match : (told : Match) → TellsMatchAt re haystack start (Some told)
+      ↔ (TellsMatch re haystack start (Some told) × ((span_of_match told).0 ≡ start))
+  pub groups : (told : Groups) → TellsGroupsAt re haystack start (Some told)
+      ↔ (TellsGroups re haystack start (Some told) × ((whole_span told).0 ≡ start))
+  pub locations : (spans : List (Option (ℕ × ℕ))) (told : Match)
+      → TellsLocationsAt re haystack start spans (Some told)
+      ↔ (TellsLocations re haystack start spans (Some told)
+      × ((span_of_match told).0 ≡ start))
+
+abbrev pub AnchoredSearchesAreSearches : Type 0
+AnchoredSearchesAreSearches =
+    (re : Expression) (haystack : List ℕ) (start : ℕ) → IsUtf8 haystack
+    → CanStartAt haystack start → IsSearchAt re haystack start
+
+-- the same of those for several patterns
+pub record IsListSearchAt (list : List Expression) (haystack : List ℕ) (start : ℕ)
+    : Type 0 where
+  pub match : (told : ℕ × Match) → TellsMatchAtOfList list haystack start (Some told)
+      ↔ (TellsMatchOfList list haystack start (Some told) × ((span_of_match told.1).0 ≡ start))
+  pub groups : (told : ℕ × Groups) → TellsGroupsAtOfList list haystack start (Some told)
+      ↔ (TellsGroupsOfList list haystack start (Some told) × ((whole_span told.1).0 ≡ start))
+  pub locations : (spans : List (Option (ℕ × ℕ))) (told : ℕ × Match)
+      → TellsLocationsAtOfList list haystack start spans (Some told)
+      ↔ (TellsLocationsOfList list haystack start spans (Some told)
+      × ((span_of_match told.1).0 ≡ start))
+
+abbrev pub AnchoredListSearchesAreSearches : Type 0
+AnchoredListSearchesAreSearches =
+    (list : List Expression) (haystack : List ℕ) (start : ℕ) → IsUtf8 haystack
+    → CanStartAt haystack start → IsListSearchAt list haystack start
+
+-- of the matches that begin at this offset, the pattern prefers this one
+pub record IsMatchAt (re : Expression) (haystack : List ℕ) (start : ℕ) (span : ℕ × ℕ)
+    : Type 0 where
+  pub begins : span.0 ≡ start
+  pub matches : MatchesSpan re haystack span
+  pub preferred : PrefersSpan re haystack span
+
+-- the anchored searches for a pattern at this offset, by the offsets at which it matches
+pub record FindsAt (re : Expression) (haystack : List ℕ) (start : ℕ) : Type 0 where
+  -- what is returned is the match that the pattern prefers there, and that may be returned
+  pub found : (told : Match) → TellsMatchAt re haystack start (Some told)
+      ↔ ((haystack_of_match told ≡ haystack)
+      × IsMatchAt re haystack start (span_of_match told))
+  -- nothing is returned exactly if no match begins there, of a pattern that has a tree
+  pub none : TellsMatchAt re haystack start None
+      ↔ (HasTree re.flags (chars re.pattern) × (MatchesAt re haystack start → ⊥))
+  -- the same of the search for groups
+  pub groups : (told : Groups) → TellsGroupsAt re haystack start (Some told)
+      → IsMatchAt re haystack start (whole_span told)
+  pub no_groups : TellsGroupsAt re haystack start None
+      ↔ (HasTree re.flags (chars re.pattern) × (MatchesAt re haystack start → ⊥))
+
+abbrev pub AnchoredSearchesFindAt : Type 0
+AnchoredSearchesFindAt =
+    (re : Expression) (haystack : List ℕ) (start : ℕ) → IsUtf8 haystack
+    → CanStartAt haystack start → FindsAt re haystack start
+
+-- of the patterns that match from this offset this number is the lowest, and the pattern with this
+-- number prefers this match there
+pub record IsMatchAtOfList (list : List Expression) (haystack : List ℕ) (start number : ℕ)
+    (span : ℕ × ℕ) : Type 0 where
+  pub re : Expression
+  pub numbered : slice_get list number ≡ Some re
+  pub at : IsMatchAt re haystack start span
+  pub lowest : (k : ℕ) (other : Expression) → slice_get list k ≡ Some other
+      → MatchesAt other haystack start → number ≤ k
+
+-- the anchored searches for several patterns at this offset, in the same way
+pub record ListFindsAt (list : List Expression) (haystack : List ℕ) (start : ℕ) : Type 0 where
+  pub found : (number : ℕ) (told : Match)
+      → TellsMatchAtOfList list haystack start (Some (number, told))
+      ↔ (HaveTrees list × (haystack_of_match told ≡ haystack)
+      × IsMatchAtOfList list haystack start number (span_of_match told))
+  pub none : TellsMatchAtOfList list haystack start None
+      ↔ (HaveTrees list × (SomeMatchesAt list haystack start → ⊥))
+  pub groups : (number : ℕ) (told : Groups)
+      → TellsGroupsAtOfList list haystack start (Some (number, told))
+      → IsMatchAtOfList list haystack start number (whole_span told)
+  pub no_groups : TellsGroupsAtOfList list haystack start None
+      ↔ (HaveTrees list × (SomeMatchesAt list haystack start → ⊥))
+
+abbrev pub AnchoredListSearchesFindAt : Type 0
+AnchoredListSearchesFindAt =
+    (list : List Expression) (haystack : List ℕ) (start : ℕ) → IsUtf8 haystack
+    → CanStartAt haystack start → ListFindsAt list haystack start
