@@ -1,0 +1,3 @@
+pub mod BlockLemmas
+pub mod FilterLemmas
+pub mod LineLemmas
