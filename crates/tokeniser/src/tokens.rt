@@ -1,0 +1,105 @@
+//! A text as tokens.
+ghost use Rattle.std.specs.Prelude.{◌≡◌, IfErr, IfOk, flat_map, length};
+ghost use Rattle.tokeniser.specs.Tokens.{AreTokens, IsFault};
+
+use regex_lite::laws::list_searches_find_the_first_match;
+use regex_lite::{Error, RegexList};
+use std::alloc::{AllocFailed, Global};
+use std::fmt;
+
+/// A part of a text, and the rule that it was found by.
+#[derive(Clone, Copy, Debug)]
+pub struct Token<'t> {
+    /// The index of the rule.
+    pub rule: usize,
+    /// The part of the text.
+    pub text: &'t str,
+}
+
+/// Why a text has no tokens.
+#[derive(Debug, Drop)]
+pub enum Fault {
+    /// No rule matches at this offset, where the last token ends.
+    NoRule(usize),
+    /// The token at this offset is empty, by the rule with this index.
+    Empty(usize, usize),
+    /// Memory ran out.
+    Refused(Error),
+}
+
+impl fmt::Display for Fault {
+    fn fmt<W: fmt::Write>(&self, f: &mut fmt::Formatter<W>) -> fmt::Result {
+        match self {
+            Fault::NoRule(at) => write!(f, "no rule matches at {at}"),
+            Fault::Empty(at, rule) => write!(f, "rule {rule} matches the empty text at {at}"),
+            Fault::Refused(error) => write!(f, "{error}"),
+        }
+    }
+}
+
+impl From<Error> for Fault {
+    ghost use Rattle.std.specs.Prelude.{◌≡◌};
+    ghost use Rattle.tokeniser.specs.declared.tokens.Fault.TheVariants.{Refused};
+
+    ghost from_gives = { λ error fault. fault ≡ Refused error };
+
+    fn from(error: Error) -> Fault {
+        Fault::Refused(error)
+    }
+}
+
+impl<T: Drop> From<AllocFailed<T>> for Fault {
+    ghost use Rattle.std.specs.Prelude.{◌≡◌};
+    ghost use Rattle.regex_lite.specs.Errors.{out_of_memory};
+    ghost use Rattle.tokeniser.specs.declared.tokens.Fault.TheVariants.{Refused};
+
+    ghost from_gives = { λ _ fault. fault ≡ Refused out_of_memory };
+
+    fn from(_: AllocFailed<T>) -> Fault {
+        Fault::Refused(Error::memory())
+    }
+}
+
+/// The text as tokens, from its start to its end.
+///
+/// Each token is by the lowest rule of which a match begins where the last token ends, and as long
+/// as that rule prefers.
+///
+/// # Errors
+///
+/// `NoRule` where no rule matches at the end of the last token, `Empty` where the token there would
+/// be empty, and `Refused` if memory runs out.
+pub fn tokenise<'t>(
+    alloc: Global,
+    rules: &RegexList,
+    text: &'t str,
+) -> Result<Vec<Token<'t>>, Fault>
+    ensures tokens { IfOk result
+        (λ tokens. AreTokens rules.now text.now 0 tokens.items (length text.now)) }
+    ensures whole { IfOk result
+        (λ tokens. flat_map (λ token. token.text.now) tokens.items ≡ text.now) }
+    ensures fault { IfErr result (IsFault rules.now text.now) }
+{
+    list_searches_find_the_first_match();
+    let mut searcher = rules.searcher()?;
+    let mut tokens = Vec::new(alloc);
+    let mut at = 0;
+    while at < text.len() {
+        let Some((rule, found)) = searcher.find_at(text, at) else {
+            return Err(Fault::NoRule(at));
+        };
+        // The search goes on past the offset at which a token has to begin.
+        if found.start() != at {
+            return Err(Fault::NoRule(at));
+        }
+        if found.is_empty() {
+            return Err(Fault::Empty(at, rule));
+        }
+        tokens.push(Token {
+            rule,
+            text: found.as_str(),
+        })?;
+        at = found.end();
+    }
+    Ok(tokens)
+}
