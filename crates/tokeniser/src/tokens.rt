@@ -2,7 +2,7 @@
 ghost use Rattle.std.specs.Prelude.{◌≡◌, IfErr, IfOk, flat_map, length};
 ghost use Rattle.tokeniser.specs.Tokens.{AreTokens, IsFault};
 
-use regex_lite::laws::list_searches_find_the_first_match;
+use regex_lite::laws::anchored_searches_find_the_match_there;
 use regex_lite::{Error, RegexList};
 use std::alloc::{AllocFailed, Global};
 use std::fmt;
@@ -80,18 +80,14 @@ pub fn tokenise<'t>(
         (λ tokens. flat_map (λ token. token.text.now) tokens.items ≡ text.now) }
     ensures fault { IfErr result (IsFault rules.now text.now) }
 {
-    list_searches_find_the_first_match();
+    anchored_searches_find_the_match_there();
     let mut searcher = rules.searcher()?;
     let mut tokens = Vec::new(alloc);
     let mut at = 0;
     while at < text.len() {
-        let Some((rule, found)) = searcher.find_at(text, at) else {
+        let Some((rule, found)) = searcher.find_anchored_at(text, at) else {
             return Err(Fault::NoRule(at));
         };
-        // The search goes on past the offset at which a token has to begin.
-        if found.start() != at {
-            return Err(Fault::NoRule(at));
-        }
         if found.is_empty() {
             return Err(Fault::Empty(at, rule));
         }

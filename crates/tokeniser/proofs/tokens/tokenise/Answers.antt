@@ -3,10 +3,10 @@ use Rattle.std.specs.Prelude.{IsCharBoundary}
 use Rattle.std.proofs.lemmas.Bool.{false≢true}
 use Rattle.std.proofs.lemmas.Str.{IsCharBoundary-start}
 use Rattle.regex_lite.specs.MatchViews.{span_of_match}
-use Rattle.regex_lite.specs.RegexListSearches.{TellsMatchOfList}
+use Rattle.regex_lite.specs.Anchored.{TellsMatchAtOfList}
 use Rattle.tokeniser.specs.Tokens.{AreTokens, IsPartAt, IsTokenAt}
 use Rattle.tokeniser.specs.declared.tokens.Token.{Token}
-use Rattle.tokeniser.proofs.PartLemmas.{edge_after, elsewhere_than, nothing_at, part_at, token_at}
+use Rattle.tokeniser.proofs.PartLemmas.{begins, edge_after, nothing_at, part_at, token_at}
 use Rattle.tokeniser.proofs.TokenLemmas.{one_more, whole_text}
 use Rattle.tokeniser.proofs.tokens.tokenise.Goals as goal
 
@@ -24,25 +24,12 @@ returns-in_default-clause-fault c =
     let text = c.args.text.now in
     let at = c.loop-at.at in
     let inv = c.loop-at.invariant in
-    let told = subst (λ s. TellsMatchOfList s text at c.find_at.result) inv.same
-    c.find_at.ensures.found in (
+    let told = subst (λ s. TellsMatchAtOfList s text at c.find_anchored_at.result) inv.same
+    c.find_anchored_at.ensures.found in (
       (c.loop-at.tokens.items, inv.tokens, c.loop-at-test.true),
-      nothing_at c.list_searches_find_the_first_match.ensures rules text c.utf8.text at inv.edge
-          (subst (TellsMatchOfList rules text at) c.in_default.is told),
-    )
-
-pub returns-then-start-at-clause-fault : goal.returns-then-start-at-clause-fault
-returns-then-start-at-clause-fault c =
-    let rules = c.args.rules.now in
-    let text = c.args.text.now in
-    let at = c.loop-at.at in
-    let inv = c.loop-at.invariant in
-    let found = c.in-Some.found in
-    let told = subst (λ s. TellsMatchOfList s text at (Some (c.in-Some.rule, found))) inv.same
-    c.in-Some.ensures.found in (
-      (c.loop-at.tokens.items, inv.tokens, c.loop-at-test.true),
-      elsewhere_than c.list_searches_find_the_first_match.ensures rules text c.utf8.text at
-          inv.edge c.in-Some.rule found told (λ same. c.if-start-at.true (c.start.ensures ∙ same)),
+      nothing_at c.anchored_searches_find_the_match_there.ensures.several rules text c.utf8.text
+          at inv.edge
+          (subst (TellsMatchAtOfList rules text at) c.in_default.is told),
     )
 
 pub returns-then-is_empty-clause-fault : goal.returns-then-is_empty-clause-fault
@@ -52,11 +39,11 @@ returns-then-is_empty-clause-fault c =
     let at = c.loop-at.at in
     let inv = c.loop-at.invariant in
     let found = c.in-Some.found in
-    let told = subst (λ s. TellsMatchOfList s text at (Some (c.in-Some.rule, found))) inv.same
+    let told = subst (λ s. TellsMatchAtOfList s text at (Some (c.in-Some.rule, found))) inv.same
     c.in-Some.ensures.found in
-    let start = sym c.start.ensures ∙ c.if-start-at.false in
-    let part = part_at c.list_searches_find_the_first_match.ensures rules text c.utf8.text at
-    inv.edge c.in-Some.rule found told start in
+    let law = c.anchored_searches_find_the_match_there.ensures.several in
+    let start = begins law rules text c.utf8.text at inv.edge c.in-Some.rule found told in
+    let part = part_at law rules text c.utf8.text at inv.edge c.in-Some.rule found told in
     let end = sym (c.if-is_empty.ensures.0 refl) ∙ start in (
       (c.loop-at.tokens.items, inv.tokens, c.loop-at-test.true),
       subst (IsPartAt rules text c.in-Some.rule at) end part,
@@ -68,19 +55,18 @@ loop-at-preserved c =
     let text = c.args.text.now in
     let at = c.loop-at.at in
     let inv = c.loop-at.invariant in
-    let law = c.list_searches_find_the_first_match.ensures in
+    let law = c.anchored_searches_find_the_match_there.ensures.several in
     let found = c.in-Some.found in
     let end = (span_of_match found).1 in
-    let told = subst (λ s. TellsMatchOfList s text at (Some (c.in-Some.rule, found))) inv.same
+    let told = subst (λ s. TellsMatchAtOfList s text at (Some (c.in-Some.rule, found))) inv.same
     c.in-Some.ensures.found in
-    let start = sym c.start.ensures ∙ c.if-start-at.false in
     let made : Token = record { rule = c.in-Some.rule; text = c.as_str.result } in
     let token : IsTokenAt rules text at end made =
     token_at law rules text c.utf8.text at inv.edge c.in-Some.rule found told made
-    found.lies_in refl c.as_str.ensures start
+    found.lies_in refl c.as_str.ensures
     (λ same. false≢true (sym c.if-is_empty.false ∙ c.is_empty.ensures.1 same)) in
     record {
-      same = c.find_at.ensures.same ∙ inv.same;
+      same = c.find_anchored_at.ensures.same ∙ inv.same;
       edge = subst (IsCharBoundary text) (sym c.end-at.ensures)
           (edge_after law rules text c.utf8.text at inv.edge c.in-Some.rule found told
           found.lies_in);
