@@ -1,6 +1,8 @@
 -- A pattern has one tree at most, so that a search for its tree is a search for the pattern.
-use Rattle.regex_lite.proofs.Common.{◌≡◌, ℕ, Bool, ◌↔◌, List, is_some, IsTrue, Some, None, Option}
-use Rattle.regex_lite.proofs.Common.{chars, sym, ◌∙◌, subst, false≢true, IsTree, Text, Tree}
+use Rattle.regex_lite.proofs.Common.{◌≡◌, ℕ, Bool, true, false, ◌↔◌, List, is_some, IsTrue, Some}
+use Rattle.regex_lite.proofs.Common.{None, Option, chars, sym, ap, ◌∙◌, subst, false≢true, IsTree}
+use Rattle.regex_lite.proofs.Common.{Text, Tree}
+use Rattle.std.specs.Prelude.{not}
 use Rattle.regex_lite.proofs.Common.{HasMatchFrom, search_start, Expression, MatchesFrom, OfTree}
 use Rattle.regex_lite_syntax.specs.declared.flags.Flags.{Flags}
 use Rattle.regex_lite_syntax.proofs.machine.WholeLemmas.{grammar_once}
@@ -42,3 +44,8 @@ has_told re haystack start found (tree, given, told) = (
       told.1 (subst (λ t. HasMatchFrom t (chars haystack) (search_start haystack start))
       (one_tree re.flags (chars re.pattern) matches.0 tree matches.1 given) matches.2),
 )
+
+-- a pattern may be empty exactly if it isn't told that each match reads
+pub empty_told : (reads empty : Bool) → reads ≡ not empty → not reads ≡ empty
+empty_told reads true is = ap not is
+empty_told reads false is = ap not is

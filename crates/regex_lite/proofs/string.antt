@@ -16,6 +16,7 @@ pub mod ListLemmas
 pub mod ListScanLemmas
 pub mod ListSlotLemmas
 pub mod ListToldLemmas
+pub mod ListedLemmas
 pub mod NextLemmas
 pub mod PieceLemmas
 pub mod ScanLemmas

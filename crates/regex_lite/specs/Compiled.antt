@@ -1,9 +1,9 @@
 -- What the parts of a regex, and of a searcher, have to do with one another.
-use Rattle.std.specs.Prelude.{◌≡◌, ℕ, List, Option, chars, map, option_map}
+use Rattle.std.specs.Prelude.{◌≡◌, ℕ, List, Option, chars, map, not, option_map}
 use Rattle.std.specs.Rc.{rc_str_bytes}
 use Rattle.regex_lite_syntax.specs.Tree.{Tree}
 use Rattle.regex_lite_syntax.specs.Grammar.{IsTree}
-use Rattle.regex_lite_syntax.specs.Tree.Properties.{static_captures_len}
+use Rattle.regex_lite_syntax.specs.Tree.Properties.{nullable, static_captures_len}
 use Rattle.regex_lite_syntax.specs.Tree.Regular.{IsRegular}
 use Rattle.regex_lite_engine.specs.Graph.Renumbered.{IsGraphOf, HasGroupsOf}
 use Rattle.regex_lite_engine.specs.Graph.Size.{Fits}
@@ -23,6 +23,8 @@ pub record IsBuilt (compiled : Compiled) : Type 0 where
   pub graph : IsGraphOf tree compiled.graph
   -- what the graph says of groups holds for the tree
   pub groups : HasGroupsOf tree compiled.graph
+  -- and so does what it says of characters that matches read
+  pub reads : compiled.graph.reads ≡ not (nullable tree)
 
 -- what is searched is the graph of the pattern's tree
 abbrev pub SearchesFor : Expression → Searching → Type 0

@@ -4,6 +4,7 @@ use Rattle.std.specs.Prelude.{◌≡◌, ◌<◌, ◌^◌, ℕ, List, [], None, 
 use Rattle.regex_lite_syntax.specs.Tree.{Tree}
 use Rattle.regex_lite_engine.specs.Graph.SideBySide.{AreRegularPatterns, places_of_all}
 use Rattle.regex_lite_engine.specs.Graph.StoredList.{HasGroupsOfList, IsGraphOfList, StoredGroups}
+use Rattle.regex_lite_engine.specs.Search.Starts.{TellReading}
 use Rattle.regex_lite.specs.Compiled.{stored_groups}
 use Rattle.regex_lite.specs.RegexList.{AreTrees}
 use Rattle.regex_lite.specs.Slots.{kept_slots, most_groups}
@@ -21,6 +22,8 @@ pub record IsBuiltList (compiled : CompiledList) : Type 0 where
   pub graph : IsGraphOfList trees compiled.graph
   -- what the graph says of groups holds for the trees
   pub groups : HasGroupsOfList trees compiled.graph
+  -- and so does what it says of characters that matches read
+  pub reads : TellReading trees compiled.graph.reads
   -- as many slots are kept as the pattern with the most groups needs
   pub slots : compiled.kept_slots ≡ kept_slots (most_groups compiled.graph.groups)
 

@@ -1,9 +1,9 @@
 -- Where to begin: Headline has the whole promise on one page. Expression says what is built, what
 -- is refused and what a regex returns, and Searches what the searches return. RegexList and
--- RegexListSearches say the same of several patterns at once, and Anchored what anchored searches
--- return of one pattern and of several. Templates says what a template gives for the groups of a
--- match, and Escapes which pattern is made of a text. MatchOffsets says where in a haystack a
--- pattern matches, whatever is searched for.
+-- RegexListSearches say the same of several patterns at once, ListedPattern of one of these, and
+-- Anchored what anchored searches return of one pattern and of several. Templates says what a
+-- template gives for the groups of a match, and Escapes which pattern is made of a text.
+-- MatchOffsets says where in a haystack a pattern matches, whatever is searched for.
 pub mod Headline
 pub mod Settings
 pub mod Expression
@@ -14,6 +14,7 @@ pub mod Searches
 pub mod RegexList
 pub mod RegexListSearches
 pub mod Anchored
+pub mod ListedPattern
 pub mod MatchList
 pub mod Ahead
 pub mod Items
@@ -30,6 +31,7 @@ pub mod RegexListLaws
 pub mod MatchOffsets
 pub mod OffsetLaws
 pub mod AnchoredLaws
+pub mod EmptyLaws
 pub mod TreeLaws
 pub mod ResultLaws
 pub mod GroupLaws

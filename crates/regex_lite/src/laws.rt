@@ -6,6 +6,7 @@ ghost use Rattle.regex_lite.specs.AnchoredLaws.{AnchoredListSearchesAreSearches}
 ghost use Rattle.regex_lite.specs.AnchoredLaws.{AnchoredListSearchesFindAt};
 ghost use Rattle.regex_lite.specs.AnchoredLaws.{AnchoredSearchesAreSearches};
 ghost use Rattle.regex_lite.specs.AnchoredLaws.{AnchoredSearchesFindAt};
+ghost use Rattle.regex_lite.specs.EmptyLaws.{OnlyNullableMatchesAreEmpty};
 ghost use Rattle.regex_lite.specs.GroupLaws.{AllGroupsTakePart, GroupsHaveNames};
 ghost use Rattle.regex_lite.specs.GroupLaws.{GroupsHaveTheirSpans, ListMatchIsGroup0};
 ghost use Rattle.regex_lite.specs.GroupLaws.{MatchIsGroup0, OneNameList};
@@ -107,6 +108,13 @@ pub fn anchored_searches_find_what_starts_there()
 pub fn anchored_searches_find_the_match_there()
     ensures one { AnchoredSearchesFindAt }
     ensures several { AnchoredListSearchesFindAt }
+{}
+
+/// Where a pattern can't match the empty text as far as its tree tells, which is where
+/// [`Regex::may_be_empty`](crate::Regex::may_be_empty) returns `false`, each match ends after its
+/// start, in whatever haystack.
+pub fn matches_are_empty_only_where_they_may_be()
+    ensures { OnlyNullableMatchesAreEmpty }
 {}
 
 /// What any one search returns shows whether the pattern matches from the start on, or one of

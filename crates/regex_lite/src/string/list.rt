@@ -2,10 +2,12 @@
 ghost use Rattle.std.specs.Prelude.{◌≡◌, ◌↔◌, ◌≤◌, ◌<◌, ◌*◌, ◌^◌, [], ℕ, IsTrue};
 ghost use Rattle.std.specs.Prelude.{length, map, option_map, slice_get, ⊤};
 ghost use Rattle.regex_lite_syntax.specs.Tree.{Tree};
-ghost use Rattle.regex_lite_syntax.specs.Tree.Properties.{captures_len};
+ghost use Rattle.regex_lite_syntax.specs.Tree.Properties.{captures_len, nullable};
 ghost use Rattle.regex_lite_engine.specs.Graph.SideBySide.{arrows_of_all, places_of_all};
 ghost use Rattle.regex_lite_engine.specs.Graph.SideBySide.{HasTree};
 ghost use Rattle.regex_lite.specs.Scanning.{most_captures};
+ghost use Rattle.regex_lite.specs.Expression.{OfTree};
+ghost use Rattle.regex_lite.specs.ListedPattern.{OfPattern};
 ghost use Rattle.regex_lite.specs.RegexList.{BuildsList, OfTrees};
 ghost use Rattle.regex_lite.specs.Settings.{default_settings};
 ghost use Rattle.regex_lite.specs.Slots.{kept_slots};
@@ -19,6 +21,7 @@ mod counted;
 pub(super) mod find_iter;
 mod group_search;
 pub(super) mod kept;
+mod listed;
 mod search;
 mod searcher;
 pub(super) mod set_matches;
@@ -40,7 +43,8 @@ use std::marker::Model;
 /// starts first and, among the patterns that match there, the one with the lowest number. Only
 /// [`RegexList::matches`], which returns for each pattern whether it matches, may go over it once
 /// for each: it does so for fewer than 16 patterns, and where patterns may start so often that one
-/// pass for all of them doesn't pay.
+/// pass for all of them doesn't pay. A search for one pattern alone, such as
+/// [`RegexList::captures_of`], is given its number.
 ///
 /// Clones share what was built, so a clone costs little. It always succeeds.
 #[derive(Drop)]
@@ -108,6 +112,17 @@ impl RegexList {
     {
         let pattern = self.compiled.patterns.get(i)?;
         Some(pattern.text.as_str())
+    }
+
+    /// Whether the pattern with this number may match the empty text, as far as it tells by itself:
+    /// what [`Regex::may_be_empty`](crate::Regex::may_be_empty) returns for it.
+    ///
+    /// Condition: the list has more patterns than this number.
+    pub fn may_be_empty(&self, number: usize) -> bool
+        requires { number < length self.now }
+        ensures { OfPattern self.now number (λ re. OfTree re (λ tree. result ≡ nullable tree)) }
+    {
+        !self.compiled.graph.reads(number)
     }
 
     /// How many places the patterns have together when they are written out. They are fewer than

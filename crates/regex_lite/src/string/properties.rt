@@ -1,6 +1,7 @@
 //! What a regex says of its groups and of its pattern written out.
 ghost use Rattle.std.specs.Prelude.{◌≡◌, ◌*◌, ◌^◌, ◌<◌, ℕ};
-ghost use Rattle.regex_lite_syntax.specs.Tree.Properties.{captures_len, static_captures_len};
+ghost use Rattle.regex_lite_syntax.specs.Tree.Properties.{captures_len, nullable};
+ghost use Rattle.regex_lite_syntax.specs.Tree.Properties.{static_captures_len};
 ghost use Rattle.regex_lite_engine.specs.Graph.PlaceCounts.{whole_places, whole_arrows};
 ghost use Rattle.regex_lite.specs.CaptureNames.{names_left};
 ghost use Rattle.regex_lite.specs.Expression.{AreNames, OfTree};
@@ -54,6 +55,24 @@ impl Regex {
         ensures told { IsStaticNumber self.now result }
     {
         self.compiled.graph.static_captures_len()
+    }
+
+    /// Whether the pattern may match the empty text, as far as it tells by itself: its looks, such
+    /// as `^` and `\b`, are taken to hold.
+    ///
+    /// Where this is `false`, each match reads a character, so none is empty. Where it is `true`
+    /// there may still be no empty match, as of `\b\B`.
+    ///
+    /// ```
+    /// Regex::new(alloc, "a*")?.may_be_empty(); // true
+    /// Regex::new(alloc, "a+$")?.may_be_empty(); // false
+    /// ```
+    ///
+    /// The test `examples::emptiness` in tests/unit runs this example.
+    pub fn may_be_empty(&self) -> bool
+        ensures { OfTree self.now (λ tree. result ≡ nullable tree) }
+    {
+        !self.compiled.graph.reads()
     }
 
     /// How many places the pattern has when it is written out. They are fewer than 2^32.

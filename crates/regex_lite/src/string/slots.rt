@@ -20,9 +20,16 @@ impl Regex {
     pub(super) fn kept_slots(&self) -> usize
         ensures { OfTree self.now (λ tree. result ≡ kept_slots (captures_len tree)) }
     {
-        let slots = self.slots();
-        if slots == 2 { 0 } else { slots }
+        kept_of(self.slots())
     }
+}
+
+/// How many of this number of slots a search keeps for the groups that have them: none if they are
+/// those of the whole match alone.
+pub(super) fn kept_of(slots: usize) -> usize
+    ensures { (groups : ℕ) → slots ≡ 2 * groups → result ≡ kept_slots groups }
+{
+    if slots == 2 { 0 } else { slots }
 }
 
 /// Room for the slots of the whole match, where a search keeps none for its groups.

@@ -12,6 +12,7 @@ use crate::string::builder::RegexBuilder;
 use crate::string::compiled::Pattern;
 use crate::string::list::RegexList;
 use crate::string::list::compiled::CompiledList;
+use crate::string::slots::kept_of;
 use regex_lite_engine::{GraphList, Measured};
 use regex_lite_syntax::Error;
 use std::alloc::{AllocError, Global};
@@ -86,5 +87,5 @@ fn kept_slots(graph: &GraphList, count: usize) -> usize
         let own = 2 * graph.groups(number).capture_names().len();
         most = most.max(own);
     }
-    if most == 2 { 0 } else { most }
+    kept_of(most)
 }

@@ -39,4 +39,5 @@ invariant_of-result c =
       fits = (_, c.in_ok-graph.ensures.fits);
       graph = c.in_ok-graph.ensures.ok;
       groups = c.in_ok-graph.ensures.groups;
+      reads = c.in_ok-graph.ensures.reads;
     })

@@ -52,5 +52,6 @@ invariant_of-result c =
       fit = rw (← c.deref.ensures.value) c.in_ok-graph.ensures.fits;
       graph = rw (← c.deref.ensures.value) c.in_ok-graph.ensures.ok;
       groups = rw (← c.deref.ensures.value) c.in_ok-graph.ensures.groups;
+      reads = rw (← c.deref.ensures.value) c.in_ok-graph.ensures.reads;
       slots = c.kept_slots-kept_slots.ensures;
     })
