@@ -72,30 +72,34 @@ module _ {Z : Type 0} (start a : Ahead) (same : CowStr Z) (made : List ℕ) wher
   owned_finished (Some from) begun over new finished some = finished.0
 
   -- so what holds of what was made with the rest of the haystack holds of the new text
-  pub so_finished : {E : Type 0} (ended : Option ℕ) (result : Result (CowStr Z) E)
+  pub so_finished : {E : Type 0} (ended : Option ℕ) (result : Result (CowStr Z × ℕ) E)
       (P : List ℕ → Type 0)
-      → IfOk result (IsFinished same made ended) → cow_str_bytes same ≡ start.haystack
+      → IfOk result (λ told. IsFinished same made ended told.0)
+      → cow_str_bytes same ≡ start.haystack
       → IsBegun start a made ended → P (made ++ drop (unwrap_or ended 0) start.haystack)
-      → IfOk result (λ new. P (cow_str_bytes new))
+      → IfOk result (λ told. P (cow_str_bytes told.0))
   so_finished ended result P finished is begun holds =
-      IfOk-weaker result (IsFinished same made ended) (λ new. P (cow_str_bytes new))
-      (λ new h. subst P (sym (text_finished ended is begun new h)) holds) finished
+      IfOk-weaker result (λ told. IsFinished same made ended told.0)
+      (λ told. P (cow_str_bytes told.0))
+      (λ told h. subst P (sym (text_finished ended is begun told.0 h)) holds) finished
 
   -- where none was ahead it is the haystack itself
-  pub borrowed_where_over : {E : Type 0} (ended : Option ℕ) (result : Result (CowStr Z) E)
-      (other : CowStr Z) → IfOk result (IsFinished same made ended) → same ≡ other
-      → IsBegun start a made ended → IfOk result (λ new. IsOver start → new ≡ other)
+  pub borrowed_where_over : {E : Type 0} (ended : Option ℕ) (result : Result (CowStr Z × ℕ) E)
+      (other : CowStr Z) → IfOk result (λ told. IsFinished same made ended told.0) → same ≡ other
+      → IsBegun start a made ended → IfOk result (λ told. IsOver start → told.0 ≡ other)
   borrowed_where_over ended result other finished is begun =
-      IfOk-weaker result (IsFinished same made ended) (λ new. IsOver start → new ≡ other)
-      (λ new h over. borrowed_finished ended begun new h over ∙ is) finished
+      IfOk-weaker result (λ told. IsFinished same made ended told.0)
+      (λ told. IsOver start → told.0 ≡ other)
+      (λ told h over. borrowed_finished ended begun told.0 h over ∙ is) finished
 
   -- and else one of its own
-  pub owned_where_some : {E : Type 0} (ended : Option ℕ) (result : Result (CowStr Z) E)
-      → IfOk result (IsFinished same made ended) → IsBegun start a made ended → IsOver a
-      → IfOk result (λ new. (IsOver start → ⊥) → IsOwnedStr new)
+  pub owned_where_some : {E : Type 0} (ended : Option ℕ) (result : Result (CowStr Z × ℕ) E)
+      → IfOk result (λ told. IsFinished same made ended told.0) → IsBegun start a made ended
+      → IsOver a → IfOk result (λ told. (IsOver start → ⊥) → IsOwnedStr told.0)
   owned_where_some ended result finished begun over =
-      IfOk-weaker result (IsFinished same made ended) (λ new. (IsOver start → ⊥) → IsOwnedStr new)
-      (λ new h. owned_finished ended begun over new h) finished
+      IfOk-weaker result (λ told. IsFinished same made ended told.0)
+      (λ told. (IsOver start → ⊥) → IsOwnedStr told.0)
+      (λ told h. owned_finished ended begun over told.0 h) finished
 
 pub from_start : (haystack : List ℕ) → search_start haystack 0 ≡ 0
 from_start haystack = omega (arith, ap length chars-nil)

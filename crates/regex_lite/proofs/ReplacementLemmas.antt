@@ -1,14 +1,16 @@
 -- Replacements, match after match.
-use Rattle.regex_lite.proofs.Common.{◌≡◌, ℕ, List, [], ◌∷◌, ◌++◌, map, drop, slice_range, Ok, Err}
-use Rattle.regex_lite.proofs.Common.{Option, Result, chars, sym, refl, ap, ◌∙◌, subst, inl, inr}
-use Rattle.regex_lite.proofs.Common.{append_assoc, Error, Found, Ahead, IsOver, Passes, Expression}
-use Rattle.regex_lite.proofs.Common.{Groups, whole_span, AreGroupsFound, found_span}
+use Rattle.regex_lite.proofs.Common.{◌≡◌, ℕ, ◌+◌, List, [], ◌∷◌, ◌++◌, map, drop, slice_range}
+use Rattle.regex_lite.proofs.Common.{Ok, Err, IfOk, Option, Result, chars, sym, refl, ap, ◌∙◌}
+use Rattle.regex_lite.proofs.Common.{subst, inl, inr, arith, append_assoc, IfOk-weaker, Error}
+use Rattle.regex_lite.proofs.Common.{Found, Ahead, IsOver, Passes, Expression, Groups, whole_span}
+use Rattle.regex_lite.proofs.Common.{AreGroupsFound, found_span}
 use Rattle.std.proofs.Common.{IfErr}
 use Rattle.std.specs.Result.{IsErrAnd}
-use Rattle.regex_lite.specs.Ahead.{AreAhead, AreFirstAhead}
+use Rattle.regex_lite.specs.Ahead.{AreAhead, AreFirstAhead, AreSoManyAhead}
 use Rattle.regex_lite.specs.Compiled.{AreOfRegex}
-use Rattle.regex_lite.specs.Replacements.{AreGroupsOfEach, IsChain, IsRefused, IsRefusedAt}
-use Rattle.regex_lite.specs.Replacements.{IsReplacedBy, IsReplacedInTurn, replaced_by}
+use Rattle.regex_lite.specs.Replacements.{AreGroupsOfEach, IsAsked, IsChain, IsLeft}
+use Rattle.regex_lite.specs.Replacements.{IsRefused, IsRefusedAt, IsReplacedBy, IsReplacedInTurn}
+use Rattle.regex_lite.specs.Replacements.{replaced_by}
 use Rattle.regex_lite.specs.Replacing.{Answer}
 use Rattle.regex_lite.proofs.AheadLemmas.{ahead_cons, ahead_nil, first_cons}
 use Rattle.regex_lite.proofs.string.ScanLemmas.{of_regex}
@@ -44,18 +46,49 @@ pub replaced_at_end : {text : List ℕ} {start a : Ahead} {from : ℕ} {made : L
     → IsReplacedBy text start (made ++ drop from start.haystack)
 replaced_at_end {a} so_far over = so_far.on [] (ahead_nil a over)
 
+-- this many were passed: with those that are ahead they are as many as were ahead at the start
+pub record Counts (start a : Ahead) (count : ℕ) : Type 0 where
+  pub on : (more : ℕ) → AreSoManyAhead a more → AreSoManyAhead start (count + more)
+
+pub counts_none : (start : Ahead) (count : ℕ) → count ≡ 0 → Counts start start count
+counts_none start count none =
+    record { on = λ more (list, are, is). (list, are, omega (arith, none, is)) }
+
+pub counts_one_more : {start old new : Ahead} {found : Found} {count now : ℕ}
+    → Counts start old count → Passes old found new → now ≡ count + 1 → Counts start new now
+counts_one_more {start} {old} {new} {found} {count} so_far passes one = record {
+  on = λ more (list, are, is).
+      let all = so_far.on (more + 1)
+      (found ∷ list, ahead_cons old new found list passes are, omega (arith, is)) in
+      (all.0, all.1, omega (arith, all.2, one));
+}
+
+-- so at the end all are counted
+pub counted_at_end : {T E : Type 0} {start a : Ahead} {count : ℕ} (result : Result (T × ℕ) E)
+    → Counts start a count → IsOver a → IfOk result (λ told. told.1 ≡ count)
+    → IfOk result (λ told. AreSoManyAhead start told.1)
+counted_at_end {start} {a} {count} result so_far over =
+    let all = so_far.on 0 ([], ahead_nil a over, refl) in
+    IfOk-weaker result (λ told. told.1 ≡ count) (λ told. AreSoManyAhead start told.1)
+    (λ told is. (all.0, all.1, omega (arith, all.2, is)))
+
 module _ {R : Type 0} (Fixed : R → Option (List ℕ) → R → Type 0)
     (Appends : R → Groups → List ℕ → Answer → R → Type 0) where
-  -- the same for what a replacer appends match by match, and for what it refuses
+  -- the same for what a replacer appends match by match, for what it refuses, and for what it was
+  -- asked for
   pub record ContinuesInTurn (first : R) (start a : Ahead) (rep : R) (from : ℕ) (made : List ℕ)
       : Type 0 where
-    pub on : (found : List Found) (groups : List Groups) (rest : List ℕ) → AreAhead a found
-        → AreGroupsOfEach start.sought start.haystack found groups
-        → IsChain Fixed Appends start.haystack rep from groups rest
-        → IsReplacedInTurn Fixed Appends first start (made ++ rest)
-    pub refuses : (found : List Found) (groups : List Groups) (error : Error)
+    pub on : (found : List Found) (groups : List Groups) (rest : List ℕ) (last : R)
+        → AreAhead a found → AreGroupsOfEach start.sought start.haystack found groups
+        → IsChain Fixed Appends start.haystack rep from groups rest last
+        → IsReplacedInTurn Fixed Appends first start (made ++ rest) last
+    pub refuses : (found : List Found) (groups : List Groups) (error : Error) (last : R)
         → AreFirstAhead a found → AreGroupsOfEach start.sought start.haystack found groups
-        → IsRefusedAt Fixed Appends rep groups error → IsRefused Fixed Appends first start error
+        → IsRefusedAt Fixed Appends rep groups error last
+        → IsRefused Fixed Appends first start error last
+    pub leaves : (found : List Found) (groups : List Groups) (last : R) → AreFirstAhead a found
+        → AreGroupsOfEach start.sought start.haystack found groups
+        → IsAsked Fixed Appends rep groups last → IsLeft Fixed Appends first start last
 
   pub in_turn_passed : {first : R} {start old new : Ahead} {rep after : R} {found : Found}
       {groups : Groups} {from to : ℕ} {made text written : List ℕ}
@@ -67,33 +100,42 @@ module _ {R : Type 0} (Fixed : R → Option (List ℕ) → R → Type 0)
   in_turn_passed {first} {start} {old} {new} {after} {found} {groups} {from} {made} {text} so_far
       passes are asked is more =
       rw (is, more) (record {
-        on = λ list others rest ahead each chain.
+        on = λ list others rest last ahead each chain.
             let before = slice_range start.haystack from (whole_span groups).0 in
-            subst (IsReplacedInTurn Fixed Appends first start)
+            subst (λ new. IsReplacedInTurn Fixed Appends first start new last)
             (sym (together made before text rest))
-            (so_far.on (found ∷ list) (groups ∷ others) (before ++ text ++ rest)
+            (so_far.on (found ∷ list) (groups ∷ others) (before ++ text ++ rest) last
             (ahead_cons old new found list passes ahead) (are, each)
             (text, rest, after, asked, refl, chain));
-        refuses = λ list others error ahead each refused.
-            so_far.refuses (found ∷ list) (groups ∷ others) error
+        refuses = λ list others error last ahead each refused.
+            so_far.refuses (found ∷ list) (groups ∷ others) error last
             (first_cons old new found list passes ahead) (are, each)
             (inr (text, after, asked, refused));
+        leaves = λ list others last ahead each more.
+            so_far.leaves (found ∷ list) (groups ∷ others) last
+            (first_cons old new found list passes ahead) (are, each) (text, after, asked, more);
       })
 
   pub in_turn_at_end : {first : R} {start a : Ahead} {rep : R} {from : ℕ} {made : List ℕ}
       → ContinuesInTurn first start a rep from made → IsOver a
-      → IsReplacedInTurn Fixed Appends first start (made ++ drop from start.haystack)
-  in_turn_at_end {start} {a} {from} so_far over =
-      so_far.on [] [] (drop from start.haystack) (ahead_nil a over) tt refl
+      → IsReplacedInTurn Fixed Appends first start (made ++ drop from start.haystack) rep
+  in_turn_at_end {start} {a} {rep} {from} so_far over =
+      so_far.on [] [] (drop from start.haystack) rep (ahead_nil a over) tt (refl, refl)
+
+  -- a replacer that refused none so far is left as it is
+  pub in_turn_left : {first : R} {start a : Ahead} {rep : R} {from : ℕ} {made : List ℕ}
+      → ContinuesInTurn first start a rep from made → IsLeft Fixed Appends first start rep
+  in_turn_left {rep} so_far = so_far.leaves [] [] rep tt tt refl
 
   pub in_turn_refused : {first : R} {start old new : Ahead} {rep after : R} {found : Found}
       {groups : Groups} {from : ℕ} {made text : List ℕ} {error : Error}
       → ContinuesInTurn first start old rep from made → Passes old found new
       → AreGroupsFound start.sought start.haystack found groups
-      → Appends rep groups text (Err error) after → IsRefused Fixed Appends first start error
+      → Appends rep groups text (Err error) after
+      → IsRefused Fixed Appends first start error after
   in_turn_refused {old} {new} {after} {found} {groups} {text} {error} so_far passes are asked =
-      so_far.refuses (found ∷ []) (groups ∷ []) error (first_cons old new found [] passes tt)
-      (are, tt) (inl (text, after, asked))
+      so_far.refuses (found ∷ []) (groups ∷ []) error after (first_cons old new found [] passes tt)
+      (are, tt) (inl (text, asked))
 
 -- groups that were found by the same regex in the same haystack
 pub found_there : {re other : Expression} {bytes haystack : List ℕ} (found : Found)
@@ -119,6 +161,19 @@ pub of_passed : {old new : Ahead} {found : Found} (groups : Groups) → Passes o
 of_passed {old} {found} groups passes are =
     subst (λ own. AreOfRegex own groups) (sym (sought_kept old passes refl))
     (of_regex old.sought old.haystack found groups are)
+
+-- a replacer that was asked for none is left as it is
+pub none_asked : {R : Type 0} (Fixed : R → Option (List ℕ) → R → Type 0)
+    (Appends : R → Groups → List ℕ → Answer → R → Type 0) (rep : R) (a : Ahead)
+    → IsLeft Fixed Appends rep a rep
+none_asked Fixed Appends rep a =
+    record { found = []; are_first = tt; groups = []; each = tt; are = refl }
+
+-- what follows from what holds of an error holds of it
+pub of_error : {T E : Type 0} {Is Was : E → Type 0} (result : Result T E) → IfErr result Was
+    → ((error : E) → Was error → Is error) → IfErr result Is
+of_error (Ok value) was so = tt
+of_error (Err error) was so = so error was
 
 -- what holds of each error that was handed on holds of the one that is returned
 pub handed_on : {T E : Type 0} {Is Was : E → Type 0} (result : Result T E)

@@ -78,7 +78,7 @@ module _ {R : Type 0} (template : R → List ℕ) (re : Expression) (hay : List 
   abbrev h : List ℕ
   h = chars hay
 
-  abbrev Chain : R → ℕ → List Groups → List ℕ → Type 0
+  abbrev Chain : R → ℕ → List Groups → List ℕ → (last : R) → Type 0
   Chain = IsChain (TemplateFixed template) (TemplateAppends template) hay
 
   -- texts stand for these matches, and are in the new text from here on
@@ -88,19 +88,19 @@ module _ {R : Type 0} (template : R → List ℕ) (re : Expression) (hay : List 
       × (new ≡ in_turn (pieces hay from (map (found_span h) found)) texts)
 
   texts_in : (own : List ℕ) (limit ended : Option ℕ) (from : ℕ) (found : List Found)
-      (groups : List Groups) (rep : R) (new : List ℕ) → template rep ≡ own
+      (groups : List Groups) (rep : R) (new : List ℕ) (last : R) → template rep ≡ own
       → AreWithin re h limit ended found → AreGroupsOfEach re hay found groups
-      → Chain rep from groups new → AreTextsIn own found from new
-  texts_in own limit ended from [] [] rep new is are each chain =
-      ([], tt, chain ∙ sym (append-nil (drop from hay)))
-  texts_in own limit ended from [] (g ∷ groups) rep new is are each chain = absurd each
-  texts_in own limit ended from (f ∷ found) [] rep new is are each chain = absurd each
-  texts_in own limit ended from (f ∷ found) (g ∷ groups) rep new is are (of_found, each)
+      → Chain rep from groups new last → AreTextsIn own found from new
+  texts_in own limit ended from [] [] rep new last is are each chain =
+      ([], tt, chain.0 ∙ sym (append-nil (drop from hay)))
+  texts_in own limit ended from [] (g ∷ groups) rep new last is are each chain = absurd each
+  texts_in own limit ended from (f ∷ found) [] rep new last is are each chain = absurd each
+  texts_in own limit ended from (f ∷ found) (g ∷ groups) rep new last is are (of_found, each)
       (text, rest, after, ((complete, gives, all), same), new_is, chain) =
       let stands = first_stands re h limit ended f found are in
       let at = span_is re hay (unwrap_or ended 0) f stands g of_found in
       let later = texts_in own (one_less limit) (Some f.end) (whole_span g).1 found groups after
-      rest (ap template same ∙ is) (within_first re h limit ended f found are).1 each chain in
+      rest last (ap template same ∙ is) (within_first re h limit ended f found are).1 each chain in
       let expands = subst (λ t. IsExpansion g t text) is
       (subst (IsExpansion g (template rep)) (sym all) gives) in (
         text ∷ later.0,
@@ -115,13 +115,14 @@ module _ {R : Type 0} (template : R → List ℕ) (re : Expression) (hay : List 
   -- groups of these matches give that text
   abbrev GiveText : R → List Found → (from : ℕ) → (new : List ℕ) → Type 0
   GiveText rep found from new =
-      (groups : List Groups) × AreGroupsOfEach re hay found groups × Chain rep from groups new
+      (groups : List Groups) × AreGroupsOfEach re hay found groups × Chain rep from groups new rep
 
   groups_in : (rep : R) (limit ended : Option ℕ) (from : ℕ) (found : List Found)
       (texts : List (List ℕ)) → Contains (template rep) 36 → AreWithin re h limit ended found
       → AllPaired (StandsFor re (template rep) hay) found texts
       → GiveText rep found from (in_turn (pieces hay from (map (found_span h) found)) texts)
-  groups_in rep limit ended from [] [] has are each = ([], tt, append-nil (drop from hay))
+  groups_in rep limit ended from [] [] has are each =
+      ([], tt, (append-nil (drop from hay), refl))
   groups_in rep limit ended from [] (text ∷ texts) has are each = absurd each
   groups_in rep limit ended from (f ∷ found) [] has are each = absurd each
   groups_in rep limit ended from (f ∷ found) (text ∷ texts) has are (inr (same, none), each) =
@@ -142,7 +143,7 @@ module _ {R : Type 0} (template : R → List ℕ) (re : Expression) (hay : List 
           ((text, gives, refl), refl),
           sym (append_assoc (slice_range hay from (found_span h f).0) text rest)
               ∙ ap (λ (s : ℕ × ℕ). slice_range hay from s.0 ++ text ++ rest) (sym at),
-          subst (λ (s : ℕ × ℕ). Chain rep s.1 later.0 rest) (sym at) later.2,
+          subst (λ (s : ℕ × ℕ). Chain rep s.1 later.0 rest rep) (sym at) later.2,
         ),
       )
 
@@ -151,7 +152,7 @@ module _ {R : Type 0} (template : R → List ℕ) (rep : R) (a : Ahead) (new : L
   Replaces = IsReplacement (TemplateFixed template) (TemplateAppends template) rep a new
 
   rewritten : Replaces → IsRewritten (template rep) a new
-  rewritten (Some text, after, ((is, lacks), same), by) =
+  rewritten (last, (Some text, after, ((is, lacks), same), (by, left))) =
       subst (λ t. IsRewritten t a new) is (record {
         found = by.found;
         are_ahead = by.are_ahead;
@@ -160,9 +161,9 @@ module _ {R : Type 0} (template : R → List ℕ) (rep : R) (a : Ahead) (new : L
             by.found;
         whole = by.replaced ∙ one_text_each a.sought a.haystack text by.found 0;
       })
-  rewritten (None, after, (has, same), by) =
+  rewritten (last, (None, after, (has, same), by)) =
       let own = texts_in template a.sought a.haystack (template rep) a.limit a.ended 0 by.found
-      by.groups after new (ap template same) by.are_ahead by.each by.chain in
+      by.groups after new last (ap template same) by.are_ahead by.each by.chain in
       record {
         found = by.found;
         are_ahead = by.are_ahead;
@@ -174,29 +175,39 @@ module _ {R : Type 0} (template : R → List ℕ) (rep : R) (a : Ahead) (new : L
   replaces : IsRewritten (template rep) a new → Replaces
   replaces is = elim (has_or_lacks (template rep) 36) [
     | inl has ↦ (
-      None,
       rep,
-      (has, refl),
-      (let own = groups_in template a.sought a.haystack rep a.limit a.ended 0 is.found is.texts has
-          is.are_ahead is.each in
+      (
+        None,
+        rep,
+        (has, refl),
+        (let own = groups_in template a.sought a.haystack rep a.limit a.ended 0 is.found is.texts
+            has is.are_ahead is.each in
+            record {
+              found = is.found;
+              are_ahead = is.are_ahead;
+              groups = own.0;
+              each = own.1;
+              chain = subst (λ t. Chain template a.sought a.haystack rep 0 own.0 t rep)
+                  (sym is.whole) own.2;
+            }),
+      ),
+    )
+    | inr lacks ↦ (
+      rep,
+      (
+        Some (template rep),
+        rep,
+        ((refl, lacks), refl),
+        (
           record {
             found = is.found;
             are_ahead = is.are_ahead;
-            groups = own.0;
-            each = own.1;
-            chain = subst (Chain template a.sought a.haystack rep 0 own.0) (sym is.whole) own.2;
-          }),
-    )
-    | inr lacks ↦ (
-      Some (template rep),
-      rep,
-      ((refl, lacks), refl),
-      record {
-        found = is.found;
-        are_ahead = is.are_ahead;
-        replaced = is.whole
-            ∙ text_each a.sought a.haystack (template rep) lacks is.found is.texts 0 is.each;
-      },
+            replaced = is.whole
+                ∙ text_each a.sought a.haystack (template rep) lacks is.found is.texts 0 is.each;
+          },
+          refl,
+        ),
+      ),
     )
   ]
 
@@ -204,15 +215,16 @@ pub texts_rewrite : (R : Type 0) → TextsRewrite R
 texts_rewrite R template rep a new = (rewritten template rep a new, replaces template rep a new)
 
 refused_at : {R : Type 0} (template : R → List ℕ) (rep : R) (groups : List Groups) (error : Error)
-    → IsRefusedAt (TemplateFixed template) (TemplateAppends template) rep groups error
+    (last : R)
+    → IsRefusedAt (TemplateFixed template) (TemplateAppends template) rep groups error last
     → error ≡ out_of_memory
-refused_at template rep [] error refused = absurd refused
-refused_at template rep (own ∷ groups) error
-    (inl (text, after, ((complete, gives, memory), same))) = memory.0
-refused_at template rep (own ∷ groups) error (inr (text, after, appends, later)) =
-    refused_at template after groups error later
+refused_at template rep [] error last refused = absurd refused
+refused_at template rep (own ∷ groups) error last
+    (inl (text, ((complete, gives, memory), same))) = memory.0
+refused_at template rep (own ∷ groups) error last (inr (text, after, appends, later)) =
+    refused_at template after groups error last later
 
 pub refused_for_memory : (R : Type 0) → TextsRefuseForMemory R
 refused_for_memory R template rep a error (inl memory) = memory
-refused_for_memory R template rep a error (inr (after, fixed, refused)) =
-    refused_at template after refused.groups error refused.refused
+refused_for_memory R template rep a error (inr (last, (after, fixed, refused))) =
+    refused_at template after refused.groups error last refused.are

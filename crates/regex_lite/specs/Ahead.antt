@@ -73,6 +73,10 @@ Ahead = AheadOf Expression
 abbrev pub AreAhead : Ahead → List Found → Type 0
 AreAhead ahead = AreWithin ahead.sought (chars ahead.haystack) ahead.limit ahead.ended
 
+-- this many matches are ahead
+abbrev pub AreSoManyAhead : Ahead → (count : ℕ) → Type 0
+AreSoManyAhead ahead count = (found : List Found) × AreAhead ahead found × (count ≡ length found)
+
 -- these are some of the matches ahead, from the first on
 abbrev pub AreFirstAhead : Ahead → List Found → Type 0
 AreFirstAhead ahead = AreSomeWithin ahead.sought (chars ahead.haystack) ahead.limit ahead.ended

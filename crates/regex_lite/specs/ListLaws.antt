@@ -1,7 +1,9 @@
 -- Laws of match lists.
-use Rattle.std.specs.Prelude.{◌≡◌, ◌≤◌, ◌<◌, ◌+◌, ℕ, List, [], ◌∷◌, Option, Some, None, length}
+use Rattle.std.specs.Prelude.{◌≡◌, ◌≤◌, ◌<◌, ◌+◌, ℕ, List, [], ◌∷◌, Option, Some, None, chars}
+use Rattle.std.specs.Prelude.{length, min}
 use Rattle.regex_lite_syntax.specs.Text.{Text}
 use Rattle.regex_lite_engine.specs.Search.Answer.{Found}
+use Rattle.regex_lite.specs.Ahead.{Ahead, AreAhead, AreSoManyAhead, whole}
 use Rattle.regex_lite.specs.Expression.{Expression}
 use Rattle.regex_lite.specs.MatchList.{AreMatches}
 
@@ -32,3 +34,21 @@ abbrev pub OneMatchList : Type 0
 OneMatchList =
     (re : Expression) (haystack : Text) (list other : List Found)
     → AreMatches re haystack None list → AreMatches re haystack None other → list ≡ other
+
+-- so have those that are ahead
+abbrev pub OneListAhead : Type 0
+OneListAhead =
+    (ahead : Ahead) (list other : List Found) → AreAhead ahead list → AreAhead ahead other
+    → list ≡ other
+
+-- of this many up to a limit, where there is one
+abbrev pub number_within : (limit : Option ℕ) → (number : ℕ) → ℕ
+number_within None number = number
+number_within (Some limit) number = min limit number
+
+-- up to a limit that many of a haystack's matches are ahead
+abbrev pub NumberWithinLimit : Type 0
+NumberWithinLimit =
+    (re : Expression) (haystack : List ℕ) (limit : Option ℕ) (all : List Found) (count : ℕ)
+    → AreMatches re (chars haystack) None all → AreSoManyAhead (whole re haystack limit) count
+    → count ≡ number_within limit (length all)

@@ -9,7 +9,7 @@ use Rattle.regex_lite.specs.Expression.{Expression}
 use Rattle.regex_lite.specs.Groups.{Groups, text_at}
 use Rattle.regex_lite.specs.MatchList.{AreMatches}
 use Rattle.regex_lite.specs.Pieces.{ArePieces, found_span}
-use Rattle.regex_lite.specs.Replacements.{IsReplacedBy, IsReplacedInTurn, IsReplacement}
+use Rattle.regex_lite.specs.Replacements.{IsReplacedBy, IsReplacedInTurn, IsReplacement, Replaces}
 use Rattle.regex_lite.specs.Replacing.{Answer, IsAppendedTemplate, IsFixedText}
 
 -- one text of each list in turn, the first list first, and then what is left of it
@@ -62,19 +62,19 @@ WholeMatchesGiveHaystack R =
 -- replacing it by what the template gives for its groups
 abbrev pub FixedTextIsTemplate : Type 0 → Type 0
 FixedTextIsTemplate R =
-    (template : R → List ℕ) (rep : R) (ahead : Ahead) (new other : List ℕ)
+    (template : R → List ℕ) (rep : R) (ahead : Ahead) (new other : List ℕ) (last : R)
     → ¬ (Contains (template rep) (the "$")) → IsReplacedBy (template rep) ahead new
-    → IsReplacedInTurn (TemplateFixed template) (TemplateAppends template) rep ahead other
+    → IsReplacedInTurn (TemplateFixed template) (TemplateAppends template) rep ahead other last
     → new ≡ other
 
 -- if the relations of a replacer that borrows another are those of the other, matches are replaced
--- as the other replaces them
+-- as the other replaces them, which leaves the other as it is left
 module _ {R : Type 0} (Fixed : R → Option (List ℕ) → R → Type 0)
     (Appends : R → Groups → (text : List ℕ) → Answer → R → Type 0) where
   abbrev pub LentReplacersReplaceAlike : Type 0 → Type 0
   LentReplacersReplaceAlike Lent =
-      (lender : Lent → R) (rep : Lent) (ahead : Ahead) (new : List ℕ)
-      → IsReplacement (λ old text after. Fixed (lender old) text (lender after))
+      (lender : Lent → R) (rep : Lent) (ahead : Ahead) (new : List ℕ) (last : Lent)
+      → Replaces (λ old text after. Fixed (lender old) text (lender after))
       (λ old groups text answer after. Appends (lender old) groups text answer (lender after))
-      rep ahead new
-      → IsReplacement Fixed Appends (lender rep) ahead new
+      rep ahead new last
+      → Replaces Fixed Appends (lender rep) ahead new (lender last)

@@ -1,6 +1,6 @@
 -- The texts that replacements give.
-use Rattle.std.specs.Prelude.{◌≡◌, ◌++◌, ◌⊎◌, ℕ, zero, suc, List, [], ◌∷◌, Option}
-use Rattle.std.specs.Prelude.{Some, None, Ok, Err, map, chars, drop, slice_range}
+use Rattle.std.specs.Prelude.{◌≡◌, ◌+◌, ◌++◌, ◌⊎◌, ℕ, zero, suc, List, [], ◌∷◌, Option}
+use Rattle.std.specs.Prelude.{Some, None, Ok, Err, MatchOption, map, chars, drop, slice_range}
 use Rattle.regex_lite_syntax.specs.declared.error.Error.{Error}
 use Rattle.regex_lite_engine.specs.Search.Answer.{Found}
 use Rattle.regex_lite.specs.Groups.{Groups, whole_span}
@@ -14,6 +14,12 @@ use Rattle.regex_lite.specs.Replacing.{Answer}
 abbrev pub limit_of : ℕ → Option ℕ
 limit_of zero = None
 limit_of (suc n) = Some (suc n)
+
+-- at most this many matches were replaced, where the last ended there: each ends later than the one
+-- before it
+abbrev pub most_replaced : (ended : Option ℕ) → ℕ
+most_replaced None = 0
+most_replaced (Some end) = end + 1
 
 -- these are the groups of each of the matches that were found
 abbrev pub AreGroupsOfEach : Expression → (haystack : List ℕ) → List Found → List Groups → Type 0
@@ -36,55 +42,89 @@ pub record IsReplacedBy (text : List ℕ) (ahead : Ahead) (new : List ℕ) : Typ
   pub replaced :
       new ≡ replaced_by text ahead.haystack 0 (map (found_span (chars ahead.haystack)) found)
 
+-- the groups of some of the matches ahead, from the first on, are such a list
+pub record OfFirstGroups (ahead : Ahead) (Are : List Groups → Type 0) : Type 0 where
+  pub found : List Found
+  pub are_first : AreFirstAhead ahead found
+  pub groups : List Groups
+  pub each : AreGroupsOfEach ahead.sought ahead.haystack found groups
+  pub are : Are groups
+
 -- A replacer is known by two relations: what it returns if it is asked for a fixed text, and what
--- it appends and returns for groups
+-- it appends and returns for groups. Each leads from its state before to that after
 module _ {R : Type 0} (Fixed : R → Option (List ℕ) → R → Type 0)
     (Appends : R → Groups → List ℕ → Answer → R → Type 0) where
   -- the haystack from this offset on where the replacer, asked for each match in turn, appended a
-  -- text with `Ok`
-  abbrev pub IsChain : (haystack : List ℕ) → R → (from : ℕ) → List Groups → List ℕ → Type 0
-  IsChain haystack rep from [] new = new ≡ drop from haystack
-  IsChain haystack rep from (groups ∷ list) new =
+  -- text with `Ok`, and the state in which this leaves it
+  abbrev pub IsChain : (haystack : List ℕ) → R → (from : ℕ) → List Groups → (new : List ℕ)
+      → (last : R) → Type 0
+  IsChain haystack rep from [] new last = (new ≡ drop from haystack) × (last ≡ rep)
+  IsChain haystack rep from (groups ∷ list) new last =
       (text : List ℕ) × (rest : List ℕ) × (after : R)
       × Appends rep groups text (Ok tt) after
       × (new ≡ slice_range haystack from (whole_span groups).0 ++ text ++ rest)
-      × IsChain haystack after (whole_span groups).1 list rest
+      × IsChain haystack after (whole_span groups).1 list rest last
 
-  -- it returned this error for one of the matches, and `Ok` for those before it
-  abbrev pub IsRefusedAt : R → List Groups → Error → Type 0
-  IsRefusedAt rep [] error = ⊥
-  IsRefusedAt rep (groups ∷ list) error =
-      ((text : List ℕ) × (after : R) × Appends rep groups text (Err error) after)
+  -- it returned `Ok` for each of these in turn, which leaves it in this state
+  abbrev pub IsAsked : R → List Groups → (last : R) → Type 0
+  IsAsked rep [] last = last ≡ rep
+  IsAsked rep (groups ∷ list) last =
+      (text : List ℕ) × (after : R) × Appends rep groups text (Ok tt) after
+      × IsAsked after list last
+
+  -- it returned this error for one of the matches, and `Ok` for those before it, which leaves it in
+  -- this state
+  abbrev pub IsRefusedAt : R → List Groups → Error → (last : R) → Type 0
+  IsRefusedAt rep [] error last = ⊥
+  IsRefusedAt rep (groups ∷ list) error last =
+      ((text : List ℕ) × Appends rep groups text (Err error) last)
       ⊎ ((text : List ℕ) × (after : R) × Appends rep groups text (Ok tt) after
-      × IsRefusedAt after list error)
+      × IsRefusedAt after list error last)
 
   -- each match ahead is replaced by what the replacer appends for its groups
-  pub record IsReplacedInTurn (rep : R) (ahead : Ahead) (new : List ℕ) : Type 0 where
+  pub record IsReplacedInTurn (rep : R) (ahead : Ahead) (new : List ℕ) (last : R) : Type 0 where
     pub found : List Found
     pub are_ahead : AreAhead ahead found
     pub groups : List Groups
     pub each : AreGroupsOfEach ahead.sought ahead.haystack found groups
-    pub chain : IsChain ahead.haystack rep 0 groups new
+    pub chain : IsChain ahead.haystack rep 0 groups new last
 
   -- the replacer refused one of the first matches ahead
-  pub record IsRefused (rep : R) (ahead : Ahead) (error : Error) : Type 0 where
-    pub found : List Found
-    pub are_first : AreFirstAhead ahead found
-    pub groups : List Groups
-    pub each : AreGroupsOfEach ahead.sought ahead.haystack found groups
-    pub refused : IsRefusedAt rep groups error
+  abbrev pub IsRefused : R → Ahead → Error → (last : R) → Type 0
+  IsRefused rep ahead error last = OfFirstGroups ahead (λ list. IsRefusedAt rep list error last)
 
-  abbrev pub IsReplaced : (fixed : Option (List ℕ)) → R → Ahead → List ℕ → Type 0
-  IsReplaced (Some text) rep ahead new = IsReplacedBy text ahead new
-  IsReplaced None rep ahead new = IsReplacedInTurn rep ahead new
+  -- it refused none of those that it was asked for
+  abbrev pub IsLeft : R → Ahead → (last : R) → Type 0
+  IsLeft rep ahead last = OfFirstGroups ahead (λ list. IsAsked rep list last)
+
+  abbrev pub IsReplaced : (fixed : Option (List ℕ)) → R → Ahead → (new : List ℕ) → (last : R)
+      → Type 0
+  IsReplaced (Some text) rep ahead new last = IsReplacedBy text ahead new × (last ≡ rep)
+  IsReplaced None rep ahead new last = IsReplacedInTurn rep ahead new last
 
   -- The replacer is asked for a fixed text, once and first. If it has one, that text replaces each
-  -- match; otherwise it is asked for each match in turn
-  abbrev pub IsReplacement : R → Ahead → List ℕ → Type 0
-  IsReplacement rep ahead new =
+  -- match; otherwise it is asked for each match in turn. This leaves it in the last state
+  abbrev pub Replaces : R → Ahead → (new : List ℕ) → (last : R) → Type 0
+  Replaces rep ahead new last =
       (fixed : Option (List ℕ)) × (after : R) × Fixed rep fixed after
-      × IsReplaced fixed after ahead new
+      × IsReplaced fixed after ahead new last
 
-  -- it has no fixed text, and the error is one that it returns for a match that is to be replaced
+  -- it has no fixed text, and the error is one that it returns for a match that is to be replaced,
+  -- which leaves it in the last state
+  abbrev pub Refuses : R → Ahead → Error → (last : R) → Type 0
+  Refuses rep ahead error last =
+      (after : R) × Fixed rep None after × IsRefused after ahead error last
+
+  -- it was asked for a fixed text and, if it has none, for some of the matches ahead, from the
+  -- first on, of which it refused none. This leaves it in the last state
+  abbrev pub Leaves : R → Ahead → (last : R) → Type 0
+  Leaves rep ahead last =
+      (fixed : Option (List ℕ)) × (after : R) × Fixed rep fixed after
+      × MatchOption fixed (IsLeft after ahead last) (λ _. last ≡ after)
+
+  -- the same wherever it leaves the replacer
+  abbrev pub IsReplacement : R → Ahead → List ℕ → Type 0
+  IsReplacement rep ahead new = (last : R) × Replaces rep ahead new last
+
   abbrev pub IsHandedOn : R → Ahead → Error → Type 0
-  IsHandedOn rep ahead error = (after : R) × Fixed rep None after × IsRefused after ahead error
+  IsHandedOn rep ahead error = (last : R) × Refuses rep ahead error last

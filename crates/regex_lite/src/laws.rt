@@ -14,7 +14,8 @@ ghost use Rattle.regex_lite.specs.Headline.{Headline, ListHeadline};
 ghost use Rattle.regex_lite.specs.Laws.{EnoughGroupsTakePart, EscapedTextsAreRefusedForSize};
 ghost use Rattle.regex_lite.specs.Laws.{EscapedTextsMatchThemselves, GroupsLieInside};
 ghost use Rattle.regex_lite.specs.Laws.{MatchesAreTheirSpans, SearchesAgree};
-ghost use Rattle.regex_lite.specs.ListLaws.{MatchesAreApart, OneMatchList};
+ghost use Rattle.regex_lite.specs.ListLaws.{MatchesAreApart, NumberWithinLimit, OneListAhead};
+ghost use Rattle.regex_lite.specs.ListLaws.{OneMatchList};
 ghost use Rattle.regex_lite.specs.MatchViews.{is_same_match};
 ghost use Rattle.regex_lite.specs.OffsetLaws.{ListSearchesFindFirst, MatchesFromStart};
 ghost use Rattle.regex_lite.specs.OffsetLaws.{SearchesFindFirst};
@@ -160,6 +161,13 @@ pub fn matches_are_apart()
     ensures one_list { OneMatchList }
 {}
 
+/// The matches ahead of an iterator, or those that a replacement replaces, are one list. Up to a
+/// limit they are as many as all matches of the haystack, or as the limit says if that is less.
+pub fn matches_within_a_limit_are_counted()
+    ensures one_list { OneListAhead }
+    ensures number { NumberWithinLimit }
+{}
+
 /// A haystack has one more piece than it has matches, and pieces and matches in turn give the
 /// haystack. It has one list of pieces.
 pub fn pieces_and_matches_are_the_haystack()
@@ -187,8 +195,8 @@ pub fn texts_rewrite_by_their_template<R>()
     ensures refused { TextsRefuseForMemory R }
 {}
 
-/// A borrowed replacer behaves as the replacer itself. Here `L` is the type that borrows it, such
-/// as `ReplacerRef`.
+/// A borrowed replacer behaves as the replacer itself, and leaves it as it is left. Here `L` is the
+/// type that borrows it, such as `ReplacerRef`.
 pub fn lent_replacers_replace_alike<L, R: Replacer>()
     ensures { LentReplacersReplaceAlike R.fixed R.appends L }
 {}

@@ -18,6 +18,7 @@ mod properties;
 mod regex;
 mod regex_searcher;
 mod replace;
+mod replace_counted;
 mod replacer;
 mod rewrite;
 mod search;

@@ -36,9 +36,9 @@ first_shows re haystack (found ∷ list) ((tree, given, is), others) =
 replaced_shows : (re : Expression) (template : Bor (List ℕ)) (haystack text : List ℕ)
     → IsReplacedText re template haystack text
     → IsAnswerOf re (chars haystack) 0 None ⊎ MatchesFrom re haystack 0
-replaced_shows re template haystack text (Some fixed, same, is, new) =
+replaced_shows re template haystack text (last, (Some fixed, same, is, (new, left))) =
     first_shows re haystack new.found new.are_ahead
-replaced_shows re template haystack text (None, same, is, new) =
+replaced_shows re template haystack text (last, (None, same, is, new)) =
     first_shows re haystack new.found new.are_ahead
 
 -- a text that is owned exactly where there is a match is what is printed

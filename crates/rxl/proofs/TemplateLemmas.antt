@@ -16,15 +16,16 @@ abbrev IsFixed : Bor (List ℕ) → Option (List ℕ) → Bor (List ℕ) → Typ
 IsFixed old fixed new = IsFixedText old.now fixed × (new ≡ old)
 
 -- where a template is refused for one of the matches, that is because memory runs out
-refused_at : (template : Bor (List ℕ)) (list : List Groups) (error : Error)
-    → IsRefusedAt IsFixed Expands template list error → error ≡ out_of_memory
-refused_at template [] error refused = absurd refused
-refused_at template (groups ∷ list) error (inl here) = here.2.0.2.0
-refused_at template (groups ∷ list) error (inr later) = refused_at later.1 list error later.3
+refused_at : (template : Bor (List ℕ)) (list : List Groups) (error : Error) (last : Bor (List ℕ))
+    → IsRefusedAt IsFixed Expands template list error last → error ≡ out_of_memory
+refused_at template [] error last refused = absurd refused
+refused_at template (groups ∷ list) error last (inl here) = here.1.0.2.0
+refused_at template (groups ∷ list) error last (inr later) =
+    refused_at later.1 list error last later.3
 
 pub template_refused : (template : Bor (List ℕ)) (a : Ahead) (error : Error)
     → (error ≡ out_of_memory) ⊎ IsHandedOn IsFixed Expands template a error
     → error ≡ out_of_memory
 template_refused template a error (inl is) = is
 template_refused template a error (inr handed) =
-    refused_at handed.0 handed.2.groups error handed.2.refused
+    refused_at handed.1.0 handed.1.2.groups error handed.0 handed.1.2.are

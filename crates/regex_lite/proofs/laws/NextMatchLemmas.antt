@@ -1,12 +1,14 @@
 -- What comes next stands after what came before, and is one.
 use Rattle.regex_lite.proofs.Common.{◌≡◌, ℕ, zero, suc, ◌≤◌, List, [], ◌∷◌, Some, None, Option}
-use Rattle.regex_lite.proofs.Common.{unwrap_or, refl, ap, ◌∙◌, subst, arith, Text, Found, span}
-use Rattle.regex_lite.proofs.Common.{AreLawful, Expression, IsAnswerOf, one_less, IsNextAnswer}
-use Rattle.regex_lite.proofs.Common.{AreWithin}
+use Rattle.regex_lite.proofs.Common.{length, chars, unwrap_or, sym, refl, ap, ◌∙◌, subst, arith}
+use Rattle.regex_lite.proofs.Common.{Text, Found, span, AreLawful, Expression, IsAnswerOf, one_less}
+use Rattle.regex_lite.proofs.Common.{IsNextAnswer, AreWithin}
+use Rattle.std.proofs.Math.Nat.{min-zero, suc-min-suc, zero-min}
 use Rattle.regex_lite_engine.proofs.laws.PatternTreeLemmas.{regular_tree}
 use Rattle.regex_lite_engine.proofs.laws.groups.SpanLemmas.{groups_inside}
 use Rattle.regex_lite_syntax.proofs.OptionLemmas.{not_there, same_some}
-use Rattle.regex_lite.specs.MatchList.{AreAnswersWithin, AreFirstAnswers, IsNext}
+use Rattle.regex_lite.specs.ListLaws.{NumberWithinLimit, number_within}
+use Rattle.regex_lite.specs.MatchList.{AreAnswers, AreAnswersWithin, AreFirstAnswers, IsNext}
 use Rattle.regex_lite.proofs.string.LawfulLemmas.{regex_lawful}
 use Rattle.regex_lite.proofs.string.ListLemmas.{one_next}
 use Rattle.regex_lite.proofs.string.NextLemmas.{next_answer}
@@ -55,6 +57,25 @@ module _ {A : Type 0} (found_of : A → Found) (Answers : (s : ℕ) → Option A
         (subst (λ own. Within (one_less limit) (Some (found_of own).end) list) same a.1) b.1 in
         ap (λ x. x ∷ list) same ∙ ap (λ l. g ∷ l) rest
 
+    -- the first of all answers are as many as these, or as the limit says if that is less
+    pub length_within : (limit ended : Option ℕ) (list all : List A) → Within limit ended list
+        → AreAnswers found_of Answers ended all → length list ≡ number_within limit (length all)
+    length_within None ended list all first are =
+        ap length (one_within None ended list all first are)
+    length_within (Some zero) ended list all first are =
+        ap length first ∙ sym (zero-min (length all))
+    length_within (Some (suc k)) ended [] [] first are = sym (min-zero (suc k))
+    length_within (Some (suc k)) ended [] (g ∷ all) none (next, rest) =
+        absurd (not_there (one ended None (Some g) none next))
+    length_within (Some (suc k)) ended (f ∷ list) [] (next, rest) none =
+        absurd (not_there (one ended None (Some f) none next))
+    length_within (Some (suc k)) ended (f ∷ list) (g ∷ all) (next, rest) (next_too, rest_too) =
+        let same : f ≡ g = same_some (one ended (Some f) (Some g) next next_too) in
+        let later = length_within (Some k) (Some (found_of f).end) list all rest
+        (subst (λ own. AreAnswers found_of Answers (Some (found_of own).end) all) (sym same)
+        rest_too) in
+        ap suc later ∙ sym (suc-min-suc k (length all))
+
 -- it starts at position s or later and ends no earlier than it starts, and group 0 is all of it
 pub record StandsFrom (s : ℕ) (found : Found) : Type 0 where
   pub from : s ≤ found.start
@@ -92,3 +113,10 @@ module _ (re : Expression) (haystack : Text) where
       → AreWithin re haystack limit ended list → AreWithin re haystack limit ended other
       → list ≡ other
   same_within = one_within (λ own. own) (IsAnswerOf re haystack) haystack (regex_lawful re haystack)
+
+pub number_is_within : NumberWithinLimit
+number_is_within re haystack limit all count are (found, ahead, counted) =
+    let h = chars haystack in
+    counted
+    ∙ length_within (λ own. own) (IsAnswerOf re h) h (regex_lawful re h) limit None found all ahead
+    are

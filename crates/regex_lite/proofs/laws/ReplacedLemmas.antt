@@ -60,18 +60,20 @@ has_dollar : (template : List ℕ) → template ≡ codes "$0" → Contains temp
 has_dollar template is = subst (λ t. Contains t 36) (sym is) (0, omega arith, refl)
 
 module _ {R : Type 0} (template : R → List ℕ) (re : Expression) (hay : List ℕ) where
-  abbrev Chain : R → ℕ → List Groups → List ℕ → Type 0
+  abbrev Chain : R → ℕ → List Groups → List ℕ → (last : R) → Type 0
   Chain = IsChain (TemplateFixed template) (TemplateAppends template) hay
 
   whole_chain : (limit ended : Option ℕ) (from : ℕ) (list : List Found) (groups : List Groups)
-      (rep : R) (new : List ℕ) → from ≡ offset (chars hay) (unwrap_or ended 0)
+      (rep : R) (new : List ℕ) (last : R) → from ≡ offset (chars hay) (unwrap_or ended 0)
       → template rep ≡ codes "$0" → AreWithin re (chars hay) limit ended list
-      → AreGroupsOfEach re hay list groups → Chain rep from groups new → new ≡ drop from hay
-  whole_chain limit ended from [] [] rep new start is are each chain = chain
-  whole_chain limit ended from [] (own ∷ groups) rep new start is are each chain = absurd each
-  whole_chain limit ended from (found ∷ list) [] rep new start is are each chain = absurd each
-  whole_chain limit ended from (found ∷ list) (own ∷ groups) rep new start is are (of_found, each)
-      (text, rest, after, ((complete, gives, all), same), new_is, chain) =
+      → AreGroupsOfEach re hay list groups → Chain rep from groups new last → new ≡ drop from hay
+  whole_chain limit ended from [] [] rep new last start is are each chain = chain.0
+  whole_chain limit ended from [] (own ∷ groups) rep new last start is are each chain =
+      absurd each
+  whole_chain limit ended from (found ∷ list) [] rep new last start is are each chain =
+      absurd each
+  whole_chain limit ended from (found ∷ list) (own ∷ groups) rep new last start is are
+      (of_found, each) (text, rest, after, ((complete, gives, all), same), new_is, chain) =
       let h = chars hay in
       let stands = first_stands re h limit ended found list are in
       let at = span_is re hay (unwrap_or ended 0) found stands own of_found in
@@ -79,8 +81,8 @@ module _ {R : Type 0} (template : R → List ℕ) (re : Expression) (hay : List 
       ∙ text_is re hay (unwrap_or ended 0) found stands own of_found in
       let end = ap (λ (s : ℕ × ℕ). s.1) at in
       let later : rest ≡ drop (whole_span own).1 hay =
-      whole_chain (one_less limit) (Some found.end) (whole_span own).1 list groups after rest end
-      (ap template same ∙ is) (within_first re h limit ended found list are).1 each chain in
+      whole_chain (one_less limit) (Some found.end) (whole_span own).1 list groups after rest last
+      end (ap template same ∙ is) (within_first re h limit ended found list are).1 each chain in
       new_is ∙ ap (λ (s : ℕ × ℕ). slice_range hay from s.0 ++ text ++ rest) at
       ∙ ap (λ t. slice_range hay from (offset h found.start) ++ t ++ rest) text_at_match
       ∙ append_assoc (slice_range hay from (offset h found.start))
@@ -89,15 +91,15 @@ module _ {R : Type 0} (template : R → List ℕ) (re : Expression) (hay : List 
       (later ∙ ap (λ n. drop n hay) end)
 
   plain_chain : (limit ended : Option ℕ) (from : ℕ) (list : List Found) (groups : List Groups)
-      (rep : R) (new : List ℕ) → ¬ (Contains (template rep) 36)
+      (rep : R) (new : List ℕ) (last : R) → ¬ (Contains (template rep) 36)
       → AreWithin re (chars hay) limit ended list → AreGroupsOfEach re hay list groups
-      → Chain rep from groups new
+      → Chain rep from groups new last
       → new ≡ replaced_by (template rep) hay from (map (found_span (chars hay)) list)
-  plain_chain limit ended from [] [] rep new lacks are each chain = chain
-  plain_chain limit ended from [] (own ∷ groups) rep new lacks are each chain = absurd each
-  plain_chain limit ended from (found ∷ list) [] rep new lacks are each chain = absurd each
-  plain_chain limit ended from (found ∷ list) (own ∷ groups) rep new lacks are (of_found, each)
-      (text, rest, after, ((complete, gives, all), same), new_is, chain) =
+  plain_chain limit ended from [] [] rep new last lacks are each chain = chain.0
+  plain_chain limit ended from [] (own ∷ groups) rep new last lacks are each chain = absurd each
+  plain_chain limit ended from (found ∷ list) [] rep new last lacks are each chain = absurd each
+  plain_chain limit ended from (found ∷ list) (own ∷ groups) rep new last lacks are
+      (of_found, each) (text, rest, after, ((complete, gives, all), same), new_is, chain) =
       let h = chars hay in
       let Spans : List Found → List (ℕ × ℕ) = map (found_span h) in
       let stands = first_stands re h limit ended found list are in
@@ -106,7 +108,7 @@ module _ {R : Type 0} (template : R → List ℕ) (re : Expression) (hay : List 
       let kept = ap template same in
       let later =
       plain_chain (one_less limit) (Some found.end) (whole_span own).1 list groups after
-      rest (subst (λ t. ¬ (Contains t 36)) (sym kept) lacks)
+      rest last (subst (λ t. ¬ (Contains t 36)) (sym kept) lacks)
       (within_first re h limit ended found list are).1 each chain
       ∙ ap (λ t. replaced_by t hay (whole_span own).1 (Spans list)) kept in
       new_is ∙ ap (λ t. slice_range hay from (whole_span own).0 ++ t ++ rest) as_it_is
@@ -114,30 +116,32 @@ module _ {R : Type 0} (template : R → List ℕ) (re : Expression) (hay : List 
       ∙ ap (λ (s : ℕ × ℕ). slice_range hay from s.0 ++ template rep
       ++ replaced_by (template rep) hay s.1 (Spans list)) at
 
-  whole_replaced : (limit : Option ℕ) (rep after : R) (fixed : Option (List ℕ)) (new : List ℕ)
+  whole_replaced : (limit : Option ℕ) (rep after last : R) (fixed : Option (List ℕ))
+      (new : List ℕ)
       → template rep ≡ codes "$0" → TemplateFixed template rep fixed after
       → IsReplaced (TemplateFixed template) (TemplateAppends template) fixed after
-      (record { sought = re; haystack = hay; limit = limit; ended = None }) new
+      (record { sought = re; haystack = hay; limit = limit; ended = None }) new last
       → new ≡ hay
-  whole_replaced limit rep after None new is (has, same) in_turn =
-      whole_chain limit None 0 in_turn.found in_turn.groups after new refl (ap template same ∙ is)
+  whole_replaced limit rep after last None new is (has, same) in_turn =
+      whole_chain limit None 0 in_turn.found in_turn.groups after new last refl
+      (ap template same ∙ is)
       in_turn.are_ahead in_turn.each in_turn.chain
-  whole_replaced limit rep after (Some text) new is ((own, lacks), same) by =
+  whole_replaced limit rep after last (Some text) new is ((own, lacks), same) by =
       absurd (lacks (has_dollar (template rep) is))
 
 pub whole_matches : (R : Type 0) → WholeMatchesGiveHaystack R
-whole_matches R template rep re hay limit new is (fixed, after, fixed_is, replaced) =
-    whole_replaced template re hay limit rep after fixed new is fixed_is replaced
+whole_matches R template rep re hay limit new is (last, (fixed, after, fixed_is, replaced)) =
+    whole_replaced template re hay limit rep after last fixed new is fixed_is replaced
 
 pub fixed_text : (R : Type 0) → FixedTextIsTemplate R
-fixed_text R template rep a new other lacks by in_turn =
+fixed_text R template rep a new other last lacks by in_turn =
     let h = chars a.haystack in
     let same =
     same_within a.sought h a.limit a.ended by.found in_turn.found by.are_ahead in_turn.are_ahead in
     by.replaced
     ∙ ap (λ found. replaced_by (template rep) a.haystack 0 (map (found_span h) found)) same
     ∙ sym (plain_chain template a.sought a.haystack a.limit a.ended 0 in_turn.found in_turn.groups
-    rep other lacks in_turn.are_ahead in_turn.each in_turn.chain)
+    rep other last lacks in_turn.are_ahead in_turn.each in_turn.chain)
 
 module _ {R Lent : Type 0} (Fixed : R → Option (List ℕ) → R → Type 0)
     (Appends : R → Groups → List ℕ → Answer → R → Type 0) (lender : Lent → R) where
@@ -148,32 +152,32 @@ module _ {R Lent : Type 0} (Fixed : R → Option (List ℕ) → R → Type 0)
   LentAppends old groups text answer after = Appends (lender old) groups text answer (lender after)
 
   lent_chain : (hay : List ℕ) (rep : Lent) (from : ℕ) (groups : List Groups) (new : List ℕ)
-      → IsChain LentFixed LentAppends hay rep from groups new
-      → IsChain Fixed Appends hay (lender rep) from groups new
-  lent_chain hay rep from [] new chain = chain
-  lent_chain hay rep from (own ∷ groups) new (text, rest, after, appends, new_is, chain) = (
+      (last : Lent) → IsChain LentFixed LentAppends hay rep from groups new last
+      → IsChain Fixed Appends hay (lender rep) from groups new (lender last)
+  lent_chain hay rep from [] new last (is, left) = (is, ap lender left)
+  lent_chain hay rep from (own ∷ groups) new last (text, rest, after, appends, new_is, chain) = (
     text,
     rest,
     lender after,
     appends,
     new_is,
-    lent_chain hay after (whole_span own).1 groups rest chain,
+    lent_chain hay after (whole_span own).1 groups rest last chain,
   )
 
   lent_replaced : (fixed : Option (List ℕ)) (rep : Lent) (a : Ahead) (new : List ℕ)
-      → IsReplaced LentFixed LentAppends fixed rep a new
-      → IsReplaced Fixed Appends fixed (lender rep) a new
-  lent_replaced (Some text) rep a new by = by
-  lent_replaced None rep a new in_turn = record {
+      (last : Lent) → IsReplaced LentFixed LentAppends fixed rep a new last
+      → IsReplaced Fixed Appends fixed (lender rep) a new (lender last)
+  lent_replaced (Some text) rep a new last (by, left) = (by, ap lender left)
+  lent_replaced None rep a new last in_turn = record {
     found = in_turn.found;
     are_ahead = in_turn.are_ahead;
     groups = in_turn.groups;
     each = in_turn.each;
-    chain = lent_chain a.haystack rep 0 in_turn.groups new in_turn.chain;
+    chain = lent_chain a.haystack rep 0 in_turn.groups new last in_turn.chain;
   }
 
 pub lent_alike : {R : Type 0} (Fixed : R → Option (List ℕ) → R → Type 0)
     (Appends : R → Groups → List ℕ → Answer → R → Type 0) (Lent : Type 0)
     → LentReplacersReplaceAlike Fixed Appends Lent
-lent_alike Fixed Appends Lent lender rep a new (fixed, after, asked, replaced) =
-    (fixed, lender after, asked, lent_replaced Fixed Appends lender fixed after a new replaced)
+lent_alike Fixed Appends Lent lender rep a new last (fixed, after, asked, replaced) =
+    (fixed, lender after, asked, lent_replaced Fixed Appends lender fixed after a new last replaced)

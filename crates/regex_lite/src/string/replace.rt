@@ -2,18 +2,13 @@
 ghost use Rattle.std.specs.Prelude.{◌≡◌, ◌⊎◌, None, IfOk, IfErr, chars};
 ghost use Rattle.std.specs.Cow.{IsOwnedStr, cow_str_bytes};
 ghost use Rattle.regex_lite_syntax.specs.Errors.{out_of_memory};
-ghost use Rattle.regex_lite.specs.Ahead.{IsOver, ahead, whole};
+ghost use Rattle.regex_lite.specs.Ahead.{whole};
 ghost use Rattle.regex_lite.specs.MatchList.{IsAnswerOf};
 ghost use Rattle.regex_lite.specs.Searches.{MatchesFrom};
-ghost use Rattle.regex_lite.specs.Replacements.{IsHandedOn, IsRefused, IsReplacedBy};
-ghost use Rattle.regex_lite.specs.Replacements.{IsReplacedInTurn, IsReplacement, limit_of};
+ghost use Rattle.regex_lite.specs.Replacements.{IsHandedOn, IsReplacement, limit_of};
 
-use crate::string::iter::find_iter::Matches;
-use crate::string::iter::group_scan::GroupScan;
 use crate::string::regex::Regex;
 use crate::string::replacer::Replacer;
-use crate::string::rewrite::Rewrite;
-use crate::string::searcher::Searcher;
 use regex_lite_syntax::Error;
 use std::borrow::CowStr;
 
@@ -110,88 +105,7 @@ impl Regex {
             ⊎ IsHandedOn R.fixed R.appends rep (whole self.now haystack.now (limit_of limit))
             error) }
     {
-        let limit = limit_of_matches(limit);
-        if let Some(text) = rep.no_expansion() {
-            return self.replace_by(haystack, limit, text);
-        }
-        self.replace_in_turn(haystack, limit, rep)
+        let (text, _) = self.replacen_counted(haystack, limit, &mut rep)?;
+        Ok(text)
     }
-
-    /// Replaces each match by one text.
-    fn replace_by<'h>(
-        &self,
-        haystack: &'h str,
-        limit: Option<usize>,
-        text: &str,
-    ) -> Result<CowStr<'h>, Error>
-        ensures replaced { IfOk result (λ new. IsReplacedBy text.now
-            (whole self.now haystack.now limit) (cow_str_bytes new)) }
-        ensures borrowed { IfOk result (λ new. IsOver (whole self.now haystack.now limit)
-            → new ≡ CowStr.Borrowed haystack.entry) }
-        ensures owned { IfOk result (λ new. ¬ (IsOver (whole self.now haystack.now limit))
-            → IsOwnedStr new) }
-        ensures refused { IfErr result (λ error. error ≡ out_of_memory) }
-    {
-        let mut rewrite = Rewrite::start(self.alloc, haystack);
-        for found in Matches::new(self, haystack, limit)? {
-            rewrite.replace(&found, text)?;
-        }
-        rewrite.finish()
-    }
-
-    /// Replaces each match by what the replacer appends for it.
-    fn replace_in_turn<'h, R: Replacer>(
-        &self,
-        haystack: &'h str,
-        limit: Option<usize>,
-        rep: R,
-    ) -> Result<CowStr<'h>, Error>
-        requires { R.can_append rep }
-        ensures replaced { IfOk result (λ new. IsReplacedInTurn R.fixed R.appends rep
-            (whole self.now haystack.now limit) (cow_str_bytes new)) }
-        ensures borrowed { IfOk result (λ new. IsOver (whole self.now haystack.now limit)
-            → new ≡ CowStr.Borrowed haystack.entry) }
-        ensures owned { IfOk result (λ new. ¬ (IsOver (whole self.now haystack.now limit))
-            → IsOwnedStr new) }
-        ensures refused { IfErr result (λ error. (error ≡ out_of_memory)
-            ⊎ IsRefused R.fixed R.appends rep (whole self.now haystack.now limit) error) }
-    {
-        let searcher = Searcher::new(self, self.kept_slots(), haystack.len())?;
-        let mut scan = GroupScan::new(searcher, haystack, limit);
-        self.replace_each(haystack, &mut scan, rep)
-    }
-
-    /// Replaces each match that the scan gives, from the start of the haystack.
-    fn replace_each<'h, R: Replacer>(
-        &self,
-        haystack: &'h str,
-        scan: &mut GroupScan<'h, Searcher<'_>>,
-        mut rep: R,
-    ) -> Result<CowStr<'h>, Error>
-        requires can_append { R.can_append rep }
-        requires haystack { scan.old.haystack ≡ haystack.now }
-        requires begins { scan.old.ended ≡ None }
-        ensures replaced { IfOk result (λ new. IsReplacedInTurn R.fixed R.appends rep
-            (ahead scan.old) (cow_str_bytes new)) }
-        ensures borrowed { IfOk result (λ new. IsOver (ahead scan.old)
-            → new ≡ CowStr.Borrowed haystack.entry) }
-        ensures owned { IfOk result (λ new. ¬ (IsOver (ahead scan.old)) → IsOwnedStr new) }
-        ensures refused { IfErr result (λ error. (error ≡ out_of_memory)
-            ⊎ IsRefused R.fixed R.appends rep (ahead scan.old) error) }
-    {
-        let mut rewrite = Rewrite::start(self.alloc, haystack);
-        'items: while let Some(item) = scan.next() {
-            let (_, caps) = item?;
-            rewrite.replace_with(&caps, &mut rep)?;
-            scan.take_back(caps);
-        }
-        rewrite.finish()
-    }
-}
-
-/// How many matches may be replaced, where not all may.
-fn limit_of_matches(limit: usize) -> Option<usize>
-    ensures { result ≡ limit_of limit }
-{
-    if limit == 0 { None } else { Some(limit) }
 }

@@ -1,10 +1,12 @@
 //! The new text for a haystack whose matches are replaced.
-ghost use Rattle.std.specs.Prelude.{◌≡◌, ◌++◌, ◌⊎◌, ℕ, List, [], Some, None, Ok, Err, IfOk, IfErr};
-ghost use Rattle.std.specs.Prelude.{MatchOption, IsCharBoundary, drop, string_bytes, unwrap_or};
+ghost use Rattle.std.specs.Prelude.{◌≡◌, ◌≤◌, ◌+◌, ◌++◌, ◌⊎◌, ℕ, List, [], Some, None, Ok, Err};
+ghost use Rattle.std.specs.Prelude.{IfOk, IfErr, MatchOption, IsCharBoundary, drop, string_bytes};
+ghost use Rattle.std.specs.Prelude.{unwrap_or};
 ghost use Rattle.std.specs.Cow.{IsOwnedStr, cow_str_bytes};
 ghost use Rattle.regex_lite_syntax.specs.Errors.{out_of_memory};
 ghost use Rattle.regex_lite.specs.Ahead.{IsOnward};
 ghost use Rattle.regex_lite.specs.Groups.{LiesIn, whole_span};
+ghost use Rattle.regex_lite.specs.Replacements.{most_replaced};
 
 use crate::string::captures::Captures;
 use crate::string::matches::Match;
@@ -13,13 +15,16 @@ use regex_lite_syntax::Error;
 use std::alloc::Global;
 use std::borrow::CowStr;
 
-/// A haystack, and the new text for what stands before the end of the last match.
+/// A haystack, the new text for what stands before the end of the last match, and how many matches
+/// were replaced.
 #[derive(Drop)]
 pub(super) struct Rewrite<'h> {
     haystack: &'h str,
     text: String,
     ended: Option<usize>,
+    replaced: usize,
     ghost stands: { IsCharBoundary haystack.now (unwrap_or ended 0) },
+    ghost few: { replaced ≤ most_replaced ended },
 }
 
 impl<'h> Rewrite<'h> {
@@ -31,11 +36,13 @@ impl<'h> Rewrite<'h> {
         ensures haystack { result.haystack ≡ haystack.entry }
         ensures text { string_bytes result.text ≡ [] }
         ensures ended { result.ended ≡ None }
+        ensures counted { result.replaced ≡ 0 }
     {
         Rewrite {
             haystack,
             text: String::new(alloc),
             ended: None,
+            replaced: 0,
         }
     }
 
@@ -47,6 +54,7 @@ impl<'h> Rewrite<'h> {
             ≡ text_up_to self.old (span_of_match found.now).0 ++ text.now) }
         ensures haystack { self.new.haystack ≡ self.old.haystack }
         ensures ended { IfOk result (λ _. self.new.ended ≡ Some (span_of_match found.now).1) }
+        ensures counted { IfOk result (λ _. self.new.replaced ≡ self.old.replaced + 1) }
         ensures refused { IfErr result (λ error. error ≡ out_of_memory) }
     {
         self.pass(found.start(), found.end())?;
@@ -68,8 +76,9 @@ impl<'h> Rewrite<'h> {
             × (string_bytes self.new.text ≡ text_up_to self.old (whole_span caps.now).0 ++ text)) }
         ensures haystack { self.new.haystack ≡ self.old.haystack }
         ensures ended { IfOk result (λ _. self.new.ended ≡ Some (whole_span caps.now).1) }
+        ensures counted { IfOk result (λ _. self.new.replaced ≡ self.old.replaced + 1) }
         ensures again { R.can_append rep.new }
-        ensures refused { IfErr result (λ error. (error ≡ out_of_memory)
+        ensures refused { IfErr result (λ error. ((error ≡ out_of_memory) × (rep.new ≡ rep.old))
             ⊎ ((text : List ℕ) × R.appends rep.old caps.now text (Err error) rep.new)) }
     {
         let (start, end) = caps.whole_span();
@@ -77,20 +86,22 @@ impl<'h> Rewrite<'h> {
         rep.replace_append(caps, &mut self.text)
     }
 
-    /// The new text with the rest of the haystack, or the haystack where nothing was replaced.
-    pub fn finish(mut self) -> Result<CowStr<'h>, Error>
+    /// The new text with the rest of the haystack, or the haystack where nothing was replaced, and
+    /// how many matches were replaced.
+    pub fn finish(mut self) -> Result<(CowStr<'h>, usize), Error>
         ensures ok { IfOk result (λ new. MatchOption self.entry.ended
-            (new ≡ CowStr.Borrowed self.entry.haystack)
-            (λ from. IsOwnedStr new × (cow_str_bytes new
+            (new.0 ≡ CowStr.Borrowed self.entry.haystack)
+            (λ from. IsOwnedStr new.0 × (cow_str_bytes new.0
             ≡ string_bytes self.entry.text ++ drop from self.entry.haystack.now))) }
+        ensures counted { IfOk result (λ new. new.1 ≡ self.entry.replaced) }
         ensures refused { IfErr result (λ error. error ≡ out_of_memory) }
     {
         let Some(from) = self.ended else {
-            return Ok(CowStr::Borrowed(self.haystack));
+            return Ok((CowStr::Borrowed(self.haystack), self.replaced));
         };
         let rest = &self.haystack[from..];
         self.text.push_str(rest)?;
-        Ok(CowStr::Owned(self.text))
+        Ok((CowStr::Owned(self.text), self.replaced))
     }
 
     /// Appends what stands before the next match, and goes on after it.
@@ -100,6 +111,7 @@ impl<'h> Rewrite<'h> {
         ensures text { IfOk result (λ _. string_bytes self.new.text ≡ text_up_to self.old start) }
         ensures haystack { self.new.haystack ≡ self.old.haystack }
         ensures ended { IfOk result (λ _. self.new.ended ≡ Some end) }
+        ensures counted { IfOk result (λ _. self.new.replaced ≡ self.old.replaced + 1) }
         ensures refused { IfErr result (λ error. error ≡ out_of_memory) }
     {
         let from = self.ended.unwrap_or(0);
@@ -107,6 +119,7 @@ impl<'h> Rewrite<'h> {
         self.text.reserve(self.haystack.len() - from)?;
         self.text.push_str(&self.haystack[from..start])?;
         self.ended = Some(end);
+        self.replaced += 1;
         Ok(())
     }
 }

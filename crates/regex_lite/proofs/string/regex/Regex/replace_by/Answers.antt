@@ -5,7 +5,8 @@ use Rattle.regex_lite.specs.Ahead.{whole}
 use Rattle.regex_lite.specs.Replacements.{IsReplacedBy}
 use Rattle.regex_lite.proofs.AnsweredLemmas.{begun_on, borrowed_where_over, owned_where_some}
 use Rattle.regex_lite.proofs.AnsweredLemmas.{so_finished}
-use Rattle.regex_lite.proofs.ReplacementLemmas.{passed_on, replaced_at_end}
+use Rattle.regex_lite.proofs.ReplacementLemmas.{counted_at_end, counts_one_more, passed_on}
+use Rattle.regex_lite.proofs.ReplacementLemmas.{replaced_at_end}
 use Rattle.regex_lite.proofs.string.regex.Regex.replace_by.Goals as goal
 
 pub loop-found-preserved : goal.loop-found-preserved
@@ -28,6 +29,7 @@ loop-found-preserved c =
       can = tt;
       finite = tt;
       so_far = passed_on inv.so_far step.4 is (ap (λ at. unwrap_or at 0) done.ended) written;
+      counts = counts_one_more inv.counts step.4 done.counted;
       begun = begun_on start old new made _ _ _ span.1 step.0 refl inv.begun step.4 done.ended;
       haystack = ap (λ a. a.haystack) step.4.passed ∙ inv.haystack;
       ended = done.ended ∙ sym step.3;
@@ -44,6 +46,11 @@ returns-clause-replaced c =
     (string_bytes rewrite.text) rewrite.ended c.finish.result
     (IsReplacedBy c.args.text.now start) c.finish.ensures.ok same inv.begun
     (replaced_at_end inv.so_far c.in-None.ensures.steps.over)
+
+pub returns-clause-counted : goal.returns-clause-counted
+returns-clause-counted c =
+    counted_at_end c.finish.result c.loop-found.invariant.counts c.in-None.ensures.steps.over
+    c.finish.ensures.counted
 
 pub returns-clause-borrowed : goal.returns-clause-borrowed
 returns-clause-borrowed c =

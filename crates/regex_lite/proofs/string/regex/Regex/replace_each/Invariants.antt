@@ -1,6 +1,6 @@
 use Rattle.regex_lite.proofs.Common.{◌≡◌, string_bytes, unwrap_or, ahead, most_ahead}
 use Rattle.regex_lite.proofs.AnsweredLemmas.{IsBegun}
-use Rattle.regex_lite.proofs.ReplacementLemmas.{ContinuesInTurn}
+use Rattle.regex_lite.proofs.ReplacementLemmas.{ContinuesInTurn, Counts}
 use Rattle.regex_lite.proofs.string.regex.Regex.replace_each.Given as goal
 
 abbrev pub invariant-items : goal.invariant-items
@@ -9,6 +9,7 @@ invariant-items g l = record {
   so_far : ContinuesInTurn g.R.Replacer.fixed g.R.Replacer.appends l.initial.rep
       (ahead l.initial.scan) (ahead l.scan) l.rep (unwrap_or l.rewrite.ended 0)
       (string_bytes l.rewrite.text);
+  counts : Counts (ahead l.initial.scan) (ahead l.scan) l.rewrite.replaced;
   begun : IsBegun (ahead l.initial.scan) (ahead l.scan)
       (string_bytes l.rewrite.text) l.rewrite.ended;
   regex : l.scan.finder.regex ≡ l.initial.scan.finder.regex;
