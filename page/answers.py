@@ -133,7 +133,7 @@ def _replaced(regex: Regex, text: bytes, template: bytes, count: int) -> Optiona
     longest = len(text) * (1 + template.count(b'$')) + count * len(template)
     if longest > LONGEST_REPLACED:
         return None
-    replaced: str = regex.replaced(text, template, 0, is_literal=False)
+    replaced: str = regex.replaced(text, template, 0, is_literal=False)[0]
     return replaced
 
 

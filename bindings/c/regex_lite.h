@@ -118,10 +118,11 @@ typedef struct regex_lite_replacing {
     size_t limit;    /* how many, from the first on; 0 stands for all */
     bool is_literal; /* whether the template stands for itself, and a $ in it too */
     size_t len;      /* how long the new text is: written by the call */
+    size_t count;    /* how many matches were replaced: written by the call */
 } regex_lite_replacing;
 
 /* All matches, by what the template gives for their groups. */
-#define REGEX_LITE_ALL {0, false, 0}
+#define REGEX_LITE_ALL {0, false, 0, 0}
 
 /* What a search cost, in places of the pattern written out. A number above 2^64 - 1 counts as
  * that. */
@@ -318,8 +319,9 @@ uint32_t regex_lite_captures_all(regex_lite *handle, const uint8_t *text, size_t
 uint32_t regex_lite_split(regex_lite *handle, const uint8_t *text, size_t len, regex_lite_cut *cut,
                           regex_lite_span *pieces, size_t room, size_t *count);
 
-/* Writes the text with its matches replaced, and its length to replacing->len: REGEX_LITE_YES, or
- * REGEX_LITE_NO_ROOM with the length alone. In a template $1 or $name is a group, and $$ is a $. */
+/* Writes the text with its matches replaced, its length to replacing->len, and how many matches
+ * were replaced to replacing->count: REGEX_LITE_YES, or REGEX_LITE_NO_ROOM with these two alone. In
+ * a template $1 or $name is a group, and $$ is a $. */
 uint32_t regex_lite_replace(regex_lite *handle, const uint8_t *text, size_t len,
                             const uint8_t *replacement, size_t replacement_len,
                             regex_lite_replacing *replacing, uint8_t *room, size_t room_len);

@@ -283,27 +283,31 @@ static void test_walks_over_groups(void) {
 
 static void test_replacing(void) {
     regex_lite regex = REGEX_LITE_NOTHING;
-    regex_lite_replacing all = REGEX_LITE_ALL, one = {1, false, 0}, literal = {0, true, 0};
+    regex_lite_replacing all = REGEX_LITE_ALL, one = {1, false, 0, 0}, literal = {0, true, 0, 0};
     uint8_t room[40];
     size_t len = 7;
     WANT(build(&regex, "(?<first>[a-z]+) (?<last>[a-z]+)", &defaults) == REGEX_LITE_YES);
     WANT(regex_lite_replace(&regex, TEXT("ada lovelace"), TEXT("$last, $1"), &all, room, 40) ==
          REGEX_LITE_YES);
-    WANT(is(room, all.len, "lovelace, ada"));
+    WANT(is(room, all.len, "lovelace, ada") && all.count == 1);
+    all.count = 9;
     memset(room, '.', sizeof room);
     WANT(regex_lite_replace(&regex, TEXT("ada lovelace"), TEXT("$last, $1"), &all, room, 12) ==
          REGEX_LITE_NO_ROOM);
-    WANT(all.len == 13 && room[0] == '.');
+    WANT(all.len == 13 && all.count == 1 && room[0] == '.');
     WANT(regex_lite_replace(&regex, TEXT("ada lovelace"), TEXT("$1"), &literal, room, 40) ==
          REGEX_LITE_YES);
-    WANT(is(room, literal.len, "$1"));
+    WANT(is(room, literal.len, "$1") && literal.count == 1);
     WANT(build(&regex, " +", &defaults) == REGEX_LITE_YES);
     WANT(regex_lite_replace(&regex, TEXT("a  b c"), TEXT("_"), &one, room, 40) == REGEX_LITE_YES);
-    WANT(is(room, one.len, "a_b c") && one.limit == 1);
+    WANT(is(room, one.len, "a_b c") && one.limit == 1 && one.count == 1);
     WANT(regex_lite_replace(&regex, TEXT("a  b c"), TEXT("_"), &all, room, 40) == REGEX_LITE_YES);
-    WANT(is(room, all.len, "a_b_c"));
+    WANT(is(room, all.len, "a_b_c") && all.count == 2);
     WANT(regex_lite_replace(&regex, TEXT("a"), (const uint8_t *)"\xff", 1, &all, room, 40) ==
          REGEX_LITE_NOT_TEXT);
+    WANT(all.len == 5 && all.count == 2);
+    WANT(regex_lite_replace(&regex, TEXT("abc"), TEXT("_"), &all, room, 40) == REGEX_LITE_YES);
+    WANT(is(room, all.len, "abc") && all.count == 0);
     regex_lite_free(&regex);
     WANT(regex_lite_escape(TEXT("3.5 (or so)"), room, 40, &len) == REGEX_LITE_YES);
     WANT(is(room, len, "3\\.5 \\(or so\\)"));

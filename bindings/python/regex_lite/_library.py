@@ -276,17 +276,15 @@ class Regex:
                 yield iter([(cut.walk.end, len(text))])
                 return
 
-    def count(self, text: bytes, walk: Walk, most: int = 0) -> int:
-        """How many matches are left, or of the next ones, as `most` says. They are walked over."""
-        if most < 0:
-            return 0
+    def count(self, text: bytes, walk: Walk) -> int:
+        """How many matches are left, which are walked over."""
         total = 0
         for size in room_sizes(len(text), 1):
             count, _ = self._walk_on(text, walk, size, 1)
             total += count
-            if count < size or 0 < most <= total:
+            if count < size:
                 break
-        return min(most, total) if most else total
+        return total
 
     def tried(self, text: bytes) -> int:
         """How many places a search for the first match tries."""
@@ -299,19 +297,20 @@ class Regex:
         _, rows = self._walk_on(text, walk, room, self.groups)
         return [spans_of(row) for row in self.matches_in(rows)]
 
-    def replaced(self, text: bytes, new: bytes, limit: int, is_literal: bool) -> str:
+    def replaced(self, text: bytes, new: bytes, limit: int,
+                 is_literal: bool) -> Tuple[str, int]:
         """The text with its first matches replaced, or all if the limit is 0, by another text or
-        by what it gives as a template, where `$1` is a group."""
+        by what it gives as a template, where `$1` is a group; and how many were replaced."""
         # A single byte makes the text longer only where it replaces an empty match.
         growth = 1 if len(new) < 2 else 2
-        how, size = Replacing(limit, is_literal, 0), growth * len(text) + len(new)
+        how, size = Replacing(limit, is_literal, 0, 0), growth * len(text) + len(new)
         answer = NO_ROOM
         while answer == NO_ROOM:
             size = max(size, how.len)
             room = Room(BYTE, size)
             answer = _replace(self._handle, text, len(text), new, len(new), how, room.start, size)
         checked(answer)
-        return str(room.first(how.len), 'utf-8')
+        return str(room.first(how.len), 'utf-8'), how.count
 
     def _walk_on(self, text: bytes, walk: Walk, room: int,
                  groups: int) -> Tuple[int, memoryview]:

@@ -9,7 +9,7 @@ from typing import (Callable, Dict, Iterable, Iterator, List, Optional, Supports
                     Union, cast)
 
 from ._flags import NEST_LIMIT, SIZE_LIMIT, Flags, options_of
-from ._library import Regex, Row, Walk, encoded
+from ._library import Regex, Row, encoded
 from ._literals import literal_of
 from ._matches import Match, match_of
 from ._templates import as_library_has_it, parts_of
@@ -105,16 +105,13 @@ class Pattern:
     def sub(self, repl: Replacement, string: str, count: int = 0) -> str:
         """The string with its first `count` matches replaced, or all where that is 0; none where it
         is negative. A template is read once."""
-        raw, most = encoded(string), _how_many(count)
-        if isinstance(repl, str):
-            return self._by_template(repl, raw, most)
-        return self._by_function(repl, string, raw, most)[0]
+        return self.subn(repl, string, count)[0]
 
     def subn(self, repl: Replacement, string: str, count: int = 0) -> Tuple[str, int]:
         """The same, and how many matches were replaced."""
         raw, most = encoded(string), _how_many(count)
         if isinstance(repl, str):
-            return self._by_template(repl, raw, most), self._regex.count(raw, Walk(), most)
+            return self._by_template(repl, raw, most)
         return self._by_function(repl, string, raw, most)
 
     def __repr__(self) -> str:
@@ -124,11 +121,12 @@ class Pattern:
         """The groups of all matches, of the first ones, or of none: as `most` says."""
         return chain.from_iterable(map(self._regex.matches_in, self._regex.rows(raw, most)))
 
-    def _by_template(self, template: str, raw: bytes, most: int) -> str:
-        """The string with its first matches replaced by what a template gives."""
+    def _by_template(self, template: str, raw: bytes, most: int) -> Tuple[str, int]:
+        """The string with its first matches replaced by what a template gives, and how many were
+        replaced."""
         parts = parts_of(template, self)
         if most < 0:
-            return raw.decode()
+            return raw.decode(), 0
         texts = [part for part in parts if isinstance(part, str)]
         is_literal = len(texts) == len(parts)
         new = ''.join(texts) if is_literal else as_library_has_it(parts)

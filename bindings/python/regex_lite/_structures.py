@@ -45,9 +45,10 @@ class Cut(ctypes.Structure):
 
 
 class Replacing(ctypes.Structure):
-    """How matches are replaced, and how long the new text is."""
+    """How matches are replaced, how long the new text is, and how many were replaced."""
 
-    _fields_ = [('limit', c_size_t), ('is_literal', c_bool), ('len', c_size_t)]
+    _fields_ = [('limit', c_size_t), ('is_literal', c_bool), ('len', c_size_t),
+                ('count', c_size_t)]
 
 
 class Cost(ctypes.Structure):

@@ -1,7 +1,7 @@
 -- What is returned of new texts.
 use Rattle.std.specs.Prelude.{◌≡◌, ◌↔◌, ◌⊎◌, ℕ, List, MatchBool}
 use Rattle.std.specs.Borrow.{Bor}
-use Rattle.regex_lite.specs.Ahead.{Ahead, whole}
+use Rattle.regex_lite.specs.Ahead.{Ahead, AreSoManyAhead, whole}
 use Rattle.regex_lite.specs.Expression.{Expression}
 use Rattle.regex_lite.specs.Replacements.{IsReplacedBy, IsReplacement, limit_of}
 use Rattle.regex_lite.specs.Replacing.{IsAppendedTemplate, IsFixedText}
@@ -17,13 +17,14 @@ IsReplacedByTemplate template a new =
     (λ old groups text answer after.
     IsAppendedTemplate old.now groups text answer × (after ≡ old)) rep a new
 
--- the new text is this one with its matches replaced as is asked for
+-- the new text is this one with its matches replaced as is asked for, which are this many
 abbrev pub IsReplaced : Expression → (text template : List ℕ) → Replacing → (new : List ℕ)
-    → Type 0
-IsReplaced re text template replacing new =
+    → (count : ℕ) → Type 0
+IsReplaced re text template replacing new count =
     let a = whole re text (limit_of replacing.limit) in
     MatchBool replacing.is_literal (IsReplacedBy template a new)
     (IsReplacedByTemplate template a new)
+    × AreSoManyAhead a count
 
 -- what is returned where a new text is to be written to the room, which is one of which this is
 -- said: it was written as far as the room allows; or it was refused, and all stays

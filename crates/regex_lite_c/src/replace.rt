@@ -1,5 +1,5 @@
 //! New texts: a text with its matches replaced, and a text as a pattern.
-ghost use Rattle.std.specs.Prelude.{◌≡◌, ◌≢◌, IfOk, IfSome, IsUtf8, None};
+ghost use Rattle.std.specs.Prelude.{◌≡◌, ◌≢◌, ◌⊎◌, IfOk, IfSome, IsUtf8, None};
 ghost use Rattle.std.specs.Cow.{cow_str_bytes};
 ghost use Rattle.regex_lite.specs.Escapes.{escaped_pattern};
 ghost use Rattle.regex_lite_c.specs.Replacing.{IsReplaced, IsTextAnswer};
@@ -12,8 +12,8 @@ use regex_lite::{Error, NoExpand, Regex};
 use std::alloc::Global;
 use std::borrow::CowStr;
 
-/// Writes the text with its matches replaced to the room: 1. The new text's length is written to
-/// `replacing` either way.
+/// Writes the text with its matches replaced to the room: 1. The new text's length, and how many
+/// matches were replaced, are written to `replacing` either way.
 #[unsafe(no_mangle)]
 pub extern "C" fn regex_lite_replace(
     alloc: Global,
@@ -27,10 +27,13 @@ pub extern "C" fn regex_lite_replace(
     ensures how { (replacing.new.limit ≡ replacing.old.limit)
         × (replacing.new.is_literal ≡ replacing.old.is_literal) }
     ensures nothing_held { handle.old.value ≡ None → (result ≡ NOTHING_HELD)
-        × (replacing.new.len ≡ replacing.old.len) × (room.new ≡ room.old) }
+        × (replacing.new ≡ replacing.old) × (room.new ≡ room.old) }
     ensures answer { IfSome handle.old.value (λ re. IsTextAnswer
-        (IsUtf8 text.now × IsUtf8 template.now) (IsReplaced re text.now template.now replacing.old)
+        (IsUtf8 text.now × IsUtf8 template.now)
+        (λ new. IsReplaced re text.now template.now replacing.old new replacing.new.count)
         room.old room.new replacing.old.len replacing.new.len result) }
+    ensures not_counted { (result ≡ NOT_TEXT) ⊎ (result ≡ OUT_OF_MEMORY)
+        → replacing.new.count ≡ replacing.old.count }
 {
     let Some(regex) = handle.take(alloc) else {
         return NOTHING_HELD;
@@ -52,8 +55,10 @@ fn replace(
         × (replacing.new.is_literal ≡ replacing.old.is_literal) }
     ensures held { result ≢ NOTHING_HELD }
     ensures answer { IsTextAnswer (IsUtf8 text.now × IsUtf8 template.now)
-        (IsReplaced regex.now text.now template.now replacing.old)
+        (λ new. IsReplaced regex.now text.now template.now replacing.old new replacing.new.count)
         room.old room.new replacing.old.len replacing.new.len result }
+    ensures not_counted { (result ≡ NOT_TEXT) ⊎ (result ≡ OUT_OF_MEMORY)
+        → replacing.new.count ≡ replacing.old.count }
 {
     let Ok(text) = std::str::from_utf8(text) else {
         return NOT_TEXT;
@@ -62,25 +67,29 @@ fn replace(
         return NOT_TEXT;
     };
     match replaced(regex, text, template, replacing) {
-        Ok(new) => room::write(new.as_str().as_bytes(), room, &mut replacing.len),
+        Ok((new, count)) => {
+            replacing.count = count;
+            room::write(new.as_str().as_bytes(), room, &mut replacing.len)
+        }
         Err(_) => OUT_OF_MEMORY,
     }
 }
 
-/// The text with the matches of this regex replaced.
+/// The text with the matches of this regex replaced, and how many were replaced.
 fn replaced<'h>(
     regex: &Regex,
     text: &'h str,
     template: &str,
     replacing: &Replacing,
-) -> Result<CowStr<'h>, Error>
-    ensures { IfOk result
-        (λ new. IsReplaced regex.now text.now template.now replacing.now (cow_str_bytes new)) }
+) -> Result<(CowStr<'h>, usize), Error>
+    ensures { IfOk result (λ new. IsReplaced regex.now text.now template.now replacing.now
+        (cow_str_bytes new.0) new.1) }
 {
     if replacing.is_literal {
-        regex.replacen(text, replacing.limit, NoExpand(template))
+        regex.replacen_counted(text, replacing.limit, &mut NoExpand(template))
     } else {
-        regex.replacen(text, replacing.limit, template)
+        let mut template = template;
+        regex.replacen_counted(text, replacing.limit, &mut template)
     }
 }
 

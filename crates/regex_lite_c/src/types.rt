@@ -146,7 +146,7 @@ fn capped(n: u128) -> u64
     if n < 1 << 64 { n as u64 } else { u64::MAX }
 }
 
-/// How matches are replaced, and how long the new text is.
+/// How matches are replaced, how long the new text is, and how many were replaced.
 #[repr(C)]
 #[derive(Clone, Copy)]
 pub struct Replacing {
@@ -156,6 +156,8 @@ pub struct Replacing {
     pub is_literal: bool,
     /// How many bytes the new text has, which a call writes.
     pub len: usize,
+    /// How many matches were replaced, which a call writes.
+    pub count: usize,
 }
 
 /// How far a walk over the matches of a text has come.

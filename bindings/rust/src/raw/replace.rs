@@ -11,6 +11,7 @@ struct Replacing {
     limit: usize,
     is_literal: bool,
     len: usize,
+    count: usize,
 }
 
 extern "C" {
