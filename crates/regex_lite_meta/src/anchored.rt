@@ -120,7 +120,8 @@ pub(crate) fn find_word_at(
 ) -> Option<(usize, (usize, usize))>
     requires { IsCharBoundary haystack.now start }
     ensures { (table : List (Place ℕ)) (entries : List ℕ) → AreAnsweredBy table entries words.now
-        → IsEachAnsweredBy table entries words.now → IsBestOutcomeTo table (chars haystack.now) entries (position_at haystack.now start)
+        → IsEachAnsweredBy table entries words.now
+        → IsBestOutcomeTo table (chars haystack.now) entries (position_at haystack.now start)
         (position_at haystack.now start) (with_origin_kept (numbered_at result [])) }
 {
     let bytes = haystack.as_bytes();

@@ -1,5 +1,5 @@
 -- What an anchored search returns is the match that the pattern prefers there, by offsets.
-use Rattle.regex_lite.proofs.Common.{ℕ, List, sym, subst, arith, IsUtf8, Some, Expression, Groups}
+use Rattle.regex_lite.proofs.Common.{ℕ, List, sym, subst, arith, IsUtf8, Some, Expression}
 use Rattle.regex_lite.proofs.Common.{haystack_of_match, span_of_match, whole_span, ◌≡◌, Match, None}
 use Rattle.regex_lite.proofs.Common.{chars, ◌↔◌}
 use Rattle.regex_lite_syntax.specs.Grammar.{HasTree}

@@ -1,11 +1,11 @@
 -- What an anchored search for a pattern returns is what the search from there on returns, where
 -- that starts there.
-use Rattle.regex_lite.proofs.Common.{◌≡◌, ℕ, Bool, ◌↔◌, List, length, IsTrue, Some, None, IsUtf8}
+use Rattle.regex_lite.proofs.Common.{◌≡◌, ℕ, Bool, ◌↔◌, List, length, IsTrue, Some, IsUtf8}
 use Rattle.regex_lite.proofs.Common.{Option, chars, unwrap_or, sym, ap, ◌∙◌, subst, inl, inr, arith}
 use Rattle.regex_lite.proofs.Common.{IsTree, Text, Tree, captures_len, Found, IsFound, offset}
 use Rattle.regex_lite.proofs.Common.{search_start, IsSpanOutcome, IsPatternTree, Expression, OfTree}
 use Rattle.regex_lite.proofs.Common.{Groups, span_at, whole_span, span_of_match, offsets}
-use Rattle.regex_lite.proofs.Common.{spans_from, TellsAnswer, IsMatchOf, AreGroupsOf, Match}
+use Rattle.regex_lite.proofs.Common.{spans_from, TellsAnswer, IsMatchOf, AreGroupsOf}
 use Rattle.regex_lite_syntax.proofs.OptionLemmas.{same_some}
 use Rattle.regex_lite_syntax.specs.Tree.Matches.{IsPosition, Matches}
 use Rattle.regex_lite_engine.specs.Search.AnswerAt.{HasMatchAt, IsFoundAt}

@@ -71,8 +71,11 @@ module _ {A : Type 0} (says : Tree → Found → A → Type 0) (list : List Expr
       let s = search_start haystack start in
       let own : ℕ × Found = (told.0, found) in
       let same = same_some ((patterns_lawful list (chars haystack)).one s (Some own) (Some there)
-      (trees, given, is) (others, given_too,
-      found_from_in_list others (chars haystack) s there.0 there.1 is_there)) in
+      (trees, given, is) (
+        others,
+        given_too,
+        found_from_in_list others (chars haystack) s there.0 there.1 is_there,
+      )) in
       let here = ap (λ (answer : ℕ × Found). answer.1.start) same ∙ is_there.answer.start in (
         trees,
         given,

@@ -1,6 +1,7 @@
 -- One pattern of a list, by its number: what is told of its tree is what is returned.
 use Rattle.regex_lite.proofs.Common.{◌≡◌, ℕ, ◌*◌, ◌<◌, ◌↔◌, Bool, List, get_or, length, slice_get}
-use Rattle.regex_lite.proofs.Common.{IsTrue, IsUtf8, IfSome, Some, None, Option, chars, sym, ap, ◌∙◌}
+use Rattle.regex_lite.proofs.Common.{IsTrue, IsUtf8, IfSome, Some, None, Option, chars, sym, ap}
+use Rattle.regex_lite.proofs.Common.{◌∙◌}
 use Rattle.regex_lite.proofs.Common.{subst, arith, slice_get-get_or, IsTree, Tree, captures_len}
 use Rattle.regex_lite.proofs.Common.{HasTree, AreRegularPatterns, StoredGroups, IsGraphOfList}
 use Rattle.regex_lite.proofs.Common.{HasMatchFrom, Found, search_start, IsPatternTree, Outcome}
@@ -70,7 +71,8 @@ module _ (list : List Expression) (compiled : CompiledList) (built : IsBuiltList
   listed_none says bytes start none = (own.0, own.1, (tree_at, own.2, none))
 
   -- what a search of the graph tells of each tree with the number it tells of this one
-  pub listed_outcome : (graph : StoredList) (bytes : List ℕ) (start : ℕ) (told other : Option Outcome)
+  pub listed_outcome : (graph : StoredList) (bytes : List ℕ) (start : ℕ)
+      (told other : Option Outcome)
       → graph ≡ compiled.graph
       → ((trees : List Tree) (tree : Tree) → AreRegularPatterns trees → IsGraphOfList trees graph
       → HasTree trees number tree → IsOutcome tree bytes start told)

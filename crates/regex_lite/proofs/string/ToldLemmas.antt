@@ -1,6 +1,7 @@
 -- From the outcome of a search of the graph to what the search for the pattern returns.
 use Rattle.regex_lite.proofs.Common.{◌≡◌, ℕ, ◌≤◌, List, [], length, take, IfSome, Some, None}
-use Rattle.regex_lite.proofs.Common.{IsUtf8, Option, option_map, chars, sym, refl, ap, ◌∙◌, subst, arith}
+use Rattle.regex_lite.proofs.Common.{IsUtf8, Option, option_map, chars, sym, refl, ap, ◌∙◌}
+use Rattle.regex_lite.proofs.Common.{subst, arith}
 use Rattle.regex_lite.proofs.Common.{IsTree, Tree, captures_len, IsGraphOf, StoredGroups, Found}
 use Rattle.regex_lite.proofs.Common.{search_start, IsSpanOutcome, Outcome, IsBuilt, stored_groups}
 use Rattle.regex_lite.proofs.Common.{names_of, NamesGroups, groups_of, Expression, OfTree, LiesIn}

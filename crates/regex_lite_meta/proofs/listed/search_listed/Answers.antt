@@ -1,7 +1,6 @@
-use Rattle.regex_lite_meta.proofs.Common.{arith}
-use Rattle.std.proofs.lemmas.Grind.{common_steps}
 use Rattle.regex_lite_engine.proofs.Common.{ℕ, ◌<◌, ◌≤◌, List, length, Some, None, Option, chars}
-use Rattle.regex_lite_engine.proofs.Common.{subst, sym, slice_index, slice_get-get_or, Tree, HasTree}
+use Rattle.regex_lite_engine.proofs.Common.{subst, sym, slice_index, slice_get-get_or, Tree}
+use Rattle.regex_lite_engine.proofs.Common.{HasTree}
 use Rattle.regex_lite_engine.proofs.Common.{StoredList, table_of_list, IsAnswer, Found, position_at}
 use Rattle.regex_lite_engine.proofs.Common.{IsNumberedOutcome, IsEntry, search_start}
 use Rattle.regex_lite_engine.specs.Graph.SideBySide.{AreRegularPatterns}

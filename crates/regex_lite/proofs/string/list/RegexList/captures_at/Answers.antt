@@ -1,4 +1,5 @@
-use Rattle.regex_lite.proofs.Common.{Some, ap, IsOutcomeOfList, CompiledList}
+use Rattle.regex_lite.proofs.Common.{Some, sym, ap, subst, IsGraphOfList, IsOutcomeOfList}
+use Rattle.regex_lite.proofs.Common.{CompiledList}
 use Rattle.regex_lite.specs.Scanning.{TellsOutcomeOfList}
 use Rattle.regex_lite.proofs.string.ListSlotLemmas.{room_kept, room_whole}
 use Rattle.regex_lite.proofs.string.ListToldLemmas.{outcome_of_list}
@@ -33,3 +34,14 @@ captured-requires c =
 pub returns-clause-found : goal.returns-clause-found
 returns-clause-found c =
     c.in_ok-caps.ensures.found c.args.start (told (goal.at.returns-clause-found c).In-Some)
+
+pub returns-in_default-clause-found : goal.returns-in_default-clause-found
+returns-in_default-clause-found c =
+    let built = c.self.invariant in
+    let graph = ap (λ (compiled : CompiledList). compiled.graph) c.deref.ensures in (
+      built.trees,
+      rw (← c.self.view_is) built.given,
+      subst (IsOutcomeOfList built.trees c.args.haystack.now c.args.start) c.in_default.is
+          (c.in_ok-told.ensures.found built.trees built.regular
+          (subst (IsGraphOfList built.trees) (sym graph) built.graph)),
+    )

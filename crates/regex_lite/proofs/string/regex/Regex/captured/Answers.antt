@@ -1,4 +1,4 @@
-use Rattle.regex_lite.proofs.Common.{◌≡◌, ℕ, Some, chars, length, ap, ◌∙◌, subst, IsTree, Tree}
+use Rattle.regex_lite.proofs.Common.{◌≡◌, ℕ, Some, chars, ap, ◌∙◌, IsTree, Tree}
 use Rattle.regex_lite.proofs.Common.{captures_len, stored_groups, groups_of, OfTree, Groups}
 use Rattle.regex_lite.proofs.Common.{AreGroups, TellsGroups, kept_slots}
 use Rattle.regex_lite_engine.specs.Search.Outcomes.{IsOutcome}

@@ -1,4 +1,4 @@
-use Rattle.regex_lite.proofs.Common.{Some, ap, OfTree}
+use Rattle.regex_lite.proofs.Common.{Some, sym, ap, subst, IsGraphOf, OfTree}
 use Rattle.regex_lite_engine.specs.Search.Outcomes.{IsOutcome}
 use Rattle.regex_lite.proofs.string.ToldLemmas.{outcome_of, room_of_whole, slots_are}
 use Rattle.regex_lite.proofs.string.regex.Regex.captures_counted_at.Goals as goal
@@ -28,3 +28,13 @@ captured-requires c =
 pub returns-clause-found : goal.returns-clause-found
 returns-clause-found c =
     c.in_ok-caps.ensures.found c.args.start (told (goal.at.returns-clause-found c).In-Some)
+
+pub returns-clause-cost : goal.returns-clause-cost
+returns-clause-cost c =
+    let built = c.self.invariant in
+    let graph = ap (λ compiled. compiled.graph) c.deref.ensures in (
+      built.tree,
+      rw (← c.self.view_is) built.given,
+      c.in_ok-outcome.ensures.cost built.tree
+          (subst (IsGraphOf built.tree) (sym graph) built.graph),
+    )

@@ -1,4 +1,4 @@
-use Rattle.regex_lite.proofs.Common.{Some, None, sym, subst, IsSpanOutcome, OfTree, RegexSearching}
+use Rattle.regex_lite.proofs.Common.{Some, subst, IsSpanOutcome, OfTree, RegexSearching}
 use Rattle.regex_lite.proofs.Common.{IsMatchOf}
 use Rattle.regex_lite_engine.specs.Search.Outcomes.{IsSpanOutcomeAt}
 use Rattle.regex_lite.specs.Anchored.{TellsMatchAt}

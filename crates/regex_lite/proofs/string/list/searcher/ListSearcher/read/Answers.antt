@@ -23,8 +23,8 @@ slots_of-own-requires c =
     let a = c.args in
     let last = c.requires.last in
     let all = searched (goal.at.slots_of-own-requires c).After-or_whole-slots in
-    let less = number_within a.self.now.list last.0 last.1 a.self.now.slots c.requires.room
-    a.last.now.0 a.last.now.1 last.2 in
+    let less = number_within a.self.now.list last.0 last.1.0 a.self.now.slots c.requires.room
+    a.last.now.0 a.last.now.1 last.1.1 in
     omega (arith, less, ap (λ own. length own) all.0)
 
 pub slice_bounds-write-end : goal.slice_bounds-write-end
@@ -33,8 +33,8 @@ slice_bounds-write-end c =
     let last = c.requires.last in
     let own = c.slots_of-own.ensures in
     let all = searched (goal.at.slice_bounds-write-end c).After-or_whole-slots in
-    let within = own_within a.self.now.list last.0 last.1 a.self.now.slots c.requires.room
-    a.last.now.0 a.last.now.1 last.2 c.slots_of-own.result
+    let within = own_within a.self.now.list last.0 last.1.0 a.self.now.slots c.requires.room
+    a.last.now.0 a.last.now.1 last.1.1 c.slots_of-own.result
     (own.0, subst (λ list. AreTrees list own.0) all.0 own.1, own.2) in
     sym (length-take-le c.slots_of-own.result c.or_whole-slots.result.now
     (omega (arith, within, ap (λ slots. length slots) all.1)))

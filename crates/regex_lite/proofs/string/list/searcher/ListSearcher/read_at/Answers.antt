@@ -15,9 +15,11 @@ read-requires c =
           (old.0, old.1, c.match_at.ensures.slots ∙ old.2);
       last = (
         a.haystack.now,
-        a.start,
-        subst (λ (list : List Expression). TellsListMatch list a.haystack.now a.start slots
-            (Some c.in_ok-last.last)) same c.in_ok-last.ensures.found,
+        (
+          a.start,
+          subst (λ (list : List Expression). TellsListMatch list a.haystack.now a.start slots
+              (Some c.in_ok-last.last)) same c.in_ok-last.ensures.found,
+        ),
       );
     }
 
