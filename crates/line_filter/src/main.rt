@@ -32,11 +32,18 @@ fn run(rt: &HostRuntime) -> Result<bool, Fault> {
     for word in env::args(rt)?.skip(1) {
         words.push(word)?;
     }
-    let (selection, pattern) = match words.as_slice() {
-        [pattern] => (Selection::Matching, pattern.as_str()),
-        [flag, pattern] if flag.as_str() == "-v" => (Selection::Others, pattern.as_str()),
-        _ => return Err(Fault::Usage),
-    };
+    match words.as_slice() {
+        [pattern] => filter_input(rt, Selection::Matching, pattern.as_str()),
+        [flag, pattern] if flag.as_str() == "-v" => {
+            filter_input(rt, Selection::Others, pattern.as_str())
+        }
+        _ => Err(Fault::Usage),
+    }
+}
+
+/// Filters standard input by this pattern, and returns whether a line was written.
+fn filter_input(rt: &HostRuntime, selection: Selection, pattern: &str) -> Result<bool, Fault> {
+    let alloc = rt.alloc();
     let regex = Regex::new(alloc, pattern)?;
     let mut searcher = regex.searcher()?;
     let mut output = BufWriter::new(alloc, io::writer(rt))?;

@@ -1,5 +1,5 @@
 -- What an anchored search for the rules shows of the part of the text that begins there.
-use Rattle.std.proofs.Common.{◌≡◌, ℕ, List, Some, None, sym, ap, ◌∙◌, subst, inr, arith}
+use Rattle.std.proofs.Common.{◌≡◌, ◌<◌, ℕ, List, Some, None, sym, ap, ◌∙◌, subst, inr, arith}
 use Rattle.std.specs.Prelude.{slice_get, IsCharBoundary, IsUtf8}
 use Rattle.regex_lite.specs.declared.string.matches.Match.{Match}
 use Rattle.regex_lite.specs.Anchored.{TellsMatchAtOfList}
@@ -25,39 +25,44 @@ module _ (law : AnchoredListSearchesFindAt) (rules : List Expression) (text : Li
 
   module _ (number : ℕ) (m : Match) (told : TellsMatchAtOfList rules text at (Some (number, m)))
     where
-    there : IsMatchAtOfList rules text at number (span_of_match m)
-    there = ((finds.found number m).0 told).2
+      there : IsMatchAtOfList rules text at number (span_of_match m)
+      there = ((finds.found number m).0 told).2
 
-    haystack : haystack_of_match m ≡ text
-    haystack = ((finds.found number m).0 told).1
+      haystack : haystack_of_match m ≡ text
+      haystack = ((finds.found number m).0 told).1
 
-    pub begins : (span_of_match m).0 ≡ at
-    begins = there.at.begins
+      pub begins : (span_of_match m).0 ≡ at
+      begins = there.at.begins
 
-    -- what is found there is the part that begins there
-    pub part_at : IsPartAt rules text number at (span_of_match m).1
-    part_at = record {
-      rule = there.re;
-      numbered = there.numbered;
-      lowest = λ lower other less is matches.
-          omega (arith, less, there.lowest lower other is matches);
-      preferred = subst (λ i. PrefersSpan there.re text (i, (span_of_match m).1)) begins
-          there.at.preferred;
-    }
+      -- what is found there is the part that begins there
+      pub part_at : IsPartAt rules text number at (span_of_match m).1
+      part_at = record {
+        rule = there.re;
+        numbered = there.numbered;
+        lowest = λ lower other less is matches.
+            omega (arith, less, there.lowest lower other is matches);
+        preferred = subst (λ i. PrefersSpan there.re text (i, (span_of_match m).1)) begins
+            there.at.preferred;
+      }
 
-    -- the next token begins at the end of this one
-    pub edge_after : LiesIn (haystack_of_match m) (span_of_match m)
-        → IsCharBoundary text (span_of_match m).1
-    edge_after lies =
-        subst (λ t. IsCharBoundary t (span_of_match m).1) haystack lies.ends_cleanly
+      -- the next token begins at the end of this one
+      pub edge_after : LiesIn (haystack_of_match m) (span_of_match m)
+          → IsCharBoundary text (span_of_match m).1
+      edge_after lies =
+          subst (λ t. IsCharBoundary t (span_of_match m).1) haystack lies.ends_cleanly
 
-    pub token_at : (token : Token) → LiesIn (haystack_of_match m) (span_of_match m)
-        → token.rule ≡ number → token.text.now ≡ text_of_match m
-        → ¬ ((span_of_match m).0 ≡ (span_of_match m).1)
-        → IsTokenAt rules text at (span_of_match m).1 token
-    token_at token lies is_rule is_text some = record {
-      part = subst (λ n. IsPartAt rules text n at (span_of_match m).1) (sym is_rule) part_at;
-      some = omega (arith, lies.ordered, begins, some);
-      stands = is_text ∙ ap (λ t. text_at t (span_of_match m)) haystack
-          ∙ ap (λ i. text_at text (i, (span_of_match m).1)) begins;
-    }
+      -- it ends later than it begins, if it isn't empty
+      pub ends_later : LiesIn (haystack_of_match m) (span_of_match m)
+          → ¬ ((span_of_match m).0 ≡ (span_of_match m).1) → at < (span_of_match m).1
+      ends_later lies some = omega (arith, lies.ordered, begins, some)
+
+      pub token_at : (token : Token) → LiesIn (haystack_of_match m) (span_of_match m)
+          → token.rule ≡ number → token.text.now ≡ text_of_match m
+          → ¬ ((span_of_match m).0 ≡ (span_of_match m).1)
+          → IsTokenAt rules text at (span_of_match m).1 token
+      token_at token lies is_rule is_text some = record {
+        part = subst (λ n. IsPartAt rules text n at (span_of_match m).1) (sym is_rule) part_at;
+        some = ends_later lies some;
+        stands = is_text ∙ ap (λ t. text_at t (span_of_match m)) haystack
+            ∙ ap (λ i. text_at text (i, (span_of_match m).1)) begins;
+      }

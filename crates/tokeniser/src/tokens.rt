@@ -3,7 +3,7 @@ ghost use Rattle.std.specs.Prelude.{◌≡◌, IfErr, IfOk, flat_map, length};
 ghost use Rattle.tokeniser.specs.Tokens.{AreTokens, IsFault};
 
 use regex_lite::laws::anchored_searches_find_the_match_there;
-use regex_lite::{Error, RegexList};
+use regex_lite::{Error, RegexList, RegexListSearcher};
 use std::alloc::{AllocFailed, Global};
 use std::fmt;
 
@@ -80,8 +80,23 @@ pub fn tokenise<'t>(
         (λ tokens. flat_map (λ token. token.text.now) tokens.items ≡ text.now) }
     ensures fault { IfErr result (IsFault rules.now text.now) }
 {
-    anchored_searches_find_the_match_there();
     let mut searcher = rules.searcher()?;
+    tokens_of(alloc, &mut searcher, text)
+}
+
+/// The text as tokens by the rules that the searcher is for.
+fn tokens_of<'t>(
+    alloc: Global,
+    searcher: &mut RegexListSearcher<'_>,
+    text: &'t str,
+) -> Result<Vec<Token<'t>>, Fault>
+    ensures tokens { IfOk result
+        (λ tokens. AreTokens searcher.old text.now 0 tokens.items (length text.now)) }
+    ensures whole { IfOk result
+        (λ tokens. flat_map (λ token. token.text.now) tokens.items ≡ text.now) }
+    ensures fault { IfErr result (IsFault searcher.old text.now) }
+{
+    anchored_searches_find_the_match_there();
     let mut tokens = Vec::new(alloc);
     let mut at = 0;
     while at < text.len() {

@@ -36,11 +36,12 @@ returns-in-Ok-replaced-clause-answer c =
     let text = c.in-Ok.ensures.cases in
     let template = c.in-Ok-from_utf8.ensures.cases in
     let bytes = sym (c.as_bytes.ensures.value ∙ c.as_str.ensures.value) in
-    text_told _ (IsReplaced re c.args.text.now c.args.template.now how) c.as_bytes.result.now
-    c.args.room.now c.write.new.room how.len c.write.new.len c.write.result
-    (text.1, template.1)
-    (subst (λ t. IsReplaced re t c.args.template.now how c.as_bytes.result.now) text.0
-    (subst (λ t. IsReplaced re c.in-Ok.text.now t how c.as_bytes.result.now) template.0
-    (subst (IsReplaced re c.in-Ok.text.now c.in-Ok-from_utf8.template.now how) bytes
-    c.in-Ok-replaced.ensures)))
+    let count = c.in-Ok-replaced.count in
+    text_told _ (λ new. IsReplaced re c.args.text.now c.args.template.now how new count)
+    c.as_bytes.result.now c.args.room.now c.write.new.room how.len c.write.new.len
+    c.write.result (text.1, template.1)
+    (subst (λ t. IsReplaced re t c.args.template.now how c.as_bytes.result.now count) text.0
+    (subst (λ t. IsReplaced re c.in-Ok.text.now t how c.as_bytes.result.now count) template.0
+    (subst (λ new. IsReplaced re c.in-Ok.text.now c.in-Ok-from_utf8.template.now how new count)
+    bytes c.in-Ok-replaced.ensures)))
     c.write.ensures
