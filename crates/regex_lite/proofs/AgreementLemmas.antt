@@ -13,6 +13,7 @@ use Rattle.regex_lite.specs.Laws.{Agree}
 use Rattle.regex_lite.specs.Searches.{TellsEnd}
 use Rattle.regex_lite.proofs.string.FoundLemmas.{group_0}
 use Rattle.regex_lite.proofs.OneTreeLemmas.{matches_told, one_tree}
+use Rattle.regex_lite_engine.proofs.laws.answer.AnswerAtLemmas.{way_of_found}
 
 pub same_truth : (a b : Bool) (P : Type 0) → (IsTrue a ↔ P) → (IsTrue b ↔ P) → a ≡ b
 same_truth true true P p q = refl
@@ -53,8 +54,8 @@ module _ (re : Expression) (haystack : List ℕ) (start : ℕ) where
       (search_start haystack start) (Some f) (Some g) is is_other) in
       ap Some (of.span ∙ ap (λ (own : Found). offsets (chars haystack) (own.start, own.end)) f_is_g)
       ∙ sym (ap (λ all. span_at all 0) are.spans
-      ∙ group_0 (chars haystack) other (search_start haystack start) g (captures_len other)
-      (re.flags, _, given_too) is_too (omega arith))
+      ∙ group_0 (chars haystack) other g (captures_len other) (re.flags, _, given_too)
+      (way_of_found other (chars haystack) (search_start haystack start) g is_too) (omega arith))
 
   pub agree : (found : Bool) (m : Option Match) (groups : Option Groups) (end : Option ℕ)
       → (IsTrue found ↔ MatchesFrom re haystack start) → TellsMatch re haystack start m

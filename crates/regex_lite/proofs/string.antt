@@ -1,6 +1,8 @@
 -- lemmas that several proofs here share
 pub mod AcceptanceLemmas
 pub mod AnchoredLemmas
+pub mod WayLemmas
+pub mod WholeLemmas
 pub mod CapturedLemmas
 pub mod EqualityLemmas
 pub mod EscapedLemmas

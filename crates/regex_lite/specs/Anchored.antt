@@ -1,5 +1,7 @@
--- What anchored searches return, by offsets: their matches start where the search does.
-use Rattle.std.specs.Prelude.{◌≡◌, ℕ, List, Option, chars, length}
+-- What anchored searches return, by offsets: their matches start where the search does. A whole
+-- match is one that an anchored search from the haystack's start finds among the matches that end
+-- where the haystack does.
+use Rattle.std.specs.Prelude.{◌≡◌, ℕ, Bool, true, false, List, Option, chars, length}
 use Rattle.regex_lite_syntax.specs.Tree.{Tree}
 use Rattle.regex_lite_syntax.specs.Tree.Properties.{captures_len}
 use Rattle.regex_lite_engine.specs.Graph.SideBySide.{HasTree}
@@ -13,31 +15,42 @@ use Rattle.regex_lite.specs.Groups.{Groups, resized}
 use Rattle.regex_lite.specs.RegexList.{OfTrees}
 use Rattle.regex_lite.specs.Searches.{AreGroupsOf, IsMatchOf, spans_from}
 
--- what an anchored search for the pattern at this offset returns: `None` if no match starts there,
--- and otherwise a value of which `says` holds for what is found
-abbrev pub TellsAnswerAt : {A : Type 0} → (says : Tree → Found → A → Type 0)
+-- what an anchored search for the pattern at this offset returns, with `whole` for matches that end
+-- where the haystack does: `None` if no such match starts there, and otherwise a value of which
+-- `says` holds for what is found
+abbrev pub TellsAnswerAt : {A : Type 0} → (whole : Bool) → (says : Tree → Found → A → Type 0)
     → Expression → (haystack : List ℕ) → (start : ℕ) → Option A → Type 0
-TellsAnswerAt says re haystack start told =
-    OfTree re (λ tree. TellsOfAnswer (IsAnswerAt tree (chars haystack)) (says tree)
+TellsAnswerAt whole says re haystack start told =
+    OfTree re (λ tree. TellsOfAnswer (IsAnswerAt whole tree (chars haystack)) (says tree)
     (search_start haystack start) told)
 
 -- it returns the match
 abbrev pub TellsMatchAt : Expression → (haystack : List ℕ) → (start : ℕ) → Option Match → Type 0
 TellsMatchAt re haystack start told =
-    TellsAnswerAt (λ tree. IsMatchOf haystack) re haystack start told
+    TellsAnswerAt false (λ tree. IsMatchOf haystack) re haystack start told
 
 -- it returns the groups
 abbrev pub TellsGroupsAt : Expression → (haystack : List ℕ) → (start : ℕ) → Option Groups → Type 0
 TellsGroupsAt re haystack start told =
-    TellsAnswerAt (λ tree. AreGroupsOf tree haystack) re haystack start told
+    TellsAnswerAt false (λ tree. AreGroupsOf tree haystack) re haystack start told
 
 -- it returns the match, and these are the spans of its first groups
 abbrev pub TellsLocationsAt : Expression → (haystack : List ℕ) → (start : ℕ)
     → List (Option (ℕ × ℕ)) → Option Match → Type 0
 TellsLocationsAt re haystack start spans told =
-    TellsAnswerAt (λ tree found m. IsMatchOf haystack found m
+    TellsAnswerAt false (λ tree found m. IsMatchOf haystack found m
     × (spans ≡ spans_from (chars haystack) found.marks 0 (length spans)))
     re haystack start told
+
+-- the search for a whole match returns the match
+abbrev pub TellsWholeMatch : Expression → (haystack : List ℕ) → Option Match → Type 0
+TellsWholeMatch re haystack told =
+    TellsAnswerAt true (λ tree. IsMatchOf haystack) re haystack 0 told
+
+-- it returns the groups
+abbrev pub TellsWholeGroups : Expression → (haystack : List ℕ) → Option Groups → Type 0
+TellsWholeGroups re haystack told =
+    TellsAnswerAt true (λ tree. AreGroupsOf tree haystack) re haystack 0 told
 
 -- what is returned of the answer of several patterns is its number, and a value of which `says`
 -- holds for the tree with this number and what was found of it
@@ -48,26 +61,28 @@ pub record IsToldOfNumbered {A : Type 0} (says : Tree → Found → A → Type 0
   pub numbered : HasTree trees answer.0 tree
   pub value : says tree answer.1 told.1
 
--- what an anchored search for the patterns at this offset returns: `None` if no match of any starts
--- there, and otherwise the lowest number of a pattern that matches there, and a value of which
--- `says` holds for what is found of it
-abbrev pub TellsAnswerAtOfList : {A : Type 0} → (says : Tree → Found → A → Type 0)
-    → List Expression → (haystack : List ℕ) → (start : ℕ) → Option (ℕ × A) → Type 0
-TellsAnswerAtOfList says list haystack start told =
-    OfTrees list (λ trees. TellsOfAnswer (IsAnswerAtOfList trees (chars haystack))
+-- what an anchored search for the patterns at this offset returns, with `whole` for matches that
+-- end where the haystack does: `None` if no such match of any starts there, and otherwise the
+-- lowest number of a pattern that has one, and a value of which `says` holds for what is found of
+-- it
+abbrev pub TellsAnswerAtOfList : {A : Type 0} → (whole : Bool)
+    → (says : Tree → Found → A → Type 0) → List Expression → (haystack : List ℕ) → (start : ℕ)
+    → Option (ℕ × A) → Type 0
+TellsAnswerAtOfList whole says list haystack start told =
+    OfTrees list (λ trees. TellsOfAnswer (IsAnswerAtOfList whole trees (chars haystack))
     (IsToldOfNumbered says trees) (search_start haystack start) told)
 
 -- it returns the match, with the number of its pattern
 abbrev pub TellsMatchAtOfList : List Expression → (haystack : List ℕ) → (start : ℕ)
     → Option (ℕ × Match) → Type 0
 TellsMatchAtOfList list haystack start told =
-    TellsAnswerAtOfList (λ tree. IsMatchOf haystack) list haystack start told
+    TellsAnswerAtOfList false (λ tree. IsMatchOf haystack) list haystack start told
 
 -- it returns the groups, with the number of their pattern
 abbrev pub TellsGroupsAtOfList : List Expression → (haystack : List ℕ) → (start : ℕ)
     → Option (ℕ × Groups) → Type 0
 TellsGroupsAtOfList list haystack start told =
-    TellsAnswerAtOfList (λ tree. AreGroupsOf tree haystack) list haystack start told
+    TellsAnswerAtOfList false (λ tree. AreGroupsOf tree haystack) list haystack start told
 
 -- it returns the match, with the number of its pattern, and these are the spans of that pattern's
 -- groups by index: those of its first groups where it has more than there are spans, and none after
@@ -75,7 +90,20 @@ TellsGroupsAtOfList list haystack start told =
 abbrev pub TellsLocationsAtOfList : List Expression → (haystack : List ℕ) → (start : ℕ)
     → List (Option (ℕ × ℕ)) → Option (ℕ × Match) → Type 0
 TellsLocationsAtOfList list haystack start spans told =
-    TellsAnswerAtOfList (λ tree found m. IsMatchOf haystack found m
+    TellsAnswerAtOfList false (λ tree found m. IsMatchOf haystack found m
     × (spans ≡ resized (length spans)
     (spans_from (chars haystack) found.marks 0 (captures_len tree))))
     list haystack start told
+
+-- the search for a whole match of one of the patterns returns the match, with the number of its
+-- pattern
+abbrev pub TellsWholeMatchOfList : List Expression → (haystack : List ℕ) → Option (ℕ × Match)
+    → Type 0
+TellsWholeMatchOfList list haystack told =
+    TellsAnswerAtOfList true (λ tree. IsMatchOf haystack) list haystack 0 told
+
+-- it returns the groups, with the number of their pattern
+abbrev pub TellsWholeGroupsOfList : List Expression → (haystack : List ℕ) → Option (ℕ × Groups)
+    → Type 0
+TellsWholeGroupsOfList list haystack told =
+    TellsAnswerAtOfList true (λ tree. AreGroupsOf tree haystack) list haystack 0 told

@@ -31,6 +31,7 @@ pub mod RegexListLaws
 pub mod MatchOffsets
 pub mod OffsetLaws
 pub mod AnchoredLaws
+pub mod WholeLaws
 pub mod EmptyLaws
 pub mod TreeLaws
 pub mod ResultLaws
@@ -55,6 +56,7 @@ pub mod CompiledList
 pub mod Slots
 pub mod Answers
 pub mod Scanning
+pub mod ToldWays
 pub mod PiecesLeft
 pub mod Keeping
 pub mod NextMatch

@@ -1,6 +1,6 @@
 -- Where a pattern matches in a haystack, by offsets. All of it rests on the trees' match relation,
 -- and on no search.
-use Rattle.std.specs.Prelude.{◌≡◌, ◌≤◌, ℕ, List, Some, chars, slice_get}
+use Rattle.std.specs.Prelude.{◌≡◌, ◌≤◌, ℕ, List, Some, chars, length, slice_get}
 use Rattle.regex_lite_syntax.specs.Tree.{Tree}
 use Rattle.regex_lite_syntax.specs.Tree.Matches.{Matches}
 use Rattle.regex_lite_engine.specs.Search.Offsets.{IsOffset}
@@ -46,6 +46,12 @@ abbrev pub SomeMatchesAt : List Expression → (haystack : List ℕ) → (at : �
 SomeMatchesAt list haystack at =
     (number : ℕ) × (re : Expression) × (slice_get list number ≡ Some re)
     × MatchesAt re haystack at
+
+-- one of these patterns matches the whole haystack
+abbrev pub SomeMatchesWhole : List Expression → (haystack : List ℕ) → Type 0
+SomeMatchesWhole list haystack =
+    (number : ℕ) × (re : Expression) × (slice_get list number ≡ Some re)
+    × MatchesSpan re haystack (0, length haystack)
 
 -- the grammar gives each of these patterns a tree
 abbrev pub HaveTrees : List Expression → Type 0

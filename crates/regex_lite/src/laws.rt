@@ -29,6 +29,7 @@ ghost use Rattle.regex_lite.specs.ResultLaws.{EachListSearchShows, EachSearchSho
 ghost use Rattle.regex_lite.specs.Searches.{CanStartAt};
 ghost use Rattle.regex_lite.specs.TextLaws.{TextsRefuseForMemory, TextsRewrite};
 ghost use Rattle.regex_lite.specs.TreeLaws.{OneTree, OneTreeList, TreesAreNumbered};
+ghost use Rattle.regex_lite.specs.WholeLaws.{WholeListSearchesFindWhole, WholeSearchesFindWhole};
 
 use crate::{Captures, Error, RegexBuilder, RegexListBuilder, Replacer, Steps};
 
@@ -109,6 +110,14 @@ pub fn anchored_searches_find_what_starts_there()
 pub fn anchored_searches_find_the_match_there()
     ensures one { AnchoredSearchesFindAt }
     ensures several { AnchoredListSearchesFindAt }
+{}
+
+/// A search for a whole match returns a match of the whole haystack, or nothing exactly if the
+/// pattern doesn't match the whole of it. Its groups lie in the haystack, and group 0 is all of it.
+/// Of several patterns the number is that of the lowest one that matches the whole haystack.
+pub fn whole_searches_find_whole_matches()
+    ensures one { WholeSearchesFindWhole }
+    ensures several { WholeListSearchesFindWhole }
 {}
 
 /// Where a pattern can't match the empty text as far as its tree tells, which is where

@@ -27,6 +27,7 @@ mod slots;
 mod source;
 mod sub_captures;
 mod text_replacers;
+mod whole;
 
 pub use builder::RegexBuilder;
 pub use capture_names::CaptureNames;

@@ -84,7 +84,8 @@ pub use Rattle.regex_lite_engine.specs.Pikevm.Cells.{start_on, row_on, threads_o
 pub use Rattle.regex_lite_engine.specs.Pikevm.Entering.{reads, pushing, reading_on}
 pub use Rattle.regex_lite_engine.specs.Pikevm.Machine.{Thread, thread_at}
 pub use Rattle.regex_lite_engine.specs.Pikevm.Room.{ThreadsBelow, KeepsPosition}
-pub use Rattle.regex_lite_engine.specs.Pikevm.Turns.{best_of, StepsAt, IsComing, begun, with_starts}
+pub use Rattle.regex_lite_engine.specs.Pikevm.Turns.{best_of, StepsAt, IsComing, IsComingTo, begun}
+pub use Rattle.regex_lite_engine.specs.Pikevm.Turns.{with_starts}
 pub use Rattle.regex_lite_engine.specs.Pikevm.Walking.{WayTold, ThreadsHold, InStep, SearchAt}
 pub use Rattle.regex_lite_syntax.specs.Prefilter.Heads.{NeverBegins, IsPassed}
 pub use Rattle.regex_lite_syntax.specs.Prefilter.ListHeads.{may_start, is_candidate_at}
@@ -104,7 +105,8 @@ pub use Rattle.regex_lite_engine.specs.Search.Marks.{Marks, no_marks, marked, ov
 pub use Rattle.regex_lite_engine.specs.Search.Marks.{mark_of, marks_along, marks_of_way}
 pub use Rattle.regex_lite_engine.specs.Search.NumberedAnswer.{place_with, is_complete}
 pub use Rattle.regex_lite_engine.specs.Search.NumberedAnswer.{numbered_step, is_end, IsNumberedWay}
-pub use Rattle.regex_lite_engine.specs.Search.NumberedAnswer.{IsNumberedMatch}
+pub use Rattle.regex_lite_engine.specs.Search.NumberedAnswer.{IsNumberedMatch, are_wanted_before}
+pub use Rattle.regex_lite_engine.specs.Search.NumberedAnswer.{is_wanted_end}
 pub use Rattle.regex_lite_engine.specs.Search.NumberedList.{IsEntry, StartsOf, IsMatchOfAny}
 pub use Rattle.regex_lite_engine.specs.Search.NumberedList.{IsNumberedAnswerOf}
 pub use Rattle.regex_lite_engine.specs.Search.NumberedOutcomes.{Best, IsNumberedOutcome}

@@ -17,4 +17,5 @@ pub mod OutcomeLemmas
 pub mod ListOutcomeLemmas
 pub mod OneStartLemmas
 pub mod PlaceLemmas
+pub mod WantedLemmas
 pub mod PrefixLemmas

@@ -1,5 +1,5 @@
 -- Laws of preference and of answers.
-use Rattle.std.specs.Prelude.{◌≡◌, ◌<◌, ◌≤◌, ◌⊎◌, ◌↔◌, ℕ, ◌+◌, ◌*◌, List, [], ◌∷◌}
+use Rattle.std.specs.Prelude.{◌≡◌, ◌<◌, ◌≤◌, ◌⊎◌, ◌↔◌, ℕ, ◌+◌, ◌*◌, List, [], ◌∷◌, false}
 use Rattle.std.specs.Prelude.{◌++◌, Option, Some, IsSome, is_some, slice_get, take}
 use Rattle.regex_lite_syntax.specs.Text.{Text}
 use Rattle.regex_lite_syntax.specs.Tree.{Tree, Trees, empty, character, class, look}
@@ -13,7 +13,7 @@ use Rattle.regex_lite_engine.specs.Graph.WrittenOut.{whole, start_address}
 use Rattle.regex_lite_engine.specs.Graph.WrittenOut.{place_of_pattern, IsWayThrough}
 use Rattle.regex_lite_engine.specs.Search.Preference.{IsPreferred}
 use Rattle.regex_lite_engine.specs.Search.Marks.{marks_of_way, span, taking_part}
-use Rattle.regex_lite_engine.specs.Search.Answer.{Found, IsMatchFrom}
+use Rattle.regex_lite_engine.specs.Search.Answer.{IsOfWay, Found, IsMatchFrom}
 use Rattle.regex_lite_engine.specs.Search.Answer.{HasMatchFrom, IsFound, IsAnswer}
 use Rattle.regex_lite_engine.specs.Search.AnswerAt.{IsAnswerAt}
 use Rattle.regex_lite_engine.specs.Search.PreferenceList.{Entry, preference_list, HasReadingLoops}
@@ -73,7 +73,7 @@ AnswersAreMatches =
 abbrev pub AnchoredAnswersAreAnswers : Type 0
 AnchoredAnswersAreAnswers =
     (tree : Tree) (haystack : Text) (s : ℕ) (found : Found)
-    → IsAnswerAt tree haystack s (Some found)
+    → IsAnswerAt false tree haystack s (Some found)
     ↔ ((found.start ≡ s) × IsAnswer tree haystack s (Some found))
 
 -- the way is preferred to each of these
@@ -117,18 +117,18 @@ pub record HasGroupsInside (found : Found) : Type 0 where
   pub inside : (index from to : ℕ) → span found.marks index ≡ Some (from, to)
       → (found.start ≤ from) × (from ≤ to) × (to ≤ found.end)
 
--- so are the groups of whatever is found
+-- so are the groups of whatever a search finds, since it is told of a way
 abbrev pub GroupsLieInside : Type 0
 GroupsLieInside =
-    (tree : Tree) → IsPatternTree tree → (haystack : Text) (s : ℕ) (found : Found)
-    → IsFound tree haystack s found → HasGroupsInside found
+    (tree : Tree) → IsPatternTree tree → (haystack : Text) (found : Found)
+    → IsOfWay tree haystack found → HasGroupsInside found
 
 -- at least as many groups take part in what is found as the tree is known to have in every match,
 -- the whole match among them
 abbrev pub EnoughTakePart : Type 0
 EnoughTakePart =
-    (tree : Tree) → IsPatternTree tree → (haystack : Text) (s : ℕ) (found : Found) (n : ℕ)
-    → IsFound tree haystack s found → static_captures_len tree ≡ Some n
+    (tree : Tree) → IsPatternTree tree → (haystack : Text) (found : Found) (n : ℕ)
+    → IsOfWay tree haystack found → static_captures_len tree ≡ Some n
     → n ≤ taking_part found.marks 0 (captures_len tree)
 
 abbrev mutual

@@ -3,7 +3,7 @@ use Rattle.regex_lite_meta.proofs.Common.{◌≡◌, ◌<◌, ◌≤◌, ◌⊎�
 use Rattle.regex_lite_meta.proofs.Common.{inl, inr, refl, sym, subst, ◌∙◌, arith, Text, Row, Origin}
 use Rattle.regex_lite_meta.proofs.Common.{IsBestOutcomeOf, best_at, best_kept, span_of}
 use Rattle.regex_lite_meta.proofs.Common.{with_start_kept, chars, position_at, ap}
-use Rattle.regex_lite_meta.proofs.Common.{table_of_list, length}
+use Rattle.regex_lite_meta.proofs.Common.{table_of_list, length, Bool, false}
 use Rattle.regex_lite_engine.specs.Search.Offsets.{offset, search_start}
 use Rattle.regex_lite_engine.proofs.search.ListAnchoredLemmas.{list_any_at_told}
 use Rattle.std.specs.Prelude.{◌↔◌, IsTrue, IsUtf8, IsCharBoundary, is_some}
@@ -19,14 +19,16 @@ use Rattle.regex_lite_engine.specs.Search.NumberedWords.{IsEachAnsweredBy}
 use Rattle.regex_lite_syntax.specs.Prefilter.NumberedWords.{NumberedWords}
 use Rattle.regex_lite_syntax.specs.Prefilter.Words.{AnyStandsAt}
 use Rattle.regex_lite_engine.specs.Search.NumberedOutcomes.{Best, IsAnyTo, IsBestOutcomeTo}
-use Rattle.regex_lite_engine.specs.Search.NumberedOutcomes.{numbered_at, with_origin_kept}
+use Rattle.regex_lite_engine.specs.Search.NumberedOutcomes.{IsWantedOutcomeTo, numbered_at}
+use Rattle.regex_lite_engine.specs.Search.NumberedOutcomes.{with_origin_kept}
 use Rattle.regex_lite_engine.proofs.PositionLemmas.{position_is, same_position}
 
-module _ (table : List (Place ℕ)) (h : Text) (entries : List ℕ) (s last : ℕ) where
+module _ (table : List (Place ℕ)) (h : Text) (entries : List ℕ) (whole : Bool) (s last : ℕ) where
   -- where the match starts and ends, without the number of its pattern
   pub spanned_to : (found : Option (Origin × ℕ)) (row : Row)
-      → IsBestOutcomeTo table h entries s last (best_kept found row)
-      → IsBestOutcomeTo table h entries s last (with_start_kept (best_at (span_of found) row))
+      → IsWantedOutcomeTo table h entries whole s last (best_kept found row)
+      → IsWantedOutcomeTo table h entries whole s last
+      (with_start_kept (best_at (span_of found) row))
   spanned_to None row outcome = outcome
   spanned_to (Some known) row (number, found, answer, told, ends, held) = (
     number,
@@ -37,6 +39,7 @@ module _ (table : List (Place ℕ)) (h : Text) (entries : List ℕ) (s last : �
     held,
   )
 
+module _ (table : List (Place ℕ)) (h : Text) (entries : List ℕ) (s last : ℕ) where
   -- two answers from one position start together
   no_later : (number other : ℕ) (found more : Found)
       → IsNumberedFoundOf table h entries s number found
@@ -85,8 +88,8 @@ some_kept (Some found) row = refl
 -- a match is one whatever is kept of it
 pub any_kept : (table : List (Place ℕ)) (h : Text) (entries : List ℕ) (s last : ℕ)
     (found : Option (Origin × ℕ)) (row other : Row)
-    → IsAnyTo table h entries s last (best_kept found row)
-    → IsAnyTo table h entries s last (best_kept found other)
+    → IsAnyTo table h entries false s last (best_kept found row)
+    → IsAnyTo table h entries false s last (best_kept found other)
 any_kept table h entries s last None row other none = none
 any_kept table h entries s last (Some found) row other is = is
 
@@ -153,11 +156,11 @@ module _ (trees : List Tree) (list : StoredList) (is : IsGraphOfList trees list)
       (position_at haystack start) (position_at haystack start)
       (with_origin_kept (numbered_at told []))
       → IsTrue (is_some told)
-      ↔ AnyMatchesAt trees (chars haystack) (search_start haystack start)
+      ↔ AnyMatchesAt false trees (chars haystack) (search_start haystack start)
   any_of_word None none =
-      list_any_at_told trees list is haystack start inside regular None none
+      list_any_at_told false trees list is haystack start inside regular None none
   any_of_word (Some told) (number, found, (up_to, answer), tells, ends, held) =
-      list_any_at_told trees list is haystack start inside regular
+      list_any_at_told false trees list is haystack start inside regular
       (with_origin_kept (numbered_at (Some told) [])) (
         found.start,
         number,

@@ -26,14 +26,15 @@ use regex_lite_syntax::prefilter::ListWords;
 use std::alloc::{AllocError, Global};
 
 /// The most preferred match that starts at this offset, with this number of slots, and what the
-/// search did. It is over as soon as no way is left that began there.
+/// search did. It is over as soon as no way is left that began there. With WHOLE it is the most
+/// preferred of those that end where the haystack does.
 ///
 /// Condition: the start is above the haystack's length or on a character boundary.
 ///
 /// # Errors
 ///
 /// If memory runs out, which can happen only before the first step.
-pub fn search_anchored(
+pub fn search_anchored<const WHOLE: bool>(
     graph: &Graph,
     alloc: Global,
     haystack: &str,
@@ -42,7 +43,7 @@ pub fn search_anchored(
 ) -> Result<(Option<Outcome>, Steps), AllocError>
     requires { (length haystack.now < start) ⊎ IsCharBoundary haystack.now start }
     ensures found { IfOk result (λ told. (tree : Tree) → IsRegular tree
-        → IsGraphOf tree graph.now → IsOutcomeAt tree haystack.now start told.0) }
+        → IsGraphOf tree graph.now → IsOutcomeAt WHOLE tree haystack.now start told.0) }
     ensures slots { IfOk result (λ told. IfSome told.0
         (λ outcome. length outcome.slots.items ≡ slots)) }
     ensures cost { IfOk result (λ told. (tree : Tree) → IsGraphOf tree graph.now
@@ -53,18 +54,19 @@ pub fn search_anchored(
         return Ok((None, no_steps()));
     }
     let mut pattern = graph.pattern();
-    pattern.search_anchored(alloc, haystack, start, slots)
+    pattern.search_anchored::<WHOLE>(alloc, haystack, start, slots)
 }
 
-/// Whether a match starts at this offset, and what the search did. It stops at the first match that
-/// it comes to.
+/// Whether a match starts at this offset, with WHOLE one that ends where the haystack does, and
+/// what
+/// the search did. It stops at the first such match that it comes to.
 ///
 /// Condition: the start is above the haystack's length or on a character boundary.
 ///
 /// # Errors
 ///
 /// If memory runs out, which can happen only before the first step.
-pub fn search_any_anchored(
+pub fn search_any_anchored<const WHOLE: bool>(
     graph: &Graph,
     alloc: Global,
     haystack: &str,
@@ -73,7 +75,7 @@ pub fn search_any_anchored(
     requires { (length haystack.now < start) ⊎ IsCharBoundary haystack.now start }
     ensures found { IfOk result (λ told. (tree : Tree) → IsRegular tree
         → IsGraphOf tree graph.now → (IsTrue told.0
-        ↔ HasMatchAt tree (chars haystack.now) (search_start haystack.now start))) }
+        ↔ HasMatchAt WHOLE tree (chars haystack.now) (search_start haystack.now start))) }
     ensures cost { IfOk result (λ told. (tree : Tree) → IsGraphOf tree graph.now
         → HasCost tree haystack.now start told.1) }
     ensures entered { IfOk result (λ told. IsTrue told.0 → 0 < told.1.entered) }
@@ -82,13 +84,13 @@ pub fn search_any_anchored(
         return Ok((false, no_steps()));
     }
     let mut pattern = graph.pattern();
-    pattern.search_any_anchored(alloc, haystack, start)
+    pattern.search_any_anchored::<WHOLE>(alloc, haystack, start)
 }
 
 /// Where the match starts and ends that starts at this offset, of the lowest of these patterns that
 /// match there, found in this memory, whose row has its slots. With EARLIEST only whether there is
-/// one is known.
-pub(crate) fn find_anchored<P: Anchored, const EARLIEST: bool>(
+/// one is known, and with WHOLE it ends where the haystack does.
+pub(crate) fn find_anchored<P: Anchored, const EARLIEST: bool, const WHOLE: bool>(
     cache: &mut Cache<Origin>,
     patterns: &mut P,
     haystack: &str,
@@ -99,15 +101,15 @@ pub(crate) fn find_anchored<P: Anchored, const EARLIEST: bool>(
     requires countable { IsCountable (P.table patterns.old) }
     requires few { length (P.entries patterns.old) < 2 ^ 32 }
     ensures found { IsFoundTo EARLIEST (P.table patterns.old) (chars haystack.now)
-        (P.entries patterns.old) (position_at haystack.now start) (position_at haystack.now start)
-        (best_kept result cache.new.best.row) }
+        (P.entries patterns.old) WHOLE (position_at haystack.now start)
+        (position_at haystack.now start) (best_kept result cache.new.best.row) }
     ensures between { IsBetween (P.table patterns.old) cache.new }
     ensures width { length cache.new.best.row ≡ length cache.old.best.row }
     ensures table { P.table patterns.new ≡ P.table patterns.old }
     ensures entries { P.entries patterns.new ≡ P.entries patterns.old }
 {
     restart(cache);
-    run_anchored::<_, _, EARLIEST>(cache, patterns, haystack, start);
+    run_anchored::<_, _, EARLIEST, WHOLE>(cache, patterns, haystack, start);
     cache.best.found()
 }
 

@@ -1,6 +1,6 @@
 //! Searches for several patterns, one after another, in the same working memory.
 ghost use Rattle.std.specs.Prelude.{◌≡◌, ◌<◌, ◌⊎◌, ◌↔◌, List, IfOk, IsCharBoundary, IsTrue};
-ghost use Rattle.std.specs.Prelude.{chars, length};
+ghost use Rattle.std.specs.Prelude.{chars, false, length};
 ghost use Rattle.regex_lite_syntax.specs.Tree.{Tree};
 ghost use Rattle.regex_lite_engine.specs.Graph.SideBySide.{AreRegularPatterns};
 ghost use Rattle.regex_lite_engine.specs.Graph.StoredList.{IsGraphOfList};
@@ -167,7 +167,7 @@ impl<'g> GraphListSearcher<'g> {
         requires { (length haystack.now < start) ⊎ IsCharBoundary haystack.now start }
         ensures found { (trees : List Tree) → AreRegularPatterns trees
             → IsGraphOfList trees self.old.graph
-            → IsSpanOutcomeAtOfList trees haystack.now start self.new.slots result }
+            → IsSpanOutcomeAtOfList false trees haystack.now start self.new.slots result }
         ensures graph { self.new.graph ≡ self.old.graph }
         ensures slots { length self.new.slots ≡ length self.old.slots }
     {
@@ -177,7 +177,7 @@ impl<'g> GraphListSearcher<'g> {
         match &mut self.inner {
             Inner::One(one) => {
                 let mut pattern = self.graph.pattern(0);
-                numbered(one.find_anchored::<false>(&mut pattern, haystack, start))
+                numbered(one.find_anchored::<false, false>(&mut pattern, haystack, start))
             }
             Inner::Words(words) => find_word_at(words, haystack, start),
             Inner::Several(several) => several.find_anchored(self.graph, haystack, start),
@@ -193,7 +193,7 @@ impl<'g> GraphListSearcher<'g> {
         requires { (length haystack.now < start) ⊎ IsCharBoundary haystack.now start }
         ensures found { (trees : List Tree) → AreRegularPatterns trees
             → IsGraphOfList trees self.old.graph → (IsTrue result
-            ↔ AnyMatchesAt trees (chars haystack.now) (search_start haystack.now start)) }
+            ↔ AnyMatchesAt false trees (chars haystack.now) (search_start haystack.now start)) }
         ensures graph { self.new.graph ≡ self.old.graph }
         ensures slots { length self.new.slots ≡ length self.old.slots }
     {
@@ -203,7 +203,7 @@ impl<'g> GraphListSearcher<'g> {
         match &mut self.inner {
             Inner::One(one) => {
                 let mut pattern = self.graph.pattern(0);
-                one.find_anchored::<true>(&mut pattern, haystack, start)
+                one.find_anchored::<true, false>(&mut pattern, haystack, start)
                     .is_some()
             }
             Inner::Words(words) => find_word_at(words, haystack, start).is_some(),

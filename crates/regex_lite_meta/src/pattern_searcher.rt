@@ -194,8 +194,8 @@ impl PatternSearcher {
 
     /// Where the most preferred match starts and ends that starts at this offset. It needs no
     /// memory, and the row has the slots of the match. With EARLIEST only whether there is one is
-    /// known.
-    pub(crate) fn find_anchored<const EARLIEST: bool>(
+    /// known, and with WHOLE it ends where the haystack does.
+    pub(crate) fn find_anchored<const EARLIEST: bool, const WHOLE: bool>(
         &mut self,
         pattern: &mut OnePattern<'_>,
         haystack: &str,
@@ -205,14 +205,14 @@ impl PatternSearcher {
         requires searches { SearchesForOne (places_of pattern.old.table.now) pattern.old.entry
             self.old }
         ensures found { IsFoundTo EARLIEST (places_of pattern.old.table.now) (chars haystack.now)
-            (pattern.old.entry ∷ []) (position_at haystack.now start)
+            (pattern.old.entry ∷ []) WHOLE (position_at haystack.now start)
             (position_at haystack.now start) (best_kept result self.new.memory.cache.best.row) }
         ensures searches { SearchesForOne (places_of pattern.old.table.now) pattern.old.entry
             self.new }
         ensures slots { length self.new.memory.cache.best.row
             ≡ length self.old.memory.cache.best.row }
     {
-        find_anchored::<_, EARLIEST>(&mut self.memory.cache, pattern, haystack, start)
+        find_anchored::<_, EARLIEST, WHOLE>(&mut self.memory.cache, pattern, haystack, start)
     }
 
     /// The slots of the last match.

@@ -99,14 +99,19 @@ impl<'g> GraphSearcher<'g> {
         self.inner.find_any(&mut pattern, haystack, start)
     }
 
-    /// Where the most preferred match starts and ends that starts at this offset. It needs no
-    /// memory, and [`GraphSearcher::slots`] has the slots of the match.
+    /// Where the most preferred match starts and ends that starts at this offset, with WHOLE of
+    /// those that end where the haystack does. It needs no memory, and [`GraphSearcher::slots`] has
+    /// the slots of the match.
     ///
     /// Condition: the start is above the haystack's length or on a character boundary.
-    pub fn search_anchored(&mut self, haystack: &str, start: usize) -> Option<(usize, usize)>
+    pub fn search_anchored<const WHOLE: bool>(
+        &mut self,
+        haystack: &str,
+        start: usize,
+    ) -> Option<(usize, usize)>
         requires { (length haystack.now < start) ⊎ IsCharBoundary haystack.now start }
         ensures found { (tree : Tree) → IsRegular tree → IsGraphOf tree self.old.graph
-            → IsSpanOutcomeAt tree haystack.now start self.new.slots result }
+            → IsSpanOutcomeAt WHOLE tree haystack.now start self.new.slots result }
         ensures graph { self.new.graph ≡ self.old.graph }
         ensures slots { length self.new.slots ≡ length self.old.slots }
     {
@@ -116,19 +121,20 @@ impl<'g> GraphSearcher<'g> {
         let mut pattern = self.graph.pattern();
         span_of(
             self.inner
-                .find_anchored::<false>(&mut pattern, haystack, start),
+                .find_anchored::<false, WHOLE>(&mut pattern, haystack, start),
         )
     }
 
-    /// Whether a match starts at this offset. The search is over at the first match that it comes
-    /// to, and needs no memory. What [`GraphSearcher::slots`] has then belongs to no match.
+    /// Whether a match starts at this offset, with WHOLE one that ends where the haystack does. The
+    /// search is over at the first such match that it comes to, and needs no memory. What
+    /// [`GraphSearcher::slots`] has then belongs to no match.
     ///
     /// Condition: the start is above the haystack's length or on a character boundary.
-    pub fn search_any_anchored(&mut self, haystack: &str, start: usize) -> bool
+    pub fn search_any_anchored<const WHOLE: bool>(&mut self, haystack: &str, start: usize) -> bool
         requires { (length haystack.now < start) ⊎ IsCharBoundary haystack.now start }
         ensures found { (tree : Tree) → IsRegular tree → IsGraphOf tree self.old.graph
             → (IsTrue result
-            ↔ HasMatchAt tree (chars haystack.now) (search_start haystack.now start)) }
+            ↔ HasMatchAt WHOLE tree (chars haystack.now) (search_start haystack.now start)) }
         ensures graph { self.new.graph ≡ self.old.graph }
         ensures slots { length self.new.slots ≡ length self.old.slots }
     {
@@ -137,7 +143,7 @@ impl<'g> GraphSearcher<'g> {
         }
         let mut pattern = self.graph.pattern();
         self.inner
-            .find_anchored::<true>(&mut pattern, haystack, start)
+            .find_anchored::<true, WHOLE>(&mut pattern, haystack, start)
             .is_some()
     }
 

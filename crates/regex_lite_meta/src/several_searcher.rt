@@ -1,6 +1,7 @@
 //! Searches for several patterns, one after another, in the same memory, over the table of their
 //! graph.
-ghost use Rattle.std.specs.Prelude.{◌≡◌, ◌<◌, ℕ, IfOk, IsCharBoundary, Some, chars, length};
+ghost use Rattle.std.specs.Prelude.{◌≡◌, ◌<◌, ℕ, IfOk, IsCharBoundary, Some, chars, false};
+ghost use Rattle.std.specs.Prelude.{length};
 ghost use Rattle.regex_lite_meta.specs.LazyDfa.Scanning.{best_told};
 ghost use Rattle.regex_lite_meta.specs.Memories.{SearchesForSeveral, row_of_several};
 ghost use Rattle.regex_lite_meta.specs.Slots.{FindsSlotsIn};
@@ -140,8 +141,8 @@ impl<'g> SeveralSearcher<'g> {
         requires boundary { IsCharBoundary haystack.now start }
         requires searches { SearchesForSeveral graph.now self.old }
         ensures found { (row : Row) → IsAnyTo (table_of_list graph.now) (chars haystack.now)
-            graph.now.entries (position_at haystack.now start) (position_at haystack.now start)
-            (best_kept result row) }
+            graph.now.entries false (position_at haystack.now start)
+            (position_at haystack.now start) (best_kept result row) }
         ensures searches { SearchesForSeveral graph.now self.new }
         ensures slots { length (row_of_several self.new) ≡ length (row_of_several self.old) }
     {

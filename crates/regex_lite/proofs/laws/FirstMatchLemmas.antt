@@ -27,6 +27,7 @@ use Rattle.regex_lite.specs.Searches.{CanStartAt}
 use Rattle.regex_lite.proofs.OneTreeLemmas.{one_tree}
 use Rattle.regex_lite.proofs.string.FoundLemmas.{group_0}
 use Rattle.regex_lite.proofs.string.ToldLemmas.{same_pair}
+use Rattle.regex_lite_engine.proofs.laws.answer.AnswerAtLemmas.{way_of_found}
 
 -- a match of the pattern's tree ends in the haystack
 end_inside : (tree : Tree) (haystack : Text) (i j : ℕ) → IsPatternTree tree
@@ -196,7 +197,8 @@ module _ (haystack : List ℕ) (utf8 : IsUtf8 haystack) (start : ℕ)
         let whole : whole_span groups ≡ offsets h (found.start, found.end) =
         ap (λ spans. unwrap_or (span_at spans 0) (0, 0)) are.spans
         ∙ ap (λ span. unwrap_or span (0, 0))
-        (group_0 h tree s found (captures_len tree) (re.flags, _, given) is (omega arith)) in
+        (group_0 h tree found (captures_len tree) (re.flags, _, given)
+        (way_of_found tree h s found is) (omega arith)) in
         subst (IsFirstMatch re haystack start) (sym whole) (first_found tree found given is)
 
     from_on : MatchesFrom re haystack start

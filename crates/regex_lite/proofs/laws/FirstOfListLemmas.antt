@@ -19,6 +19,7 @@ use Rattle.regex_lite.proofs.OneTreeLemmas.{one_tree}
 use Rattle.regex_lite.proofs.laws.FirstMatchLemmas.{first_found, found_first, match_from}
 use Rattle.regex_lite.proofs.laws.FirstMatchLemmas.{matched_at, offset_from, tree_matched}
 use Rattle.regex_lite.proofs.string.FoundLemmas.{group_0}
+use Rattle.regex_lite_engine.proofs.laws.answer.AnswerAtLemmas.{way_of_found}
 
 module _ (haystack : List ℕ) (utf8 : IsUtf8 haystack) (start : ℕ)
     (can : CanStartAt haystack start) (list : List Expression) where
@@ -174,8 +175,8 @@ module _ (haystack : List ℕ) (utf8 : IsUtf8 haystack) (start : ℕ)
       let whole : whole_span groups ≡ offsets h (found.start, found.end) =
       ap (λ spans. unwrap_or (span_at spans 0) (0, 0)) are.spans
       ∙ ap (λ span. unwrap_or span (0, 0))
-      (group_0 h is.tree found.start found (captures_len is.tree) of_pattern is.answer
-      (omega arith)) in
+      (group_0 h is.tree found (captures_len is.tree) of_pattern
+      (way_of_found is.tree h found.start found is.answer) (omega arith)) in
       subst (IsFirstOfList list haystack start number) (sym whole)
       (first_of_trees trees number found given is)
 

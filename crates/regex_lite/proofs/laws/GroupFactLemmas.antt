@@ -23,6 +23,7 @@ use Rattle.regex_lite.proofs.laws.NextMatchLemmas.{first_stands, within_first}
 use Rattle.regex_lite.proofs.laws.RegexListLemmas.{same_found}
 use Rattle.regex_lite.proofs.laws.ReplacedLemmas.{span_is}
 use Rattle.regex_lite.proofs.string.FoundLemmas.{group_0}
+use Rattle.regex_lite_engine.proofs.laws.answer.AnswerAtLemmas.{way_of_found}
 
 module _ (haystack : List ℕ) (start : ℕ) (groups : Groups) (told : Match) where
   abbrev IsGroup0 : Type 0
@@ -41,8 +42,8 @@ module _ (haystack : List ℕ) (start : ℕ) (groups : Groups) (told : Match) wh
       → TellsMatch re haystack start (Some told)
   match_told re (tree, given, (found, is, are)) (same, span) =
       let whole = ap (λ spans. span_at spans 0) are.spans
-      ∙ group_0 (chars haystack) tree (search_start haystack start) found (captures_len tree)
-      (re.flags, _, given) is (omega arith) in (
+      ∙ group_0 (chars haystack) tree found (captures_len tree) (re.flags, _, given)
+      (way_of_found tree (chars haystack) (search_start haystack start) found is) (omega arith) in (
         tree,
         given,
         (
@@ -68,8 +69,9 @@ module _ (haystack : List ℕ) (start : ℕ) (groups : Groups) (told : Match) wh
       → TellsMatchOfList list haystack start (Some (number, told))
   list_match_told list number (trees, given, (found, is, are)) (same, span) =
       let whole = ap (λ spans. span_at spans 0) are.spans
-      ∙ group_0 (chars haystack) is.tree found.start found (captures_len is.tree)
-      (pattern_tree list trees given number is.tree is.numbered) is.answer (omega arith) in (
+      ∙ group_0 (chars haystack) is.tree found (captures_len is.tree)
+      (pattern_tree list trees given number is.tree is.numbered)
+      (way_of_found is.tree (chars haystack) found.start found is.answer) (omega arith) in (
         trees,
         given,
         (

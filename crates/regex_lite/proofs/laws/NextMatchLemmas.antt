@@ -12,6 +12,7 @@ use Rattle.regex_lite.specs.MatchList.{AreAnswers, AreAnswersWithin, AreFirstAns
 use Rattle.regex_lite.proofs.string.LawfulLemmas.{regex_lawful}
 use Rattle.regex_lite.proofs.string.ListLemmas.{one_next}
 use Rattle.regex_lite.proofs.string.NextLemmas.{next_answer}
+use Rattle.regex_lite_engine.proofs.laws.answer.AnswerAtLemmas.{way_of_found}
 
 module _ {A : Type 0} (found_of : A → Found) (Answers : (s : ℕ) → Option A → Type 0) where
   abbrev Within : (limit ended : Option ℕ) → List A → Type 0
@@ -86,7 +87,8 @@ module _ (re : Expression) (haystack : Text) where
   answer_stands : (s t : ℕ) (found : Found) → t ≤ s → IsAnswerOf re haystack s (Some found)
       → StandsFrom t found
   answer_stands s t found later (tree, given, is) =
-      let own = groups_inside tree haystack s found (regular_tree tree (re.flags, _, given)) is in
+      let own = groups_inside tree haystack found (regular_tree tree (re.flags, _, given))
+      (way_of_found tree haystack s found is) in
       record {
         from = omega (arith, later, is.from);
         ordered = (own.inside 0 found.start found.end own.whole).1;

@@ -26,6 +26,7 @@ use Rattle.regex_lite.proofs.AgreementLemmas.{same_truth}
 use Rattle.regex_lite.proofs.string.FoundLemmas.{group_0}
 use Rattle.regex_lite.proofs.ListBuildLemmas.{one_list, pattern_tree, regular_trees}
 use Rattle.regex_lite.proofs.string.ListToldLemmas.{list_answer_told}
+use Rattle.regex_lite_engine.proofs.laws.answer.AnswerAtLemmas.{way_of_found}
 
 -- a list of one is accepted where its pattern is
 pub one_is_accepted : (settings : Settings) → IsAccepted settings ↔ AreAccepted (settings ∷ [])
@@ -248,8 +249,8 @@ module _ (list : List Expression) (haystack : List ℕ) (start : ℕ) where
         ap (λ (told : ℕ × Found). Some told.0) both,
         ap Some (of.span ∙ ap span both)
             ∙ sym (ap (λ all. span_at all 0) are.spans
-            ∙ group_0 (chars haystack) is_too.tree g.start g (captures_len is_too.tree) tree_given
-            is_too.answer (omega arith)),
+            ∙ group_0 (chars haystack) is_too.tree g (captures_len is_too.tree) tree_given
+            (way_of_found is_too.tree (chars haystack) g.start g is_too.answer) (omega arith)),
       )
 
   pub agree_on_list : (found : Bool) (m : Option (ℕ × Match)) (groups : Option (ℕ × Groups))

@@ -1,17 +1,16 @@
 -- What an anchored search for a pattern returns is what the search from there on returns, where
 -- that starts there.
-use Rattle.regex_lite.proofs.Common.{◌≡◌, ℕ, Bool, ◌↔◌, List, length, IsTrue, Some, IsUtf8}
-use Rattle.regex_lite.proofs.Common.{Option, chars, unwrap_or, sym, ap, ◌∙◌, subst, inl, inr, arith}
+use Rattle.regex_lite.proofs.Common.{◌≡◌, ℕ, Bool, false, ◌↔◌, List, length, IsTrue, Some, IsUtf8}
+use Rattle.regex_lite.proofs.Common.{chars, unwrap_or, sym, ap, ◌∙◌, subst, inl, inr, arith}
 use Rattle.regex_lite.proofs.Common.{IsTree, Text, Tree, captures_len, Found, IsFound, offset}
-use Rattle.regex_lite.proofs.Common.{search_start, IsSpanOutcome, IsPatternTree, Expression, OfTree}
+use Rattle.regex_lite.proofs.Common.{search_start, IsPatternTree, Expression, OfTree}
 use Rattle.regex_lite.proofs.Common.{Groups, span_at, whole_span, span_of_match, offsets}
 use Rattle.regex_lite.proofs.Common.{spans_from, TellsAnswer, IsMatchOf, AreGroupsOf}
 use Rattle.regex_lite_syntax.proofs.OptionLemmas.{same_some}
 use Rattle.regex_lite_syntax.specs.Tree.Matches.{IsPosition, Matches}
 use Rattle.regex_lite_engine.specs.Search.AnswerAt.{HasMatchAt, IsFoundAt}
-use Rattle.regex_lite_engine.specs.Search.Outcomes.{IsSpanOutcomeAt}
 use Rattle.regex_lite_engine.proofs.PositionLemmas.{position_is, same_position, start_position}
-use Rattle.regex_lite_engine.proofs.laws.answer.AnswerAtLemmas.{found_at, found_from}
+use Rattle.regex_lite_engine.proofs.laws.answer.AnswerAtLemmas.{found_at, found_from, way_of_found}
 use Rattle.regex_lite.specs.Anchored.{TellsAnswerAt}
 use Rattle.regex_lite.specs.AnchoredLaws.{IsSearchAt}
 use Rattle.regex_lite.specs.MatchOffsets.{MatchesAt}
@@ -21,17 +20,10 @@ use Rattle.regex_lite.proofs.laws.FirstMatchLemmas.{tree_matched}
 use Rattle.regex_lite.proofs.string.FoundLemmas.{group_0}
 use Rattle.regex_lite.proofs.string.LawfulLemmas.{regex_lawful}
 
--- the outcome of an anchored search is that of the search from there on
-pub outcome_from : (tree : Tree) (haystack : List ℕ) (start : ℕ) (slots : List (Option ℕ))
-    (span : ℕ × ℕ) → IsSpanOutcomeAt tree haystack start slots (Some span)
-    → IsSpanOutcome tree haystack start slots (Some span)
-outcome_from tree haystack start slots span (found, is, tells) =
-    (found, found_from tree (chars haystack) (search_start haystack start) found is, tells)
-
--- so is what is returned of it
+-- what is returned of an anchored search is what the search from there on returns
 module _ {A : Type 0} (says : Tree → Found → A → Type 0) (re : Expression) (haystack : List ℕ)
     (start : ℕ) (told : A) where
-  pub told_from : TellsAnswerAt says re haystack start (Some told)
+  pub told_from : TellsAnswerAt false says re haystack start (Some told)
       → TellsAnswer says re haystack start (Some told)
   told_from (tree, given, (found, is, so)) = (
     tree,
@@ -41,9 +33,9 @@ module _ {A : Type 0} (says : Tree → Found → A → Type 0) (re : Expression)
 
   -- and where an anchored search finds something, that is what the search from there on finds
   pub told_there : OfTree re (λ tree. (found : Found)
-      × IsFoundAt tree (chars haystack) (search_start haystack start) found)
+      × IsFoundAt false tree (chars haystack) (search_start haystack start) found)
       → TellsAnswer says re haystack start (Some told)
-      → TellsAnswerAt says re haystack start (Some told)
+      → TellsAnswerAt false says re haystack start (Some told)
   told_there (other, given_too, (there, is_there)) (tree, given, (found, is, so)) =
       let p = search_start haystack start in
       let same = same_some ((regex_lawful re (chars haystack)).one p (Some found) (Some there)
@@ -83,24 +75,24 @@ module _ (haystack : List ℕ) (utf8 : IsUtf8 haystack) (start : ℕ)
 
   -- the pattern matches there where its tree does
   pub matched_there : (re : Expression) (tree : Tree) → IsTree re.flags (chars re.pattern) tree
-      → HasMatchAt tree h s → MatchesAt re haystack start
-  matched_there re tree given (inside, (j, matches)) =
+      → HasMatchAt false tree h s → MatchesAt re haystack start
+  matched_there re tree given (inside, (j, may, matches)) =
       subst (MatchesAt re haystack) (start_is inside)
       (matched_at haystack utf8 start can re tree s j given inside matches)
 
   -- and its tree where the pattern does
   pub tree_matched_there : (re : Expression) (tree : Tree)
       → IsTree re.flags (chars re.pattern) tree → MatchesAt re haystack start
-      → HasMatchAt tree h s
+      → HasMatchAt false tree h s
   tree_matched_there re tree given matches =
       let own = tree_matched haystack utf8 start can re tree start given matches in
       let here = only_start own.0 own.2.0 (sym own.2.1) in (
         subst (IsPosition h) here own.2.0,
-        (own.1, subst (λ i. Matches h tree i own.1) here own.3),
+        (own.1, tt, subst (λ i. Matches h tree i own.1) here own.3),
       )
 
   pub has_told_there : (re : Expression) (found : Bool)
-      → OfTree re (λ tree. IsTrue found ↔ HasMatchAt tree h s)
+      → OfTree re (λ tree. IsTrue found ↔ HasMatchAt false tree h s)
       → IsTrue found ↔ MatchesAt re haystack start
   has_told_there re found (tree, given, told) = (
     λ yes_found. matched_there re tree given (told.0 yes_found),
@@ -113,21 +105,22 @@ module _ (haystack : List ℕ) (utf8 : IsUtf8 haystack) (start : ℕ)
       (of_found : (tree : Tree) (p : ℕ) (found : Found) (told : A) → IsPatternTree tree
       → IsFound tree h p found → says tree found told
       → span_of told ≡ offsets h (found.start, found.end)) (re : Expression) where
-    pub told_by_start : (told : A) → TellsAnswerAt says re haystack start (Some told)
+    pub told_by_start : (told : A) → TellsAnswerAt false says re haystack start (Some told)
         ↔ (TellsAnswer says re haystack start (Some told) × ((span_of told).0 ≡ start))
     told_by_start told = (
       λ at. (told_from says re haystack start told at, starts at),
       λ (from, same). back from same,
     )
       where
-        starts : TellsAnswerAt says re haystack start (Some told) → (span_of told).0 ≡ start
+        starts : TellsAnswerAt false says re haystack start (Some told) → (span_of told).0 ≡ start
         starts (tree, given, (found, is, so)) =
             ap (λ (span : ℕ × ℕ). span.0) (of_found tree s found told (re.flags, _, given)
             (found_from tree h s found is) so)
-            ∙ ap (offset h) is.start ∙ start_is is.inside
+            ∙ ap (offset h) is.start
+            ∙ start_is (subst (IsPosition h) is.start is.of_way.inside)
 
         back : TellsAnswer says re haystack start (Some told) → (span_of told).0 ≡ start
-            → TellsAnswerAt says re haystack start (Some told)
+            → TellsAnswerAt false says re haystack start (Some told)
         back (tree, given, (found, is, so)) same =
             let span = of_found tree s found told (re.flags, _, given) is so in
             let here = only_start found.start is.inside
@@ -141,7 +134,8 @@ module _ (haystack : List ℕ) (utf8 : IsUtf8 haystack) (start : ℕ)
   whole_of_found tree p found groups given is are =
       ap (λ spans. unwrap_or (span_at spans 0) (0, 0)) are.spans
       ∙ ap (λ span. unwrap_or span (0, 0))
-      (group_0 h tree p found (captures_len tree) given is (omega arith))
+      (group_0 h tree found (captures_len tree) given (way_of_found tree h p found is)
+      (omega arith))
 
   pub search_at : (re : Expression) → IsSearchAt re haystack start
   search_at re = record {

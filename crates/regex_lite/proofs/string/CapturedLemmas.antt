@@ -3,12 +3,13 @@ use Rattle.regex_lite.proofs.Common.{◌≡◌, ℕ, zero, suc, ◌*◌, ◌≤�
 use Rattle.regex_lite.proofs.Common.{Some, None, IsUtf8, Option, option_map, chars, sym, refl, ap}
 use Rattle.regex_lite.proofs.Common.{◌∙◌, subst, arith, filter_map, option_zip, Text, Tree}
 use Rattle.regex_lite.proofs.Common.{captures_len, static_captures_len, StoredGroups, Found}
-use Rattle.regex_lite.proofs.Common.{IsFound, offset, HasSlots, IsPatternTree, IsBuilt}
+use Rattle.regex_lite.proofs.Common.{offset, HasSlots, IsPatternTree, IsBuilt}
 use Rattle.regex_lite.proofs.Common.{stored_groups, names_of, NamesGroups, groups_of, LiesIn}
 use Rattle.regex_lite.proofs.Common.{text_at, spans_of, span_at, group_span, texts_from, AreGroups}
 use Rattle.regex_lite.proofs.Common.{offsets, spans_from, AreGroupsOf, kept_slots, all_slots}
 use Rattle.regex_lite.proofs.Common.{Compiled}
 use Rattle.std.proofs.Common.{IsSome}
+use Rattle.regex_lite_engine.specs.Search.Answer.{IsOfWay}
 use Rattle.regex_lite_engine.proofs.laws.PatternTreeLemmas.{regular_tree}
 use Rattle.regex_lite_engine.proofs.laws.groups.SpanLemmas.{groups_inside}
 use Rattle.regex_lite_syntax.proofs.OptionLemmas.{same_some}
@@ -31,8 +32,8 @@ abbrev pub AreAllSlots : Text → Tree → Found → (slots : List (Option ℕ))
 AreAllSlots haystack tree found slots =
     HasSlots haystack slots found.marks × (length slots ≡ 2 * captures_len tree)
 
-module _ (haystack : Text) (tree : Tree) (s : ℕ) (found : Found) (given : IsPatternTree tree)
-    (is : IsFound tree haystack s found) where
+module _ (haystack : Text) (tree : Tree) (found : Found) (given : IsPatternTree tree)
+    (is : IsOfWay tree haystack found) where
   -- the slots of group 0 are the match's start and end
   whole_slots : (span : ℕ × ℕ) → span ≡ offsets haystack (found.start, found.end)
       → HasSlots haystack (all_slots [] span) found.marks
@@ -40,7 +41,7 @@ module _ (haystack : Text) (tree : Tree) (s : ℕ) (found : Found) (given : IsPa
     where
       marked : (found.marks 0 ≡ Some found.start) × (found.marks 1 ≡ Some found.end)
       marked = both_there (found.marks 0) (found.marks 1) found.start found.end
-          (groups_inside tree haystack s found (regular_tree tree given) is).whole
+          (groups_inside tree haystack found (regular_tree tree given) is).whole
 
       each : HasSlots haystack (all_slots [] span) found.marks
       each zero slot at = sym (same_some at) ∙ ap (λ (own : ℕ × ℕ). Some own.0) same
@@ -80,8 +81,8 @@ built_shares compiled built = record {
   static_is = built.groups.static_captures;
 }
 
-module _ (bytes : List ℕ) (utf8 : IsUtf8 bytes) (tree : Tree) (given : IsPatternTree tree) (s : ℕ)
-    (found : Found) (is : IsFound tree (chars bytes) s found) (slots : List (Option ℕ))
+module _ (bytes : List ℕ) (utf8 : IsUtf8 bytes) (tree : Tree) (given : IsPatternTree tree)
+    (found : Found) (is : IsOfWay tree (chars bytes) found) (slots : List (Option ℕ))
     (all : AreAllSlots (chars bytes) tree found slots) (shared : StoredGroups)
     (shares : NamesGroups tree (names_of shared) shared.static_captures_len) where
   abbrev spans : List (Option (ℕ × ℕ))
@@ -94,7 +95,7 @@ module _ (bytes : List ℕ) (utf8 : IsUtf8 bytes) (tree : Tree) (given : IsPatte
 
   some_group_0 : IsSome (group_span (groups_of bytes slots shared) 0)
   some_group_0 = subst IsSome (sym (ap (λ all. span_at all 0) spans_are
-      ∙ group_0 (chars bytes) tree s found (captures_len tree) given is (omega arith))) refl
+      ∙ group_0 (chars bytes) tree found (captures_len tree) given is (omega arith))) refl
 
   -- the slots hold groups, which are those of what was found
   pub captured : AreGroups (groups_of bytes slots shared)
@@ -102,7 +103,7 @@ module _ (bytes : List ℕ) (utf8 : IsUtf8 bytes) (tree : Tree) (given : IsPatte
   captured = (
     record {
       inside = λ k. subst (λ all. IfSome (span_at all k) (LiesIn bytes)) (sym spans_are)
-          (groups_lie bytes utf8 tree given s found is (captures_len tree) k);
+          (groups_lie bytes utf8 tree given found is (captures_len tree) k);
       each = ap length spans_are ∙ length_spans (chars bytes) found.marks 0 (captures_len tree)
           ∙ sym shares.names_are.each_group;
       whole = some_group_0;
@@ -122,4 +123,4 @@ module _ (bytes : List ℕ) (utf8 : IsUtf8 bytes) (tree : Tree) (given : IsPatte
       each None e = tt
       each (Some n) e =
           subst (λ all. n ≤ length (filter_map (option_map (text_at bytes)) all)) (sym spans_are)
-          (enough_texts bytes utf8 tree given s found is n (sym e))
+          (enough_texts bytes utf8 tree given found is n (sym e))

@@ -3,8 +3,9 @@ use Rattle.regex_lite.proofs.Common.{◌≡◌, ℕ, zero, suc, ◌+◌, ◌*◌
 use Rattle.regex_lite.proofs.Common.{take, IfSome, slice_get, Some, None, IsUtf8, Option}
 use Rattle.regex_lite.proofs.Common.{option_map, chars, refl, ap, ◌∙◌, arith, filter_map}
 use Rattle.regex_lite.proofs.Common.{option_zip, Text, Tree, captures_len, static_captures_len}
-use Rattle.regex_lite.proofs.Common.{Found, IsFound, span, offset, IsPatternTree, IsWithin, LiesIn}
+use Rattle.regex_lite.proofs.Common.{Found, span, offset, IsPatternTree, LiesIn}
 use Rattle.regex_lite.proofs.Common.{text_at, spans_of, span_at, offsets, spans_from}
+use Rattle.regex_lite_engine.specs.Search.Answer.{IsOfWay}
 use Rattle.regex_lite_engine.specs.SearchLaws.{HasGroupsInside}
 use Rattle.regex_lite_engine.specs.Search.Marks.{Marks, taking_part}
 use Rattle.regex_lite_engine.proofs.OffsetLemmas.{boundary_at, offset_grows}
@@ -12,7 +13,7 @@ use Rattle.regex_lite_engine.proofs.laws.PatternTreeLemmas.{regular_tree, number
 use Rattle.regex_lite_engine.proofs.laws.groups.SpanLemmas.{groups_inside}
 use Rattle.regex_lite_engine.proofs.laws.groups.TakingPartLemmas.{enough_take_part}
 use Rattle.regex_lite.specs.Laws.{LiesInside}
-use Rattle.regex_lite.proofs.string.LawfulLemmas.{found_within}
+use Rattle.regex_lite.proofs.string.LawfulLemmas.{way_within}
 
 -- two positions in order lie in the haystack
 pub positions_lie : (bytes : List ℕ) (i j : ℕ) → IsUtf8 bytes → i ≤ j → j ≤ length (chars bytes)
@@ -95,13 +96,13 @@ texts_told bytes marks first (suc count) =
     each (Some positions) is more = rw (is) (omega (arith, more))
 
 -- group 0 is the match
-pub group_0 : (haystack : Text) (tree : Tree) (s : ℕ) (found : Found) (count : ℕ)
-    → IsPatternTree tree → IsFound tree haystack s found → 0 < count
+pub group_0 : (haystack : Text) (tree : Tree) (found : Found) (count : ℕ)
+    → IsPatternTree tree → IsOfWay tree haystack found → 0 < count
     → span_at (spans_from haystack found.marks 0 count) 0
     ≡ Some (offsets haystack (found.start, found.end))
-group_0 haystack tree s found zero given is some = absurd (omega (arith, some))
-group_0 haystack tree s found (suc count) given is some =
-    let inner = groups_inside tree haystack s found (regular_tree tree given) is in
+group_0 haystack tree found zero given is some = absurd (omega (arith, some))
+group_0 haystack tree found (suc count) given is some =
+    let inner = groups_inside tree haystack found (regular_tree tree given) is in
     ap (option_map (offsets haystack)) inner.whole
 
 -- the first of this many spans are the spans of the first groups
@@ -115,18 +116,18 @@ first_told haystack marks (suc n) first (suc count) =
     (first_told haystack marks n (suc first) count)
 
 -- what is found in a haystack by a regex
-module _ (bytes : List ℕ) (utf8 : IsUtf8 bytes) (tree : Tree) (given : IsPatternTree tree) (s : ℕ)
-    (found : Found) (is : IsFound tree (chars bytes) s found) where
-  within : IsWithin (chars bytes) s found
-  within = found_within tree (chars bytes) s found given is
+module _ (bytes : List ℕ) (utf8 : IsUtf8 bytes) (tree : Tree) (given : IsPatternTree tree)
+    (found : Found) (is : IsOfWay tree (chars bytes) found) where
+  within : (found.start ≤ found.end) × (found.end ≤ length (chars bytes))
+  within = way_within tree (chars bytes) found given is
 
   inner : HasGroupsInside found
-  inner = groups_inside tree (chars bytes) s found (regular_tree tree given) is
+  inner = groups_inside tree (chars bytes) found (regular_tree tree given) is
 
   -- it lies there
   pub found_lies : LiesIn bytes (offsets (chars bytes) (found.start, found.end))
   found_lies =
-      positions_lie bytes found.start found.end utf8 within.ordered within.inside
+      positions_lie bytes found.start found.end utf8 within.0 within.1
 
   abbrev whole : ℕ × ℕ
   whole = offsets (chars bytes) (found.start, found.end)
@@ -144,7 +145,7 @@ module _ (bytes : List ℕ) (utf8 : IsUtf8 bytes) (tree : Tree) (given : IsPatte
             starts_inside = offset_grows (chars bytes) found.start from own.0;
             ends_inside = offset_grows (chars bytes) to found.end own.2;
             lies_in =
-                positions_lie bytes from to utf8 own.1 (omega (arith, own.2, within.inside));
+                positions_lie bytes from to utf8 own.1 (omega (arith, own.2, within.1));
           }
 
   -- so do its groups, and inside it
@@ -168,6 +169,6 @@ module _ (bytes : List ℕ) (utf8 : IsUtf8 bytes) (tree : Tree) (given : IsPatte
       → n ≤ length (filter_map (option_map (text_at bytes))
       (spans_from (chars bytes) found.marks 0 (captures_len tree)))
   enough_texts n known =
-      let enough = enough_take_part tree (chars bytes) s found n (regular_tree tree given)
+      let enough = enough_take_part tree (chars bytes) found n (regular_tree tree given)
       (numbered_tree tree given) is known in
       omega (arith, enough, texts_told bytes found.marks 0 (captures_len tree))

@@ -18,6 +18,7 @@ use Rattle.regex_lite.proofs.string.CapturedLemmas.{held_all}
 use Rattle.regex_lite.proofs.string.FoundLemmas.{first_told, length_spans, slots_told}
 use Rattle.regex_lite.proofs.string.LawfulLemmas.{regex_lawful}
 use Rattle.regex_lite.proofs.OneTreeLemmas.{one_tree}
+use Rattle.regex_lite_engine.proofs.laws.answer.AnswerAtLemmas.{way_of_found}
 
 -- what is returned of the answer of a search is the match that the search returns
 pub match_answered : (re : Expression) (bytes : List ℕ) (start : ℕ) (slots : List (Option ℕ))
@@ -69,7 +70,8 @@ module _ (re : Expression) (bytes : List ℕ) (utf8 : IsUtf8 bytes) (start : ℕ
   -- its span is the slots of the whole match
   pub slots_of_whole : HasSlots (chars bytes) (all_slots [] (span_of_match m)) found.marks
   slots_of_whole =
-      held_all (chars bytes) tree (search_start bytes start) found (re.flags, _, own.1) own.2.1 []
+      held_all (chars bytes) tree found (re.flags, _, own.1)
+      (way_of_found tree (chars bytes) (search_start bytes start) found own.2.1) []
       (span_of_match m) (λ k slot at. absurd cc) is_match.span
 
   -- a search from there finds it

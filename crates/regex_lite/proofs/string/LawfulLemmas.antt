@@ -1,12 +1,14 @@
 -- The answers of a regex, and of a list of patterns, are lawful.
-use Rattle.regex_lite.proofs.Common.{◌≡◌, ℕ, ◌≤◌, List, Option, chars, subst, arith, Text, Tree}
-use Rattle.regex_lite.proofs.Common.{Found, IsFound, IsPatternTree, IsWithin, AreLawful, Expression}
+use Rattle.regex_lite.proofs.Common.{◌≡◌, ℕ, ◌≤◌, List, Option, length, chars, subst, arith, Text}
+use Rattle.regex_lite.proofs.Common.{Tree, Found, IsFound, IsPatternTree, IsWithin, AreLawful}
+use Rattle.regex_lite.proofs.Common.{Expression}
 use Rattle.regex_lite.proofs.Common.{IsAnswerOf, IsAnswerOfPatterns}
 use Rattle.regex_lite_engine.specs.Graph.WrittenOut.{place_of_pattern, start_address, end_address}
 use Rattle.regex_lite_engine.specs.ListSearchLaws.{ArePatternTrees}
-use Rattle.regex_lite_engine.specs.Search.Answer.{IsAnswer}
+use Rattle.regex_lite_engine.specs.Search.Answer.{IsAnswer, IsOfWay}
 use Rattle.regex_lite_engine.specs.Search.AnswerOfList.{IsAnswerOfList}
 use Rattle.regex_lite_engine.proofs.laws.PatternTreeLemmas.{regular_tree}
+use Rattle.regex_lite_engine.proofs.laws.answer.AnswerAtLemmas.{way_of_found}
 use Rattle.regex_lite_engine.proofs.laws.answer.AnswerLemmas.{one_answer}
 use Rattle.regex_lite_engine.proofs.laws.answer.ReachLemmas.{walk_inside}
 use Rattle.regex_lite_engine.proofs.laws.groups.SpanLemmas.{groups_inside}
@@ -14,16 +16,21 @@ use Rattle.regex_lite_engine.proofs.laws.several.ListAnswerLemmas.{one_list_answ
 use Rattle.regex_lite.proofs.ListBuildLemmas.{one_list, pattern_tree}
 use Rattle.regex_lite.proofs.OneTreeLemmas.{one_tree}
 
+-- what is told of a way lies in the haystack
+pub way_within : (tree : Tree) (haystack : Text) (found : Found) → IsPatternTree tree
+    → IsOfWay tree haystack found → (found.start ≤ found.end) × (found.end ≤ length haystack)
+way_within tree haystack found given is =
+    let inner = groups_inside tree haystack found (regular_tree tree given) is in (
+      (inner.inside 0 found.start found.end inner.whole).1,
+      walk_inside haystack (place_of_pattern tree) is.way (start_address, found.start)
+          (end_address, found.end) is.is_way.0 is.inside,
+    )
+
 pub found_within : (tree : Tree) (haystack : Text) (s : ℕ) (found : Found) → IsPatternTree tree
     → IsFound tree haystack s found → IsWithin haystack s found
 found_within tree haystack s found given is =
-    let inner = groups_inside tree haystack s found (regular_tree tree given) is in
-    record {
-      from = is.from;
-      ordered = (inner.inside 0 found.start found.end inner.whole).1;
-      inside = walk_inside haystack (place_of_pattern tree) is.way (start_address, found.start)
-          (end_address, found.end) is.most_preferred.is_way.0 is.inside;
-    }
+    let own = way_within tree haystack found given (way_of_found tree haystack s found is) in
+    record { from = is.from; ordered = own.0; inside = own.1 }
 
 -- an answer from s is also the answer from any position up to its start
 pub answer_from : (tree : Tree) (haystack : Text) (s p : ℕ) (found : Found) → s ≤ p

@@ -1,12 +1,13 @@
 -- What an anchored search for several patterns returns is what the search from there on returns,
 -- where that starts there.
-use Rattle.regex_lite.proofs.Common.{◌≡◌, ℕ, Bool, ◌↔◌, List, length, IsTrue, Some, IsUtf8, Option}
+use Rattle.regex_lite.proofs.Common.{◌≡◌, ℕ, Bool, false, ◌↔◌, List, length, IsTrue, Some, IsUtf8}
+use Rattle.regex_lite.proofs.Common.{Option}
 use Rattle.regex_lite.proofs.Common.{chars, sym, refl, ap, ◌∙◌, subst, arith, Tree, captures_len}
 use Rattle.regex_lite.proofs.Common.{HasTree, Found, IsFound, IsFoundInList, offset, search_start}
 use Rattle.regex_lite.proofs.Common.{IsPatternTree, Expression, resized, whole_span, span_of_match}
 use Rattle.regex_lite.proofs.Common.{AreTrees, offsets, spans_from, IsMatchOf, AreGroupsOf}
 use Rattle.regex_lite_syntax.proofs.OptionLemmas.{same_some}
-use Rattle.regex_lite_syntax.specs.Tree.Matches.{Matches}
+use Rattle.regex_lite_syntax.specs.Tree.Matches.{IsPosition, Matches}
 use Rattle.regex_lite_engine.specs.Search.AnswerAt.{AnyMatchesAt, IsAnswerAtOfList}
 use Rattle.regex_lite_engine.specs.Search.AnswerAt.{IsFoundAtInList}
 use Rattle.regex_lite_engine.specs.Search.Outcomes.{IsSpanOutcomeAtOfList, IsSpanOutcomeOfList}
@@ -24,14 +25,17 @@ use Rattle.regex_lite.proofs.string.LawfulLemmas.{patterns_lawful}
 
 -- an anchored answer is the answer from there on
 pub found_from_in_list : (trees : List Tree) (haystack : List ℕ) (s number : ℕ) (found : Found)
-    → IsFoundAtInList trees haystack s number found → IsFoundInList trees haystack s number found
+    → IsFoundAtInList false trees haystack s number found → IsFoundInList trees haystack s number
+    found
 found_from_in_list trees haystack s number found is = record {
   tree = is.tree;
   numbered = is.numbered;
   from = omega (arith, is.answer.start);
   least = λ k i j other there m. (let low = m.from in omega (arith, low, is.answer.start));
-  lowest = λ k j other there m. is.lowest k other there
-      (is.answer.inside, (j, subst (λ i. Matches haystack other i j) is.answer.start m));
+  lowest = λ k j other there m. is.lowest k other there (
+    subst (IsPosition haystack) is.answer.start is.answer.of_way.inside,
+    (j, tt, subst (λ i. Matches haystack other i j) is.answer.start m),
+  );
   answer = subst (λ i. IsFound is.tree haystack i found) (sym is.answer.start)
       (found_from is.tree haystack s found is.answer);
 }
@@ -39,7 +43,7 @@ found_from_in_list trees haystack s number found is = record {
 -- so is the outcome of an anchored search that of the search from there on
 pub list_outcome_from : (trees : List Tree) (haystack : List ℕ) (start : ℕ)
     (slots : List (Option ℕ)) (told : ℕ × (ℕ × ℕ))
-    → IsSpanOutcomeAtOfList trees haystack start slots (Some told)
+    → IsSpanOutcomeAtOfList false trees haystack start slots (Some told)
     → IsSpanOutcomeOfList trees haystack start slots (Some told)
 list_outcome_from trees haystack start slots told (found, is, tells) = (
   found,
@@ -50,7 +54,7 @@ list_outcome_from trees haystack start slots told (found, is, tells) = (
 -- and what is returned of it
 module _ {A : Type 0} (says : Tree → Found → A → Type 0) (list : List Expression)
     (haystack : List ℕ) (start : ℕ) (told : ℕ × A) where
-  pub list_told_from : TellsAnswerAtOfList says list haystack start (Some told)
+  pub list_told_from : TellsAnswerAtOfList false says list haystack start (Some told)
       → TellsAnswerOfList says list haystack start (Some told)
   list_told_from (trees, given, (answer, is, own)) =
       let s = search_start haystack start in
@@ -64,9 +68,9 @@ module _ {A : Type 0} (says : Tree → Found → A → Type 0) (list : List Expr
 
   -- and where an anchored search finds something, that is what the search from there on finds
   pub list_told_there : OfTrees list (λ trees. (answer : ℕ × Found)
-      × IsAnswerAtOfList trees (chars haystack) (search_start haystack start) (Some answer))
+      × IsAnswerAtOfList false trees (chars haystack) (search_start haystack start) (Some answer))
       → TellsAnswerOfList says list haystack start (Some told)
-      → TellsAnswerAtOfList says list haystack start (Some told)
+      → TellsAnswerAtOfList false says list haystack start (Some told)
   list_told_there (others, given_too, (there, is_there)) (trees, given, (found, is, so)) =
       let s = search_start haystack start in
       let own : ℕ × Found = (told.0, found) in
@@ -93,20 +97,20 @@ module _ (haystack : List ℕ) (utf8 : IsUtf8 haystack) (start : ℕ)
 
   -- a pattern matches there where its tree does
   pub some_there : (trees : List Tree) → AreTrees list trees
-      → AnyMatchesAt trees (chars haystack) s → SomeMatchesAt list haystack start
+      → AnyMatchesAt false trees (chars haystack) s → SomeMatchesAt list haystack start
   some_there trees given (number, tree, there, has) =
       let own = own_tree list trees number tree given there in
       (number, own.0, own.1, matched_there haystack utf8 start can own.0 tree own.2 has)
 
   -- and its tree where the pattern does
   pub any_there : (trees : List Tree) → AreTrees list trees → SomeMatchesAt list haystack start
-      → AnyMatchesAt trees (chars haystack) s
+      → AnyMatchesAt false trees (chars haystack) s
   any_there trees given (number, re, there, matches) =
       let own = numbered_tree list trees number re given there in
       (number, own.0, own.1, tree_matched_there haystack utf8 start can re own.0 own.2 matches)
 
   pub any_told_there : (found : Bool)
-      → OfTrees list (λ trees. IsTrue found ↔ AnyMatchesAt trees (chars haystack) s)
+      → OfTrees list (λ trees. IsTrue found ↔ AnyMatchesAt false trees (chars haystack) s)
       → IsTrue found ↔ SomeMatchesAt list haystack start
   any_told_there found (trees, given, told) = (
     λ yes_found. some_there trees given (told.0 yes_found),
@@ -120,7 +124,7 @@ module _ (haystack : List ℕ) (utf8 : IsUtf8 haystack) (start : ℕ)
       → IsFound tree (chars haystack) p found → says tree found told
       → span_of told ≡ offsets (chars haystack) (found.start, found.end)) where
     pub list_told_by_start : (told : ℕ × A)
-        → TellsAnswerAtOfList says list haystack start (Some told)
+        → TellsAnswerAtOfList false says list haystack start (Some told)
         ↔ (TellsAnswerOfList says list haystack start (Some told)
         × ((span_of told.1).0 ≡ start))
     list_told_by_start told = (
@@ -128,7 +132,7 @@ module _ (haystack : List ℕ) (utf8 : IsUtf8 haystack) (start : ℕ)
       λ (from, same). back from same,
     )
       where
-        starts : TellsAnswerAtOfList says list haystack start (Some told)
+        starts : TellsAnswerAtOfList false says list haystack start (Some told)
             → (span_of told.1).0 ≡ start
         starts (trees, given, (answer, is, own)) =
             let same = same_some (sym own.numbered ∙ is.numbered) in
@@ -137,10 +141,11 @@ module _ (haystack : List ℕ) (utf8 : IsUtf8 haystack) (start : ℕ)
             (found_from is.tree (chars haystack) s answer.1 is.answer)
             (subst (λ tree. says tree answer.1 told.1) same own.value) in
             ap (λ (span : ℕ × ℕ). span.0) span ∙ ap (offset (chars haystack)) is.answer.start
-            ∙ start_is haystack utf8 start can is.answer.inside
+            ∙ start_is haystack utf8 start can
+            (subst (IsPosition (chars haystack)) is.answer.start is.answer.of_way.inside)
 
         back : TellsAnswerOfList says list haystack start (Some told) → (span_of told.1).0 ≡ start
-            → TellsAnswerAtOfList says list haystack start (Some told)
+            → TellsAnswerAtOfList false says list haystack start (Some told)
         back (trees, given, (found, is, so)) same =
             let span = of_found is.tree found.start found told.1
             (pattern_tree list trees given told.0 is.tree is.numbered) is.answer so in

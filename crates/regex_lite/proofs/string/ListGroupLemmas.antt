@@ -2,19 +2,22 @@
 use Rattle.regex_lite.proofs.Common.{◌≡◌, ℕ, ◌*◌, ◌<◌, ◌≤◌, List, [], length, take, Some, None}
 use Rattle.regex_lite.proofs.Common.{IsUtf8, Option, chars, sym, refl, ap, ◌∙◌, subst, arith}
 use Rattle.regex_lite.proofs.Common.{length-take-le, slice_get-get_or, Tree, HasTree, StoredGroups}
-use Rattle.regex_lite.proofs.Common.{Found, IsFoundInList, search_start, HasSlots, IsOutcomeOfList}
-use Rattle.regex_lite.proofs.Common.{IsPatternTree, Outcome, names_of, NamesGroups, groups_of}
+use Rattle.regex_lite.proofs.Common.{Found, HasSlots}
+use Rattle.regex_lite.proofs.Common.{IsPatternTree, names_of, NamesGroups, groups_of}
 use Rattle.regex_lite.proofs.Common.{groups_at, Expression, Groups, AreGroups, AreTrees}
 use Rattle.regex_lite.proofs.Common.{TellsGroupsOfList, offsets, AreGroupsOf, all_slots}
 use Rattle.regex_lite.proofs.Common.{most_groups, CompiledList}
 use Rattle.std.proofs.lemmas.Option.{slice_get_within, unwrap_or-slice_get}
 use Rattle.regex_lite_engine.specs.Graph.StoredList.{HasGroupsOfList, StoredList, TellsGroupsOf}
+use Rattle.regex_lite_engine.specs.Search.Answer.{IsOfWay}
+use Rattle.regex_lite_engine.specs.Search.Outcomes.{IsSpanOutcomeOfList}
 use Rattle.regex_lite_engine.proofs.laws.PatternTreeLemmas.{regular_tree}
 use Rattle.regex_lite.specs.CompiledList.{IsBuiltList}
 use Rattle.regex_lite.specs.RegexListSearches.{AreOfPattern}
 use Rattle.regex_lite.proofs.string.CapturedLemmas.{AreAllSlots, captured, held_all}
 use Rattle.regex_lite.proofs.string.GroupNameLemmas.{are_names}
-use Rattle.regex_lite.proofs.ListBuildLemmas.{pattern_tree}
+use Rattle.regex_lite.specs.ToldWays.{IsToldOfWay}
+use Rattle.regex_lite.proofs.ListBuildLemmas.{one_list, pattern_tree}
 use Rattle.regex_lite.proofs.string.ListSlotLemmas.{enough_kept, in_whole, most_at}
 use Rattle.regex_lite.proofs.string.ListToldLemmas.{of_pattern}
 use Rattle.regex_lite.proofs.string.ToldLemmas.{same_pair}
@@ -46,32 +49,29 @@ stored_at trees graph number tree groups there =
 
 -- the groups of what is found of a pattern of the list
 module _ (bytes : List ℕ) (utf8 : IsUtf8 bytes) (list : List Expression) (compiled : CompiledList)
-    (built : IsBuiltList compiled) (given : AreTrees list built.trees) (s number : ℕ)
-    (found : Found) (answer : IsFoundInList built.trees (chars bytes) s number found)
-    (kept : List (Option ℕ)) (held : HasSlots (chars bytes) kept found.marks) (span : ℕ × ℕ)
+    (built : IsBuiltList compiled) (given : AreTrees list built.trees) (number : ℕ) (tree : Tree)
+    (numbered : HasTree built.trees number tree) (found : Found)
+    (way : IsOfWay tree (chars bytes) found) (kept : List (Option ℕ))
+    (held : HasSlots (chars bytes) kept found.marks) (span : ℕ × ℕ)
     (same : span ≡ offsets (chars bytes) (found.start, found.end))
     (width : length kept ≡ compiled.kept_slots) (slots : List (Option ℕ)) where
-  abbrev tree : Tree
-  tree = answer.tree
-
   own_grammar : IsPatternTree tree
-  own_grammar = pattern_tree list built.trees given number tree answer.numbered
+  own_grammar = pattern_tree list built.trees given number tree numbered
 
   -- the pattern is there
   pub found_there : number < length compiled.graph.groups
-  found_there = (stored_at built.trees compiled.graph number tree built.groups answer.numbered).0
+  found_there = (stored_at built.trees compiled.graph number tree built.groups numbered).0
 
   module _ (shared : StoredGroups) (stored : shared ≡ groups_at compiled.graph.groups number)
       (filled : slots ≡ take (2 * length shared.capture_names) (all_slots kept span)) where
     tells : TellsGroupsOf tree shared
     tells =
-        rw stored (stored_at built.trees compiled.graph number tree built.groups answer.numbered).1
+        rw stored (stored_at built.trees compiled.graph number tree built.groups numbered).1
 
     cut_held : AreAllSlots (chars bytes) tree found slots
     cut_held =
         let all = all_slots kept span in
-        let all_held = held_all (chars bytes) tree found.start found own_grammar answer.answer kept
-        span held same in
+        let all_held = held_all (chars bytes) tree found own_grammar way kept span held same in
         let few : length shared.capture_names ≤ most_groups compiled.graph.groups =
         rw stored (most_at compiled.graph.groups number found_there) in
         let enough = enough_kept kept span (most_groups compiled.graph.groups)
@@ -87,28 +87,46 @@ module _ (bytes : List ℕ) (utf8 : IsUtf8 bytes) (list : List Expression) (comp
         × ((groups : Groups) → groups ≡ groups_of bytes slots shared
         → AreGroupsOf tree bytes found groups)
     found_groups =
-        let own = captured bytes utf8 tree own_grammar found.start found answer.answer slots
-        cut_held shared (named_groups tree shared own_grammar tells) in
+        let own = captured bytes utf8 tree own_grammar found way slots cut_held shared
+        (named_groups tree shared own_grammar tells) in
         (own.0, λ groups are. subst (AreGroupsOf tree bytes found) (sym are) own.1)
 
--- so of the outcome of a search
-module _ (bytes : List ℕ) (utf8 : IsUtf8 bytes) (start : ℕ) (list : List Expression)
+-- so of what a search of the graph tells of a way
+module _ (bytes : List ℕ) (utf8 : IsUtf8 bytes) (list : List Expression)
     (compiled : CompiledList) (built : IsBuiltList compiled) (given : AreTrees list built.trees)
-    (number : ℕ) (outcome : Outcome)
-    (own : IsOutcomeOfList built.trees bytes start (Some (number, outcome)))
-    (width : length outcome.slots.items ≡ compiled.kept_slots) (slots : List (Option ℕ))
-    (shared : StoredGroups) (stored : shared ≡ groups_at compiled.graph.groups number)
-    (filled : slots ≡ take (2 * length shared.capture_names)
-    (all_slots outcome.slots.items (outcome.start, outcome.end))) where
-  -- all slots hold groups, which are what is returned
-  pub listed_groups : AreGroups (groups_of bytes slots shared)
-      × ((groups : Groups) → groups ≡ groups_of bytes slots shared
-      → TellsGroupsOfList list bytes start (Some (number, groups)))
-  listed_groups =
-      let all = found_groups bytes utf8 list compiled built given (search_start bytes start) number
-      own.0 own.1 outcome.slots.items own.2.slots (outcome.start, outcome.end)
-      (same_pair own.2.start own.2.end) width slots shared stored filled in
-      (all.0, λ groups are. (built.trees, given, (own.0, own.1, all.1 groups are)))
+    (number : ℕ) (trees : List Tree) (own : AreTrees list trees) (tree : Tree)
+    (numbered : HasTree trees number tree) where
+  there : HasTree built.trees number tree
+  there = subst (λ all. HasTree all number tree) (one_list list trees built.trees own given)
+      numbered
+
+  -- its pattern is there
+  pub listed_there : number < length compiled.graph.groups
+  listed_there = (stored_at built.trees compiled.graph number tree built.groups there).0
+
+  module _ (found : Found) (slots : List (Option ℕ)) (span : ℕ × ℕ)
+      (told : IsToldOfWay tree bytes span slots found)
+      (width : length slots ≡ compiled.kept_slots) (all : List (Option ℕ))
+      (shared : StoredGroups) (stored : shared ≡ groups_at compiled.graph.groups number)
+      (filled : all ≡ take (2 * length shared.capture_names) (all_slots slots span)) where
+    -- all slots hold groups, which are those of the way
+    pub listed_groups : AreGroups (groups_of bytes all shared)
+        × ((groups : Groups) → groups ≡ groups_of bytes all shared
+        → AreGroupsOf tree bytes found groups)
+    listed_groups =
+        found_groups bytes utf8 list compiled built given number tree there found told.of_way slots
+        told.tells.slots span (sym (same_pair (sym told.tells.start) (sym told.tells.end))) width
+        all shared stored filled
+
+-- the groups of what a search finds are what is returned
+pub groups_of_listed : (list : List Expression) (bytes : List ℕ) (start : ℕ) (trees : List Tree)
+    (number : ℕ) (span : ℕ × ℕ) (slots : List (Option ℕ)) → AreTrees list trees
+    → (own : IsSpanOutcomeOfList trees bytes start slots (Some (number, span)))
+    → (told : ℕ × Groups) → told.0 ≡ number → AreGroupsOf own.1.tree bytes own.0 told.1
+    → TellsGroupsOfList list bytes start (Some told)
+groups_of_listed list bytes start trees number span slots given own told same are =
+    subst (λ n. TellsGroupsOfList list bytes start (Some (n, told.1))) (sym same)
+    (trees, given, (own.0, own.1, are))
 
 -- which are those of a match of the pattern
 pub listed_of_pattern : (bytes : List ℕ) (start : ℕ) (list : List Expression) (number : ℕ)

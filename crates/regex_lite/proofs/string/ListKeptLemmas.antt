@@ -16,6 +16,7 @@ use Rattle.regex_lite.proofs.string.FoundLemmas.{slots_told}
 use Rattle.regex_lite.proofs.ListBuildLemmas.{one_list, pattern_tree}
 use Rattle.regex_lite.proofs.string.ListSlotLemmas.{enough_kept, in_whole}
 use Rattle.regex_lite.proofs.PairedLemmas.{paired_length}
+use Rattle.regex_lite_engine.proofs.laws.answer.AnswerAtLemmas.{way_of_found}
 
 -- what is returned of the answer of a search for several patterns, with these slots, is the match
 -- that the search returns
@@ -67,8 +68,9 @@ module _ (list : List Expression) (bytes : List ℕ) (start : ℕ) (kept : List 
   all = all_slots kept (span_of_match m)
 
   held : HasSlots (chars bytes) all found.marks
-  held = held_all (chars bytes) tree found.start found
-      (pattern_tree list trees given number tree answer.numbered) answer.answer kept
+  held = held_all (chars bytes) tree found
+      (pattern_tree list trees given number tree answer.numbered)
+      (way_of_found tree (chars bytes) found.start found answer.answer) kept
       (span_of_match m) own.2.has_slots own.2.is_match.span
 
   enough : 2 * captures_len tree ≤ length all

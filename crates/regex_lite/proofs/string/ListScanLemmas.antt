@@ -13,6 +13,8 @@ use Rattle.regex_lite.proofs.ListBuildLemmas.{one_list, own_tree}
 use Rattle.regex_lite.proofs.string.ListGroupLemmas.{found_groups, found_there}
 use Rattle.regex_lite.proofs.string.ListSlotLemmas.{width_kept}
 use Rattle.regex_lite.proofs.string.ScanLemmas.{whole_of_groups}
+use Rattle.regex_lite_engine.proofs.laws.answer.AnswerAtLemmas.{way_of_found}
+use Rattle.regex_lite_engine.specs.Search.Answer.{IsOfWay}
 
 -- what is returned is this answer of some search for the patterns, and these are its slots
 abbrev pub IsMatchOfPatterns : List Expression → (haystack : List ℕ) → (slots : List (Option ℕ))
@@ -51,12 +53,16 @@ module _ (bytes : List ℕ) (utf8 : IsUtf8 bytes) (list : List Expression) (comp
       (sym last.2.number) (subst (λ trees. IsFoundInList trees (chars bytes) last.0 own.0 own.1)
       (one_list list last.1.0 built.trees last.1.1 given) last.1.2)
 
+  way : IsOfWay answer.tree (chars bytes) own.1
+  way = way_of_found answer.tree (chars bytes) own.1.start own.1 answer.answer
+
   width : length kept ≡ compiled.kept_slots
   width = width_kept list compiled built given (length kept) room
 
   -- its pattern is there
   pub last_there : told.0 < length compiled.graph.groups
-  last_there = found_there bytes utf8 list compiled built given last.0 told.0 own.1 answer kept
+  last_there = found_there bytes utf8 list compiled built given told.0 answer.tree answer.numbered
+      own.1 way kept
       last.2.has_slots (span_of_match told.1) last.2.is_match.span width slots
 
   -- all slots hold groups, which are those of what was found
@@ -66,8 +72,9 @@ module _ (bytes : List ℕ) (utf8 : IsUtf8 bytes) (list : List Expression) (comp
       × ((groups : Groups) → groups ≡ groups_of bytes slots shared
       → AreGroupsFoundInList list bytes own.0 own.1 groups)
   last_groups shared stored filled =
-      let all = found_groups bytes utf8 list compiled built given last.0 told.0 own.1 answer kept
-      last.2.has_slots (span_of_match told.1) last.2.is_match.span width slots shared stored filled
+      let all = found_groups bytes utf8 list compiled built given told.0 answer.tree answer.numbered
+      own.1 way kept last.2.has_slots (span_of_match told.1) last.2.is_match.span width slots shared
+      stored filled
       in
       let re = own_tree list built.trees told.0 answer.tree given answer.numbered in (
         all.0,

@@ -2,7 +2,7 @@
 use Rattle.regex_lite.proofs.Common.{◌≡◌, ℕ, Bool, ◌↔◌, List, is_some, IsTrue, slice_get, Some}
 use Rattle.regex_lite.proofs.Common.{None, IsUtf8, Option, chars, sym, refl, ◌∙◌, subst, false≢true}
 use Rattle.regex_lite.proofs.Common.{Tree, AreRegularPatterns, IsGraphOfList, Found, IsFoundInList}
-use Rattle.regex_lite.proofs.Common.{search_start, IsOutcomeOfList, IsPatternTree, Outcome}
+use Rattle.regex_lite.proofs.Common.{search_start, IsPatternTree, Outcome}
 use Rattle.regex_lite.proofs.Common.{Expression, LiesIn, haystack_of_match, span_of_match, AreTrees}
 use Rattle.regex_lite.proofs.Common.{AnyMatches, TellsMatchOfList, offsets, TellsAnswer}
 use Rattle.regex_lite.proofs.Common.{CompiledList, Match}
@@ -14,13 +14,15 @@ use Rattle.regex_lite_meta.specs.Searching.{ListSearching}
 use Rattle.regex_lite_engine.proofs.laws.several.ListAnswerLemmas.{list_answers}
 use Rattle.regex_lite_syntax.proofs.OptionLemmas.{same_some}
 use Rattle.regex_lite.specs.CompiledList.{IsBuiltList}
-use Rattle.regex_lite.specs.Scanning.{SearchesForList, TellsListSpan, TellsOutcomeOfList}
+use Rattle.regex_lite.specs.Scanning.{SearchesForList, TellsListSpan}
+use Rattle.regex_lite.specs.ToldWays.{TellsOfListedWay}
 use Rattle.regex_lite.specs.RegexList.{OfTrees}
 use Rattle.regex_lite.specs.RegexListSearches.{TellsAnswerOfList}
 use Rattle.regex_lite.proofs.string.FoundLemmas.{found_lies}
 use Rattle.regex_lite.proofs.ListBuildLemmas.{one_list, own_tree, pattern_tree}
 use Rattle.regex_lite.proofs.ListBuildLemmas.{regular_trees}
 use Rattle.regex_lite.proofs.string.ToldLemmas.{same_pair}
+use Rattle.regex_lite_engine.proofs.laws.answer.AnswerAtLemmas.{way_of_found}
 
 -- what is returned of a list is returned of the pattern with the number
 pub of_pattern : {A : Type 0} (says : Tree → Found → A → Type 0) (list : List Expression)
@@ -64,16 +66,6 @@ any_told list trees haystack start found given told = (
   λ any. told.1 (subst (λ own. AnyMatchesFrom own (chars haystack) (search_start haystack start))
       (one_list list any.0 trees any.1 given) any.2),
 )
-
--- the patterns' trees are those of which the list is built
-pub outcome_built : (list : List Expression) (compiled : CompiledList)
-    (built : IsBuiltList compiled) → AreTrees list built.trees
-    → (bytes : List ℕ) (start : ℕ) (outcome : ℕ × Outcome)
-    → TellsOutcomeOfList list bytes start (Some outcome)
-    → IsOutcomeOfList built.trees bytes start (Some outcome)
-outcome_built list compiled built given bytes start outcome (trees, other, tells) =
-    subst (λ own. IsOutcomeOfList own bytes start (Some outcome))
-    (one_list list trees built.trees other given) tells
 
 -- what holds for the graph holds for the trees
 pub outcome_of_list : (compiled : CompiledList) (built : IsBuiltList compiled) (graph : StoredList)
@@ -126,7 +118,22 @@ module _ (bytes : List ℕ) (utf8 : IsUtf8 bytes) (start : ℕ) (list : List Exp
   -- the match lies in the haystack
   pub list_span_lies : LiesIn bytes span
   list_span_lies = subst (LiesIn bytes) span_is
-      (found_lies bytes utf8 answer.tree of_grammar found.start found answer.answer)
+      (found_lies bytes utf8 answer.tree of_grammar found
+      (way_of_found answer.tree (chars bytes) found.start found answer.answer))
+
+  -- a way is told of
+  pub listed_way_told : TellsOfListedWay list bytes number span kept
+  listed_way_told = record {
+    trees = trees;
+    given = given;
+    tree = answer.tree;
+    numbered = answer.numbered;
+    found = found;
+    told = record {
+      of_way = way_of_found answer.tree (chars bytes) found.start found answer.answer;
+      tells = own.2;
+    };
+  }
 
   -- it is what is returned
   pub list_match_told : (m : Match) → haystack_of_match m ≡ bytes → span_of_match m ≡ span

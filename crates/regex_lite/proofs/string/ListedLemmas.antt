@@ -23,6 +23,7 @@ use Rattle.regex_lite.proofs.PairedLemmas.{paired_length}
 use Rattle.regex_lite.proofs.string.CapturedLemmas.{all_told, captured}
 use Rattle.regex_lite.proofs.string.ListGroupLemmas.{named_groups, stored_at}
 use Rattle.regex_lite.proofs.string.ToldLemmas.{match_told, same_pair, span_lies}
+use Rattle.regex_lite_engine.proofs.laws.answer.AnswerAtLemmas.{way_of_found}
 
 module _ (list : List Expression) (compiled : CompiledList) (built : IsBuiltList compiled)
     (given : AreTrees list built.trees) (number : ℕ) (within : number < length list) where
@@ -126,12 +127,13 @@ module _ (list : List Expression) (compiled : CompiledList) (built : IsBuiltList
       listed_groups =
           let s = search_start bytes start in
           let found = told.0 in
-          let all = all_told (chars bytes) tree_at s found own_grammar told.1 outcome.slots.items
-          slots (outcome.start, outcome.end) filled enough told.2.slots
+          let way = way_of_found tree_at (chars bytes) s found told.1 in
+          let all = all_told (chars bytes) tree_at found own_grammar way outcome.slots.items slots
+          (outcome.start, outcome.end) filled enough told.2.slots
           (same_pair told.2.start told.2.end) in
           let shares = named_groups tree_at shared own_grammar
           (rw stored (stored_at built.trees compiled.graph number tree_at built.groups there).1) in
-          let are = captured bytes utf8 tree_at own_grammar s found told.1 slots all shared shares
+          let are = captured bytes utf8 tree_at own_grammar found way slots all shared shares
           in (
             are.0,
             λ groups is. (

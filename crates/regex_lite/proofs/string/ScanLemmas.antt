@@ -18,6 +18,8 @@ use Rattle.regex_lite.proofs.string.CapturedLemmas.{AreAllSlots, all_told, captu
 use Rattle.regex_lite.proofs.string.FoundLemmas.{group_0}
 use Rattle.regex_lite.proofs.string.NextLemmas.{next_answer}
 use Rattle.regex_lite.proofs.OneTreeLemmas.{one_tree}
+use Rattle.regex_lite_engine.proofs.laws.answer.AnswerAtLemmas.{way_of_found}
+use Rattle.regex_lite_engine.specs.Search.Answer.{IsOfWay}
 
 -- what is returned is this answer of some search for the pattern, and these are its slots
 abbrev pub IsMatchOfRegex : Expression → (haystack : List ℕ) → (slots : List (Option ℕ)) → Found
@@ -42,15 +44,18 @@ module _ (bytes : List ℕ) (utf8 : IsUtf8 bytes) (re : Expression) (kept slots 
   is_found = subst (λ own. IsFound own (chars bytes) last.0 found)
       (one_tree re.flags (chars re.pattern) last.1.0 tree last.1.1 shares.1) last.1.2
 
+  way : IsOfWay tree (chars bytes) found
+  way = way_of_found tree (chars bytes) last.0 found is_found
+
   all_held : AreAllSlots (chars bytes) tree found slots
-  all_held = all_told (chars bytes) tree last.0 found (re.flags, _, shares.1) is_found kept slots
+  all_held = all_told (chars bytes) tree found (re.flags, _, shares.1) way kept slots
       (span_of_match told.1) filled enough last.2.has_slots last.2.is_match.span
 
   -- all slots hold groups, which are those of what was found
   pub groups_kept : AreGroups (groups_of bytes slots shared)
       × AreGroupsFound re bytes found (groups_of bytes slots shared)
   groups_kept =
-      let own = captured bytes utf8 tree (re.flags, _, shares.1) last.0 found is_found slots
+      let own = captured bytes utf8 tree (re.flags, _, shares.1) found way slots
       all_held shared shares.2 in
       (own.0, (tree, shares.1, own.1))
 
@@ -66,9 +71,10 @@ pub whole_of_groups : (re : Expression) (bytes : List ℕ) (s : ℕ) (found : Fo
     → whole_span groups ≡ offsets (chars bytes) (found.start, found.end)
 whole_of_groups re bytes s found groups (tree, given, is) (own, given_too, are) =
     ap (λ spans. unwrap_or (span_at spans 0) (0, 0)) are.spans ∙ ap (λ span. unwrap_or span (0, 0))
-    (group_0 (chars bytes) own s found (captures_len own) (re.flags, _, given_too)
-    (subst (λ t. IsFound t (chars bytes) s found)
-    (one_tree re.flags (chars re.pattern) tree own given given_too) is) (omega arith))
+    (group_0 (chars bytes) own found (captures_len own) (re.flags, _, given_too)
+    (subst (λ t. IsOfWay t (chars bytes) found)
+    (one_tree re.flags (chars re.pattern) tree own given given_too)
+    (way_of_found tree (chars bytes) s found is)) (omega arith))
 
 -- so those of the last match have its span
 pub span_of_last : (re : Expression) (bytes : List ℕ) (kept : List (Option ℕ)) (found : Found)

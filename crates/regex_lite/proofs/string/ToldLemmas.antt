@@ -10,6 +10,9 @@ use Rattle.regex_lite.proofs.Common.{span_of_match, offsets, spans_from, TellsMa
 use Rattle.regex_lite.proofs.Common.{TellsGroups, TellsLocations, kept_slots, all_slots, Compiled}
 use Rattle.regex_lite.proofs.Common.{Match}
 use Rattle.regex_lite_syntax.specs.Tree.Regular.{IsRegular}
+use Rattle.regex_lite_engine.specs.Search.Answer.{IsOfWay}
+use Rattle.regex_lite_engine.proofs.laws.answer.AnswerAtLemmas.{way_of_found}
+use Rattle.regex_lite.specs.ToldWays.{IsToldOfWay, TellsOfWay}
 use Rattle.regex_lite_engine.specs.Graph.Stored.{StoredGraph}
 use Rattle.regex_lite_meta.specs.Searching.{Searching}
 use Rattle.regex_lite_syntax.proofs.OptionLemmas.{not_there, same_some}
@@ -69,7 +72,8 @@ module _ (bytes : List ℕ) (utf8 : IsUtf8 bytes) (start : ℕ) (re : Expression
   -- the match lies in the haystack
   pub span_lies : LiesIn bytes span
   span_lies = subst (LiesIn bytes) span_is
-      (found_lies bytes utf8 own.0 (re.flags, _, own.1) (search_start bytes start) found own.2.1)
+      (found_lies bytes utf8 own.0 (re.flags, _, own.1) found
+      (way_of_found own.0 (chars bytes) (search_start bytes start) found own.2.1))
 
   -- it is what is returned
   pub match_told : (m : Match) → haystack_of_match m ≡ bytes → span_of_match m ≡ span
@@ -87,7 +91,19 @@ module _ (bytes : List ℕ) (utf8 : IsUtf8 bytes) (start : ℕ) (re : Expression
     ),
   )
 
-  -- with its slots
+  -- a way is told of
+  pub way_told : TellsOfWay re bytes span slots
+  way_told = record {
+    tree = own.0;
+    given = own.1;
+    found = found;
+    told = record {
+      of_way = way_of_found own.0 (chars bytes) (search_start bytes start) found own.2.1;
+      tells = own.2.2;
+    };
+  }
+
+  -- it is told with its slots
   pub span_told : TellsSpan re bytes start slots (Some (tt {0}, span))
   span_told = (
     found,
@@ -95,40 +111,41 @@ module _ (bytes : List ℕ) (utf8 : IsUtf8 bytes) (start : ℕ) (re : Expression
     record { number = refl; span = sym span_is; has_slots = own.2.2.slots },
   )
 
-  module _ (compiled : Compiled) (built : IsBuilt compiled)
-      (given : IsTree re.flags (chars re.pattern) built.tree)
-      (enough : length slots ≡ kept_slots (captures_len built.tree)) (all : List (Option ℕ))
-      (filled : all ≡ all_slots slots span) (shared : StoredGroups)
-      (same : shared ≡ stored_groups compiled) where
-    of_built : IsSpanOutcome built.tree bytes start slots (Some span)
-    of_built = subst (λ tree. IsSpanOutcome tree bytes start slots (Some span))
-        (one_tree re.flags (chars re.pattern) own.0 built.tree own.1 given) own.2
+-- what a search of the graph tells of a way, as a regex returns it
+module _ (bytes : List ℕ) (utf8 : IsUtf8 bytes) (re : Expression) (span : ℕ × ℕ)
+    (slots : List (Option ℕ)) (tree : Tree) (found : Found)
+    (own : IsTree re.flags (chars re.pattern) tree)
+    (told : IsToldOfWay tree bytes span slots found)
+    (compiled : Compiled) (built : IsBuilt compiled)
+    (given : IsTree re.flags (chars re.pattern) built.tree)
+    (enough : length slots ≡ kept_slots (captures_len built.tree)) (all : List (Option ℕ))
+    (filled : all ≡ all_slots slots span) (shared : StoredGroups)
+    (same : shared ≡ stored_groups compiled) where
+  one : tree ≡ built.tree
+  one = one_tree re.flags (chars re.pattern) tree built.tree own given
 
-    all_held : AreAllSlots (chars bytes) built.tree of_built.0 all
-    all_held = all_told (chars bytes) built.tree (search_start bytes start) of_built.0
-        (compiled.pattern.flags, _, built.given) of_built.1 slots all span filled enough
-        of_built.2.slots (same_pair of_built.2.start of_built.2.end)
+  way : IsOfWay built.tree (chars bytes) found
+  way = subst (λ t. IsOfWay t (chars bytes) found) one told.of_way
 
-    -- all slots hold groups, which are what is returned
-    pub groups_told : AreGroups (groups_of bytes all shared)
-        × ((groups : Groups) → groups ≡ groups_of bytes all shared
-        → TellsGroups re bytes start (Some groups))
-    groups_told =
-        let own = captured bytes utf8 built.tree (compiled.pattern.flags, _, built.given)
-        (search_start bytes start) of_built.0 of_built.1 all all_held shared
-        (subst (λ c. NamesGroups built.tree (names_of c) c.static_captures_len) (sym same)
-        (built_shares compiled built)) in (
-          own.0,
-          λ groups are. (
-            built.tree,
-            given,
-            (
-              of_built.0,
-              of_built.1,
-              subst (AreGroupsOf built.tree bytes of_built.0) (sym are) own.1,
-            ),
-          ),
-        )
+  all_held : AreAllSlots (chars bytes) built.tree found all
+  all_held = all_told (chars bytes) built.tree found (compiled.pattern.flags, _, built.given) way
+      slots all span filled enough told.tells.slots
+      (same_pair told.tells.start told.tells.end)
+
+  -- all slots hold groups, which are those of the way
+  pub groups_told : AreGroups (groups_of bytes all shared)
+      × ((groups : Groups) → groups ≡ groups_of bytes all shared
+      → AreGroupsOf tree bytes found groups)
+  groups_told =
+      let held = captured bytes utf8 built.tree (compiled.pattern.flags, _, built.given) found way
+      all all_held shared
+      (subst (λ c. NamesGroups built.tree (names_of c) c.static_captures_len) (sym same)
+      (built_shares compiled built)) in (
+        held.0,
+        λ groups are.
+            subst (λ t. AreGroupsOf t bytes found groups) (sym one)
+            (subst (AreGroupsOf built.tree bytes found) (sym are) held.1),
+      )
 
 -- a search for the groups has as many slots as are kept for them
 pub slots_are : (re : Expression) (told : Option Outcome) (outcome : Outcome) (n : ℕ)
@@ -180,8 +197,8 @@ locations_told re bytes start n (Some own) groups m spans (tree, given, (f, is_f
 
     whole : group_span groups 0 ≡ Some (offsets (chars bytes) (f.start, f.end))
     whole = ap (λ all. span_at all 0) are.spans
-        ∙ group_0 (chars bytes) tree (search_start bytes start) f (captures_len tree)
-        (re.flags, _, given) is_found (omega arith)
+        ∙ group_0 (chars bytes) tree f (captures_len tree) (re.flags, _, given)
+        (way_of_found tree (chars bytes) (search_start bytes start) f is_found) (omega arith)
 
     first_are : spans ≡ spans_from (chars bytes) f.marks 0 (length spans)
     first_are =

@@ -1,9 +1,11 @@
 //! Anchored searches: for the match that starts where the search does.
 ghost use Rattle.std.specs.Prelude.{◌≡◌, ◌↔◌, None, IfOk, IfErr, IfSome, IsTrue, length};
 ghost use Rattle.regex_lite_syntax.specs.Errors.{out_of_memory};
-ghost use Rattle.regex_lite.specs.Anchored.{TellsGroupsAt, TellsLocationsAt, TellsMatchAt};
+ghost use Rattle.regex_lite.specs.Anchored.{TellsAnswerAt, TellsGroupsAt, TellsLocationsAt};
+ghost use Rattle.regex_lite.specs.Anchored.{TellsMatchAt};
 ghost use Rattle.regex_lite.specs.MatchOffsets.{MatchesAt};
-ghost use Rattle.regex_lite.specs.Searches.{AreOfMatch, CanRead, CanStartAt};
+ghost use Rattle.regex_lite.specs.Searches.{AreGroupsOf, AreOfMatch, CanRead, CanStartAt};
+ghost use Rattle.regex_lite.specs.Searches.{IsMatchOf};
 
 use crate::string::captures::Captures;
 use crate::string::locations::CaptureLocations;
@@ -32,7 +34,7 @@ impl Regex {
         ensures refused { IfErr result (λ error. error ≡ out_of_memory) }
     {
         let graph = &self.compiled.graph;
-        let (found, _) = search_any_anchored(graph, self.alloc, haystack, start)?;
+        let (found, _) = search_any_anchored::<false>(graph, self.alloc, haystack, start)?;
         Ok(found)
     }
 
@@ -65,13 +67,7 @@ impl Regex {
         ensures found { IfOk result (λ found. TellsMatchAt self.now haystack.now start found) }
         ensures refused { IfErr result (λ error. error ≡ out_of_memory) }
     {
-        let graph = &self.compiled.graph;
-        let (outcome, _) = search_anchored(graph, self.alloc, haystack, start, 0)?;
-        let Some(outcome) = outcome else {
-            return Ok(None);
-        };
-        let found = Match::new(haystack, outcome.start, outcome.end);
-        Ok(Some(found))
+        self.match_anchored::<false>(haystack, start)
     }
 
     /// The groups of the match that [`Regex::find_anchored_at`] returns.
@@ -94,10 +90,53 @@ impl Regex {
         ensures of_match { IfOk result (λ found. IfSome found (AreOfMatch self.now)) }
         ensures refused { IfErr result (λ error. error ≡ out_of_memory) }
     {
+        self.groups_anchored::<false>(haystack, start)
+    }
+
+    /// The match that starts at this offset, with WHOLE the one that the pattern prefers of those
+    /// that end where the haystack does.
+    ///
+    /// # Errors
+    ///
+    /// `Memory` if memory runs out.
+    pub(super) fn match_anchored<'h, const WHOLE: bool>(
+        &self,
+        haystack: &'h str,
+        start: usize,
+    ) -> Result<Option<Match<'h>>, Error>
+        requires { CanStartAt haystack.now start }
+        ensures found { IfOk result (λ found. TellsAnswerAt WHOLE (λ tree. IsMatchOf haystack.now)
+            self.now haystack.now start found) }
+        ensures refused { IfErr result (λ error. error ≡ out_of_memory) }
+    {
+        let graph = &self.compiled.graph;
+        let (outcome, _) = search_anchored::<WHOLE>(graph, self.alloc, haystack, start, 0)?;
+        let Some(outcome) = outcome else {
+            return Ok(None);
+        };
+        let found = Match::new(haystack, outcome.start, outcome.end);
+        Ok(Some(found))
+    }
+
+    /// The groups of that match.
+    ///
+    /// # Errors
+    ///
+    /// `Memory` if memory runs out.
+    pub(super) fn groups_anchored<'h, const WHOLE: bool>(
+        &self,
+        haystack: &'h str,
+        start: usize,
+    ) -> Result<Option<Captures<'h>>, Error>
+        requires { CanStartAt haystack.now start }
+        ensures found { IfOk result (λ found. TellsAnswerAt WHOLE
+            (λ tree. AreGroupsOf tree haystack.now) self.now haystack.now start found) }
+        ensures refused { IfErr result (λ error. error ≡ out_of_memory) }
+    {
         let count = self.kept_slots();
         let whole = whole_slots(self.alloc, count)?;
         let graph = &self.compiled.graph;
-        let (outcome, _) = search_anchored(graph, self.alloc, haystack, start, count)?;
+        let (outcome, _) = search_anchored::<WHOLE>(graph, self.alloc, haystack, start, count)?;
         let Some(outcome) = outcome else {
             return Ok(None);
         };
@@ -115,7 +154,7 @@ impl<'r> RegexSearcher<'r> {
         ensures found { IsTrue result ↔ MatchesAt self.old haystack.now start }
         ensures same { self.new ≡ self.old }
     {
-        self.matches.is_match_anchored_at(haystack, start)
+        self.matches.is_match_anchored::<false>(haystack, start)
     }
 
     /// [`Regex::find_anchored_at`], which is never refused here.
@@ -126,7 +165,7 @@ impl<'r> RegexSearcher<'r> {
         ensures found { TellsMatchAt self.old haystack.now start result }
         ensures same { self.new ≡ self.old }
     {
-        self.matches.find_anchored_at(haystack, start)
+        self.matches.find_anchored::<false>(haystack, start)
     }
 
     /// The match that [`Regex::find_anchored_at`] returns, with its groups written to the

@@ -1,13 +1,16 @@
 //! Searches for the groups of a match.
-ghost use Rattle.std.specs.Prelude.{◌≡◌, ℕ, [], None, Some, IfOk, IfErr, IfSome, length};
-ghost use Rattle.std.specs.Prelude.{replicate};
+ghost use Rattle.std.specs.Prelude.{◌≡◌, [], None, Some, IfOk, IfErr, IfSome, length};
+ghost use Rattle.std.specs.Prelude.{chars, replicate};
 ghost use Rattle.regex_lite_syntax.specs.Errors.{out_of_memory};
 ghost use Rattle.regex_lite_syntax.specs.Tree.Properties.{captures_len};
-ghost use Rattle.regex_lite_engine.specs.Search.Outcomes.{IsOutcome};
+ghost use Rattle.regex_lite_syntax.specs.Grammar.{IsTree};
+ghost use Rattle.regex_lite_syntax.specs.Tree.{Tree};
+ghost use Rattle.regex_lite_engine.specs.Search.Answer.{Found};
 ghost use Rattle.regex_lite.specs.Expression.{OfTree};
 ghost use Rattle.regex_lite.specs.Scanning.{AreSlotsForGroups};
-ghost use Rattle.regex_lite.specs.Searches.{AreOfMatch, CanRead, CanStartAt};
+ghost use Rattle.regex_lite.specs.Searches.{AreGroupsOf, AreOfMatch, CanRead, CanStartAt};
 ghost use Rattle.regex_lite.specs.Searches.{TellsGroups, TellsLocations};
+ghost use Rattle.regex_lite.specs.ToldWays.{IsToldOfWay, TellsOfWay};
 
 use crate::string::captures::Captures;
 use crate::string::locations::CaptureLocations;
@@ -153,14 +156,14 @@ impl Regex {
         outcome: Outcome,
         whole: Vec<Option<usize>>,
     ) -> Result<Captures<'h>, Error>
-        requires outcome { (start : ℕ)
-            × OfTree self.now (λ tree. IsOutcome tree haystack.now start (Some outcome)) }
+        requires outcome { TellsOfWay self.now haystack.now (outcome.start, outcome.end)
+            outcome.slots.items }
         requires slots { AreSlotsForGroups self.now (length outcome.slots.items) }
         requires whole { outcome.slots.items ≡ [] → length whole.items ≡ 2 }
-        ensures found { (start : ℕ)
-            → OfTree self.now (λ tree. IsOutcome tree haystack.now start (Some outcome))
-            → IfOk result (λ caps. TellsGroups self.now haystack.now start (Some caps)) }
-        ensures of_match { IfOk result (AreOfMatch self.now) }
+        ensures found { (tree : Tree) (found : Found)
+            → IsTree self.now.flags (chars self.now.pattern) tree
+            → IsToldOfWay tree haystack.now (outcome.start, outcome.end) outcome.slots.items found
+            → IfOk result (AreGroupsOf tree haystack.now found) }
         ensures refused { IfErr result (λ error. error ≡ out_of_memory) }
     {
         let Outcome { start, end, slots } = outcome;

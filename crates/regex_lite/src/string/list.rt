@@ -27,6 +27,7 @@ mod searcher;
 pub(super) mod set_matches;
 mod set_searcher;
 mod which;
+mod whole;
 
 use crate::owner::Shared;
 use build::default_builders;

@@ -1,10 +1,12 @@
 //! Searches, one after another, in the same memory.
-ghost use Rattle.std.specs.Prelude.{◌≡◌, ◌↔◌, IfOk, IfErr, IfSome, IsTrue, length};
+ghost use Rattle.std.specs.Prelude.{◌≡◌, ◌↔◌, IfOk, IfErr, IfSome, IsTrue, chars, length};
 ghost use Rattle.regex_lite_syntax.specs.Errors.{out_of_memory};
-ghost use Rattle.regex_lite.specs.Anchored.{TellsMatchAt};
+ghost use Rattle.regex_lite_engine.specs.Search.AnswerAt.{HasMatchAt};
+ghost use Rattle.regex_lite_engine.specs.Search.Offsets.{search_start};
+ghost use Rattle.regex_lite.specs.Anchored.{TellsAnswerAt};
 ghost use Rattle.regex_lite.specs.Compiled.{AreOfRegex, SharesGroups};
-ghost use Rattle.regex_lite.specs.MatchOffsets.{MatchesAt};
-ghost use Rattle.regex_lite.specs.Searches.{CanStartAt, MatchesFrom};
+ghost use Rattle.regex_lite.specs.Expression.{OfTree};
+ghost use Rattle.regex_lite.specs.Searches.{CanStartAt, IsMatchOf, MatchesFrom};
 
 use crate::string::captures::Captures;
 use crate::string::iter::finds::Finds;
@@ -66,24 +68,31 @@ impl<'r> Searcher<'r> {
         self.inner.search_any(haystack, 0)
     }
 
-    /// [`Regex::is_match_anchored_at`], which is never refused here.
-    pub fn is_match_anchored_at(&mut self, haystack: &str, start: usize) -> bool
+    /// Whether a match starts at this offset, with WHOLE one that ends where the haystack does.
+    pub fn is_match_anchored<const WHOLE: bool>(&mut self, haystack: &str, start: usize) -> bool
         requires { CanStartAt haystack.now start }
-        ensures found { IsTrue result ↔ MatchesAt self.old.regex haystack.now start }
+        ensures found { OfTree self.old.regex (λ tree. IsTrue result
+            ↔ HasMatchAt WHOLE tree (chars haystack.now) (search_start haystack.now start)) }
         ensures regex { self.new.regex ≡ self.old.regex }
         ensures slots { length self.new.slots ≡ length self.old.slots }
     {
-        self.inner.search_any_anchored(haystack, start)
+        self.inner.search_any_anchored::<WHOLE>(haystack, start)
     }
 
-    /// [`Regex::find_anchored_at`], which is never refused here.
-    pub fn find_anchored_at<'h>(&mut self, haystack: &'h str, start: usize) -> Option<Match<'h>>
+    /// The match that starts at this offset, with WHOLE the one that the pattern prefers of those
+    /// that end where the haystack does.
+    pub fn find_anchored<'h, const WHOLE: bool>(
+        &mut self,
+        haystack: &'h str,
+        start: usize,
+    ) -> Option<Match<'h>>
         requires { CanStartAt haystack.now start }
-        ensures found { TellsMatchAt self.old.regex haystack.now start result }
+        ensures found { TellsAnswerAt WHOLE (λ tree. IsMatchOf haystack.now) self.old.regex
+            haystack.now start result }
         ensures regex { self.new.regex ≡ self.old.regex }
         ensures slots { length self.new.slots ≡ length self.old.slots }
     {
-        let (from, to) = self.inner.search_anchored(haystack, start)?;
+        let (from, to) = self.inner.search_anchored::<WHOLE>(haystack, start)?;
         Some(Match::new(haystack, from, to))
     }
 

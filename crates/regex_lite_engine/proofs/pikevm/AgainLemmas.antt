@@ -64,12 +64,12 @@ module _ (here there : Here) (i : Told) (tell : Told → Told) (m : State) where
     abbrev EntersAgain : code.Place → Type 0
     EntersAgain x =
         (other : List Job)
-        × Enters there (tell i) x (state_retold tell m)
+        × Enters false there (tell i) x (state_retold tell m)
         (record (state_retold tell e) { frames = other }) done
         × Loosens other e.frames
 
     pub enters_again : (x : code.Place) → FitsAlike (place_of x) here there
-        → Enters here i x m e done → EntersAgain x
+        → Enters false here i x m e done → EntersAgain x
     enters_again (stored.Empty to) alike (same, ed) =
         (e.frames, (ap (state_retold tell) same, ed), inl refl)
     enters_again (stored.Char c to) alike (same, ed) = (
@@ -151,16 +151,16 @@ loose_if : (done : Bool) (frames frames' : List Job) → Loosens frames frames'
 loose_if true frames frames' loose = inl refl
 loose_if false frames frames' loose = loose
 
--- a new place was entered, and so it would be there
+-- a new place was entered in a search for all matches, and so it would be there
 pub entered_again : (table : List (Place ℕ)) (here there : Here) (i : Told) (tell : Told → Told)
     (m : State) (q : ℕ) (x : code.Place) (e : State) (done : Bool)
     → q < length m.entered → (slice_index_or m.entered q false ≡ true → ⊥)
-    → slice_get table q ≡ Some (place_of x) → Enters here i x (marked_in m q) e done
-    → (at : SearchAt) → AreAlike table at.entries here there
+    → slice_get table q ≡ Some (place_of x) → Enters false here i x (marked_in m q) e done
+    → (at : SearchAt) → at.whole ≡ false → AreAlike table at.entries here there
     → WalksAt table at there (tell i)
     (state_retold tell (record m { frames = explore q ∷ m.frames }))
     (state_retold tell (record e { frames = if done then [] else e.frames })) done
-entered_again table here there i tell m q x e done short new here_at enters at alike =
+entered_again table here there i tell m q x e done short new here_at enters at all alike =
     λ is ways best u.
     let (way, rest, offered, told, more) = u.frames_hold in
     let inside = told_within table at.haystack at.entries alike.low alike.len alike.part (tell i) []
@@ -172,7 +172,9 @@ entered_again table here there i tell m q x e done short new here_at enters at a
     (if done then Some (tell i, there.at, []) else best) (if done then [] else other)
     (if done then [] else e.frames) (loose_if done other e.frames loose)
     (walk_enters table at (state_retold tell m) (tell i) ways best q short u new there is x e' done
-    (ap (λ o. unwrap_or o (with_arrows [])) here_at) again)
+    (ap (λ o. unwrap_or o (with_arrows [])) here_at)
+    (subst (λ z. Enters z there (tell i) x (marked_in (state_retold tell m) q) e' done) (sym all)
+    again))
 
 -- the threads that begin there, with other starts
 begun_retold : (tell : Told → Told) (told : ℕ → Told) (row : Row) (starts : List Start)

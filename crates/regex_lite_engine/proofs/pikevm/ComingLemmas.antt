@@ -2,7 +2,8 @@
 -- passed over at which no match can start.
 use Rattle.regex_lite_engine.proofs.Common.{◌≡◌, ℕ, ◌<◌, ◌≤◌, ◌⊎◌, List, [], None, Option, sym}
 use Rattle.regex_lite_engine.proofs.Common.{refl, subst, inl, inr, arith, cases_lt, Text, Thread}
-use Rattle.regex_lite_engine.proofs.Common.{IsComing, ThreadsHold, InStep, IsDead, numbered_step}
+use Rattle.regex_lite_engine.proofs.Common.{IsComing, IsComingTo, ThreadsHold, InStep, IsDead}
+use Rattle.regex_lite_engine.proofs.Common.{numbered_step, is_wanted_end, Bool, false}
 use Rattle.regex_lite_engine.proofs.Common.{is_end, IsEntry, StartsOf, Node, Offer, StartsBelow}
 use Rattle.regex_lite_engine.proofs.Common.{IsDeadAt}
 use Rattle.regex_lite_engine.specs.Graph.Places.{Place}
@@ -11,22 +12,22 @@ use Rattle.regex_lite_engine.proofs.pikevm.InStepNextLemmas as deep
 use Rattle.regex_lite_engine.proofs.pikevm.WalkLemmas.{none_held}
 
 module _ (table : List (Place ℕ)) (haystack : Text) (s : List ℕ) (first last : ℕ) where
-  abbrev pub In_step : ℕ → ℕ → (Node → Option (List ℕ)) → List (Offer Node) → List (Offer Node)
+  abbrev In_step : ℕ → ℕ → (Node → Option (List ℕ)) → List (Offer Node) → List (Offer Node)
       → Option (List ℕ) → Type 0
   In_step p from recorded cur next way =
-      InStep table haystack s first last p from recorded cur next way
+      InStep table haystack s false first last p from recorded cur next way
 
   -- before the first position
-  pub none_coming : (cur : List Thread) → cur ≡ []
-      → IsComing table haystack s first last first cur None
-  none_coming cur empty = record {
+  pub none_coming : (whole : Bool) (cur : List Thread) → cur ≡ []
+      → IsComingTo table haystack s whole first last first cur None
+  none_coming whole cur empty = record {
     recorded = λ n. None;
     coming = [];
     way = None;
     from = first;
     in_step =
         deep.in_step_none Node (numbered_step table haystack) (StartsOf s first last)
-        (is_end table haystack) (λ x. x.1) {recorded = λ n. None} (λ n. refl)
+        (is_wanted_end table haystack whole) (λ x. x.1) {recorded = λ n. None} (λ n. refl)
         (λ front n is below. none_below front n is below);
     before = λ n v r. absurd (not_there r);
     hold = subst (λ ts. ThreadsHold table haystack s first ts []) (sym empty) tt;

@@ -6,13 +6,14 @@ use Rattle.regex_lite_engine.proofs.Common.{subst, inl, inr, arith, nil_from_len
 use Rattle.regex_lite_engine.proofs.Common.{slice_get_within, Text, after, holds_between, Condition}
 use Rattle.regex_lite_engine.proofs.Common.{free, holding, reading, Arrow, complete, with_arrows}
 use Rattle.regex_lite_engine.proofs.Common.{read_past, taken, arrived, arrow_taken, step_from}
-use Rattle.regex_lite_engine.proofs.Common.{Thread, IsComing, ThreadsHold, InStep, Found, IsGrown}
-use Rattle.regex_lite_engine.proofs.Common.{marks_along, place_with, numbered_step, is_end}
+use Rattle.regex_lite_engine.proofs.Common.{Thread, IsComing, IsComingTo, ThreadsHold, InStep}
+use Rattle.regex_lite_engine.proofs.Common.{Found, IsGrown}
+use Rattle.regex_lite_engine.proofs.Common.{marks_along, place_with, numbered_step, is_wanted_end}
 use Rattle.regex_lite_engine.proofs.Common.{StartsOf, Best, Node, Offer, StartsBelow}
 use Rattle.std.proofs.Math.Nat.{mul-suc}
 use Rattle.regex_lite_engine.specs.Search.NumberedAnswer.{IsNumberedFound}
 use Rattle.regex_lite_engine.specs.Search.NumberedOutcomes.{IsBestOutcome, IsBestOutcomeOf}
-use Rattle.regex_lite_engine.specs.Search.NumberedOutcomes.{IsBestOutcomeTo}
+use Rattle.regex_lite_engine.specs.Search.NumberedOutcomes.{IsBestOutcomeTo, IsWantedOutcomeTo}
 use Rattle.std.specs.Option.{IsSome}
 use Rattle.regex_lite_syntax.specs.Text.{before}
 use Rattle.regex_lite_engine.specs.Graph.Places.{Place}
@@ -70,19 +71,19 @@ step_onward haystack (with_arrows arrows) i k m e = go (slice_get arrows k) e
             subst (IsOnward haystack i) (ap (λ (z : Node). z.1) (same_some e))
             (taken_onward haystack a.condition i j t)
 
-module _ (table : List (Place ℕ)) (haystack : Text) (s : List ℕ) (first last : ℕ)
+module _ (table : List (Place ℕ)) (haystack : Text) (s : List ℕ) (whole : Bool) (first last : ℕ)
     (within : last ≤ length haystack) where
   nothing_beyond : (p from : ℕ) (recorded : Node → Option (List ℕ)) (coming : List (Offer Node))
       (way : Option (List ℕ))
       → length haystack < p →
-      InStep table haystack s first last p from recorded coming [] way →
+      InStep table haystack s whole first last p from recorded coming [] way →
       ((n : Node) (v : List ℕ) → recorded n ≡ Some v → n.1 < p) → p ≡ suc (length haystack)
       → coming ≡ []
   nothing_beyond p from recorded [] way past u before at = refl
   nothing_beyond p from recorded (o ∷ os) way past u before at =
       absurd (go (u.now_grown o.0 o.1 (inl (refl, refl))) (u.now_stands o.0 o.1 (inl (refl, refl))))
     where
-      go : IsGrown Node (numbered_step table haystack) (is_end table haystack)
+      go : IsGrown Node (numbered_step table haystack) (is_wanted_end table haystack whole)
           (StartsOf s first last) recorded way o.0 o.1
           → o.0.1 ≡ p → ⊥
       go (inl (i, number, entry, low, high, is, e, at')) pos =
@@ -96,11 +97,11 @@ module _ (table : List (Place ℕ)) (haystack : Text) (s : List ℕ) (first last
 
   explored : (q from : ℕ) (recorded : Node → Option (List ℕ)) (way : Option (List ℕ))
       → ((last < from) ⊎ ((b : List ℕ) × (way ≡ Some b))) →
-      InStep table haystack s first last q from recorded [] [] way
-      → IsOverOf table haystack s first last recorded way
+      InStep table haystack s whole first last q from recorded [] [] way
+      → IsOverOf table haystack s whole first last recorded way
   explored q from recorded way enough u =
       deep.in_step_over Node (numbered_step table haystack) (StartsOf s first last)
-      (is_end table haystack) (λ x. x.1)
+      (is_wanted_end table haystack whole) (λ x. x.1)
       (λ front n (i, number, entry, low, high, is, e, f). (i, number ∷ [], e)) (all enough) u
     where
       all : ((last < from) ⊎ ((b : List ℕ) × (way ≡ Some b)))
@@ -113,11 +114,12 @@ module _ (table : List (Place ℕ)) (haystack : Text) (s : List ℕ) (first last
 
   -- a search that is over has the answer
   pub answered : (best : Best) (recorded : Node → Option (List ℕ)) (way : Option (List ℕ))
-      → BestHolds table haystack s best way → IsOverOf table haystack s first last recorded way
-      → IsBestOutcomeTo table haystack s first last best
+      → BestHolds table haystack s best way → IsOverOf table haystack s whole first last recorded
+      way
+      → IsWantedOutcomeTo table haystack s whole first last best
   answered None recorded way e over =
-      list_answer_when_over table haystack s first last within recorded None None
-      (subst (λ z. IsOverOf table haystack s first last recorded z) e over) refl
+      list_answer_when_over table haystack s whole first last within recorded None None
+      (subst (λ z. IsOverOf table haystack s whole first last recorded z) e over) refl
   answered (Some b) recorded way
       (w, e, (q, end, at_end, ends, (j, number, entry, ks, at, is, parts, along, has))) over =
       let found : Found = record {
@@ -127,9 +129,9 @@ module _ (table : List (Place ℕ)) (haystack : Text) (s : List ℕ) (first last
       } in (
         number,
         found,
-        list_answer_when_over table haystack s first last within recorded (Some w)
+        list_answer_when_over table haystack s whole first last within recorded (Some w)
             (Some (number, found))
-            (subst (λ z. IsOverOf table haystack s first last recorded z) e over)
+            (subst (λ z. IsOverOf table haystack s whole first last recorded z) e over)
             (number, entry, found, ks, q, refl, is, parts, along, refl),
         at,
         at_end,
@@ -139,16 +141,17 @@ module _ (table : List (Place ℕ)) (haystack : Text) (s : List ℕ) (first last
   -- it is over at the haystack's end, or where no thread is left and no match may start further on
   pub ended_to : (p : ℕ) (cur : List Thread) (best : Best) → first ≤ p → p ≤ length haystack →
       ((p ≡ length haystack) ⊎ ((length cur ≡ 0) × ((best ≡ None → ⊥) ⊎ (last ≤ p))))
-      → IsComing table haystack s first last (p + 1) cur best
-      → IsBestOutcomeTo table haystack s first last best
+      → IsComingTo table haystack s whole first last (p + 1) cur best
+      → IsWantedOutcomeTo table haystack s whole first last best
   ended_to p cur best low high over u = go over
     where
       with_none : u.coming ≡ [] → ((last < u.from) ⊎ ((b : List ℕ) × (u.way ≡ Some b)))
-          → IsBestOutcomeTo table haystack s first last best
+          → IsWantedOutcomeTo table haystack s whole first last best
       with_none e enough =
           answered best u.recorded u.way u.best_holds
           (explored (p + 1) u.from u.recorded u.way enough
-          (subst (λ z. InStep table haystack s first last (p + 1) u.from u.recorded z [] u.way) e
+          (subst (λ z. InStep table haystack s whole first last (p + 1) u.from u.recorded z []
+          u.way) e
           u.in_step))
 
       way_of : (b : Best) → BestHolds table haystack s b u.way → (b ≡ None → ⊥)
@@ -167,7 +170,7 @@ module _ (table : List (Place ℕ)) (haystack : Text) (s : List ℕ) (first last
       enough (inr le) = past_last best u.best_holds u.from_is le
 
       go : (p ≡ length haystack) ⊎ ((length cur ≡ 0) × ((best ≡ None → ⊥) ⊎ (last ≤ p)))
-          → IsBestOutcomeTo table haystack s first last best
+          → IsWantedOutcomeTo table haystack s whole first last best
       go (inl same) =
           with_none (nothing_beyond (p + 1) u.from u.recorded u.coming u.way (omega (arith, same))
           u.in_step u.before (omega (arith, same)))
@@ -193,8 +196,9 @@ module _ (table : List (Place ℕ)) (haystack : Text) (s : List ℕ) (first : �
       → IsComing table haystack s first (length haystack) (p + 1) cur best
       → IsBestOutcomeOf table haystack s first best
   ended_all p cur best low high over u =
-      anywhere best (ended_to table haystack s first (length haystack) (omega arith) p cur best low
-      high (go over) u)
+      anywhere best (ended_to table haystack s false first (length haystack) (omega arith) p cur
+      best
+      low high (go over) u)
     where
       go : (p ≡ length haystack) ⊎ ((best ≡ None → ⊥) × (length cur ≡ 0))
           → (p ≡ length haystack)

@@ -10,6 +10,7 @@ use Rattle.regex_lite_engine.proofs.Common.{one_of, arrived, step_from, arrow_co
 use Rattle.regex_lite_engine.proofs.Common.{reads, pushing, reading_on, Thread, WayTold}
 use Rattle.regex_lite_engine.proofs.Common.{ThreadsHold, SearchAt, Told, Marks, marked, over}
 use Rattle.regex_lite_engine.proofs.Common.{mark_of, place_with, is_complete, numbered_step, Best}
+use Rattle.regex_lite_engine.proofs.Common.{are_wanted_before, is_wanted_end}
 use Rattle.regex_lite_engine.proofs.Common.{Node, Offer, HasSlots, Row, IsHere, Here}
 use Rattle.std.proofs.lemmas.List.{set-set}
 use Rattle.regex_lite_engine.specs.declared.nfa.place.Place as code
@@ -21,10 +22,11 @@ use Rattle.regex_lite_engine.specs.Pikevm.Walking.{FramesHold, IsWalking}
 use Rattle.regex_lite_engine.proofs.search.MarkLemmas.{slots_set, slots_past}
 use Rattle.regex_lite_syntax.proofs.OptionLemmas.{not_there, same_some}
 use Rattle.regex_lite_engine.proofs.search.PlaceLemmas.{free_stays, free_marks, hops, no_second}
-use Rattle.regex_lite_engine.proofs.search.PlaceLemmas.{none_offered, one_blocked, open_at, one}
+use Rattle.regex_lite_engine.proofs.search.PlaceLemmas.{none_offered, one_blocked, one}
 use Rattle.regex_lite_engine.proofs.search.PlaceLemmas.{wide, offered_by}
 use Rattle.regex_lite_engine.proofs.pikevm.WalkLemmas.{marked_in, holds_on, held_append}
 use Rattle.regex_lite_engine.proofs.pikevm.WalkLemmas.{walk_entered, walk_read, walk_complete}
+use Rattle.regex_lite_engine.proofs.search.WantedLemmas.{open_wanted}
 
 -- nothing is read of the empty set
 pub reads_none : (o : Option ℕ) → reads (in_ranges []) o ≡ false
@@ -35,7 +37,7 @@ module _ (table : List (Place ℕ)) (at : SearchAt) (state : State) (i : Told) (
     (best : Best) (q : ℕ) (short : q < length state.entered)
     (walking : IsWalking table at (record state { frames = explore q ∷ state.frames }) i ways best)
     (new : slice_index_or state.entered q false ≡ true → ⊥) where
-  open at use {haystack, p}
+  open at use {haystack, whole, p}
 
   abbrev Told_way : Row → Node → List ℕ → Type 0
   Told_way = WayTold table haystack at.entries i
@@ -56,22 +58,27 @@ module _ (table : List (Place ℕ)) (at : SearchAt) (state : State) (i : Told) (
   abbrev n : State
   n = marked_in state q
 
+  -- nothing leads on from there, and no match that is wanted is complete
+  walk_stuck : (IsTrue (is_wanted_end table haystack whole (q, p)) → ⊥)
+      → ((a : ℕ) → step a ≡ None) → Walks n
+  walk_stuck open_still blocked =
+      walk_entered table at state i ways best q short walking new state.row state.frames open_still
+      (λ a l hops. absurd (not_there (sym (blocked a) ∙ hops)))
+      (λ w rest held waits. subst (λ z. Frames_hold state.row state.frames (z ++ rest))
+      (sym (none_offered table haystack q p blocked w (wide table haystack (q, p)) 0)) waits)
+
   -- no arrow fits
   walk_blocked : (arrows : List (Arrow ℕ)) → place_with table q ≡ with_arrows arrows
       → ((a : ℕ) → step a ≡ None) → Walks n
   walk_blocked arrows e blocked =
-      walk_entered table at state i ways best q short walking new state.row state.frames
-      (open_at table haystack q p arrows e)
-      (λ a l hops. absurd (not_there (sym (blocked a) ∙ hops)))
-      (λ w rest held waits. subst (λ z. Frames_hold state.row state.frames (z ++ rest))
-      (sym (none_offered table haystack q p blocked w (wide table haystack (q, p)) 0)) waits)
+      walk_stuck (open_wanted table haystack whole q p arrows e) blocked
 
   -- free arrows
   walk_choice : (to : List ℕ) → place_with table q ≡ with_arrows (map go to)
       → Walks (pushing n (map (λ l. explore l) to))
   walk_choice to e =
       walk_entered table at state i ways best q short walking new state.row
-      (map (λ l. explore l) to ++ state.frames) (open_at table haystack q p (map go to) e)
+      (map (λ l. explore l) to ++ state.frames) (open_wanted table haystack whole q p (map go to) e)
       (λ a l hops. free_stays haystack to p a l (sym (ap (λ x. step_from haystack x p a) e) ∙ hops))
       (λ w rest held waits.
       subst (λ c. Frames_hold state.row (map (λ l. explore l) to ++ state.frames)
@@ -115,7 +122,7 @@ module _ (table : List (Place ℕ)) (at : SearchAt) (state : State) (i : Told) (
       Walks (record n { row = row; frames = explore to ∷ frames })
   walk_single a to row frames e here marks waits' =
       walk_entered table at state i ways best q short walking new row (explore to ∷ frames)
-      (open_at table haystack q p (a ∷ []) e) stays
+      (open_wanted table haystack whole q p (a ∷ []) e) stays
       (λ w rest held waits. subst (λ c. Frames_hold row (explore to ∷ frames) (listed w c ++ rest))
       (sym (ap arrow_count e))
       (subst (λ o. Frames_hold row (explore to ∷ frames) ((one table haystack o (w ++ 0 ∷ []) ++ [])
@@ -138,7 +145,7 @@ module _ (table : List (Place ℕ)) (at : SearchAt) (state : State) (i : Told) (
   walk_reads a to e here unmarked =
       walk_read table at state i ways best q short walking new
       (state.next ++ (to, i, state.row) ∷ [])
-      (open_at table haystack q p (a ∷ []) e) moves
+      (open_wanted table haystack whole q p (a ∷ []) e) moves
       (λ w coming held all_held. held_append table haystack at.entries (suc p) state.next
       ((to, i, state.row) ∷ []) coming (listed w (wide table haystack (q, p))) all_held
       (subst (λ c. Held (listed w c)) (sym (ap arrow_count e))
@@ -238,7 +245,7 @@ module _ (table : List (Place ℕ)) (at : SearchAt) (state : State) (i : Told) (
 
     -- the walk goes on from what the place offers, or it has a match
     pub walk_enters : (x : code.Place) (e : State) (done : Bool) → place_with table q ≡ place_of x
-        → Enters here i x n e done → Entered e done
+        → Enters whole here i x n e done → Entered e done
     walk_enters (stored.Empty to) e done here_at (same, ed) =
         settle (pushing n (explore to ∷ [])) e done (walk_choice (to ∷ []) here_at) same ed
     walk_enters (stored.Char c to) e done here_at (same, ed) =
@@ -289,8 +296,25 @@ module _ (table : List (Place ℕ)) (at : SearchAt) (state : State) (i : Told) (
         (walk_choice all.items here_at) same
         ed
     walk_enters stored.Match e done here_at (same, ed) =
-        subst (Entered e) (sym ed) (subst (λ z. Entered z true) (sym same)
-        (subst (λ z. IsWalking table at (record n { frames = [] }) i [] (Some (i, z, state.row)))
-        (sym is.bytes)
-        (walk_complete table at state i ways best q short walking new
-        (subst (λ x. IsTrue (is_complete x)) (sym here_at) refl))))
+        by_wanted (are_wanted_before whole here.after) (ap (are_wanted_before whole) is.ahead) ed
+      where
+        ends : Bool → Type 0
+        ends wanted = IsTrue (if wanted then is_complete (place_with table q) else false)
+
+        by_wanted : (wanted : Bool) → wanted ≡ are_wanted_before whole (after haystack p)
+            → done ≡ wanted → Entered e done
+        by_wanted true known ed =
+            subst (Entered e) (sym ed) (subst (λ z. Entered z true) (sym same)
+            (subst
+            (λ z. IsWalking table at (record n { frames = [] }) i [] (Some (i, z, state.row)))
+            (sym is.bytes)
+            (walk_complete table at state i ways best q short walking new
+            (subst ends known (subst (λ x. IsTrue (is_complete x)) (sym here_at) refl)))))
+        by_wanted false known ed =
+            settle n e done
+            (walk_stuck (λ complete. never (subst ends (sym known) complete))
+            (λ a. ap (λ x. step_from haystack x p a) here_at))
+            same ed
+          where
+            never : IsTrue false → ⊥
+            never complete = cc

@@ -3,9 +3,9 @@ use Rattle.regex_lite_engine.proofs.Common.{◌≡◌, ℕ, zero, suc, ◌+◌, 
 use Rattle.regex_lite_engine.proofs.Common.{take, drop, if◌then◌else◌, Bool, true, false}
 use Rattle.regex_lite_engine.proofs.Common.{slice_index_or, refl, Some, sum_by, Option, subst}
 use Rattle.regex_lite_engine.proofs.Common.{arith, length-take, sum_by-cons, IsWithin, row_of}
-use Rattle.regex_lite_engine.proofs.Common.{IsOwnPart, InStep, SearchAt, numbered_step, is_end}
+use Rattle.regex_lite_engine.proofs.Common.{IsOwnPart, InStep, SearchAt, numbered_step}
 use Rattle.regex_lite_engine.proofs.Common.{StartsOf, Node, Offer, Text, Leads, WayTold, Row, Told}
-use Rattle.regex_lite_engine.proofs.Common.{IsEntry}
+use Rattle.regex_lite_engine.proofs.Common.{IsEntry, is_wanted_end}
 use Rattle.regex_lite_engine.specs.Graph.Places.{Place}
 use Rattle.regex_lite_engine.specs.Pikevm.Room.{left_of}
 use Rattle.regex_lite_engine.proofs.laws.search.NumberedWayLemmas.{leads_within}
@@ -33,11 +33,13 @@ module _ (table : List (Place ℕ)) (haystack : Text) (entries : List ℕ) (low 
 pub recorded_within : (table : List (Place ℕ)) (at : SearchAt) (low len : ℕ)
     → IsOwnPart table at.entries low len → (recorded : Node → Option (List ℕ))
     (now next : List (Offer Node)) (way : Option (List ℕ))
-    → InStep table at.haystack at.entries at.first at.last at.p at.from recorded now next way
+    → InStep table at.haystack at.entries at.whole at.first at.last at.p at.from recorded now next
+    way
     → (n : Node) (v : List ℕ) → recorded n ≡ Some v → IsWithin low len n.0
 recorded_within table at low len part recorded now next way in_step n v known =
-    let t = traced Node (numbered_step table at.haystack) (is_end table at.haystack)
-    (StartsOf at.entries at.first at.last) recorded way in_step.grown n v known in
+    let t = traced Node (numbered_step table at.haystack)
+    (is_wanted_end table at.haystack at.whole) (StartsOf at.entries at.first at.last) recorded way
+    in_step.grown n v known in
     let (i, number, entry, above, below, is_entry, front, start) = t.is_start in
     entered_within table at.haystack at.entries low len part number entry i t.arrows n is_entry
     (subst (λ z. Leads Node (numbered_step table at.haystack) z t.arrows n) start t.along)

@@ -1,8 +1,8 @@
 -- What holds of a search between two positions, from its start to its end.
 use Rattle.regex_lite_engine.proofs.Common.{◌≡◌, ℕ, ◌+◌, ◌-◌, ◌*◌, ◌≤◌, List, length, sym, ap}
 use Rattle.regex_lite_engine.proofs.Common.{subst, inl, inr, arith, mul-le-mul_left, Text, row_of}
-use Rattle.regex_lite_engine.proofs.Common.{IsOwnPart, arrows_of, Thread, IsComing, IsBoundedBy}
-use Rattle.regex_lite_engine.proofs.Common.{Best, IsHere, Here, best_of}
+use Rattle.regex_lite_engine.proofs.Common.{IsOwnPart, arrows_of, Thread, IsComing, IsComingTo}
+use Rattle.regex_lite_engine.proofs.Common.{Best, IsHere, Here, best_of, IsBoundedBy, Bool, false}
 use Rattle.regex_lite_engine.specs.declared.pikevm.cache.Cache.{Cache}
 use Rattle.regex_lite_engine.specs.Graph.Places.{Place}
 use Rattle.regex_lite_engine.specs.Pikevm.Searching.{IsFresh}
@@ -14,18 +14,18 @@ use Rattle.regex_lite_engine.proofs.pikevm.ComingLemmas.{jumped, none_coming}
 
 module _ (table : List (Place ℕ)) (haystack : Text) (entries : List ℕ) (s : ℕ) where
   -- a search that has not begun
-  pub begun_to : (last : ℕ) {S : Type 0} (cache : Cache S) → IsFresh table cache
-      → IsUnderWayTo table haystack entries s last s cache
-  begun_to last cache fresh =
+  pub begun_to : (whole : Bool) (last : ℕ) {S : Type 0} (cache : Cache S) → IsFresh table cache
+      → IsUnderWayTo table haystack entries s whole last s cache
+  begun_to whole last cache fresh =
       let none = fresh.no_threads in
       record {
         low = omega arith;
         ready = fresh.between;
         coming =
             subst
-            (λ z. IsComing table haystack entries s last s cache.walk.memory.threads z)
+            (λ z. IsComingTo table haystack entries whole s last s cache.walk.memory.threads z)
             (sym fresh.none)
-            (none_coming table haystack entries s last cache.walk.memory.threads none);
+            (none_coming table haystack entries s last whole cache.walk.memory.threads none);
         tries = omega (arith, fresh.no_tries, ap length none);
         entries = omega (arith, fresh.no_entries);
         own = λ low len part. record {
@@ -37,7 +37,7 @@ module _ (table : List (Place ℕ)) (haystack : Text) (entries : List ℕ) (s : 
 
   pub begun : {S : Type 0} (cache : Cache S) → IsFresh table cache
       → IsUnderWay table haystack entries s s cache
-  begun cache fresh = begun_to (length haystack) cache fresh
+  begun cache fresh = begun_to false (length haystack) cache fresh
 
   -- a bound up to a position, and what one more position costs
   pub bound_on : (a b p q m : ℕ) → s ≤ p → p ≤ q → a ≤ m * (p - s) → b ≤ a + m
@@ -47,8 +47,8 @@ module _ (table : List (Place ℕ)) (haystack : Text) (entries : List ℕ) (s : 
 
 -- a search that has gone over a position of the haystack
 module _ {S : Type 0} {table : List (Place ℕ)} {haystack : Text} {entries : List ℕ} {s q : ℕ}
-    {last : ℕ} {cache : Cache S} (low : s ≤ q) (high : q ≤ length haystack)
-    (on : IsUnderWayTo table haystack entries s last (q + 1) cache) where
+    {whole : Bool} {last : ℕ} {cache : Cache S} (low : s ≤ q) (high : q ≤ length haystack)
+    (on : IsUnderWayTo table haystack entries s whole last (q + 1) cache) where
   bounded_by : (size ways : ℕ)
       → cache.walk.steps.tried + length cache.walk.memory.threads ≤ ways * (q + 1 - s)
       → cache.walk.steps.entered ≤ size * (q + 1 - s) → IsBoundedBy size ways haystack s
@@ -80,10 +80,10 @@ module _ {S : Type 0} {table : List (Place ℕ)} {haystack : Text} {entries : Li
 
 -- a search that has passed over positions to a later one
 pub moved_on : {S : Type 0} {table : List (Place ℕ)} {haystack : Text} {entries : List ℕ}
-    {s last p q : ℕ} {cache : Cache S} → IsUnderWayTo table haystack entries s last p cache
+    {s last p q : ℕ} {cache : Cache S} → IsUnderWayTo table haystack entries s false last p cache
     → p ≤ q
     → IsComing table haystack entries s last q cache.walk.memory.threads (best_of cache.best)
-    → IsUnderWayTo table haystack entries s last q cache
+    → IsUnderWayTo table haystack entries s false last q cache
 moved_on {table} {entries} {s} {p} {q} {cache} on later coming =
     let low = on.low in
     let counted = cache.walk.steps.tried + length cache.walk.memory.threads in

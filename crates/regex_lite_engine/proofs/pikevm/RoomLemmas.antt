@@ -88,7 +88,7 @@ pub record Adds (c : ℕ) (x : Place ℕ) (m e : State) : Type 0 where
   pub frames_below : FramesBelow c (length e.row) e.frames
   pub threads_below : ThreadsBelow c e.next
 
-module _ (here : Here) (i : Told) (c : ℕ) (m : State)
+module _ (whole : Bool) (here : Here) (i : Told) (c : ℕ) (m : State)
     (within : FramesBelow c (length m.row) m.frames) (all : ThreadsBelow c m.next) where
   adds_pushed : (x : Place ℕ) (qs : List ℕ) → LeadBelow c (map (λ q. go q) qs)
       → length qs ≤ arrow_count x → length qs ≤ kept_back x + 1
@@ -157,7 +157,7 @@ module _ (here : Here) (i : Told) (c : ℕ) (m : State)
   }
 
   module _ (e : State) (done : Bool) where
-    pub enters_adds : (x : code.Place) → LeadsBelow c (place_of x) → Enters here i x m e done
+    pub enters_adds : (x : code.Place) → LeadsBelow c (place_of x) → Enters whole here i x m e done
         → Adds c (place_of x) m e
     enters_adds (stored.Empty to) inside (same, ed) =
         subst (Adds c (place_of (stored.Empty to)) m) (sym same)

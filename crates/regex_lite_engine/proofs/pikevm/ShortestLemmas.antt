@@ -4,8 +4,10 @@ use Rattle.regex_lite_engine.proofs.Common.{◌++◌, length, IsTrue, slice_get,
 use Rattle.regex_lite_engine.proofs.Common.{sym, refl, ap, ◌∙◌, subst, inl, inr, arith, cases_lt}
 use Rattle.regex_lite_engine.proofs.Common.{Text, after, Leads, NoneTwice, Thread, IsComing, InStep}
 use Rattle.regex_lite_engine.proofs.Common.{Told, IsDead, IsAnswered, place_with, numbered_step}
-use Rattle.regex_lite_engine.proofs.Common.{is_end, IsNumberedMatch, IsEntry, StartsOf}
+use Rattle.regex_lite_engine.proofs.Common.{is_end, is_wanted_end, IsComingTo, IsNumberedMatch}
+use Rattle.regex_lite_engine.proofs.Common.{IsEntry, StartsOf}
 use Rattle.regex_lite_engine.proofs.Common.{IsMatchOfAny, Best, Node, Offer, offset, Row}
+use Rattle.regex_lite_engine.specs.Search.NumberedList.{IsWantedOfAny}
 use Rattle.regex_lite_engine.specs.Search.NumberedOutcomes.{IsNumberedEndOf}
 use Rattle.regex_lite_syntax.specs.Text.{before}
 use Rattle.regex_lite_syntax.proofs.ListLemmas.{same_head, same_tail}
@@ -13,6 +15,7 @@ use Rattle.regex_lite_engine.specs.Graph.Places.{Place}
 use Rattle.regex_lite_engine.specs.Search.Offers.{In}
 use Rattle.regex_lite_engine.specs.Pikevm.Turns.{EndsAt}
 use Rattle.regex_lite_engine.specs.Pikevm.Walking.{BestHolds}
+use Rattle.regex_lite_engine.proofs.laws.LeadsLemmas.{leads_to_one}
 use Rattle.regex_lite_engine.proofs.laws.several.OverListLemmas.{differ}
 use Rattle.regex_lite_engine.proofs.laws.search.RecordedWayLemmas.{traced, recorded_once}
 use Rattle.regex_lite_engine.proofs.pikevm.EndLemmas.{step_onward}
@@ -33,8 +36,8 @@ module _ (table : List (Place ℕ)) (haystack : Text) where
       let rest = leads_onward ks l n along in
       (omega (arith, first, rest), λ low. rest.1 (first.1 low))
 
-  module _ (entries : List ℕ) (s last : ℕ) (within : last ≤ length haystack) where
-    -- a match that ends at the offset
+  module _ (entries : List ℕ) (whole : Bool) (s last : ℕ) (within : last ≤ length haystack) where
+    -- a match that is wanted, which ends at the offset
     pub record EndsWith (at : ℕ) : Type 0 where
       pub start : ℕ
       pub number : ℕ
@@ -43,35 +46,46 @@ module _ (table : List (Place ℕ)) (haystack : Text) where
       pub end : ℕ
       pub up_to : start ≤ last
       pub ends_at : at ≡ offset haystack end
-      pub is_match : IsMatchOfAny table haystack entries s start number way place end
+      pub is_match : IsWantedOfAny table haystack entries whole s start number way place end
 
     -- the best match is one
     pub best_matches : (p : ℕ) (threads : List Thread) (b : Told × ℕ × Row)
-        → IsComing table haystack entries s last p threads (Some b) → EndsWith b.1
+        → IsComingTo table haystack entries whole s last p threads (Some b) → EndsWith b.1
     best_matches p threads b u = by_way u.best_holds
       where
         by_way : BestHolds table haystack entries (Some b) u.way → EndsWith b.1
         by_way (w, e, (q, j, at, ends, (i, number, entry, ks, from_at, is, parts, along, has))) =
             let end = u.in_step.best_ends w e in
-            let starts = differ table haystack entries s last in
-            let t = traced Node (numbered_step table haystack) (is_end table haystack)
+            let starts = differ table haystack entries whole s last in
+            let t = traced Node (numbered_step table haystack) (is_wanted_end table haystack whole)
             (StartsOf entries s last) u.recorded u.way u.in_step.grown end.0 w end.2 in
             by_start t.front t.start t.is_start t.arrows (sym parts ∙ t.parts)
-            (recorded_once Node (numbered_step table haystack) (is_end table haystack)
+            (recorded_once Node (numbered_step table haystack) (is_wanted_end table haystack whole)
             (StartsOf entries s last) u.recorded u.way starts
-            u.in_step.grown end.0 w t.front t.arrows t.start t.is_start end.2 t.parts)
+            u.in_step.grown end.0 w t.front t.arrows t.start t.is_start end.2 t.parts) end.0 end.1
+            t.along
           where
             by_start : (front : List ℕ) (n : Node)
                 → StartsOf entries s last front n → (arrows : List ℕ)
                 → i ∷ (number ∷ ks) ≡ front ++ arrows
-                → NoneTwice Node (numbered_step table haystack) n arrows → EndsWith b.1
-            by_start front n (i', number', entry', low, high, is', front_is, n_is) arrows all once =
-                let whole : i ∷ (number ∷ ks) ≡ i' ∷ (number' ∷ arrows)
+                → NoneTwice Node (numbered_step table haystack) n arrows → (x : Node)
+                → IsTrue (is_wanted_end table haystack whole x)
+                → Leads Node (numbered_step table haystack) n arrows x → EndsWith b.1
+            by_start front n (i', number', entry', low, high, is', front_is, n_is) arrows all once x
+                wanted reaches =
+                let front_too : i ∷ (number ∷ ks) ≡ i' ∷ (number' ∷ arrows)
                 = all ∙ ap (λ z. z ++ arrows) front_is in
-                let same : i ≡ i' = same_head whole in
-                let rest : ks ≡ arrows = same_tail (same_tail whole) in
+                let same : i ≡ i' = same_head front_too in
+                let rest : ks ≡ arrows = same_tail (same_tail front_too) in
                 let own : entry ≡ entry' = same_some (sym is
-                ∙ ap (slice_get entries) (same_head (same_tail whole)) ∙ is') in
+                ∙ ap (slice_get entries) (same_head (same_tail front_too)) ∙ is') in
+                let started : n ≡ (entry, i) = n_is ∙ ap (λ (z : ℕ). (z, i')) (sym own)
+                ∙ ap (λ (z : ℕ). (entry, z)) (sym same) in
+                let there : x ≡ (q, j) =
+                leads_to_one (numbered_step table haystack) ks (entry, i) x (q, j)
+                (subst (λ z. Leads Node (numbered_step table haystack) (entry, i) z x) (sym rest)
+                (subst (λ z. Leads Node (numbered_step table haystack) z arrows x) started reaches))
+                along in
                 record {
                   start = i;
                   number = number;
@@ -89,13 +103,12 @@ module _ (table : List (Place ℕ)) (haystack : Text) where
                       leads = record {
                         is_way = (
                           along,
-                          subst (λ z. NoneTwice Node (numbered_step table haystack) z ks)
-                              (n_is ∙ ap (λ (z : ℕ). (z, i')) (sym own)
-                              ∙ ap (λ (z : ℕ). (entry, z)) (sym same))
+                          subst (λ z. NoneTwice Node (numbered_step table haystack) z ks) started
                               (subst (λ z. NoneTwice Node (numbered_step table haystack) n z)
                               (sym rest) once),
                         );
-                        ends = ends;
+                        ends = subst (λ m. IsTrue (is_wanted_end table haystack whole m)) there
+                            wanted;
                       };
                     };
                   };
@@ -110,7 +123,7 @@ module _ (table : List (Place ℕ)) (haystack : Text) where
     abbrev In_step : ℕ → ℕ → (Node → Option (List ℕ)) → List (Offer Node) → Option (List ℕ)
         → Type 0
     In_step p from recorded coming way =
-        InStep table haystack entries s (length haystack) p from recorded coming [] way
+        InStep table haystack entries false s (length haystack) p from recorded coming [] way
 
     abbrev Coming : ℕ → List Thread → Best → Type 0
     Coming = IsComing table haystack entries s (length haystack)
@@ -199,7 +212,8 @@ module _ (table : List (Place ℕ)) (haystack : Text) where
             over (inl at_end) later inside = omega (arith, at_end, later, inside)
             over (inr found) later inside = found e
         by_best (Some b) e =
-            let found = best_matches entries s (length haystack) (omega arith) (p + 1) threads' b
+            let found = best_matches entries false s (length haystack) (omega arith) (p + 1)
+            threads' b
             (subst (λ z. Coming (p + 1) threads' z) e after) in
             let m = found.is_match in
             let inside = (leads_onward found.way (m.entry, found.start) (found.place, found.end)

@@ -32,8 +32,8 @@ thread_taken table at m thread ways best u =
   where
     In_step : List (Offer Node) → Type 0
     In_step now =
-        InStep table at.haystack at.entries at.first at.last at.p at.from u.recorded now u.coming
-        u.way
+        InStep table at.haystack at.entries at.whole at.first at.last at.p at.from u.recorded now
+        u.coming u.way
 
     go : (later : List (Offer Node))
         → ThreadsHold table at.haystack at.entries at.p (thread ∷ ways) later → In_step later
@@ -102,22 +102,22 @@ module _ (table : List (Place ℕ)) {S : Type 0} (w x : Walk S) (q : ℕ)
       })
 
   -- its ways were followed
-  pub goes_up : (here : Here) (i : Told) (y : Walk S) (done : Bool)
-      → Explores table here i x y (explore q ∷ x.memory.frames) done
-      → GoesOn table here i taken (with_frames y []) done
-  goes_up here i y done explored =
-      subst (λ (z : Walk S). GoesOn table here i z (with_frames y []) done) is_taken explored
+  pub goes_up : (whole : Bool) (here : Here) (i : Told) (y : Walk S) (done : Bool)
+      → Explores table whole here i x y (explore q ∷ x.memory.frames) done
+      → GoesOn table whole here i taken (with_frames y []) done
+  goes_up whole here i y done explored =
+      subst (λ (z : Walk S). GoesOn table whole here i z (with_frames y []) done) is_taken explored
 
 -- The first k of the ways were followed, up to a complete match of the last of them, which began
 -- at `start`, where one is done
-pub record HasFollowed {S : Type 0} (table : List (Place ℕ)) (here : Here) (ways : List Thread)
-    (best : Best) (first : Walk S) (start : Told) (walk : Walk S) (k : ℕ) (done : Bool)
-    : Type 0 where
+pub record HasFollowed {S : Type 0} (table : List (Place ℕ)) (whole : Bool) (here : Here)
+    (ways : List Thread) (best : Best) (first : Walk S) (start : Told) (walk : Walk S) (k : ℕ)
+    (done : Bool) : Type 0 where
   pub steps :
-      StepsTo table here first.memory ways best walk.memory (if done then [] else drop k ways)
+      StepsTo table whole here first.memory ways best walk.memory (if done then [] else drop k ways)
       (if done then Some (start, here.at, walk.memory.row) else best)
-  pub again : (tell : Told → Told) (there : Here) (b : Best) (at : SearchAt)
-      → AreAlike table at.entries here there
+  pub again : whole ≡ false → (tell : Told → Told) (there : Here) (b : Best) (at : SearchAt)
+      → at.whole ≡ false → AreAlike table at.entries here there
       → StepsAt table at there (state_retold tell first.memory) (all_retold tell ways) b
       (state_retold tell walk.memory) (if done then [] else all_retold tell (drop k ways))
       (if done then Some (tell start, there.at, []) else b)
@@ -127,30 +127,34 @@ pub record HasFollowed {S : Type 0} (table : List (Place ℕ)) (here : Here) (wa
   pub empty : walk.memory.frames ≡ []
 
 -- the next of them is taken up and followed too
-pub follows_on : {S : Type 0} {table : List (Place ℕ)} {here : Here} {ways : List Thread}
+pub follows_on : {S : Type 0} {table : List (Place ℕ)} {whole : Bool} {here : Here}
+    {ways : List Thread}
     {best : Best} {first w x y : Walk S} {before start : Told} {k q : ℕ} {done : Bool}
-    → HasFollowed table here ways best first before w k false
+    → HasFollowed table whole here ways best first before w k false
     → drop k ways ≡ (q, start, x.memory.row) ∷ drop (k + 1) ways
     → x.memory ≡ record w.memory { row = x.memory.row }
     → length x.memory.row ≡ length w.memory.row → x.steps ≡ w.steps
-    → Explores table here start x y (explore q ∷ x.memory.frames) done
+    → Explores table whole here start x y (explore q ∷ x.memory.frames) done
     → y.memory.frames ≡ [] → KeepsPosition x.memory y.memory
-    → HasFollowed table here ways best first start y (k + 1) done
-follows_on {table = table} {here} {ways} {best} {w = w} {x} {y} {start = start} {k} {q} {done} v
+    → HasFollowed table whole here ways best first start y (k + 1) done
+follows_on {table = table} {whole} {here} {ways} {best} {w = w} {x} {y} {start = start} {k} {q}
+    {done} v
     next same width counts explored empty kept =
     let em = takes_up w.memory x.memory same v.empty in
-    let on = goes_up table w x q em counts here start y done explored in
+    let on = goes_up table w x q em counts whole here start y done explored in
     let left = drop (k + 1) ways in let thread : Thread = (q, start, x.memory.row) in
     let idle : explores y.memory.frames ≡ 0 = ap (λ fs. explores fs) empty in
     record {
-      steps = λ at is u.
-          stepped table at here w.memory y.memory thread left best done (on.walks at) is
-          (subst (λ (ts : List Thread). Between table at w.memory ts best) next (v.steps at is u));
-      again = λ tell there b at alike is u.
+      steps = λ at same is u.
+          stepped table at here w.memory y.memory thread left best done (on.walks at same) is
+          (subst (λ (ts : List Thread). Between table at w.memory ts best) next
+          (v.steps at same is u));
+      again = λ all tell there b at same alike is u.
           stepped table at there (state_retold tell w.memory) (state_retold tell y.memory)
-          (retold tell thread) (all_retold tell left) b done (on.again tell there at alike) is
+          (retold tell thread) (all_retold tell left) b done (on.again all tell there at same alike)
+          is
           (subst (λ (ts : List Thread). Between table at (state_retold tell w.memory)
-          (all_retold tell ts) b) next (v.again tell there b at alike is u));
+          (all_retold tell ts) b) next (v.again all tell there b at same alike is u));
       kept = record {
         threads = kept.threads ∙ ap (λ (m : State). m.threads) em ∙ v.kept.threads;
         room = kept.room ∙ ap (λ (m : State). m.room) em ∙ v.kept.room;

@@ -2,8 +2,9 @@
 use Rattle.regex_lite_engine.proofs.Common.{◌≡◌, ℕ, suc, ◌+◌, ◌<◌, ◌≤◌, ◌⊎◌, List, [], ◌∷◌, ◌++◌}
 use Rattle.regex_lite_engine.proofs.Common.{Some, None, Option, sym, refl, ap, ◌∙◌, subst, inl, inr}
 use Rattle.regex_lite_engine.proofs.Common.{arith, cases_lt, IsWithin, IsOwnPart, Thread, StepsAt}
-use Rattle.regex_lite_engine.proofs.Common.{IsComing, begun, ThreadsHold, SearchAt, Told, IsDead}
-use Rattle.regex_lite_engine.proofs.Common.{numbered_step, is_end, StartsOf, Best, Node, Offer}
+use Rattle.regex_lite_engine.proofs.Common.{IsComingTo, begun, ThreadsHold, SearchAt, Told, IsDead}
+use Rattle.regex_lite_engine.proofs.Common.{numbered_step, is_wanted_end, InStep, StartsOf, Best}
+use Rattle.regex_lite_engine.proofs.Common.{Node, Offer}
 use Rattle.regex_lite_engine.proofs.Common.{StartsBelow, IsPreferred, Row, IsBlank, IsHere}
 use Rattle.regex_lite_engine.proofs.Common.{IsDeadAt, AreStartsAt, Here, Start, true, false}
 use Rattle.regex_lite_engine.proofs.Common.{slice_index_or, append-nil, Text}
@@ -18,7 +19,7 @@ use Rattle.regex_lite_engine.proofs.pikevm.OwnPartLemmas.{recorded_within}
 use Rattle.regex_lite_engine.proofs.pikevm.ThreadLemmas.{Begun}
 use Rattle.regex_lite_engine.proofs.pikevm.InStepNextLemmas as deep
 use Rattle.regex_lite_engine.proofs.pikevm.WalkLemmas.{held_append, none_held}
-use Rattle.regex_lite_engine.proofs.pikevm.ComingLemmas.{In_step}
+use Rattle.regex_lite_engine.proofs.search.WantedLemmas.{still_dead}
 
 -- where matches may start at the position, its starts are those up to the last
 pub starts_up_to : {table : List (Place ℕ)} {haystack : Text} {entries : List ℕ} {last p : ℕ}
@@ -91,10 +92,10 @@ pub record IsTurn (table : List (Place ℕ)) (at : SearchAt) (here : Here) (cur 
 
 module _ (table : List (Place ℕ)) (at : SearchAt) (here : Here) (cur : List Thread) (best : Best)
     (after : State) (best' : Best) (turn : IsTurn table at here cur best after best') where
-  open at use {haystack, entries as s, first, last, p}
+  open at use {haystack, entries as s, whole, first, last, p}
 
   abbrev Coming : Best → Type 0
-  Coming b = IsComing table haystack s first last p cur b
+  Coming b = IsComingTo table haystack s whole first last p cur b
 
   abbrev Holds : ℕ → List Thread → List (Offer Node) → Type 0
   Holds = ThreadsHold table haystack s
@@ -102,10 +103,10 @@ module _ (table : List (Place ℕ)) (at : SearchAt) (here : Here) (cur : List Th
   abbrev Steps : ℕ → (Node → Option (List ℕ)) → List (Offer Node) → List (Offer Node)
       → Option (List ℕ) → Type 0
   Steps from recorded now next way =
-      In_step table haystack s first last p from recorded now next way
+      InStep table haystack s whole first last p from recorded now next way
 
   abbrev Dead : Node → Type 0
-  Dead n = IsDead Node (numbered_step table haystack) (is_end table haystack) n
+  Dead n = IsDead Node (numbered_step table haystack) (is_wanted_end table haystack whole) n
 
   none_next : Holds (suc p) turn.first_state.next []
   none_next = subst (λ ts. Holds (suc p) ts []) (sym turn.empty) tt
@@ -156,7 +157,7 @@ module _ (table : List (Place ℕ)) (at : SearchAt) (here : Here) (cur : List Th
       begun_alone (suc p) None u
       (subst (λ z. Steps (suc p) u.recorded u.coming [] z) (sym u.best_holds)
       (deep.in_step_skip Node (numbered_step table haystack) (StartsOf s first last)
-      (is_end table haystack) (λ x. x.1) (omega arith) sooner
+      (is_wanted_end table haystack whole) (λ x. x.1) (omega arith) sooner
       (subst (λ z. Steps z u.recorded u.coming [] None) u.from_is
       (subst (λ z. Steps u.from u.recorded u.coming [] z) u.best_holds u.in_step))))
       (pushed ∙ ap (λ z. cur ++ begun turn.told blank z) (turn.are.none_after later)
@@ -179,7 +180,7 @@ module _ (table : List (Place ℕ)) (at : SearchAt) (here : Here) (cur : List Th
     way = None;
     in_step =
         deep.in_step_begin Node (numbered_step table haystack) (StartsOf s first last)
-        (is_end table haystack) (λ x. x.1) (begun_offers p turn.starts)
+        (is_wanted_end table haystack whole) (λ x. x.1) (begun_offers p turn.starts)
         (λ m v i. (let r = begun_own_way table at 0 turn.starts are.in_order turn.low high m v i in
         (r.0, r.1, r.2)))
         (begun_ordered table at 0 turn.starts are.in_order turn.low high) offered u.before
@@ -216,7 +217,9 @@ module _ (table : List (Place ℕ)) (at : SearchAt) (here : Here) (cur : List Th
               (subst (λ z. offer.In Node (entry, p) z (begun_offers p turn.starts))
               (sym (e ∙ ap (λ z. z ∷ (number ∷ [])) same))
               (among_offers table at number entry turn.starts among)))
-          by_each same (inr gone) = inr (subst Dead (sym (f ∙ ap (λ z. (entry, z)) same)) gone)
+          by_each same (inr gone) =
+              inr (subst Dead (sym (f ∙ ap (λ z. (entry, z)) same))
+              (still_dead table haystack whole (entry, p) gone))
 
   abbrev Turned : Type 0
   Turned =
@@ -254,18 +257,20 @@ module _ (table : List (Place ℕ)) (at : SearchAt) (here : Here) (cur : List Th
       go (Some b) (inr (why, same)) e u =
           on u.from (Some b) e tt (begun_alone u.from (Some b) u u.in_step same)
 
-  pub turned_all : Coming best → IsComing table haystack s first last (p + 1) after.next best'
+  pub turned_all : Coming best → IsComingTo table haystack s whole first last (p + 1) after.next
+      best'
   turned_all u =
       let (from, is, w) = turned u in
       let one_more : suc p ≡ p + 1 = omega arith in
-      subst (λ z. IsComing table haystack s first last z after.next best') one_more (record {
+      subst (λ z. IsComingTo table haystack s whole first last z after.next best') one_more
+      (record {
         recorded = w.recorded;
         coming = w.coming;
         way = w.way;
         from = from;
         in_step =
             deep.in_step_next_alone Node (numbered_step table haystack) (StartsOf s first last)
-            (is_end table haystack) (λ x. x.1)
+            (is_wanted_end table haystack whole) (λ x. x.1)
             (subst (λ z. Steps from w.recorded ([] ++ z) w.coming w.way)
             (none_held table haystack s p w.later w.ways_hold)
             (subst (λ z. Steps from w.recorded (z ++ w.later) w.coming w.way) w.frames_hold

@@ -5,7 +5,8 @@ use Rattle.regex_lite_engine.proofs.Common.{◌∙◌, subst, inl, inr, append_a
 use Rattle.regex_lite_engine.proofs.Common.{get_or-set_other, get_or-set_same, Text, Thread}
 use Rattle.regex_lite_engine.proofs.Common.{WayTold, ThreadsHold, InStep, SearchAt, Told, Marks}
 use Rattle.regex_lite_engine.proofs.Common.{marked, over, mark_of, marks_along, place_with}
-use Rattle.regex_lite_engine.proofs.Common.{numbered_step, is_end, StartsOf, Best, Node, Offer}
+use Rattle.regex_lite_engine.proofs.Common.{numbered_step, is_wanted_end, StartsOf, Best, Node}
+use Rattle.regex_lite_engine.proofs.Common.{Offer}
 use Rattle.regex_lite_engine.proofs.Common.{offset, HasSlots, Row, false, slice_index_or, true}
 use Rattle.regex_lite_engine.specs.Graph.Places.{Place}
 use Rattle.regex_lite_engine.specs.Pikevm.Machine.{Job, explore, State}
@@ -18,6 +19,7 @@ use Rattle.regex_lite_engine.proofs.search.PlaceLemmas.{wide, no_more, no_arrow_
 use Rattle.regex_lite_engine.proofs.search.PlaceLemmas.{offers_listed}
 use Rattle.regex_lite_engine.proofs.search.RecordLemmas as records
 use Rattle.regex_lite_engine.proofs.search.RecordLemmas.{same_node, none_or}
+use Rattle.regex_lite_engine.proofs.search.WantedLemmas.{complete_there}
 
 module _ (table : List (Place ℕ)) (haystack : Text) (s : List ℕ) where
   pub holds_on : (i : Told) (row row' : Row) (n : Node) (w : List ℕ) (a : ℕ) (l : Node)
@@ -65,14 +67,14 @@ marked_in state q = record state { entered = slice_set state.entered q true }
 
 module _ (table : List (Place ℕ)) (at : SearchAt) (state : State) (i : Told) (ways : List Thread)
     (best : Best) where
-  open at use {haystack, entries as s, first, last, p, from}
+  open at use {haystack, entries as s, whole, first, last, p, from}
 
   abbrev Walks : Row → List Job → Type 0
   Walks row frames = IsWalking table at (record state { row = row; frames = frames }) i ways best
 
   abbrev In_step : (Node → Option (List ℕ)) → List (Offer Node) → List (Offer Node)
       → Option (List ℕ) → Type 0
-  In_step = InStep table haystack s first last p from
+  In_step = InStep table haystack s whole first last p from
 
   abbrev step : Node → ℕ → Option Node
   step = numbered_step table haystack
@@ -126,7 +128,8 @@ module _ (table : List (Place ℕ)) (at : SearchAt) (state : State) (i : Told) (
           coming = walking.coming;
           way = walking.way;
           in_step =
-              in_step_passed Node step (StartsOf s first last) (is_end table haystack) (λ x. x.1) r
+              in_step_passed Node step (StartsOf s first last) (is_wanted_end table haystack whole)
+              (λ x. x.1) r
               (taken w rest e);
           seen = walking.seen;
           met = walking.met;
@@ -183,7 +186,7 @@ module _ (table : List (Place ℕ)) (at : SearchAt) (state : State) (i : Told) (
 
       -- all its arrows stay at the position
       pub walk_entered : (row : Row) (frames : List Job)
-          → (IsTrue (is_end table haystack (q, p)) → ⊥)
+          → (IsTrue (is_wanted_end table haystack whole (q, p)) → ⊥)
           → ((a : ℕ) (l : Node) → step (q, p) a ≡ Some l → l.1 ≡ p)
           → ((w : List ℕ) (rest : List (Offer Node)) → WayTold table haystack s i state.row (q, p) w
           → FramesHold table haystack s p i state.row state.frames rest
@@ -208,7 +211,8 @@ module _ (table : List (Place ℕ)) (at : SearchAt) (state : State) (i : Told) (
                 walking.way)
                 (offers_listed table haystack q p w (width (q, p)) 0)
                 (deep.in_step_free Node step same_node width (no_more table haystack)
-                (StartsOf s first last) (is_end table haystack) (λ x. x.1) fresh (taken w rest e)
+                (StartsOf s first last) (is_wanted_end table haystack whole) (λ x. x.1) fresh
+                (taken w rest e)
                 open_still stays));
             seen = seen_now w;
             met = met_now w;
@@ -219,7 +223,8 @@ module _ (table : List (Place ℕ)) (at : SearchAt) (state : State) (i : Told) (
           }
 
       -- its arrows lead to the next position
-      pub walk_read : (next : List Thread) → (IsTrue (is_end table haystack (q, p)) → ⊥)
+      pub walk_read : (next : List Thread) → (IsTrue (is_wanted_end table haystack whole (q, p))
+          → ⊥)
           → ((a : ℕ) (l : Node) → step (q, p) a ≡ Some l → l.1 ≡ suc p)
           → ((w : List ℕ) (coming : List (Offer Node))
           → WayTold table haystack s i state.row (q, p) w
@@ -240,7 +245,8 @@ module _ (table : List (Place ℕ)) (at : SearchAt) (state : State) (i : Told) (
                 (walking.coming ++ z) walking.way)
                 (offers_listed table haystack q p w (width (q, p)) 0)
                 (deep.in_step_read Node step same_node width (no_more table haystack)
-                (StartsOf s first last) (is_end table haystack) (λ x. x.1) fresh (taken w rest e)
+                (StartsOf s first last) (is_wanted_end table haystack whole) (λ x. x.1) fresh
+                (taken w rest e)
                 open_still moves);
             seen = seen_now w;
             met = met_now w;
@@ -251,7 +257,7 @@ module _ (table : List (Place ℕ)) (at : SearchAt) (state : State) (i : Told) (
           }
 
       -- a match is complete there
-      pub walk_complete : IsTrue (is_end table haystack (q, p))
+      pub walk_complete : IsTrue (is_wanted_end table haystack whole (q, p))
           → IsWalking table at (record (marked_in state q) { frames = [] }) i []
           (Some (i, offset haystack p, state.row))
       walk_complete ends = go walking.frames_hold
@@ -265,13 +271,16 @@ module _ (table : List (Place ℕ)) (at : SearchAt) (state : State) (i : Told) (
             coming = walking.coming;
             way = Some w;
             in_step =
-                in_step_complete Node step (StartsOf s first last) (is_end table haystack)
+                in_step_complete Node step (StartsOf s first last)
+                (is_wanted_end table haystack whole)
                 (λ x. x.1) same_node width (no_more table haystack) fresh (taken w rest e)
-                ends (λ a. no_arrow_at table haystack (place_with table q) p a ends);
+                ends (λ a. no_arrow_at table haystack (place_with table q) p a
+                (complete_there table haystack whole (q, p) ends));
             seen = seen_now w;
             met = met_now w;
             frames_hold = refl;
             ways_hold = tt;
             coming_hold = walking.coming_hold;
-            best_holds = (w, refl, (q, p, refl, ends, holds));
+            best_holds =
+                (w, refl, (q, p, refl, complete_there table haystack whole (q, p) ends, holds));
           }

@@ -29,19 +29,19 @@ walk_is w {m = m} em ec =
     ap (λ (z : State). record w { memory = z }) em
     ∙ ap (λ (z : StepCounts). record w { memory = m; steps = z }) ec
 
-module _ (table : List (Place ℕ)) (here : Here) (i : Told) {S : Type 0} where
+module _ (table : List (Place ℕ)) (whole : Bool) (here : Here) (i : Told) {S : Type 0} where
   -- the place was entered before
   pub went_seen : (w x : Walk S) (q : ℕ) → HasRoom table w (explore q ∷ w.memory.frames)
       → slice_index_or w.memory.entered q false ≡ true
       → x.memory ≡ record w.memory { entered = slice_set w.memory.entered q true }
       → x.steps ≡ record w.steps { tried = w.steps.tried + 1 }
-      → Went table here i (with_frames w (explore q ∷ w.memory.frames)) x false
+      → Went table whole here i (with_frames w (explore q ∷ w.memory.frames)) x false
   went_seen w x q fit was em ec =
       let m = w.memory in let few = fit.few_tries in let et = fit.entered_tried in
       let all = fit.all_seen in let lt = fit.frames_below.0 in
       let same : slice_set m.entered q true ≡ m.entered =
       ap (set m.entered q) (sym was) ∙ set-get_or m.entered q false in
-      subst (λ (z : Walk S). Went table here i (with_frames w (explore q ∷ m.frames)) z false)
+      subst (λ (z : Walk S). Went table whole here i (with_frames w (explore q ∷ m.frames)) z false)
       (sym (walk_is x (em ∙ ap (λ r. record m { entered = r }) same) ec))
       (record {
         fit = record {
@@ -57,9 +57,9 @@ module _ (table : List (Place ℕ)) (here : Here) (i : Told) {S : Type 0} where
           looked_entered = fit.looked_entered;
         };
         on = record {
-          walks = λ at is ways best u.
+          walks = λ at same is ways best u.
               walk_seen table at m i ways best q (omega (arith, all, lt)) u was;
-          again = λ tell there at alike is ways best u.
+          again = λ every tell there at same alike is ways best u.
               walk_seen table at (state_retold tell m) (tell i) ways best q (omega (arith, all, lt))
               u was;
           spent = omega arith;
@@ -75,7 +75,7 @@ module _ (table : List (Place ℕ)) (here : Here) (i : Told) {S : Type 0} where
       (fit : HasRoom table w (explore q ∷ w.memory.frames))
       (new : slice_index_or w.memory.entered q false ≡ true → ⊥)
       (at : slice_get table q ≡ Some (place_of x))
-      (enters : Enters here i x (marked_in w.memory q) e done)
+      (enters : Enters whole here i x (marked_in w.memory q) e done)
       (same : e ≡ record (marked_in w.memory q) {
         row = e.row;
         frames = e.frames;
@@ -85,8 +85,8 @@ module _ (table : List (Place ℕ)) (here : Here) (i : Told) {S : Type 0} where
     abbrev e' : State
     e' = record (marked_in w.memory q) { row = e.row; frames = e.frames; next = e.next }
 
-    enters' : Enters here i x (marked_in w.memory q) e' done
-    enters' = subst (λ z. Enters here i x (marked_in w.memory q) z done) same enters
+    enters' : Enters whole here i x (marked_in w.memory q) e' done
+    enters' = subst (λ z. Enters whole here i x (marked_in w.memory q) z done) same enters
 
     fewer : (b : Bool) → explores (if b then [] else e.frames) ≤ explores e.frames
     fewer true = omega arith
@@ -108,12 +108,12 @@ module _ (table : List (Place ℕ)) (here : Here) (i : Told) {S : Type 0} where
           entered = w.steps.entered + 1;
           looked = w.steps.looked + 1;
         }
-        → Went table here i (with_frames w (explore q ∷ w.memory.frames)) after done
+        → Went table whole here i (with_frames w (explore q ∷ w.memory.frames)) after done
     went_entered after em ec =
         let m = w.memory in
         let short : q < length m.entered =
         (let all = fit.all_seen in let lt = fit.frames_below.0 in omega (arith, all, lt)) in
-        let adds = enters_adds here i (length table) (marked_in m q) fit.frames_below.1
+        let adds = enters_adds whole here i (length table) (marked_in m q) fit.frames_below.1
         fit.threads_below e' done x inside enters' in
         let few = adds.few in let long = adds.long in let keeps = adds.keeps in
         let work_left = left_enter weight m.entered table q (place_of x) at short new in
@@ -126,7 +126,8 @@ module _ (table : List (Place ℕ)) (here : Here) (i : Told) {S : Type 0} where
         let stack_room = fit.stack_room in let next_room = fit.next_room in
         let few_tries = fit.few_tries in let few_entries = fit.few_entries in
         let entered_tried = fit.entered_tried in let looked_entered = fit.looked_entered in
-        subst (λ (z : Walk S). Went table here i (with_frames w (explore q ∷ m.frames)) z done)
+        subst (λ (z : Walk S). Went table whole here i (with_frames w (explore q ∷ m.frames)) z
+        done)
         (sym (walk_is after
         (em ∙ ap (λ (z : State). record z { frames = if done then [] else e.frames }) same) ec))
         (record {
@@ -143,11 +144,13 @@ module _ (table : List (Place ℕ)) (here : Here) (i : Told) {S : Type 0} where
             looked_entered = omega (arith, looked_entered);
           };
           on = record {
-            walks = λ search is ways best u.
+            walks = λ search wanted is ways best u.
                 walk_enters table search m i ways best q short u new here is x e' done
-                (ap (λ o. unwrap_or o (with_arrows [])) at) enters';
-            again = λ tell there.
-                entered_again table here there i tell m q x e' done short new at enters';
+                (ap (λ o. unwrap_or o (with_arrows [])) at)
+                (subst (λ z. Enters z here i x (marked_in m q) e' done) (sym wanted) enters');
+            again = λ every tell there.
+                entered_again table here there i tell m q x e' done short new at
+                (subst (λ z. Enters z here i x (marked_in m q) e' done) every enters');
             spent = omega (arith, arrows_left, few, ends);
             spent_entries = omega (arith, lone_left);
           };
@@ -155,25 +158,25 @@ module _ (table : List (Place ℕ)) (here : Here) (i : Told) {S : Type 0} where
           cleared = λ d. ap (λ b. if b then [] else e.frames) d;
         })
 
-  pub goes_nowhere : (w : Walk S) → GoesOn table here i w w false
+  pub goes_nowhere : (w : Walk S) → GoesOn table whole here i w w false
   goes_nowhere w = record {
-    walks = λ at is ways best u. u;
-    again = λ tell there at alike is ways best u. u;
+    walks = λ at same is ways best u. u;
+    again = λ every tell there at same alike is ways best u. u;
     spent = omega arith;
     spent_entries = omega arith;
   }
 
-  pub goes_further : (w x y : Walk S) (done : Bool) → GoesOn table here i w x false
-      → GoesOn table here i x y done → GoesOn table here i w y done
+  pub goes_further : (w x y : Walk S) (done : Bool) → GoesOn table whole here i w x false
+      → GoesOn table whole here i x y done → GoesOn table whole here i w y done
   goes_further w x y done first second =
       let spent = first.spent in let more = second.spent in
       let entries = first.spent_entries in let more_entries = second.spent_entries in
       record {
-        walks = λ at is ways best u.
-            second.walks at is ways best (first.walks at is ways best u);
-        again = λ tell there at alike is ways best u.
-            second.again tell there at alike is ways best
-            (first.again tell there at alike is ways best u);
+        walks = λ at same is ways best u.
+            second.walks at same is ways best (first.walks at same is ways best u);
+        again = λ every tell there at same alike is ways best u.
+            second.again every tell there at same alike is ways best
+            (first.again every tell there at same alike is ways best u);
         spent = omega (arith, spent, more);
         spent_entries = omega (arith, entries, more_entries);
       }
@@ -184,7 +187,7 @@ module _ (table : List (Place ℕ)) (here : Here) (i : Told) {S : Type 0} where
   -- frames were taken off up to the next place
   pub record IsBack (w x : Walk S) : Type 0 where
     pub fit : IsFit table x
-    pub on : GoesOn table here i w x false
+    pub on : GoesOn table whole here i w x false
     pub less : work table x.memory ≤ work table w.memory
 
   went_restored : (w : Walk S) (slot : ℕ) (old : Option ℕ) (fs : List Job)
@@ -209,10 +212,10 @@ module _ (table : List (Place ℕ)) (here : Here) (i : Told) {S : Type 0} where
           looked_entered = fit.looked_entered;
         };
         on = record {
-          walks = λ at is ways best u.
+          walks = λ at same is ways best u.
               walk_framed table at (record m { frames = restore slot old ∷ fs }) i ways best u i
               (slice_set m.row slot old) fs u.frames_hold;
-          again = λ tell there at alike is ways best u.
+          again = λ every tell there at same alike is ways best u.
               walk_framed table at
               (state_retold tell (record m { frames = restore slot old ∷ fs })) (tell i) ways best u
               (tell i) [] fs u.frames_hold;

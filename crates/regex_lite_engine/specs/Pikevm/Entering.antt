@@ -6,6 +6,7 @@ use Rattle.regex_lite_syntax.specs.Ranges.{in_ranges}
 use Rattle.regex_lite_syntax.specs.Sets.{Set, just}
 use Rattle.regex_lite_syntax.specs.Tree.Looks.{holds_between}
 use Rattle.regex_lite_engine.specs.Search.Beginnings.{Told}
+use Rattle.regex_lite_engine.specs.Search.NumberedAnswer.{are_wanted_before}
 use Rattle.regex_lite_engine.specs.declared.nfa.place.Place.{Place}
 use Rattle.regex_lite_engine.specs.declared.nfa.place.Place.TheVariants as stored
 use Rattle.regex_lite_engine.specs.declared.pikevm.enter.Onward as code
@@ -55,8 +56,9 @@ SlotMarked at slot to before after =
     }))))
     ⊎ ((length before.row ≤ slot) × (after ≡ pushing before (explore to ∷ [])))
 
-module _ (here : Here) (told : Told) where
-  -- `told` is kept of where the way to the place began; `done` says that a match is complete there
+module _ (whole : Bool) (here : Here) (told : Told) where
+  -- `told` is kept of where the way to the place began; `done` says that a match that is wanted is
+  -- complete there
   abbrev pub Enters : Place → (before after : State) → (done : Bool) → Type 0
   Enters (stored.Empty to) before after done =
       (after ≡ pushing before (explore to ∷ [])) × (done ≡ false)
@@ -76,4 +78,5 @@ module _ (here : Here) (told : Told) where
       (after ≡ pushing before (explore first ∷ (explore second ∷ []))) × (done ≡ false)
   Enters (stored.Branches entries) before after done =
       (after ≡ pushing before (map explore entries.items)) × (done ≡ false)
-  Enters stored.Match before after done = (after ≡ before) × (done ≡ true)
+  Enters stored.Match before after done =
+      (after ≡ before) × (done ≡ are_wanted_before whole here.after)

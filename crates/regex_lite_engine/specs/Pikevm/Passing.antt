@@ -1,5 +1,6 @@
 -- From one position of a search to a later one.
-use Rattle.std.specs.Prelude.{◌≡◌, ◌⊎◌, ◌+◌, ◌-◌, ◌*◌, ◌≤◌, ℕ, List, [], length, None}
+use Rattle.std.specs.Prelude.{◌≡◌, ◌⊎◌, ◌+◌, ◌-◌, ◌*◌, ◌≤◌, ℕ, Bool, false, List, [], length}
+use Rattle.std.specs.Prelude.{None}
 use Rattle.regex_lite_syntax.specs.Text.{Text}
 use Rattle.regex_lite_engine.specs.declared.search.here.Here.{Here}
 use Rattle.regex_lite_engine.specs.declared.pikevm.cache.Cache.{Cache}
@@ -10,7 +11,7 @@ use Rattle.regex_lite_engine.specs.Pikevm.Searching.{IsBetween}
 use Rattle.regex_lite_engine.specs.Search.Standing.{IsHere}
 use Rattle.regex_lite_engine.specs.Search.Starts.{AreDeadAt, PassesTo}
 use Rattle.regex_lite_engine.specs.Pikevm.Machine.{Thread}
-use Rattle.regex_lite_engine.specs.Pikevm.Turns.{best_of, IsComing, EndsAt}
+use Rattle.regex_lite_engine.specs.Pikevm.Turns.{best_of, IsComing, IsComingTo, EndsAt}
 use Rattle.regex_lite_engine.specs.Search.NumberedOutcomes.{Best}
 
 -- A search goes on here from position p. Where there is neither a thread nor a match it passes over
@@ -32,11 +33,13 @@ module _ (table : List (Place ℕ)) (haystack : Text) (starts : List ℕ) (first
     pub entries : cache.walk.steps.entered ≤ len * (p - first)
     pub few : length cache.walk.memory.threads ≤ reading_of (row_of table low len)
 
-  -- a search for matches that start from position `first` to `last` has come to position p
-  pub record IsUnderWayTo {S : Type 0} (last p : ℕ) (cache : Cache S) : Type 0 where
+  -- a search for matches that are wanted, and start from position `first` to `last`, has come to
+  -- position p
+  pub record IsUnderWayTo {S : Type 0} (whole : Bool) (last p : ℕ) (cache : Cache S)
+      : Type 0 where
     pub low : first ≤ p
     pub ready : IsBetween table cache
-    pub coming : IsComing table haystack starts first last p cache.walk.memory.threads
+    pub coming : IsComingTo table haystack starts whole first last p cache.walk.memory.threads
         (best_of cache.best)
     pub tries :
         cache.walk.steps.tried + length cache.walk.memory.threads
@@ -45,9 +48,9 @@ module _ (table : List (Place ℕ)) (haystack : Text) (starts : List ℕ) (first
     -- it stays in any part of its own
     pub own : (low len : ℕ) → IsOwnPart table starts low len → HasSpentWithin low len p cache
 
-  -- a search for matches that start from position `first` on has come to position p
+  -- a search for all matches that start from position `first` on has come to position p
   abbrev pub IsUnderWay : {S : Type 0} → (p : ℕ) → Cache S → Type 0
-  IsUnderWay p cache = IsUnderWayTo (length haystack) p cache
+  IsUnderWay p cache = IsUnderWayTo false (length haystack) p cache
 
   -- it has gone over a position that is not before p
   pub record Passes {S : Type 0} (p : ℕ) (cache cache' : Cache S) (here : Here) : Type 0 where

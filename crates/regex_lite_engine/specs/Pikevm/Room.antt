@@ -83,29 +83,33 @@ module _ (table : List (Place ℕ)) where
       → IsWalking table at after told (if done then [] else ways)
       (if done then Some (told, here.at, after.row) else best)
 
-  -- any search does, in whatever haystack it stands there
-  abbrev pub WalksTo : Here → (told : Told) → (before after : State) → (done : Bool) → Type 0
-  WalksTo here told before after done = (at : SearchAt) → WalksAt at here told before after done
+  -- any search for such matches does, in whatever haystack it stands there
+  abbrev pub WalksTo : (whole : Bool) → Here → (told : Told) → (before after : State)
+      → (done : Bool) → Type 0
+  WalksTo whole here told before after done =
+      (at : SearchAt) → at.whole ≡ whole → WalksAt at here told before after done
 
-  -- the same from wherever it looks the same, with something else kept
+  -- a search for all matches does the same from wherever it looks the same, with something else
+  -- kept
   abbrev pub WalksAgain : Here → (told : Told) → (before after : State) → (done : Bool) → Type 0
   WalksAgain here told before after done =
-      (tell : Told → Told) (there : Here) (at : SearchAt) → AreAlike table at.entries here there
+      (tell : Told → Told) (there : Here) (at : SearchAt) → at.whole ≡ false
+      → AreAlike table at.entries here there
       → WalksAt at there (tell told) (state_retold tell before) (state_retold tell after) done
 
   -- a walk went on, up to a complete match where it is done
-  pub record GoesOn {S : Type 0} (here : Here) (told : Told) (walk walk' : Walk S) (done : Bool)
-      : Type 0 where
-    pub walks : WalksTo here told walk.memory walk'.memory done
-    pub again : WalksAgain here told walk.memory walk'.memory done
+  pub record GoesOn {S : Type 0} (whole : Bool) (here : Here) (told : Told) (walk walk' : Walk S)
+      (done : Bool) : Type 0 where
+    pub walks : WalksTo whole here told walk.memory walk'.memory done
+    pub again : whole ≡ false → WalksAgain here told walk.memory walk'.memory done
     pub spent : due_tries walk' ≤ due_tries walk
     pub spent_entries : due_entries walk' ≤ due_entries walk
 
   -- a frame was popped, or all of them if a match is complete
-  pub record Went {S : Type 0} (here : Here) (told : Told) (walk walk' : Walk S) (done : Bool)
-      : Type 0 where
+  pub record Went {S : Type 0} (whole : Bool) (here : Here) (told : Told) (walk walk' : Walk S)
+      (done : Bool) : Type 0 where
     pub fit : IsFit walk'
-    pub on : GoesOn here told walk walk' done
+    pub on : GoesOn whole here told walk walk' done
     pub less : done ≡ false → work walk'.memory < work walk.memory
     pub cleared : done ≡ true → walk'.memory.frames ≡ []
 
@@ -114,16 +118,16 @@ module _ (table : List (Place ℕ)) where
   abbrev pub HasRoom : {S : Type 0} → Walk S → List Job → Type 0
   HasRoom walk frames = IsFit (with_frames walk frames)
 
-  abbrev pub TakesFrame : {S : Type 0} → Here → (told : Told) → Walk S → List Job → Walk S
-      → List Job → (done : Bool) → Type 0
-  TakesFrame here told walk frames walk' frames' done =
-      Went here told (with_frames walk frames) (with_frames walk' frames') done
+  abbrev pub TakesFrame : {S : Type 0} → (whole : Bool) → Here → (told : Told) → Walk S
+      → List Job → Walk S → List Job → (done : Bool) → Type 0
+  TakesFrame whole here told walk frames walk' frames' done =
+      Went whole here told (with_frames walk frames) (with_frames walk' frames') done
 
   -- all frames were popped
-  abbrev pub Explores : {S : Type 0} → Here → (told : Told) → (walk walk' : Walk S) → List Job
-      → (done : Bool) → Type 0
-  Explores here told walk walk' frames done =
-      GoesOn here told (with_frames walk frames) (with_frames walk' []) done
+  abbrev pub Explores : {S : Type 0} → (whole : Bool) → Here → (told : Told)
+      → (walk walk' : Walk S) → List Job → (done : Bool) → Type 0
+  Explores whole here told walk walk' frames done =
+      GoesOn whole here told (with_frames walk frames) (with_frames walk' []) done
 
 -- what a walk over the position leaves as it is
 pub record KeepsPosition (memory memory' : State) : Type 0 where

@@ -45,21 +45,22 @@ module _ (table : List (Place ℕ)) where
     pub budget : due_tries table cache.walk + length ways < 2 ^ 127
 
   -- these ways were followed
-  pub record Follows {S : Type 0} (here : Here) (ways : List Thread) (cache cache' : Cache S)
-      : Type 0 where
-    pub steps : StepsTo table here cache.walk.memory ways (best_of cache.best) cache'.walk.memory
-        [] (best_of cache'.best)
+  pub record Follows {S : Type 0} (whole : Bool) (here : Here) (ways : List Thread)
+      (cache cache' : Cache S) : Type 0 where
+    pub steps : StepsTo table whole here cache.walk.memory ways (best_of cache.best)
+        cache'.walk.memory [] (best_of cache'.best)
     pub spent : due_tries table cache'.walk ≤ due_tries table cache.walk + length ways
     pub spent_entries : due_entries table cache'.walk ≤ due_entries table cache.walk
     pub stack_empty : cache'.walk.memory.frames ≡ []
     pub kept : KeepsPosition cache.walk.memory cache'.walk.memory
     pub best_width : length cache'.best.row ≡ length cache.best.row
 
-  -- they would be wherever it looks the same, whatever is kept of where the ways began
+  -- a search for all matches would follow them wherever it looks the same, whatever is kept of
+  -- where the ways began
   abbrev pub FollowsAgain : {S : Type 0} → Here → (ways : List Thread) → Cache S → Cache S
       → (hit : Bool) → Type 0
   FollowsAgain here ways cache cache' hit =
-      (tell : Told → Told) (there : Here) (best : Best) (at : SearchAt)
+      (tell : Told → Told) (there : Here) (best : Best) (at : SearchAt) → at.whole ≡ false
       → AreAlike table at.entries here there
       → StepsAt table at there (state_retold tell cache.walk.memory) (all_retold tell ways) best
       (state_retold tell cache'.walk.memory) []

@@ -1,5 +1,5 @@
 -- The threads of one position, and from one position to the next.
-use Rattle.std.specs.Prelude.{◌≡◌, ◌≤◌, ◌<◌, ◌⊎◌, ℕ, List, [], ◌∷◌, ◌++◌, length}
+use Rattle.std.specs.Prelude.{◌≡◌, ◌≤◌, ◌<◌, ◌⊎◌, ℕ, Bool, false, List, [], ◌∷◌, ◌++◌, length}
 use Rattle.std.specs.Prelude.{replicate, Option, Some, None}
 use Rattle.regex_lite_syntax.specs.Text.{Text}
 use Rattle.regex_lite_engine.specs.declared.search.here.Here.{Here}
@@ -42,24 +42,29 @@ module _ (table : List (Place ℕ)) where
   StepsAt at here before ways best after left best' =
       IsHere at.haystack at.p here → Between at before ways best → Between at after left best'
 
-  -- any search does
-  abbrev pub StepsTo : Here → (before : State) → (ways : List Thread) → Best → (after : State)
-      → (left : List Thread) → Best → Type 0
-  StepsTo here before ways best after left best' =
-      (at : SearchAt) → StepsAt at here before ways best after left best'
+  -- any search for such matches does
+  abbrev pub StepsTo : (whole : Bool) → Here → (before : State) → (ways : List Thread) → Best
+      → (after : State) → (left : List Thread) → Best → Type 0
+  StepsTo whole here before ways best after left best' =
+      (at : SearchAt) → at.whole ≡ whole → StepsAt at here before ways best after left best'
 
   -- all below position p is done; what is offered at p are the threads, without its own start
-  pub record IsComing (haystack : Text) (entries : List ℕ) (first last p : ℕ)
+  pub record IsComingTo (haystack : Text) (entries : List ℕ) (whole : Bool) (first last p : ℕ)
       (threads : List Thread) (best : Best) : Type 0 where
     pub recorded : Node → Option (List ℕ)
     pub coming : List (Offer Node)
     pub way : Option (List ℕ)
     pub from : ℕ
-    pub in_step : InStep table haystack entries first last p from recorded coming [] way
+    pub in_step : InStep table haystack entries whole first last p from recorded coming [] way
     pub before : (node : Node) (own : List ℕ) → recorded node ≡ Some own → node.1 < p
     pub hold : ThreadsHold table haystack entries p threads coming
     pub best_holds : BestHolds table haystack entries best way
     pub from_is : FromIs p from best
+
+  -- of a search for all matches
+  abbrev pub IsComing : (haystack : Text) → (entries : List ℕ) → (first last p : ℕ)
+      → (threads : List Thread) → Best → Type 0
+  IsComing haystack entries = IsComingTo haystack entries false
 
   -- the memory of a search between two positions
   pub record IsReady (memory : State) (best : BestState) (counts : StepCounts) : Type 0 where

@@ -1,11 +1,12 @@
 -- What a search over a table of numbered places keeps true while it goes over one position.
-use Rattle.std.specs.Prelude.{◌≡◌, ℕ, suc, IsTrue, List, [], ◌∷◌, ◌++◌}
+use Rattle.std.specs.Prelude.{◌≡◌, ℕ, suc, Bool, IsTrue, List, [], ◌∷◌, ◌++◌}
 use Rattle.std.specs.Prelude.{Option, Some, None, slice_set, slice_index_or, true, false}
 use Rattle.regex_lite_syntax.specs.Text.{Text}
 use Rattle.regex_lite_engine.specs.Graph.Places.{Place}
 use Rattle.regex_lite_engine.specs.Graph.Ways.{Leads}
 use Rattle.regex_lite_engine.specs.Search.Marks.{marks_along}
 use Rattle.regex_lite_engine.specs.Search.NumberedAnswer.{place_with, numbered_step, is_end}
+use Rattle.regex_lite_engine.specs.Search.NumberedAnswer.{is_wanted_end}
 use Rattle.regex_lite_engine.specs.Search.NumberedList.{IsEntry, StartsOf}
 use Rattle.regex_lite_engine.specs.Search.Offsets.{offset, HasSlots}
 use Rattle.regex_lite_engine.specs.Search.Beginnings.{Told, TellsStart}
@@ -55,18 +56,20 @@ module _ (table : List (Place ℕ)) (haystack : Text) where
         × ((place : ℕ) × (end : ℕ) × (best.1 ≡ offset haystack end)
         × IsTrue (is_end table haystack (place, end)) × WayTold best.0 best.2 (place, end) own)
 
-    module _ (first last : ℕ) where
+    module _ (whole : Bool) (first last : ℕ) where
       abbrev pub InStep : (p from : ℕ) → (recorded : Node → Option (List ℕ))
           → (offers next : List (Offer Node)) → (way : Option (List ℕ)) → Type 0
       InStep =
           IsInStep Node (numbered_step table haystack) (StartsOf entries first last)
-          (is_end table haystack) (λ node. node.1)
+          (is_wanted_end table haystack whole) (λ node. node.1)
 
 -- a search at position p: for the patterns that are entered at these places, by ways that start
--- from `first` to `last`. Starts below `from` were offered
+-- from `first` to `last`; with `whole` for matches that end where the haystack does. Starts below
+-- `from` were offered
 pub record SearchAt : Type 0 where
   pub haystack : Text
   pub entries : List ℕ
+  pub whole : Bool
   pub first : ℕ
   pub last : ℕ
   pub p : ℕ
@@ -81,8 +84,8 @@ pub record IsWalking (table : List (Place ℕ)) (at : SearchAt) (state : State) 
   pub later : List (Offer Node)
   pub coming : List (Offer Node)
   pub way : Option (List ℕ)
-  pub in_step : InStep table at.haystack at.entries at.first at.last at.p at.from recorded
-      (under ++ later) coming way
+  pub in_step : InStep table at.haystack at.entries at.whole at.first at.last at.p at.from
+      recorded (under ++ later) coming way
   -- just the places with a record at the position are in the set of those entered
   pub seen : (place : ℕ) (own : List ℕ) → recorded (place, at.p) ≡ Some own
       → slice_index_or state.entered place false ≡ true

@@ -3,6 +3,7 @@ use Rattle.std.specs.Prelude.{◌≡◌, ◌≤◌, ℕ, List, Option, Some, Non
 use Rattle.regex_lite_syntax.specs.Text.{Text}
 use Rattle.regex_lite_syntax.specs.Tree.{Tree}
 use Rattle.regex_lite_syntax.specs.Tree.Matches.{IsPosition, Matches}
+use Rattle.regex_lite_engine.specs.Graph.WrittenOut.{IsWayThrough}
 use Rattle.regex_lite_engine.specs.Search.Marks.{Marks, marks_of_way}
 use Rattle.regex_lite_engine.specs.Search.Preference.{IsMostPreferred}
 
@@ -21,6 +22,13 @@ pub record Found : Type 0 where
   pub start : ℕ
   pub end : ℕ
   pub marks : Marks
+
+-- a way leads from where the match starts to where it ends, and marks what is found
+pub record IsOfWay (tree : Tree) (haystack : Text) (found : Found) : Type 0 where
+  pub inside : IsPosition haystack found.start
+  pub way : List ℕ
+  pub is_way : IsWayThrough tree haystack found.start way found.end
+  pub marks : found.marks ≡ marks_of_way tree haystack found.start way
 
 -- the least position at or after s from which the tree matches, with the end and the marks of the
 -- most preferred way from there

@@ -7,8 +7,8 @@ use Rattle.regex_lite_engine.specs.Graph.Places.{Place}
 use Rattle.regex_lite_engine.specs.Search.Answer.{Found}
 use Rattle.regex_lite_engine.specs.Search.Beginnings.{Told, IsTold, TellsStart}
 use Rattle.regex_lite_engine.specs.Search.NumberedAnswer.{IsNumberedAnswer}
-use Rattle.regex_lite_engine.specs.Search.NumberedList.{IsMatchOfAny, IsNumberedAnswerOf}
-use Rattle.regex_lite_engine.specs.Search.NumberedList.{IsNumberedAnswerTo, IsNumberedShortestOf}
+use Rattle.regex_lite_engine.specs.Search.NumberedList.{IsNumberedAnswerOf, IsWantedOfAny}
+use Rattle.regex_lite_engine.specs.Search.NumberedList.{IsNumberedShortestOf, IsWantedAnswerTo}
 use Rattle.regex_lite_engine.specs.Search.Offsets.{offset, HasSlots}
 use Rattle.regex_lite_engine.specs.Search.Rows.{Row}
 
@@ -76,16 +76,21 @@ IsBestOutcomeOf table haystack entries s (Some best) =
     × TellsStart best.0 (offset haystack found.start) number × (best.1 ≡ offset haystack found.end)
     × HasSlots haystack best.2 found.marks
 
--- the same of a search for matches that start at position `last` at the latest
-abbrev pub IsBestOutcomeTo : List (Place ℕ) → Text → (entries : List ℕ) → (s last : ℕ) → Best
-    → Type 0
-IsBestOutcomeTo table haystack entries s last None =
-    IsNumberedAnswerTo table haystack entries s last None
-IsBestOutcomeTo table haystack entries s last (Some best) =
+-- the same of a search for matches that are wanted, and start at position `last` at the latest
+abbrev pub IsWantedOutcomeTo : List (Place ℕ) → Text → (entries : List ℕ) → (whole : Bool)
+    → (s last : ℕ) → Best → Type 0
+IsWantedOutcomeTo table haystack entries whole s last None =
+    IsWantedAnswerTo table haystack entries whole s last None
+IsWantedOutcomeTo table haystack entries whole s last (Some best) =
     (number : ℕ) × (found : Found)
-    × IsNumberedAnswerTo table haystack entries s last (Some (number, found))
+    × IsWantedAnswerTo table haystack entries whole s last (Some (number, found))
     × TellsStart best.0 (offset haystack found.start) number × (best.1 ≡ offset haystack found.end)
     × HasSlots haystack best.2 found.marks
+
+-- all of them are wanted
+abbrev pub IsBestOutcomeTo : List (Place ℕ) → Text → (entries : List ℕ) → (s last : ℕ) → Best
+    → Type 0
+IsBestOutcomeTo table haystack entries = IsWantedOutcomeTo table haystack entries false
 
 -- the match has all offsets of the answer
 abbrev pub IsNumberedOutcome : List (Place ℕ) → Text → (start s : ℕ) → Option (ℕ × ℕ × Row)
@@ -108,18 +113,21 @@ abbrev pub IsFoundOf : (earliest : Bool) → List (Place ℕ) → Text → (entr
 IsFoundOf false table haystack entries s best = IsBestOutcomeOf table haystack entries s best
 IsFoundOf true table haystack entries s best = IsNumberedEndOf table haystack entries s best
 
--- where a match is found it is known that one starts at position `last` at the latest, whatever is
--- said of it
-abbrev pub IsAnyTo : List (Place ℕ) → Text → (entries : List ℕ) → (s last : ℕ) → Best → Type 0
-IsAnyTo table haystack entries s last None = IsNumberedAnswerTo table haystack entries s last None
-IsAnyTo table haystack entries s last (Some best) =
+-- where a match is found it is known that one that is wanted starts at position `last` at the
+-- latest, whatever is said of it
+abbrev pub IsAnyTo : List (Place ℕ) → Text → (entries : List ℕ) → (whole : Bool) → (s last : ℕ)
+    → Best → Type 0
+IsAnyTo table haystack entries whole s last None =
+    IsWantedAnswerTo table haystack entries whole s last None
+IsAnyTo table haystack entries whole s last (Some best) =
     (i k : ℕ) × (way : List ℕ) × (q j : ℕ) × (i ≤ last)
-    × IsMatchOfAny table haystack entries s i k way q j
+    × IsWantedOfAny table haystack entries whole s i k way q j
 
 -- what is asked of such a search is the most preferred match or, with `earliest`, whether there is
 -- one
 abbrev pub IsFoundTo : (earliest : Bool) → List (Place ℕ) → Text → (entries : List ℕ)
-    → (s last : ℕ) → Best → Type 0
-IsFoundTo false table haystack entries s last best =
-    IsBestOutcomeTo table haystack entries s last best
-IsFoundTo true table haystack entries s last best = IsAnyTo table haystack entries s last best
+    → (whole : Bool) → (s last : ℕ) → Best → Type 0
+IsFoundTo false table haystack entries whole s last best =
+    IsWantedOutcomeTo table haystack entries whole s last best
+IsFoundTo true table haystack entries whole s last best =
+    IsAnyTo table haystack entries whole s last best

@@ -7,7 +7,7 @@ use Rattle.regex_lite_engine.specs.Graph.Renumbered.{arrows_of}
 use Rattle.regex_lite_engine.specs.Search.Beginnings.{untold}
 use Rattle.regex_lite_engine.specs.Search.Bounds.{StepCounts, IsBounded}
 use Rattle.regex_lite_engine.specs.Search.NumberedOutcomes.{Best, IsNumberedEndOf, match_told}
-use Rattle.regex_lite_engine.specs.Search.NumberedOutcomes.{IsAnyTo, IsBestOutcomeTo}
+use Rattle.regex_lite_engine.specs.Search.NumberedOutcomes.{IsAnyTo, IsWantedOutcomeTo}
 use Rattle.regex_lite_engine.specs.Search.NumberedOutcomes.{IsNumberedOutcome, with_start_kept}
 use Rattle.regex_lite_engine.specs.Search.Offsets.{position_at}
 use Rattle.regex_lite_engine.specs.Search.Rows.{Row}
@@ -35,20 +35,20 @@ TellsOfOne table entry haystack start =
     (IsNumberedOutcome table (chars haystack) entry (position_at haystack start)) table haystack
     start
 
--- its match among those that start at the offset
-abbrev pub TellsOfOneAt : (table : List (Place ℕ)) → (entry : ℕ) → (haystack : List ℕ)
-    → (start width : ℕ) → Option Outcome × StepCounts → Type 0
-TellsOfOneAt table entry haystack start =
+-- its match among those that start at the offset and are wanted
+abbrev pub TellsOfOneAt : (table : List (Place ℕ)) → (entry : ℕ) → (whole : Bool)
+    → (haystack : List ℕ) → (start width : ℕ) → Option Outcome × StepCounts → Type 0
+TellsOfOneAt table entry whole haystack start =
     TellsOfSearch
-    (λ told. IsBestOutcomeTo table (chars haystack) (entry ∷ []) (position_at haystack start)
-    (position_at haystack start) (with_start_kept told))
+    (λ told. IsWantedOutcomeTo table (chars haystack) (entry ∷ []) whole
+    (position_at haystack start) (position_at haystack start) (with_start_kept told))
     table haystack start
 
 -- whether there is one
-pub record TellsAnyOfOneAt (table : List (Place ℕ)) (entry : ℕ) (haystack : List ℕ) (start : ℕ)
-    (told : Bool × StepCounts) : Type 0 where
+pub record TellsAnyOfOneAt (table : List (Place ℕ)) (entry : ℕ) (whole : Bool)
+    (haystack : List ℕ) (start : ℕ) (told : Bool × StepCounts) : Type 0 where
   pub best : Best
-  pub found : IsAnyTo table (chars haystack) (entry ∷ []) (position_at haystack start)
+  pub found : IsAnyTo table (chars haystack) (entry ∷ []) whole (position_at haystack start)
       (position_at haystack start) best
   pub is_some : told.0 ≡ is_some best
   pub cost : IsWithinBounds table haystack start told.1

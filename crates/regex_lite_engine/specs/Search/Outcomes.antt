@@ -1,5 +1,5 @@
 -- What a search returns, by offsets.
-use Rattle.std.specs.Prelude.{◌≡◌, ℕ, List, [], Option, Some, None, chars}
+use Rattle.std.specs.Prelude.{◌≡◌, ℕ, Bool, List, [], Option, Some, None, chars}
 use Rattle.regex_lite_syntax.specs.Text.{Text}
 use Rattle.regex_lite_syntax.specs.Tree.{Tree}
 use Rattle.regex_lite_engine.specs.declared.search.outcome.Outcome.{Outcome}
@@ -32,10 +32,10 @@ IsSpanOutcome tree haystack start =
     IsSpanOf (IsAnswer tree (chars haystack) (search_start haystack start)) haystack
 
 -- or that of an anchored search at an offset
-abbrev pub IsSpanOutcomeAt : Tree → (haystack : List ℕ) → (start : ℕ)
+abbrev pub IsSpanOutcomeAt : (whole : Bool) → Tree → (haystack : List ℕ) → (start : ℕ)
     → (slots : List (Option ℕ)) → Option (ℕ × ℕ) → Type 0
-IsSpanOutcomeAt tree haystack start =
-    IsSpanOf (IsAnswerAt tree (chars haystack) (search_start haystack start)) haystack
+IsSpanOutcomeAt whole tree haystack start =
+    IsSpanOf (IsAnswerAt whole tree (chars haystack) (search_start haystack start)) haystack
 
 -- the outcome of a search is the answer's
 abbrev pub IsOutcome : Tree → (haystack : List ℕ) → (start : ℕ) → Option Outcome → Type 0
@@ -44,10 +44,12 @@ IsOutcome tree haystack start (Some outcome) =
     IsSpanOutcome tree haystack start outcome.slots.items (Some (outcome.start, outcome.end))
 
 -- the outcome of an anchored search is its answer's
-abbrev pub IsOutcomeAt : Tree → (haystack : List ℕ) → (start : ℕ) → Option Outcome → Type 0
-IsOutcomeAt tree haystack start None = IsSpanOutcomeAt tree haystack start [] None
-IsOutcomeAt tree haystack start (Some outcome) =
-    IsSpanOutcomeAt tree haystack start outcome.slots.items (Some (outcome.start, outcome.end))
+abbrev pub IsOutcomeAt : (whole : Bool) → Tree → (haystack : List ℕ) → (start : ℕ)
+    → Option Outcome → Type 0
+IsOutcomeAt whole tree haystack start None = IsSpanOutcomeAt whole tree haystack start [] None
+IsOutcomeAt whole tree haystack start (Some outcome) =
+    IsSpanOutcomeAt whole tree haystack start outcome.slots.items
+    (Some (outcome.start, outcome.end))
 
 -- the outcome of a search for the shortest match is the answer's: the offset where it ends
 abbrev pub IsEndOutcome : Tree → (haystack : List ℕ) → (start : ℕ) → Option ℕ → Type 0
@@ -79,10 +81,10 @@ IsSpanOutcomeOfList trees haystack start =
     IsNumberedSpanOf (IsAnswerOfList trees (chars haystack) (search_start haystack start)) haystack
 
 -- or that of an anchored search at an offset
-abbrev pub IsSpanOutcomeAtOfList : List Tree → (haystack : List ℕ) → (start : ℕ)
-    → (slots : List (Option ℕ)) → Option (ℕ × (ℕ × ℕ)) → Type 0
-IsSpanOutcomeAtOfList trees haystack start =
-    IsNumberedSpanOf (IsAnswerAtOfList trees (chars haystack) (search_start haystack start))
+abbrev pub IsSpanOutcomeAtOfList : (whole : Bool) → List Tree → (haystack : List ℕ)
+    → (start : ℕ) → (slots : List (Option ℕ)) → Option (ℕ × (ℕ × ℕ)) → Type 0
+IsSpanOutcomeAtOfList whole trees haystack start =
+    IsNumberedSpanOf (IsAnswerAtOfList whole trees (chars haystack) (search_start haystack start))
     haystack
 
 -- the outcome of a search for several patterns is the answer's
@@ -94,11 +96,12 @@ IsOutcomeOfList trees haystack start (Some told) =
     (Some (told.0, (told.1.start, told.1.end)))
 
 -- the outcome of an anchored search for several patterns is its answer's
-abbrev pub IsOutcomeAtOfList : List Tree → (haystack : List ℕ) → (start : ℕ)
+abbrev pub IsOutcomeAtOfList : (whole : Bool) → List Tree → (haystack : List ℕ) → (start : ℕ)
     → Option (ℕ × Outcome) → Type 0
-IsOutcomeAtOfList trees haystack start None = IsSpanOutcomeAtOfList trees haystack start [] None
-IsOutcomeAtOfList trees haystack start (Some told) =
-    IsSpanOutcomeAtOfList trees haystack start told.1.slots.items
+IsOutcomeAtOfList whole trees haystack start None =
+    IsSpanOutcomeAtOfList whole trees haystack start [] None
+IsOutcomeAtOfList whole trees haystack start (Some told) =
+    IsSpanOutcomeAtOfList whole trees haystack start told.1.slots.items
     (Some (told.0, (told.1.start, told.1.end)))
 
 -- a search of the graph of these trees did no more than is allowed

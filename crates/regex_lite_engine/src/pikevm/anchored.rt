@@ -16,11 +16,12 @@ use crate::search::here::Here;
 use crate::search::patterns::Anchored;
 
 /// Goes from position to position until the match that starts at this offset is known: the most
-/// preferred one or, with EARLIEST, any. It is over as soon as no way is left that began there.
+/// preferred one or, with EARLIEST, any; with WHOLE, of those that end where the haystack does. It
+/// is over as soon as no way is left that began there.
 ///
 /// Condition: the start is on a character boundary, the cache has just been made for the table of
 /// the patterns or made ready for another search, and no count of the search can be too large.
-pub fn run_anchored<S: Beginning, P: Anchored, const EARLIEST: bool>(
+pub fn run_anchored<S: Beginning, P: Anchored, const EARLIEST: bool, const WHOLE: bool>(
     cache: &mut Cache<S>,
     patterns: &mut P,
     haystack: &str,
@@ -31,8 +32,8 @@ pub fn run_anchored<S: Beginning, P: Anchored, const EARLIEST: bool>(
     requires counts { CanCount (P.table patterns.old) (length (P.entries patterns.old))
         (characters_left (chars haystack.now) (position_at haystack.now start)) }
     ensures found { IsFoundTo EARLIEST (P.table patterns.old) (chars haystack.now)
-        (P.entries patterns.old) (position_at haystack.now start) (position_at haystack.now start)
-        (best_of cache.new.best) }
+        (P.entries patterns.old) WHOLE (position_at haystack.now start)
+        (position_at haystack.now start) (best_of cache.new.best) }
     ensures bounded { IsBoundedBy (length (P.table patterns.old))
         (arrows_of (P.table patterns.old) + length (P.entries patterns.old)) (chars haystack.now)
         (position_at haystack.now start) cache.new.walk.steps.tried
@@ -47,7 +48,7 @@ pub fn run_anchored<S: Beginning, P: Anchored, const EARLIEST: bool>(
     let mut here = Here::at(haystack, start);
     patterns.come_to(haystack, here);
     'positions: loop {
-        cache.go_over(patterns, here);
+        cache.go_over::<_, WHOLE>(patterns, here);
         if cache.walk.memory.threads() == 0 || is_done::<_, EARLIEST>(here, cache) {
             return;
         }

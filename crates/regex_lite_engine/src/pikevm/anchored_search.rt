@@ -23,14 +23,14 @@ use std::alloc::{AllocError, Global};
 
 impl<'g> OnePattern<'g> {
     /// The most preferred match that starts at this offset, with this number of slots, and what the
-    /// search did.
+    /// search did. With WHOLE it is the most preferred of those that end where the haystack does.
     ///
     /// Condition: the start is on a character boundary.
     ///
     /// # Errors
     ///
     /// If memory runs out, which can happen only before the first step.
-    pub fn search_anchored(
+    pub fn search_anchored<const WHOLE: bool>(
         &mut self,
         alloc: Global,
         haystack: &str,
@@ -39,26 +39,26 @@ impl<'g> OnePattern<'g> {
     ) -> Result<(Option<Outcome>, Steps), AllocError>
         requires { IsCharBoundary haystack.now start }
         ensures { IfOk result (TellsOfOneAt (places_of self.old.table.now) self.old.entry
-            haystack.now start slots) }
+            WHOLE haystack.now start slots) }
     {
         if !self.may_start_at(haystack, start) {
             return Ok((None, no_steps()));
         }
         let mut cache = cache_for::<usize>(alloc, self.table, slots)?;
-        run_anchored::<_, _, false>(&mut cache, self, haystack, start);
+        run_anchored::<_, _, false, WHOLE>(&mut cache, self, haystack, start);
         let Cache { walk, best, .. } = cache;
         Ok((best.into_outcome(), walk.steps))
     }
 
-    /// Whether a match starts at this offset, and what the search did. It stops at the first match
-    /// that it comes to.
+    /// Whether a match starts at this offset, with WHOLE one that ends where the haystack does, and
+    /// what the search did. It stops at the first such match that it comes to.
     ///
     /// Condition: the start is on a character boundary.
     ///
     /// # Errors
     ///
     /// If memory runs out, which can happen only before the first step.
-    pub fn search_any_anchored(
+    pub fn search_any_anchored<const WHOLE: bool>(
         &mut self,
         alloc: Global,
         haystack: &str,
@@ -66,13 +66,13 @@ impl<'g> OnePattern<'g> {
     ) -> Result<(bool, Steps), AllocError>
         requires { IsCharBoundary haystack.now start }
         ensures { IfOk result (TellsAnyOfOneAt (places_of self.old.table.now) self.old.entry
-            haystack.now start) }
+            WHOLE haystack.now start) }
     {
         if !self.may_start_at(haystack, start) {
             return Ok((false, no_steps()));
         }
         let mut cache = cache_for::<Unkept>(alloc, self.table, 0)?;
-        run_anchored::<_, _, true>(&mut cache, self, haystack, start);
+        run_anchored::<_, _, true, WHOLE>(&mut cache, self, haystack, start);
         let Cache { walk, best, .. } = cache;
         Ok((best.end().is_some(), walk.steps))
     }
@@ -90,14 +90,15 @@ impl<'g> OnePattern<'g> {
 impl GraphList {
     /// The match that starts at this offset, of the pattern with the lowest number that matches
     /// there: that number, the most preferred match of the pattern, and what the search did. The
-    /// match has this number of slots.
+    /// match has this number of slots. With WHOLE only matches that end where the haystack does
+    /// count.
     ///
     /// Condition: the start is above the haystack's length or on a character boundary.
     ///
     /// # Errors
     ///
     /// If memory runs out, which can happen only before the first step.
-    pub fn search_anchored(
+    pub fn search_anchored<const WHOLE: bool>(
         &self,
         alloc: Global,
         haystack: &str,
@@ -106,7 +107,8 @@ impl GraphList {
     ) -> Result<(Option<(usize, Outcome)>, Steps), AllocError>
         requires { (length haystack.now < start) ⊎ IsCharBoundary haystack.now start }
         ensures found { IfOk result (λ told. (trees : List Tree) → AreRegularPatterns trees
-            → IsGraphOfList trees self.now → IsOutcomeAtOfList trees haystack.now start told.0) }
+            → IsGraphOfList trees self.now → IsOutcomeAtOfList WHOLE trees
+            haystack.now start told.0) }
         ensures slots { IfOk result (λ told. IfSome told.0
             (λ found. length found.1.slots.items ≡ slots)) }
         ensures cost { IfOk result (λ told. (trees : List Tree) → IsGraphOfList trees self.now
@@ -117,20 +119,20 @@ impl GraphList {
             return Ok((None, no_steps()));
         }
         let (mut patterns, mut cache) = self.search_memory::<Origin>(alloc, slots)?;
-        run_anchored::<_, _, false>(&mut cache, &mut patterns, haystack, start);
+        run_anchored::<_, _, false, WHOLE>(&mut cache, &mut patterns, haystack, start);
         let Cache { walk, best, .. } = cache;
         Ok((best.into_numbered(), walk.steps))
     }
 
-    /// Whether a match of any pattern starts at this offset, and what the search did. It stops at
-    /// the first match that it comes to.
+    /// Whether a match of any pattern starts at this offset, with WHOLE one that ends where the
+    /// haystack does, and what the search did. It stops at the first such match that it comes to.
     ///
     /// Condition: the start is above the haystack's length or on a character boundary.
     ///
     /// # Errors
     ///
     /// If memory runs out, which can happen only before the first step.
-    pub fn search_any_anchored(
+    pub fn search_any_anchored<const WHOLE: bool>(
         &self,
         alloc: Global,
         haystack: &str,
@@ -139,7 +141,8 @@ impl GraphList {
         requires { (length haystack.now < start) ⊎ IsCharBoundary haystack.now start }
         ensures found { IfOk result (λ told. (trees : List Tree) → AreRegularPatterns trees
             → IsGraphOfList trees self.now → (IsTrue told.0
-            ↔ AnyMatchesAt trees (chars haystack.now) (search_start haystack.now start))) }
+            ↔ AnyMatchesAt WHOLE trees (chars haystack.now)
+            (search_start haystack.now start))) }
         ensures cost { IfOk result (λ told. (trees : List Tree) → IsGraphOfList trees self.now
             → HasCostOfList trees haystack.now start told.1) }
         ensures entered { IfOk result (λ told. IsTrue told.0 → 0 < told.1.entered) }
@@ -148,7 +151,7 @@ impl GraphList {
             return Ok((false, no_steps()));
         }
         let (mut patterns, mut cache) = self.search_memory::<Unkept>(alloc, 0)?;
-        run_anchored::<_, _, true>(&mut cache, &mut patterns, haystack, start);
+        run_anchored::<_, _, true, WHOLE>(&mut cache, &mut patterns, haystack, start);
         let Cache { walk, best, .. } = cache;
         Ok((best.end().is_some(), walk.steps))
     }

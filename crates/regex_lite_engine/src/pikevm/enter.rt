@@ -29,15 +29,21 @@ pub enum Onward {
 }
 
 /// Returns the first place that this one offers at this position. The others are pushed onto the
-/// stack, and what it offers at the next position is added to the threads there.
+/// stack, and what it offers at the next position is added to the threads there. With WHOLE a match
+/// is complete only at the haystack's end.
 // Inlined, as the functions of `Walk` are, which try each place: as calls they cost `is_match` by
 // line up to 1.09 times as much.
 #[inline(always)]
-pub fn enter<S: Beginning>(place: &Place, here: Here, start: S, memory: &mut Memory<S>) -> Onward
+pub fn enter<S: Beginning, const WHOLE: bool>(
+    place: &Place,
+    here: Here,
+    start: S,
+    memory: &mut Memory<S>,
+) -> Onward
     requires room { length memory.old.frames + (kept_back (place_of place.now) + 1)
         ≤ length memory.old.entered }
     requires next_room { length memory.old.next < memory.old.room }
-    ensures entered { Enters here (S.told start) place.now memory.old
+    ensures entered { Enters WHOLE here (S.told start) place.now memory.old
         (record memory.new { frames = onto result memory.new.frames }) (completes result) }
     ensures same { memory.new ≡ record memory.old {
       row = memory.new.row;
@@ -67,7 +73,11 @@ pub fn enter<S: Beginning>(place: &Place, here: Here, start: S, memory: &mut Mem
             return Onward::To(*first);
         }
         Place::Branches(entries) => return branch(entries, memory),
-        Place::Match => return Onward::Complete,
+        Place::Match => {
+            if !WHOLE || here.after.is_none() {
+                return Onward::Complete;
+            }
+        }
     }
     Onward::Back
 }

@@ -37,17 +37,17 @@ impl<S: Beginning> Cache<S> {
     {
         let here = self.next_start(patterns, haystack, here);
         patterns.come_to(haystack, here);
-        self.go_over(patterns, here);
+        self.go_over::<_, false>(patterns, here);
         here
     }
 
     /// Goes over the position, at which these patterns start.
     #[inline(always)]
-    pub fn go_over<P: Patterns>(&mut self, patterns: &P, here: Here)
+    pub fn go_over<P: Patterns, const WHOLE: bool>(&mut self, patterns: &P, here: Here)
         requires on { (haystack : Text) × (s last p : ℕ) × IsHere haystack p here
             × CanCount (P.table patterns.now) (length (P.entries patterns.now))
             (characters_left haystack s)
-            × IsUnderWayTo (P.table patterns.now) haystack (P.entries patterns.now) s last p
+            × IsUnderWayTo (P.table patterns.now) haystack (P.entries patterns.now) s WHOLE last p
             self.old }
         requires inside { All (λ start. start.place < length (P.table patterns.now))
             (P.starts patterns.now) }
@@ -56,17 +56,17 @@ impl<S: Beginning> Cache<S> {
         ensures on { (haystack : Text) (s last p : ℕ) → IsHere haystack p here
             → AreStartsUpTo (P.table patterns.now) haystack (P.entries patterns.now) last p
             (P.starts patterns.now)
-            → IsUnderWayTo (P.table patterns.now) haystack (P.entries patterns.now) s last p
+            → IsUnderWayTo (P.table patterns.now) haystack (P.entries patterns.now) s WHOLE last p
             self.old
-            → IsUnderWayTo (P.table patterns.now) haystack (P.entries patterns.now) s last (p + 1)
-            self.new }
+            → IsUnderWayTo (P.table patterns.now) haystack (P.entries patterns.now) s WHOLE last
+            (p + 1) self.new }
         ensures ends { EndsAt here.at (best_of self.old.best) (best_of self.new.best) }
         ensures width { length self.new.best.row ≡ length self.old.best.row }
         ensures counts { StaysCounted self.old.walk.steps self.new.walk.steps }
     {
         // There is room for more ways than there are patterns.
         let _threads = self.walk.memory.threads();
-        self.turn(patterns, here);
+        self.turn::<_, WHOLE>(patterns, here);
     }
 
     /// Where the search goes on: where it is while there is a thread or a match, and else at the

@@ -1,6 +1,6 @@
 //! One position of the haystack: its threads are followed in order, and leave those of the next.
 ghost use Rattle.std.specs.Prelude.{◌≡◌, ◌+◌, ◌^◌, ◌≤◌, ◌<◌, ◌⊎◌, []};
-ghost use Rattle.std.specs.Prelude.{List, ℕ, All, None, length, true};
+ghost use Rattle.std.specs.Prelude.{List, ℕ, All, None, false, length, true};
 ghost use Rattle.regex_lite_engine.specs.Graph.Renumbered.{arrows_of};
 ghost use Rattle.regex_lite_engine.specs.Search.Bounds.{StaysCounted};
 ghost use Rattle.regex_lite_engine.specs.Search.Beginnings.{Told};
@@ -16,7 +16,7 @@ impl<S: Beginning> Cache<S> {
     ghost use Rattle.regex_lite_syntax.specs.Text.{Text};
     ghost use Rattle.regex_lite_engine.specs.Search.Standing.{IsHere};
     ghost use Rattle.regex_lite_engine.specs.Pikevm.Room.{HasRoom};
-    ghost use Rattle.regex_lite_engine.specs.Pikevm.Turns.{EndsAt, IsComing};
+    ghost use Rattle.regex_lite_engine.specs.Pikevm.Turns.{EndsAt, IsComingTo};
     ghost use Rattle.regex_lite_engine.specs.Search.Starts.{AreStartsUpTo};
     ghost use Rattle.regex_lite_engine.specs.Graph.Parts.{IsOwnPart};
     ghost use Rattle.regex_lite_engine.specs.Pikevm.Searching.{ways_at, IsPlaced, Follows};
@@ -24,14 +24,14 @@ impl<S: Beginning> Cache<S> {
     ghost use Rattle.regex_lite_engine.specs.Pikevm.Searching.{IsBetween, SpendsWithin};
 
     /// Goes over the position. Its own starts come last, and only while there is no match. Returns
-    /// whether a match is complete there.
+    /// whether a match is complete there, which with WHOLE is at the haystack's end alone.
     ///
     /// Condition: no search is under way at a position, each start is a place of the table, and no
     /// count can be too large.
     // Inlined with all that it calls, though searches with an automaton call it too: otherwise a
     // turn costs a quarter more.
     #[inline(always)]
-    pub fn turn<P: Patterns>(&mut self, patterns: &P, here: Here) -> bool
+    pub fn turn<P: Patterns, const WHOLE: bool>(&mut self, patterns: &P, here: Here) -> bool
         requires ready { IsBetween (P.table patterns.now) self.old }
         requires inside { All (λ start. start.place < length (P.table patterns.now))
             (P.starts patterns.now) }
@@ -45,11 +45,12 @@ impl<S: Beginning> Cache<S> {
         ensures comes { (haystack : Text) (entries : List ℕ) (p first last : ℕ)
             → IsHere haystack p here → first ≤ p
             → AreStartsUpTo (P.table patterns.now) haystack entries last p (P.starts patterns.now)
-            → IsComing (P.table patterns.now) haystack entries first last p
+            → IsComingTo (P.table patterns.now) haystack entries WHOLE first last p
             self.old.walk.memory.threads (best_of self.old.best)
-            → IsComing (P.table patterns.now) haystack entries first last (p + 1)
+            → IsComingTo (P.table patterns.now) haystack entries WHOLE first last (p + 1)
             self.new.walk.memory.threads (best_of self.new.best) }
-        ensures again { TurnsAgain (P.table patterns.now) (P.starts patterns.now) here
+        ensures again { WHOLE ≡ false → TurnsAgain (P.table patterns.now) (P.starts patterns.now)
+            here
             (S.told_of here.at) self.old self.new result }
         ensures hit { IsHit result (best_of self.old.best) (best_of self.new.best) }
         ensures ends { EndsAt here.at (best_of self.old.best) (best_of self.new.best) }
@@ -62,7 +63,7 @@ impl<S: Beginning> Cache<S> {
         ensures own { (haystack : Text) (entries : List ℕ) (p first last low len : ℕ)
             → IsHere haystack p here → first ≤ p
             → AreStartsUpTo (P.table patterns.now) haystack entries last p (P.starts patterns.now)
-            → IsComing (P.table patterns.now) haystack entries first last p
+            → IsComingTo (P.table patterns.now) haystack entries WHOLE first last p
             self.old.walk.memory.threads (best_of self.old.best)
             → IsOwnPart (P.table patterns.now) entries low len
             → SpendsWithin (P.table patterns.now) low len (length (P.starts patterns.now)) self.old
@@ -70,7 +71,7 @@ impl<S: Beginning> Cache<S> {
         ensures counts { StaysCounted self.old.walk.steps self.new.walk.steps }
     {
         self.walk.memory.begin_position();
-        let hit = self.follow(patterns, here);
+        let hit = self.follow::<_, WHOLE>(patterns, here);
         self.walk.memory.turn_over();
         hit
     }
@@ -78,7 +79,7 @@ impl<S: Beginning> Cache<S> {
     /// Follows the threads of the position in order, and its own starts after them, up to the
     /// first that comes to a match: those after it are less preferred. Returns whether one does.
     #[inline(always)]
-    fn follow<P: Patterns>(&mut self, patterns: &P, here: Here) -> bool
+    fn follow<P: Patterns, const WHOLE: bool>(&mut self, patterns: &P, here: Here) -> bool
         requires placed { IsPlaced (P.table patterns.now)
             (ways_at (P.starts patterns.now) (S.told_of here.at) self.old) self.old }
         requires inside { All (λ start. start.place < length (P.table patterns.now))
@@ -86,9 +87,9 @@ impl<S: Beginning> Cache<S> {
         requires room { HasRoom (P.table patterns.now) self.old.walk [] }
         requires few_ways { length self.old.walk.memory.threads + length (P.starts patterns.now)
             < 2 ^ 64 }
-        ensures followed { Follows (P.table patterns.now) here
+        ensures followed { Follows (P.table patterns.now) WHOLE here
             (ways_at (P.starts patterns.now) (S.told_of here.at) self.old) self.old self.new }
-        ensures again { FollowsAgain (P.table patterns.now) here
+        ensures again { WHOLE ≡ false → FollowsAgain (P.table patterns.now) here
             (ways_at (P.starts patterns.now) (S.told_of here.at) self.old) self.old self.new
             result }
         ensures hit { IsHit result (best_of self.old.best) (best_of self.new.best) }
@@ -101,7 +102,7 @@ impl<S: Beginning> Cache<S> {
     {
         'ways: for k in 0..self.ways(patterns) {
             let (place, start) = self.walk.take_up(k, patterns, here.at);
-            if self.walk.explore(place, patterns, here, start) {
+            if self.walk.explore::<_, WHOLE>(place, patterns, here, start) {
                 self.best.set(start, here.at, self.walk.memory.row());
                 return true;
             }

@@ -50,30 +50,44 @@ impl<S: Beginning> Walk<S> {
     }
 
     /// Explores this place and all that is on the stack, the ways of one thread that started at
-    /// `start`. Stops where a match is complete, and returns whether one is: what is left then is
-    /// less preferred.
+    /// `start`. Stops where a match is complete, with WHOLE one that ends where the haystack does,
+    /// and returns whether one is: what is left then is less preferred.
     #[inline(always)]
-    pub fn explore<P: Patterns>(&mut self, first: u32, patterns: &P, here: Here, start: S) -> bool
+    pub fn explore<P: Patterns, const WHOLE: bool>(
+        &mut self,
+        first: u32,
+        patterns: &P,
+        here: Here,
+        start: S,
+    ) -> bool
         requires { HasRoom (P.table patterns.now) self.old
             (explore first ∷ self.old.memory.frames) }
         ensures room { HasRoom (P.table patterns.now) self.new [] }
-        ensures explored { Explores (P.table patterns.now) here (S.told start) self.old self.new
+        ensures explored { Explores (P.table patterns.now) WHOLE here (S.told start) self.old
+            self.new
             (explore first ∷ self.old.memory.frames) result }
         ensures empty { self.new.memory.frames ≡ [] }
         ensures kept { KeepsPosition self.old.memory self.new.memory }
         ensures counts { StaysCounted self.old.steps self.new.steps }
         ensures entry { result ≡ true → 0 < self.new.steps.entered }
     {
-        self.explore_in(first, patterns.table(), here, start)
+        self.explore_in::<WHOLE>(first, patterns.table(), here, start)
     }
 
     /// Like `explore`, in a table.
     #[inline(always)]
-    fn explore_in(&mut self, first: u32, table: &Table, here: Here, start: S) -> bool
+    fn explore_in<const WHOLE: bool>(
+        &mut self,
+        first: u32,
+        table: &Table,
+        here: Here,
+        start: S,
+    ) -> bool
         requires { HasRoom (places_of table.now) self.old
             (explore first ∷ self.old.memory.frames) }
         ensures room { HasRoom (places_of table.now) self.new [] }
-        ensures explored { Explores (places_of table.now) here (S.told start) self.old self.new
+        ensures explored { Explores (places_of table.now) WHOLE here (S.told start) self.old
+            self.new
             (explore first ∷ self.old.memory.frames) result }
         ensures empty { self.new.memory.frames ≡ [] }
         ensures kept { KeepsPosition self.old.memory self.new.memory }
@@ -82,7 +96,7 @@ impl<S: Beginning> Walk<S> {
     {
         let mut place = first;
         'places: loop {
-            place = match self.come_to(place, table, here, start) {
+            place = match self.come_to::<WHOLE>(place, table, here, start) {
                 Onward::To(next) => next,
                 Onward::Back => match self.memory.next_place() {
                     Some(next) => next,
@@ -95,10 +109,16 @@ impl<S: Beginning> Walk<S> {
 
     /// Visits a place, and enters it if it is new at this position.
     #[inline(always)]
-    fn come_to(&mut self, place: u32, table: &Table, here: Here, start: S) -> Onward
+    fn come_to<const WHOLE: bool>(
+        &mut self,
+        place: u32,
+        table: &Table,
+        here: Here,
+        start: S,
+    ) -> Onward
         requires { HasRoom (places_of table.now) self.old
             (explore place ∷ self.old.memory.frames) }
-        ensures taken { TakesFrame (places_of table.now) here (S.told start) self.old
+        ensures taken { TakesFrame (places_of table.now) WHOLE here (S.told start) self.old
             (explore place ∷ self.old.memory.frames) self.new
             (onto result self.new.memory.frames) (completes result) }
         ensures kept { KeepsPosition self.old.memory self.new.memory }
@@ -112,7 +132,7 @@ impl<S: Beginning> Walk<S> {
         }
         self.steps.count_entry();
         let found = table.look(place, &mut self.steps);
-        let onward = enter(found, here, start, &mut self.memory);
+        let onward = enter::<_, WHOLE>(found, here, start, &mut self.memory);
         if let Onward::Complete = onward {
             self.memory.drop_frames();
         }

@@ -86,7 +86,7 @@ module _ (table : List (Place ℕ)) (h : Text) (entries : List ℕ) (s : ℕ) wh
           IsComing table h entries s (length h) passes.q (threads_of here.at ways) None)
           (sym empty.none)
           (jumped table h entries s (length h) s passes.q [] refl passes.later passes.passed
-          (none_coming table h entries s (length h) [] refl));
+          (none_coming table h entries s (length h) false [] refl));
     }
 
 -- where there are no looks, any character may stand before

@@ -347,7 +347,7 @@ module _ (table : List (Place ℕ)) (h : Text) (entries : List ℕ) (s from p : 
         (λ low len part. (let n = ap (λ (ts : List Thread). length ts) threads in
         omega (arith, n))) kept.row
         (subst (λ b. IsComing table h entries r (length h) r new.walk.memory.threads b) (sym none)
-        (none_coming table h entries r (length h) new.walk.memory.threads threads));
+        (none_coming table h entries r (length h) false new.walk.memory.threads threads));
     first = omega arith;
     own = own_first here.at new.walk.memory.threads threads;
     state = tt;

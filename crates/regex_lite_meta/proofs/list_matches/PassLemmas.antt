@@ -27,7 +27,7 @@ use Rattle.regex_lite_meta.specs.declared.list_matches.status.Status.TheVariants
 -- a search without a thread and without a match
 module _ (table : List (Place ℕ)) (haystack : Text) (entries : List ℕ) (s p : ℕ)
     (recorded : Node → Option (List ℕ))
-    (u : InStep table haystack entries s (length haystack) p p recorded [] [] None) where
+    (u : InStep table haystack entries false s (length haystack) p p recorded [] [] None) where
   abbrev Answered : Node → List ℕ → Type 0
   Answered =
       IsAnswered Node (numbered_step table haystack) (is_end table haystack)
@@ -95,8 +95,8 @@ module _ (table : List (Place ℕ)) (haystack : Text) (entry : ℕ) where
       at : coming.from ≡ p
       at = subst (FromIs p coming.from) none coming.from_is
 
-      in_step : InStep table haystack (entry ∷ []) s (length haystack) p p coming.recorded [] []
-          None
+      in_step : InStep table haystack (entry ∷ []) false s (length haystack) p p coming.recorded
+          [] [] None
       in_step = rw (no_coming, held, at) at coming.in_step
 
       started : (i q j : ℕ) (way : List ℕ) → IsNumberedMatch table haystack entry s i way q j

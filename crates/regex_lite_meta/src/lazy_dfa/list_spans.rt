@@ -1,7 +1,7 @@
 //! Searches for several patterns: where a match starts and ends, and of which pattern it is. Where
 //! it pays they remember their turns, and keep no slots.
 ghost use Rattle.std.specs.Prelude.{◌≡◌, ◌<◌, IfOk, IfSome, IsCharBoundary, None, chars, length};
-ghost use Rattle.std.specs.Prelude.{option_map};
+ghost use Rattle.std.specs.Prelude.{false, option_map};
 ghost use Rattle.regex_lite_meta.specs.LazyDfa.Remembering.{FindsSpansInList, IsRemembering};
 ghost use Rattle.regex_lite_meta.specs.LazyDfa.Remembering.{RemembersFor};
 ghost use Rattle.regex_lite_meta.specs.LazyDfa.Scanning.{best_told};
@@ -119,14 +119,14 @@ impl<'g> ListSpanSearcher<'g> {
         requires boundary { IsCharBoundary haystack.now start }
         requires finds { FindsSpansInList list.now self.old }
         ensures found { IsFoundTo EARLIEST (table_of_list list.now) (chars haystack.now)
-            list.now.entries (position_at haystack.now start) (position_at haystack.now start)
-            (best_kept result self.new.cache.best.row) }
+            list.now.entries false (position_at haystack.now start)
+            (position_at haystack.now start) (best_kept result self.new.cache.best.row) }
         ensures finds { FindsSpansInList list.now self.new }
         ensures width { length self.new.cache.best.row ≡ length self.old.cache.best.row }
     {
         // Each has a number of 32 bits, since there are no more.
         let _entries = list.entries();
-        find_anchored::<_, EARLIEST>(&mut self.cache, &mut self.patterns, haystack, start)
+        find_anchored::<_, EARLIEST, false>(&mut self.cache, &mut self.patterns, haystack, start)
     }
 
     /// The slots of the last match, if they are kept.

@@ -186,7 +186,7 @@ pub(super) fn go_over<P: Patterns>(
 {
     // There is room for more ways than there are patterns.
     let _threads = cache.walk.memory.threads();
-    cache.turn(patterns, here)
+    cache.turn::<_, false>(patterns, here)
 }
 
 /// Goes on from nothing: without a thread, and without a match.

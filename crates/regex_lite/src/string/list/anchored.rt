@@ -1,11 +1,11 @@
 //! Anchored searches for several patterns: for the match that starts where the search does.
 ghost use Rattle.std.specs.Prelude.{◌≡◌, ◌↔◌, None, IfOk, IfErr, IfSome, IsTrue, length};
 ghost use Rattle.regex_lite_syntax.specs.Errors.{out_of_memory};
-ghost use Rattle.regex_lite.specs.Anchored.{TellsGroupsAtOfList, TellsLocationsAtOfList};
-ghost use Rattle.regex_lite.specs.Anchored.{TellsMatchAtOfList};
+ghost use Rattle.regex_lite.specs.Anchored.{TellsAnswerAtOfList, TellsGroupsAtOfList};
+ghost use Rattle.regex_lite.specs.Anchored.{TellsLocationsAtOfList, TellsMatchAtOfList};
 ghost use Rattle.regex_lite.specs.MatchOffsets.{SomeMatchesAt};
 ghost use Rattle.regex_lite.specs.RegexListSearches.{AreOfPattern};
-ghost use Rattle.regex_lite.specs.Searches.{CanStartAt};
+ghost use Rattle.regex_lite.specs.Searches.{AreGroupsOf, CanStartAt, IsMatchOf};
 
 use crate::string::captures::Captures;
 use crate::string::list::RegexList;
@@ -33,7 +33,7 @@ impl RegexList {
         ensures refused { IfErr result (λ error. error ≡ out_of_memory) }
     {
         let graph = &self.compiled.graph;
-        let (found, _) = graph.search_any_anchored(self.alloc, haystack, start)?;
+        let (found, _) = graph.search_any_anchored::<false>(self.alloc, haystack, start)?;
         Ok(found)
     }
 
@@ -72,13 +72,7 @@ impl RegexList {
             (λ found. TellsMatchAtOfList self.now haystack.now start found) }
         ensures refused { IfErr result (λ error. error ≡ out_of_memory) }
     {
-        let graph = &self.compiled.graph;
-        let (told, _) = graph.search_anchored(self.alloc, haystack, start, 0)?;
-        let Some((number, outcome)) = told else {
-            return Ok(None);
-        };
-        let found = Match::new(haystack, outcome.start, outcome.end);
-        Ok(Some((number, found)))
+        self.match_anchored::<false>(haystack, start)
     }
 
     /// The groups of the match that [`RegexList::find_anchored_at`] returns, with the number of its
@@ -102,10 +96,53 @@ impl RegexList {
         ensures of_match { IfOk result (λ found. IfSome found (AreOfPattern self.now)) }
         ensures refused { IfErr result (λ error. error ≡ out_of_memory) }
     {
+        self.groups_anchored::<false>(haystack, start)
+    }
+
+    /// The match that starts at this offset, with the number of its pattern. With WHOLE only
+    /// matches that end where the haystack does count.
+    ///
+    /// # Errors
+    ///
+    /// `Memory` if memory runs out.
+    pub(super) fn match_anchored<'h, const WHOLE: bool>(
+        &self,
+        haystack: &'h str,
+        start: usize,
+    ) -> Result<Option<(usize, Match<'h>)>, Error>
+        requires { CanStartAt haystack.now start }
+        ensures found { IfOk result (λ found. TellsAnswerAtOfList WHOLE
+            (λ tree. IsMatchOf haystack.now) self.now haystack.now start found) }
+        ensures refused { IfErr result (λ error. error ≡ out_of_memory) }
+    {
+        let graph = &self.compiled.graph;
+        let (told, _) = graph.search_anchored::<WHOLE>(self.alloc, haystack, start, 0)?;
+        let Some((number, outcome)) = told else {
+            return Ok(None);
+        };
+        let found = Match::new(haystack, outcome.start, outcome.end);
+        Ok(Some((number, found)))
+    }
+
+    /// The groups of that match, with the number of its pattern.
+    ///
+    /// # Errors
+    ///
+    /// `Memory` if memory runs out.
+    pub(super) fn groups_anchored<'h, const WHOLE: bool>(
+        &self,
+        haystack: &'h str,
+        start: usize,
+    ) -> Result<Option<(usize, Captures<'h>)>, Error>
+        requires { CanStartAt haystack.now start }
+        ensures found { IfOk result (λ found. TellsAnswerAtOfList WHOLE
+            (λ tree. AreGroupsOf tree haystack.now) self.now haystack.now start found) }
+        ensures refused { IfErr result (λ error. error ≡ out_of_memory) }
+    {
         let count = self.kept_slots();
         let whole = whole_slots(self.alloc, count)?;
         let graph = &self.compiled.graph;
-        let (told, _) = graph.search_anchored(self.alloc, haystack, start, count)?;
+        let (told, _) = graph.search_anchored::<WHOLE>(self.alloc, haystack, start, count)?;
         let Some(found) = told else {
             return Ok(None);
         };

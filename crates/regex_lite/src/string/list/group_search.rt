@@ -1,12 +1,15 @@
 //! Searches for the groups of a match of one of several patterns.
-ghost use Rattle.std.specs.Prelude.{◌≡◌, ℕ, [], None, Some, IfOk, IfErr, IfSome, length, max};
+ghost use Rattle.std.specs.Prelude.{◌≡◌, [], List, None, Some, IfOk, IfErr, IfSome, length, max};
 ghost use Rattle.std.specs.Prelude.{replicate};
 ghost use Rattle.regex_lite_syntax.specs.Errors.{out_of_memory};
-ghost use Rattle.regex_lite.specs.RegexList.{OfTrees};
+ghost use Rattle.regex_lite_syntax.specs.Tree.{Tree};
+ghost use Rattle.regex_lite_engine.specs.Graph.SideBySide.{HasTree};
+ghost use Rattle.regex_lite_engine.specs.Search.Answer.{Found};
+ghost use Rattle.regex_lite.specs.RegexList.{AreTrees, OfTrees};
 ghost use Rattle.regex_lite.specs.RegexListSearches.{AreOfPattern, TellsGroupsOfList};
-ghost use Rattle.regex_lite.specs.Scanning.{AreSlotsForAllGroups, TellsOutcomeOfList};
-ghost use Rattle.regex_lite.specs.Scanning.{most_captures};
-ghost use Rattle.regex_lite.specs.Searches.{CanStartAt};
+ghost use Rattle.regex_lite.specs.Scanning.{AreSlotsForAllGroups, most_captures};
+ghost use Rattle.regex_lite.specs.Searches.{AreGroupsOf, CanStartAt};
+ghost use Rattle.regex_lite.specs.ToldWays.{IsToldOfWay, TellsOfListedWay};
 
 use crate::string::captures::Captures;
 use crate::string::list::RegexList;
@@ -87,13 +90,14 @@ impl RegexList {
         found: (usize, Outcome),
         whole: Vec<Option<usize>>,
     ) -> Result<(usize, Captures<'h>), Error>
-        requires found { (start : ℕ)
-            × TellsOutcomeOfList self.now haystack.now start (Some found) }
+        requires found { TellsOfListedWay self.now haystack.now found.0
+            (found.1.start, found.1.end) found.1.slots.items }
         requires slots { AreSlotsForAllGroups self.now (length found.1.slots.items) }
         requires whole { found.1.slots.items ≡ [] → length whole.items ≡ 2 }
-        ensures found { (start : ℕ) → TellsOutcomeOfList self.now haystack.now start (Some found)
-            → IfOk result (λ told. TellsGroupsOfList self.now haystack.now start (Some told)) }
-        ensures of_match { IfOk result (AreOfPattern self.now) }
+        ensures found { (trees : List Tree) (tree : Tree) (own : Found) → AreTrees self.now trees
+            → HasTree trees found.0 tree
+            → IsToldOfWay tree haystack.now (found.1.start, found.1.end) found.1.slots.items own
+            → IfOk result (λ told. (told.0 ≡ found.0) × AreGroupsOf tree haystack.now own told.1) }
         ensures refused { IfErr result (λ error. error ≡ out_of_memory) }
     {
         let (number, Outcome { start, end, slots }) = found;

@@ -3,6 +3,6 @@ use Rattle.regex_lite_engine.proofs.laws.groups.TakingPartLemmas.{enough_take_pa
 use Rattle.regex_lite_engine.proofs.laws.enough_groups_take_part.Goals as goal
 
 pub returns : goal.returns
-returns c = λ tree given haystack s found n.
-    enough_take_part tree haystack s found n (regular_tree tree given)
+returns c = λ tree given haystack found n.
+    enough_take_part tree haystack found n (regular_tree tree given)
     (numbered_tree tree given)

@@ -7,7 +7,8 @@ use Rattle.regex_lite_engine.proofs.Common.{capture, concat, alternation, Trees,
 use Rattle.regex_lite_engine.proofs.Common.{holds_between, nullable, IsRegular, ClassRange, Address}
 use Rattle.regex_lite_engine.proofs.Common.{complete, go_holding, go_reading, one_of, step, Leads}
 use Rattle.regex_lite_engine.proofs.Common.{whole, end_address, start_address, place_of_pattern}
-use Rattle.regex_lite_engine.proofs.Common.{Found, IsFound, Marks, no_marks, marked, over}
+use Rattle.regex_lite_engine.proofs.Common.{Found, Marks, no_marks, marked, over}
+use Rattle.regex_lite_engine.specs.Search.Answer.{IsOfWay}
 use Rattle.regex_lite_engine.proofs.Common.{marks_along, marks_of_way}
 use Rattle.std.proofs.lemmas.Bool.{eqb-true}
 use Rattle.regex_lite_syntax.specs.Text.{before}
@@ -168,9 +169,9 @@ marked_walk tree haystack i j arrows regular along =
         (whole_stands tree regular) over_at_end
 
 -- so does what is found
-pub marked_found : (tree : Tree) (haystack : Text) (s : ℕ) (found : Found) → IsRegular tree
-    → IsFound tree haystack s found
+pub marked_found : (tree : Tree) (haystack : Text) (found : Found) → IsRegular tree
+    → IsOfWay tree haystack found
     → Marking haystack (whole tree) found.start found.end found.marks
-marked_found tree haystack s found regular is =
+marked_found tree haystack found regular is =
     subst (λ m. Marking haystack (whole tree) found.start found.end m) (sym is.marks)
-    (marked_walk tree haystack found.start found.end is.way regular is.most_preferred.is_way.0)
+    (marked_walk tree haystack found.start found.end is.way regular is.is_way.0)

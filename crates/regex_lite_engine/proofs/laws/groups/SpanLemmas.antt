@@ -4,7 +4,8 @@ use Rattle.regex_lite_engine.proofs.Common.{◌⊎◌, is_some, ◌==◌, Some, 
 use Rattle.regex_lite_engine.proofs.Common.{◌∙◌, subst, inl, inr, arith, cases_eq, nat_tests}
 use Rattle.regex_lite_engine.proofs.Common.{option_or, Text, Tree, empty, character, class, look}
 use Rattle.regex_lite_engine.proofs.Common.{repetition, capture, concat, alternation, Trees, none}
-use Rattle.regex_lite_engine.proofs.Common.{more, IsRegular, whole, Found, IsFound, Marks, no_marks}
+use Rattle.regex_lite_engine.proofs.Common.{more, IsRegular, whole, Found, Marks, no_marks}
+use Rattle.regex_lite_engine.specs.Search.Answer.{IsOfWay}
 use Rattle.regex_lite_engine.proofs.Common.{over}
 use Rattle.std.specs.Option.{option_zip}
 use Rattle.regex_lite_syntax.specs.Tree.Regular.{AreRegular}
@@ -165,9 +166,9 @@ both_either_none i j None (Some b) is = absurd is
 both_either_none i j (Some a) None is = absurd is
 both_either_none i j (Some a) (Some b) is = refl
 
-pub groups_inside : (tree : Tree) (haystack : Text) (s : ℕ) (found : Found) → IsRegular tree
-    → IsFound tree haystack s found → HasGroupsInside found
-groups_inside tree haystack s found regular is = record {
+pub groups_inside : (tree : Tree) (haystack : Text) (found : Found) → IsRegular tree
+    → IsOfWay tree haystack found → HasGroupsInside found
+groups_inside tree haystack found regular is = record {
   whole = span_0;
   paired = λ index. both_either_none found.start found.end _ _ (all.each index);
   inside = λ index from to e.
@@ -175,7 +176,7 @@ groups_inside tree haystack s found regular is = record {
 }
   where
     marking : Marking haystack (whole tree) found.start found.end found.marks
-    marking = marked_found tree haystack s found regular is
+    marking = marked_found tree haystack found regular is
 
     all : AreOrdered found.start found.end found.marks
     all =

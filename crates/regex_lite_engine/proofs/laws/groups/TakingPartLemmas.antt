@@ -5,7 +5,8 @@ use Rattle.regex_lite_engine.proofs.Common.{inl, inr, arith, nat_tests, Text, Tr
 use Rattle.regex_lite_engine.proofs.Common.{character, class, look, repetition, capture, concat}
 use Rattle.regex_lite_engine.proofs.Common.{alternation, Trees, none, more, greatest_index}
 use Rattle.regex_lite_engine.proofs.Common.{greatest_index_in, sum, IsRegular, whole, Found}
-use Rattle.regex_lite_engine.proofs.Common.{IsFound, Marks, marked, over}
+use Rattle.regex_lite_engine.proofs.Common.{Marks, marked, over}
+use Rattle.regex_lite_engine.specs.Search.Answer.{IsOfWay}
 use Rattle.std.proofs.Common.{max}
 use Rattle.regex_lite_syntax.specs.Tree.Properties.{captures_len, common, in_passes, static_groups}
 use Rattle.regex_lite_syntax.specs.Tree.Properties.{static_sum, static_common, static_captures_len}
@@ -157,10 +158,10 @@ module _ (haystack : Text) where
         let later = enough_branches (more b rest) i j (max above g) marks numbered.1 m n left in
         above_more above g n count marks (omega (arith, high)) (later known.1 (omega (arith, high)))
 
-pub enough_take_part : (tree : Tree) (haystack : Text) (s : ℕ) (found : Found) (n : ℕ)
-    → IsRegular tree → IsNumbered 0 tree → IsFound tree haystack s found
+pub enough_take_part : (tree : Tree) (haystack : Text) (found : Found) (n : ℕ)
+    → IsRegular tree → IsNumbered 0 tree → IsOfWay tree haystack found
     → static_captures_len tree ≡ Some n → n ≤ taking_part found.marks 0 (captures_len tree)
-enough_take_part tree haystack s found n regular numbered is known =
+enough_take_part tree haystack found n regular numbered is known =
     let (k, l, one, others, total) = sum_is (Some 1) (static_groups tree) n known in
     let count = greatest_index tree in
     let inside = enough haystack tree found.start found.end 0 marking.0 numbered marking.1 l count
@@ -178,4 +179,4 @@ enough_take_part tree haystack s found n regular numbered is known =
     omega (arith, total, one_is, inside, first, second, own_one, moved, all)
   where
     marking : Marking haystack (whole tree) found.start found.end found.marks
-    marking = marked_found tree haystack s found regular is
+    marking = marked_found tree haystack found regular is

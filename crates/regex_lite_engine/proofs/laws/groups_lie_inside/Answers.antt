@@ -3,5 +3,5 @@ use Rattle.regex_lite_engine.proofs.laws.groups.SpanLemmas.{groups_inside}
 use Rattle.regex_lite_engine.proofs.laws.groups_lie_inside.Goals as goal
 
 pub returns : goal.returns
-returns c = λ tree given haystack s found.
-    groups_inside tree haystack s found (regular_tree tree given)
+returns c = λ tree given haystack found.
+    groups_inside tree haystack found (regular_tree tree given)

@@ -5,9 +5,10 @@ use Rattle.regex_lite_engine.proofs.Common.{inl, inr, arith, Text, complete, wit
 use Rattle.regex_lite_engine.proofs.Common.{step, Leads, IsWay, Found, Before, NotAfter, StartsAt}
 use Rattle.regex_lite_engine.proofs.Common.{marks_along, place_with, is_complete, numbered_step}
 use Rattle.regex_lite_engine.proofs.Common.{is_end, IsNumberedWay, IsNumberedMatch, IsPreferred}
+use Rattle.regex_lite_engine.proofs.Common.{is_wanted_end, false}
 use Rattle.regex_lite_syntax.proofs.ListLemmas.{same_head, same_tail}
 use Rattle.regex_lite_engine.specs.Graph.Places.{Place}
-use Rattle.regex_lite_engine.specs.Search.NumberedAnswer.{IsNumberedAnswer}
+use Rattle.regex_lite_engine.specs.Search.NumberedAnswer.{IsNumberedAnswer, IsWantedWay}
 use Rattle.regex_lite_engine.proofs.laws.LeadsLemmas.{leads_to_one}
 use Rattle.regex_lite_engine.proofs.laws.search.Explored.{StartsDiffer, IsWhole, IsFirst}
 use Rattle.regex_lite_engine.proofs.laws.search.Explored.{IsExplored}
@@ -45,13 +46,14 @@ module _ {A : Type 0} (haystack : Text) (place : A → Place A) where
       inr (e, before_preferred a b next x y before p over moved)
 
 -- along the arrows of a whole way one comes to where it ends
-module _ (table : List (Place ℕ)) (haystack : Text) {IsStart : List ℕ → ℕ × ℕ → Type 0}
-    {w : List ℕ}
-    (whole : IsWhole (ℕ × ℕ) (numbered_step table haystack) (is_end table haystack) IsStart w)
+module _ (table : List (Place ℕ)) (haystack : Text) (to_end : Bool)
+    {IsStart : List ℕ → ℕ × ℕ → Type 0} {w : List ℕ}
+    (whole : IsWhole (ℕ × ℕ) (numbered_step table haystack)
+    (is_wanted_end table haystack to_end) IsStart w)
     (entry i : ℕ) (way : List ℕ) (q j : ℕ) where
   pub along_whole : ◌≡◌ {A = ℕ × ℕ} (entry, i) whole.start → way ≡ whole.arrows
       → Leads (ℕ × ℕ) (numbered_step table haystack) (entry, i) way (q, j)
-      → IsNumberedWay table haystack entry i way q j
+      → IsWantedWay table haystack to_end entry i way q j
   along_whole start arrows along =
       let walks = numbered_step table haystack in
       let own : IsWay (ℕ × ℕ) walks (entry, i) way whole.end =
@@ -59,7 +61,7 @@ module _ (table : List (Place ℕ)) (haystack : Text) {IsStart : List ℕ → �
       (subst (λ z. IsWay (ℕ × ℕ) walks whole.start z whole.end) (sym arrows) whole.is_way) in
       let there = leads_to_one walks way (entry, i) whole.end (q, j) own.0 along in record {
         is_way = subst (λ m. IsWay (ℕ × ℕ) walks (entry, i) way m) there own;
-        ends = subst (λ m. IsTrue (is_end table haystack m)) there whole.ends;
+        ends = subst (λ m. IsTrue (is_wanted_end table haystack to_end m)) there whole.ends;
       }
 
 -- after one start
@@ -141,7 +143,7 @@ module _ (table : List (Place ℕ)) (haystack : Text) (start s : ℕ) where
               let at : found.start ≡ i = same_head all in record {
                 from = omega (arith, low, at);
                 inside = omega (arith, high, at);
-                leads = along_whole table haystack whole start found.start way q found.end
+                leads = along_whole table haystack false whole start found.start way q found.end
                     (ap (λ k. (start, k)) at ∙ sym f) (same_tail all) along;
               }
 

@@ -3,12 +3,16 @@ use Rattle.regex_lite_engine.proofs.Common.{◌≡◌, ℕ, ◌<◌, ◌≤◌, 
 use Rattle.regex_lite_engine.proofs.Common.{inr, arith, Text, Tree, Matches, Address, IsRenumbered}
 use Rattle.regex_lite_engine.proofs.Common.{IsNumberOf, side_by_side, HasTree, start_of, AreEntries}
 use Rattle.regex_lite_engine.proofs.Common.{IsMatchFrom, Found, IsAnswerOfList, IsMatchOfAny}
-use Rattle.regex_lite_engine.proofs.Common.{IsNumberedAnswerOf}
+use Rattle.regex_lite_engine.proofs.Common.{IsNumberedAnswerOf, ◌≡◌, Bool}
 use Rattle.regex_lite_engine.specs.Graph.Places.{Place}
 use Rattle.regex_lite_engine.specs.Graph.SideBySide.{AreRegularPatterns}
+use Rattle.regex_lite_engine.specs.Search.AnswerAt.{AnyMatchesAt, HasMatchAt, IsFoundAtInList}
+use Rattle.regex_lite_engine.specs.Search.NumberedList.{IsWantedFoundOf, IsWantedOfAny}
 use Rattle.regex_lite_engine.proofs.laws.search.NumberedAnswerLemmas.{numbered_match}
 use Rattle.regex_lite_engine.proofs.laws.search.NumberedAnswerLemmas.{match_of_numbers}
 use Rattle.regex_lite_engine.proofs.laws.search.NumberedAnswerLemmas.{answer_of_part}
+use Rattle.regex_lite_engine.proofs.laws.search.NumberedAnswerLemmas.{found_at_of_part}
+use Rattle.regex_lite_engine.proofs.laws.search.NumberedAnswerLemmas.{match_of_wanted, wanted_match}
 use Rattle.regex_lite_engine.proofs.laws.several.ListAnswerLemmas.{from_its_start}
 use Rattle.regex_lite_engine.proofs.laws.several.PartLemmas.{InPattern, name_in_pattern}
 use Rattle.regex_lite_engine.proofs.laws.several.PartLemmas.{part_of_list, entry_of_part}
@@ -47,6 +51,37 @@ module _ (trees : List Tree) (haystack : Text) (table : List (Place ℕ)) (entri
             j way m.is_match,
       )
 
+  -- the same of matches that start at position s, and may end where they do
+  pub any_at_numbered : (whole : Bool) (k : ℕ) (tree : Tree) → HasTree trees k tree
+      → HasMatchAt whole tree haystack s
+      → (way : List ℕ) × (q : ℕ) × (j : ℕ)
+      × IsWantedOfAny table haystack entries whole s s k way q j
+  any_at_numbered whole k tree there has =
+      let (entry, is_entry) = starts.each k tree there in
+      let first = entry_of_part trees k tree there name table r entry
+      (starts.of_pattern k entry is_entry).2 in
+      let (j, q, way, numbered) = wanted_match tree haystack table entry
+      (name_in_pattern trees k tree there name table r)
+      (InPattern trees k tree there name table r)
+      (part_of_list trees k tree there name table r) first (regular k tree there) whole s has in
+      (way, q, j, record { entry = entry; is_entry = is_entry; is_match = numbered })
+
+  pub any_at_of_numbers : (whole : Bool) (i k : ℕ) (way : List ℕ) (q j : ℕ) → i ≤ s
+      → IsWantedOfAny table haystack entries whole s i k way q j
+      → AnyMatchesAt whole trees haystack s
+  any_at_of_numbers whole i k way q j up_to m =
+      let (tree, there, is) = starts.of_pattern k m.entry m.is_entry in (
+        k,
+        tree,
+        there,
+        match_of_wanted tree haystack table m.entry
+            (name_in_pattern trees k tree there name table r)
+            (InPattern trees k tree there name table r)
+            (part_of_list trees k tree there name table r)
+            (entry_of_part trees k tree there name table r m.entry is) (regular k tree there) whole
+            s i q j way up_to m.is_match,
+      )
+
   not_earlier : (start i number k : ℕ) → (start < i) ⊎ ((start ≡ i) × (number ≤ k)) → start ≤ i
   not_earlier start i number k (inl less) = omega (arith, less)
   not_earlier start i number k (inr (e, le)) = omega (arith, e)
@@ -55,6 +90,34 @@ module _ (trees : List Tree) (haystack : Text) (table : List (Place ℕ)) (entri
       → number ≤ k
   not_lower start number k (inl less) = absurd (omega (arith, less))
   not_lower start number k (inr (e, le)) = le
+
+  -- what is found at position s
+  pub found_at_of_numbers : (whole : Bool) (number : ℕ) (found : Found) → found.start ≤ s
+      → IsWantedFoundOf table haystack entries whole s number found
+      → IsFoundAtInList whole trees haystack s number found
+  found_at_of_numbers whole number found up_to is =
+      let from = is.answer.from in
+      let same : found.start ≡ s = omega (arith, from, up_to) in
+      let (tree, there, at) = starts.of_pattern number is.entry is.is_entry in
+      record {
+        tree = tree;
+        numbered = there;
+        answer =
+            found_at_of_part tree haystack table is.entry
+            (name_in_pattern trees number tree there name table r)
+            (InPattern trees number tree there name table r)
+            (part_of_list trees number tree there name table r)
+            (entry_of_part trees number tree there name table r is.entry at)
+            (regular number tree there) whole s found up_to is.answer;
+        lowest = λ k other th has. (
+            let (way, q, j, numbered) = any_at_numbered whole k other th has in
+            not_lower_at found.start k same (is.first s k way q j numbered));
+      }
+    where
+      not_lower_at : (start k : ℕ) → start ≡ s → (start < s) ⊎ ((start ≡ s) × (number ≤ k))
+          → number ≤ k
+      not_lower_at start k same (inl less) = absurd (omega (arith, less, same))
+      not_lower_at start k same (inr (e, le)) = le
 
   pub list_answer_of_numbers : (answer : Option (ℕ × Found))
       → IsNumberedAnswerOf table haystack entries s answer → IsAnswerOfList trees haystack s answer

@@ -21,5 +21,6 @@ returns-clause-found g c =
     let haystack = c.args.haystack.now in
     let s = position_at haystack c.args.start in
     subst (IsFoundTo (not (g.row.EARLIEST == 0)) (g.P.Patterns.table c.args.patterns.now)
-    (chars haystack) (g.P.Patterns.entries c.args.patterns.now) s s) c.found.ensures
+    (chars haystack) (g.P.Patterns.entries c.args.patterns.now) (not (g.row.WHOLE == 0)) s s)
+    c.found.ensures
     c.run_anchored.ensures.found

@@ -1,3 +1,4 @@
+use Rattle.std.specs.Prelude.{not, ◌==◌}
 use Rattle.regex_lite_meta.proofs.Common.{arith}
 use Rattle.std.proofs.lemmas.Grind.{common_steps}
 use Rattle.std.proofs.lemmas.Result.{IfOk-weaker}
@@ -8,13 +9,13 @@ use Rattle.regex_lite_meta.proofs.anchored.search_anchored.Goals as goal
 
 -- It has an answer because the prover would try other calls first, which takes long
 pub returns-then-start-haystack-clause-found : goal.returns-then-start-haystack-clause-found
-returns-then-start-haystack-clause-found c = grind (arith, common_steps)
+returns-then-start-haystack-clause-found g c = grind (arith, common_steps)
 
 pub search_anchored-requires : goal.search_anchored-requires
-search_anchored-requires c = on_boundary _ _ c.requires c.if-start-haystack.false
+search_anchored-requires g c = on_boundary _ _ c.requires c.if-start-haystack.false
 
 pub returns : goal.returns
-returns c =
+returns g c =
     let graph = c.args.graph.now in
     let haystack = c.args.haystack.now in
     let start = c.args.start in
@@ -23,7 +24,8 @@ returns c =
     c.search_anchored.ensures in record {
       found = IfOk-weaker c.search_anchored.result _ _
           (λ told is tree regular of_tree.
-          outcome_at_told tree regular graph of_tree haystack start inside told.0 is.found) told;
+          outcome_at_told (not (g.row.WHOLE == 0)) tree regular graph of_tree haystack start inside
+          told.0 is.found) told;
       slots = IfOk-weaker c.search_anchored.result _ _ (λ told is. is.slots) told;
       cost = IfOk-weaker c.search_anchored.result _ _
           (λ told is tree of_tree. cost_told tree graph of_tree haystack start inside

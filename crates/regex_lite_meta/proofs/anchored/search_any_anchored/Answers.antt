@@ -3,16 +3,17 @@ use Rattle.regex_lite_engine.proofs.nfa.BoundaryLemmas.{on_boundary}
 use Rattle.regex_lite_engine.proofs.search.OutcomeLemmas.{cost_told}
 use Rattle.std.specs.Prelude.{◌↔◌, IsTrue}
 use Rattle.regex_lite_meta.proofs.Common.{chars, subst, sym}
+use Rattle.std.specs.Prelude.{not, ◌==◌}
 use Rattle.regex_lite_engine.specs.Search.AnswerAt.{HasMatchAt}
 use Rattle.regex_lite_engine.specs.Search.Offsets.{search_start}
 use Rattle.regex_lite_engine.proofs.search.AnchoredOutcomeLemmas.{any_at_told}
 use Rattle.regex_lite_meta.proofs.anchored.search_any_anchored.Goals as goal
 
 pub search_any_anchored-requires : goal.search_any_anchored-requires
-search_any_anchored-requires c = on_boundary _ _ c.requires c.if-start-haystack.false
+search_any_anchored-requires g c = on_boundary _ _ c.requires c.if-start-haystack.false
 
 pub returns : goal.returns
-returns c =
+returns g c =
     let graph = c.args.graph.now in
     let haystack = c.args.haystack.now in
     let start = c.args.start in
@@ -22,8 +23,10 @@ returns c =
       found = IfOk-weaker c.search_any_anchored.result _ _
           (λ told is tree regular of_tree.
           subst (λ found. IsTrue found
-          ↔ HasMatchAt tree (chars haystack) (search_start haystack start)) (sym is.is_some)
-          (any_at_told tree regular graph of_tree haystack start inside is.best is.found)) told;
+          ↔ HasMatchAt (not (g.row.WHOLE == 0)) tree (chars haystack) (search_start haystack start))
+          (sym is.is_some)
+          (any_at_told (not (g.row.WHOLE == 0)) tree regular graph of_tree haystack start inside
+          is.best is.found)) told;
       cost = IfOk-weaker c.search_any_anchored.result _ _
           (λ told is tree of_tree. cost_told tree graph of_tree haystack start inside
           told.1.tried told.1.entered told.1.looked is.cost) told;

@@ -29,7 +29,7 @@ positions-init g c =
       starts =
           starts_up_to (omega arith)
           (rw (come.table, come.entries) at (come.starts s c.at-here.ensures.here));
-      under_way = begun_to _ _ _ s s a.cache.now c.requires.fresh;
+      under_way = begun_to _ _ _ s (not (g.row.WHOLE == 0)) s a.cache.now c.requires.fresh;
       inside = rw come.table at come.inside;
       few = rw come.entries at come.few;
       countable = rw come.entries at come.countable;
@@ -69,7 +69,8 @@ go_over-requires-clause-countable g c =
 went : (g : given.Over) (c : After-go_over g) → IsUnderWayTo
     (g.P.Patterns.table c.args.patterns.now) (chars c.args.haystack.now)
     (g.P.Patterns.entries c.args.patterns.now) (position_at c.args.haystack.now c.args.start)
-    (position_at c.args.haystack.now c.args.start) (c.positions.invariant.p + 1) c.go_over.new.self
+    (not (g.row.WHOLE == 0)) (position_at c.args.haystack.now c.args.start)
+    (c.positions.invariant.p + 1) c.go_over.new.self
 went g c =
     let a = c.args in
     let s = position_at a.haystack.now a.start in

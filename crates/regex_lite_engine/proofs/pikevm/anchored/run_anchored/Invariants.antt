@@ -1,5 +1,6 @@
 use Rattle.regex_lite_engine.proofs.Common.{◌≡◌, ℕ, ◌-◌, ◌^◌, ◌<◌, ◌≤◌, length, chars}
 use Rattle.regex_lite_engine.proofs.Common.{StaysCounted, IsHere, position_at}
+use Rattle.std.specs.Prelude.{not, ◌==◌}
 use Rattle.std.specs.List.{All}
 use Rattle.regex_lite_engine.specs.Pikevm.Passing.{IsUnderWayTo}
 use Rattle.regex_lite_engine.specs.Search.Starts.{AreStartsUpTo}
@@ -14,7 +15,7 @@ invariant-positions g l = record {
       (g.P.Patterns.starts l.patterns);
   under_way : IsUnderWayTo (g.P.Patterns.table l.fn.patterns) (chars l.haystack)
       (g.P.Patterns.entries l.fn.patterns) (position_at l.haystack l.start)
-      (position_at l.haystack l.start) p l.cache;
+      (not (g.row.WHOLE == 0)) (position_at l.haystack l.start) p l.cache;
   inside : All (λ start. start.place < length (g.P.Patterns.table l.fn.patterns))
       (g.P.Patterns.starts l.patterns);
   few : length (g.P.Patterns.starts l.patterns)

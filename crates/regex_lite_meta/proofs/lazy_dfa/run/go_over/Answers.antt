@@ -1,5 +1,5 @@
 use Rattle.regex_lite_meta.proofs.Common.{ℕ, ◌+◌, ◌-◌, ◌*◌, ◌^◌, ◌<◌, ◌≤◌, length, chars, sym, ◌∙◌}
-use Rattle.regex_lite_meta.proofs.Common.{arith, arrows_of}
+use Rattle.regex_lite_meta.proofs.Common.{refl, arith, arrows_of}
 use Rattle.std.proofs.Math.Nat.{mul-le-mul_left}
 use Rattle.regex_lite_engine.proofs.pikevm.EndLemmas.{bound_more}
 use Rattle.regex_lite_engine.proofs.pikevm.PassLemmas.{bound_on}
@@ -70,7 +70,7 @@ pub turn-requires-clause-ready : goal.turn-requires-clause-ready
 turn-requires-clause-ready g c = c.requires.on.5.ready
 
 pub returns-clause-again : goal.returns-clause-again
-returns-clause-again g c = c.turn.ensures.again
+returns-clause-again g c = c.turn.ensures.again refl
 
 pub returns-clause-hit : goal.returns-clause-hit
 returns-clause-hit g c = c.turn.ensures.hit

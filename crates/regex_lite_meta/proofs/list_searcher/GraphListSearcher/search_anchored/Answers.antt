@@ -1,4 +1,4 @@
-use Rattle.regex_lite_meta.proofs.Common.{[], chars, places_of, position_at, table_of_list}
+use Rattle.regex_lite_meta.proofs.Common.{[], chars, places_of, position_at, table_of_list, false}
 use Rattle.regex_lite_engine.specs.Search.NumberedOutcomes.{IsBestOutcomeTo, numbered_at}
 use Rattle.regex_lite_engine.specs.Search.NumberedOutcomes.{with_origin_kept}
 use Rattle.regex_lite_meta.specs.Memories.{row_of_several}
@@ -25,7 +25,8 @@ returns-clause-found c = λ trees regular is.
           let own = w.pattern-pattern.ensures in
           let alone = rw w.in-One.is at c.self.invariant in
           rw (w.result-is, w.self-inside-is)
-          (list_span_at_told trees list of_list haystack c.args.start c.if-start-haystack.false
+          (list_span_at_told false trees list of_list haystack c.args.start
+          c.if-start-haystack.false
           regular told row
           (in_list list alone.0 alone.1 (places_of one.table.now) own.table one.entry own.entry
           (λ table entries. IsBestOutcomeTo table (chars haystack) entries s s
@@ -34,12 +35,14 @@ returns-clause-found c = λ trees regular is.
       | in-Words w ↦
           let (answers, each) = rw w.in-Words.is at c.self.invariant in
           rw (w.result-is, w.self-inside-is)
-          (list_span_at_told trees list of_list haystack c.args.start c.if-start-haystack.false
+          (list_span_at_told false trees list of_list haystack c.args.start
+          c.if-start-haystack.false
           regular w.find_word_at.result []
           (w.find_word_at.ensures (table_of_list list) list.entries answers each))
       | in-Several w ↦
           rw (w.result-is, w.self-inside-is)
-          (list_span_at_told trees list of_list haystack c.args.start c.if-start-haystack.false
+          (list_span_at_told false trees list of_list haystack c.args.start
+          c.if-start-haystack.false
           regular w.find_anchored-in-Several.result
           (row_of_several w.find_anchored-in-Several.new.self)
           w.find_anchored-in-Several.ensures.found)

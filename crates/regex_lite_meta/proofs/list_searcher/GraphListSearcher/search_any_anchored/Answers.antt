@@ -1,6 +1,6 @@
 use Rattle.std.specs.Prelude.{◌↔◌, IsTrue}
 use Rattle.regex_lite_meta.proofs.Common.{[], chars, places_of, position_at, sym, ◌∙◌, subst}
-use Rattle.regex_lite_meta.proofs.Common.{best_kept, table_of_list}
+use Rattle.regex_lite_meta.proofs.Common.{best_kept, table_of_list, false}
 use Rattle.regex_lite_engine.specs.Search.AnswerAt.{AnyMatchesAt}
 use Rattle.regex_lite_engine.specs.Search.NumberedOutcomes.{IsAnyTo}
 use Rattle.regex_lite_engine.specs.Search.Offsets.{search_start}
@@ -29,27 +29,27 @@ returns-clause-found c = λ trees regular is.
           let own = w.pattern-pattern.ensures in
           let alone = rw w.in-One.is at c.self.invariant in
           subst (λ some. IsTrue some
-          ↔ AnyMatchesAt trees (chars haystack) (search_start haystack c.args.start))
+          ↔ AnyMatchesAt false trees (chars haystack) (search_start haystack c.args.start))
           (sym (w.result-is ∙ w.is_some.ensures ∙ some_kept found row))
-          (list_any_at_told trees list of_list haystack c.args.start inside regular
+          (list_any_at_told false trees list of_list haystack c.args.start inside regular
           (best_kept found row)
           (in_list list alone.0 alone.1 (places_of one.table.now) own.table one.entry own.entry
-          (λ table entries. IsAnyTo table (chars haystack) entries s s (best_kept found row))
+          (λ table entries. IsAnyTo table (chars haystack) entries false s s (best_kept found row))
           w.find_anchored.ensures.found))
       | in-Words w ↦
           let (answers, each) = rw w.in-Words.is at c.self.invariant in
           let told = w.find_word_at.result in
           subst (λ some. IsTrue some
-          ↔ AnyMatchesAt trees (chars haystack) (search_start haystack c.args.start))
+          ↔ AnyMatchesAt false trees (chars haystack) (search_start haystack c.args.start))
           (sym (w.result-is ∙ w.is_some-in-Words.ensures))
           (any_of_word trees list of_list haystack c.args.start inside regular told
           (w.find_word_at.ensures (table_of_list list) list.entries answers each))
       | in-Several w ↦
           let found = w.find_any_anchored.result in
           subst (λ some. IsTrue some
-          ↔ AnyMatchesAt trees (chars haystack) (search_start haystack c.args.start))
+          ↔ AnyMatchesAt false trees (chars haystack) (search_start haystack c.args.start))
           (sym (w.result-is ∙ w.is_some-in-Several.ensures ∙ some_kept found []))
-          (list_any_at_told trees list of_list haystack c.args.start inside regular
+          (list_any_at_told false trees list of_list haystack c.args.start inside regular
           (best_kept found []) (w.find_any_anchored.ensures.found []))
     ]
 

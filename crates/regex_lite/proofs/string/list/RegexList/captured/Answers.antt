@@ -1,22 +1,23 @@
-use Rattle.regex_lite.proofs.Common.{◌≡◌, ℕ, ◌*◌, length, take, Some, ap, ◌∙◌}
-use Rattle.regex_lite.proofs.Common.{groups_of, groups_at, Groups, AreGroups}
-use Rattle.regex_lite.proofs.Common.{TellsGroupsOfList, AreTrees, CompiledList}
-use Rattle.regex_lite.specs.Scanning.{TellsOutcomeOfList}
-use Rattle.regex_lite.proofs.string.ListGroupLemmas.{listed_groups, listed_of_pattern, stored_at}
+use Rattle.regex_lite.proofs.Common.{◌≡◌, ◌*◌, List, length, take, ap, refl, ◌∙◌, Tree}
+use Rattle.regex_lite.proofs.Common.{Found}
+use Rattle.regex_lite.proofs.Common.{HasTree, groups_of, groups_at, Groups, AreGroups, AreGroupsOf}
+use Rattle.regex_lite.proofs.Common.{AreTrees, CompiledList}
+use Rattle.regex_lite.specs.ToldWays.{IsToldOfWay}
+use Rattle.regex_lite.proofs.string.ListGroupLemmas.{listed_groups, listed_there}
 use Rattle.regex_lite.proofs.string.ListSlotLemmas.{width_kept}
-use Rattle.regex_lite.proofs.string.ListToldLemmas.{outcome_built}
 use Rattle.regex_lite.proofs.string.list.RegexList.captured.Goals as goal
 use Rattle.regex_lite.proofs.string.list.RegexList.captured.Goals.{After-truncate}
 
--- the slots hold the groups that the search told of
-listed : (c : After-truncate) (start : ℕ)
-    → TellsOutcomeOfList c.args.self.now c.args.haystack.now start (Some c.args.found)
+-- the slots hold the groups of the way that the search told of
+listed : (c : After-truncate) (trees : List Tree) (tree : Tree) (own : Found)
+    → AreTrees c.args.self.now trees → HasTree trees c.args.found.0 tree
+    → IsToldOfWay tree c.args.haystack.now (c.args.found.1.start, c.args.found.1.end)
+    c.args.found.1.slots.items own
     → AreGroups (groups_of c.args.haystack.now c.truncate.new.self.items c.of_listed-source.result)
     × ((groups : Groups)
     → groups ≡ groups_of c.args.haystack.now c.truncate.new.self.items c.of_listed-source.result
-    → TellsGroupsOfList c.args.self.now c.args.haystack.now start
-    (Some (c.args.found.0, groups)))
-listed c start own =
+    → AreGroupsOf tree c.args.haystack.now own groups)
+listed c trees tree own trees_given numbered told =
     let a = c.args in
     let compiled = c.self.inside.compiled in
     let built = c.self.invariant in
@@ -32,30 +33,29 @@ listed c start own =
     let filled = c.truncate.ensures.items
     ∙ ap (λ n. take n c.slots_with-slots.result.items) c.slots.ensures
     ∙ ap (take (2 * length shared.capture_names)) c.slots_with-slots.ensures in
-    listed_groups a.haystack.now c.utf8.haystack start a.self.now compiled built given number
-    outcome (outcome_built a.self.now compiled built given a.haystack.now start a.found own) width
+    listed_groups a.haystack.now c.utf8.haystack a.self.now compiled built given number trees
+    trees_given tree numbered own outcome.slots.items (outcome.start, outcome.end) told width
     c.truncate.new.self.items shared stored filled
 
 pub of_listed-source-requires : goal.of_listed-source-requires
 of_listed-source-requires c =
     let a = c.args in
-    let own = c.self.inside.compiled in
     let built = c.self.invariant in
-    let told = outcome_built a.self.now own built (rw (← c.self.view_is) built.given)
-    a.haystack.now c.requires.found.0 a.found c.requires.found.1 in
+    let told = c.requires.found in
     rw c.in_ok-clone.ensures.cases
-    (stored_at built.trees own.graph a.found.0 told.1.tree built.groups told.1.numbered).0
+    (listed_there a.haystack.now c.utf8.haystack a.self.now c.self.inside.compiled built
+    (rw (← c.self.view_is) built.given)
+    a.found.0 told.trees told.given told.tree told.numbered)
 
 pub new-caps-requires : goal.new-caps-requires
 new-caps-requires c =
-    (listed (goal.at.new-caps-requires c).After-truncate c.requires.found.0 c.requires.found.1).0
+    let told = c.requires.found in
+    (listed (goal.at.new-caps-requires c).After-truncate told.trees told.tree told.found told.given
+    told.numbered told.told).0
 
 pub returns-clause-found : goal.returns-clause-found
-returns-clause-found c = λ start own.
-    (listed (goal.at.returns-clause-found c).After-truncate start own).1 c.new-caps.result
-    c.new-caps.ensures
-
-pub returns-clause-of_match : goal.returns-clause-of_match
-returns-clause-of_match c =
-    listed_of_pattern c.args.haystack.now c.requires.found.0 c.args.self.now c.args.found.0
-    c.new-caps.result (returns-clause-found c c.requires.found.0 c.requires.found.1)
+returns-clause-found c = λ trees tree own given numbered told. (
+  refl,
+  (listed (goal.at.returns-clause-found c).After-truncate trees tree own given numbered told).1
+      c.new-caps.result c.new-caps.ensures,
+)

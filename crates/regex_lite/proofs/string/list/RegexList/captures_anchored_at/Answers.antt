@@ -1,51 +1,19 @@
-use Rattle.regex_lite.proofs.Common.{Some, ap, AreGroupsOf, CompiledList}
-use Rattle.regex_lite_engine.specs.Search.Outcomes.{IsOutcomeAtOfList}
-use Rattle.regex_lite.specs.Scanning.{TellsOutcomeOfList}
-use Rattle.regex_lite.proofs.string.ListAnchoredLemmas.{list_outcome_from, list_told_there}
-use Rattle.regex_lite.proofs.string.ListSlotLemmas.{room_kept, room_whole}
-use Rattle.regex_lite.proofs.string.ListToldLemmas.{outcome_of_list}
+use Rattle.regex_lite.proofs.Common.{ℕ, IfSome, Some, None, Option, Groups, AreGroupsOf}
+use Rattle.regex_lite.specs.Anchored.{TellsGroupsAtOfList}
+use Rattle.regex_lite.specs.RegexListSearches.{AreOfPattern}
+use Rattle.std.proofs.lemmas.Result.{IfOk-weaker}
+use Rattle.regex_lite.proofs.string.ListAnchoredLemmas.{list_told_from}
+use Rattle.regex_lite.proofs.string.ListGroupLemmas.{listed_of_pattern}
 use Rattle.regex_lite.proofs.string.list.RegexList.captures_anchored_at.Goals as goal
-use Rattle.regex_lite.proofs.string.list.RegexList.captures_anchored_at.Goals.{In-Some}
 
--- what the search told of
-told : (c : In-Some) → IsOutcomeAtOfList c.self.invariant.trees c.args.haystack.now c.args.start
-    (Some c.in-Some.found)
-told c =
-    outcome_of_list c.self.inside.compiled c.self.invariant c.deref.result.now.graph
-    (λ trees. IsOutcomeAtOfList trees c.args.haystack.now c.args.start) c.in_ok-told.told
-    c.in-Some.found (ap (λ (compiled : CompiledList). compiled.graph) c.deref.ensures)
-    c.in_ok-told.ensures.found c.in-Some.is
-
--- as one that searches from there on tell of it
-from_there : (c : In-Some)
-    → TellsOutcomeOfList c.args.self.now c.args.haystack.now c.args.start (Some c.in-Some.found)
-from_there c = (
-  c.self.invariant.trees,
-  rw (← c.self.view_is) c.self.invariant.given,
-  list_outcome_from c.self.invariant.trees c.args.haystack.now c.args.start _ _ (told c),
-)
-
-pub captured-requires : goal.captured-requires
-captured-requires c =
-    let own = c.in_ok-told in
-    let count = c.kept_slots-count in
-    record {
-      found = (c.args.start, from_there (goal.at.captured-requires c).In-Some);
-      slots = rw c.in-Some.is at
-          (room_kept count.result c.args.self.now own.told own.ensures.slots count.ensures);
-      whole = rw c.in-Some.is at
-          (room_whole count.result c.in_ok-whole.whole.items own.told own.ensures.slots
-          c.in_ok-whole.ensures);
-    }
-
-pub returns-clause-found : goal.returns-clause-found
-returns-clause-found c =
-    let at = (goal.at.returns-clause-found c).In-Some in
-    let own = told at in
-    list_told_there (λ tree. AreGroupsOf tree c.args.haystack.now) c.args.self.now
-    c.args.haystack.now c.args.start c.in_ok-caps.caps (
-      c.self.invariant.trees,
-      rw (← c.self.view_is) c.self.invariant.given,
-      ((c.in-Some.found.0, own.0), own.1),
-    )
-    (c.in_ok-caps.ensures.found c.args.start (from_there at))
+pub returns-clause-of_match : goal.returns-clause-of_match
+returns-clause-of_match c =
+    IfOk-weaker c.groups_anchored.result _ _ each c.groups_anchored.ensures.found
+  where
+    each : (told : Option (ℕ × Groups)) → TellsGroupsAtOfList c.args.self.now c.args.haystack.now
+        c.args.start told → IfSome told (AreOfPattern c.args.self.now)
+    each None none = tt
+    each (Some (number, groups)) told =
+        listed_of_pattern c.args.haystack.now c.args.start c.args.self.now number groups
+        (list_told_from (λ tree. AreGroupsOf tree c.args.haystack.now) c.args.self.now
+        c.args.haystack.now c.args.start (number, groups) told)

@@ -1,6 +1,7 @@
-use Rattle.regex_lite.proofs.Common.{Some, sym, ap, subst, IsGraphOf, OfTree}
+use Rattle.regex_lite.proofs.Common.{Some, sym, ap, subst, chars, search_start, IsGraphOf, OfTree}
+use Rattle.regex_lite_engine.proofs.laws.answer.AnswerAtLemmas.{way_of_found}
 use Rattle.regex_lite_engine.specs.Search.Outcomes.{IsOutcome}
-use Rattle.regex_lite.proofs.string.ToldLemmas.{outcome_of, room_of_whole, slots_are}
+use Rattle.regex_lite.proofs.string.ToldLemmas.{outcome_of, room_of_whole, slots_are, way_told}
 use Rattle.regex_lite.proofs.string.regex.Regex.captures_counted_at.Goals as goal
 use Rattle.regex_lite.proofs.string.regex.Regex.captures_counted_at.Goals.{In-Some}
 
@@ -18,7 +19,9 @@ captured-requires c =
     let count = c.kept_slots-count in
     let outcome = c.in_ok-outcome in
     record {
-      outcome = (c.args.start, told (goal.at.captured-requires c).In-Some);
+      outcome = way_told c.args.haystack.now c.utf8.haystack c.args.start c.args.self.now
+          (c.in-Some.outcome.start, c.in-Some.outcome.end) c.in-Some.outcome.slots.items
+          (told (goal.at.captured-requires c).In-Some);
       slots = slots_are c.args.self.now outcome.outcome c.in-Some.outcome count.result
           count.ensures outcome.ensures.slots c.in-Some.is;
       whole = room_of_whole outcome.outcome c.in-Some.outcome count.result
@@ -27,7 +30,26 @@ captured-requires c =
 
 pub returns-clause-found : goal.returns-clause-found
 returns-clause-found c =
-    c.in_ok-caps.ensures.found c.args.start (told (goal.at.returns-clause-found c).In-Some)
+    let (tree, given, (found, is, tells)) = told (goal.at.returns-clause-found c).In-Some in (
+      tree,
+      given,
+      (
+        found,
+        is,
+        c.in_ok-caps.ensures.found tree found given (record {
+          of_way = way_of_found tree (chars c.args.haystack.now)
+              (search_start c.args.haystack.now c.args.start) found is;
+          tells = tells;
+        }),
+      ),
+    )
+
+pub returns-clause-of_match : goal.returns-clause-of_match
+returns-clause-of_match c = record {
+  haystack = c.args.haystack.now;
+  start = c.args.start;
+  told = returns-clause-found c;
+}
 
 pub returns-clause-cost : goal.returns-clause-cost
 returns-clause-cost c =

@@ -1,5 +1,6 @@
 use Rattle.regex_lite_engine.proofs.Common.{◌^◌, ◌<◌, length, arith, rules}
 use Rattle.regex_lite_engine.proofs.Common.{position_at}
+use Rattle.std.specs.Prelude.{not, ◌==◌}
 use Rattle.regex_lite_engine.proofs.search.ListAnchoredLemmas.{list_outcome_at_told}
 use Rattle.regex_lite_engine.proofs.search.ListOutcomeLemmas.{cost_of_list}
 use Rattle.std.proofs.lemmas.Grind.{common_steps}
@@ -7,7 +8,7 @@ use Rattle.regex_lite_engine.proofs.nfa.BoundaryLemmas.{on_boundary}
 use Rattle.regex_lite_engine.proofs.nfa.list.GraphList.search_anchored.Goals as goal
 
 pub run_anchored-requires : goal.run_anchored-requires
-run_anchored-requires c = record {
+run_anchored-requires g c = record {
   fresh = rw c.in_ok-patterns.ensures.list c.in_ok-patterns.ensures.fresh;
   counts =
       let haystack = c.args.haystack.now in
@@ -19,18 +20,19 @@ run_anchored-requires c = record {
 }
 
 pub returns-clause-found : goal.returns-clause-found
-returns-clause-found c = λ trees regular is.
-    list_outcome_at_told trees c.args.self.now is c.args.haystack.now c.args.start
+returns-clause-found g c = λ trees regular is.
+    list_outcome_at_told (not (g.row.WHOLE == 0)) trees c.args.self.now is c.args.haystack.now
+    c.args.start
     (omega (arith, c.if-start-haystack.false)) regular c.into_numbered.result
     (rw (c.in_ok-patterns.ensures.list, c.into_numbered.ensures.told) at
     c.run_anchored.ensures.found)
 
 pub returns-clause-cost : goal.returns-clause-cost
-returns-clause-cost c = λ trees is.
+returns-clause-cost g c = λ trees is.
     cost_of_list trees c.args.self.now is c.args.haystack.now c.args.start
     (omega (arith, c.if-start-haystack.false)) c.run_anchored.new.cache.walk.steps
     (rw c.in_ok-patterns.ensures.list at c.run_anchored.ensures.bounded)
 
 -- It has an answer because the prover would try other calls first, which takes long
 pub returns-then-start-haystack-clause-found : goal.returns-then-start-haystack-clause-found
-returns-then-start-haystack-clause-found c = grind (arith, common_steps)
+returns-then-start-haystack-clause-found g c = grind (arith, common_steps)

@@ -4,6 +4,7 @@ use Rattle.regex_lite_engine.proofs.Common.{subst, arith, drop-cons, state_retol
 use Rattle.regex_lite_engine.proofs.Common.{Thread, thread_at, KeepsPosition, best_of, StepsAt}
 use Rattle.regex_lite_engine.proofs.Common.{begun, with_starts, Told, untold, StaysCounted, Best}
 use Rattle.regex_lite_engine.proofs.Common.{Row, Start, all_retold, inl, inr}
+use Rattle.std.specs.Prelude.{not, ◌==◌}
 use Rattle.regex_lite_engine.specs.Pikevm.Machine.{BestState, State}
 use Rattle.std.proofs.Math.ListN.{drop_of_length-le}
 use Rattle.regex_lite_engine.specs.Pikevm.Room.{explores}
@@ -84,8 +85,8 @@ pub ways-init : goal.ways-init
 ways-init g c = record {
   room = c.requires.room;
   followed = record {
-    steps = λ at is u. u;
-    again = λ tell there b at alike is u. u;
+    steps = λ at same is u. u;
+    again = λ all tell there b at same alike is u. u;
     kept = record { threads = refl; room = refl; row = refl };
     spent = omega arith;
     spent_entries = omega arith;
@@ -97,7 +98,7 @@ ways-init g c = record {
 
 -- the k-th of the ways was followed
 went : (g : given.Over) (c : After-explore g) → HasFollowed
-    (g.P.Patterns.table c.args.patterns.now) c.args.here
+    (g.P.Patterns.table c.args.patterns.now) (not (g.row.WHOLE == 0)) c.args.here
     (ways_at (g.P.Patterns.starts c.args.patterns.now) (g.S.Beginning.told_of c.args.here.at)
     c.args.self.now) (best_of c.args.self.now.best) c.args.self.now.walk
     (g.S.Beginning.told c.take_up-place.result.1) c.explore.new.self (c.ways.k + 1) c.explore.result
@@ -107,7 +108,7 @@ went g c =
     let starts = g.P.Patterns.starts a.patterns.now in let told = g.S.Beginning.told_of a.here.at in
     let lt : c.ways.k < length (ways_at starts told a.self.now) =
     (let t = c.ways-test.true in let e = c.ways-k-end.ensures told in omega (arith, t, e)) in
-    follows_on {ways = ways_at starts told a.self.now} v.followed
+    follows_on {whole = not (g.row.WHOLE == 0)} {ways = ways_at starts told a.self.now} v.followed
     (taken_first starts told (best_of a.self.now.best) i.memory c.ways.self.walk.memory c.ways.k
     v.followed.kept lt (
       c.take_up-place.result.0,
@@ -121,7 +122,7 @@ ways-preserved g c =
     let a = c.args in let v = c.ways.invariant in let up = c.take_up-place.ensures in
     let y = c.explore.new.self in let more = c.explore.ensures in
     let told = g.S.Beginning.told_of a.here.at in
-    let w = subst (HasFollowed (g.P.Patterns.table a.patterns.now) a.here
+    let w = subst (HasFollowed (g.P.Patterns.table a.patterns.now) (not (g.row.WHOLE == 0)) a.here
     (ways_at (g.P.Patterns.starts a.patterns.now) told a.self.now) (best_of a.self.now.best)
     a.self.now.walk (g.S.Beginning.told c.take_up-place.result.1) y (c.ways.k + 1))
     c.if-explore.false (went g (goal.at.ways-preserved g c).After-explore) in
@@ -142,7 +143,7 @@ ways-preserved g c =
 
 -- it comes to a match, and nothing is left
 matched : (g : given.Over) (c : After-explore g) → c.explore.result ≡ true → HasFollowed
-    (g.P.Patterns.table c.args.patterns.now) c.args.here
+    (g.P.Patterns.table c.args.patterns.now) (not (g.row.WHOLE == 0)) c.args.here
     (ways_at (g.P.Patterns.starts c.args.patterns.now) (g.S.Beginning.told_of c.args.here.at)
     c.args.self.now) (best_of c.args.self.now.best) c.args.self.now.walk
     (g.S.Beginning.told c.take_up-place.result.1) c.explore.new.self (c.ways.k + 1) true
@@ -162,7 +163,8 @@ returns-then-explore-clause-followed g c =
     a.here.at c.row.result.now y.memory.row c.set.ensures.found c.row.ensures in
     record {
       steps =
-          subst (λ z. StepsTo (g.P.Patterns.table a.patterns.now) a.here a.self.now.walk.memory ws
+          subst (λ z. StepsTo (g.P.Patterns.table a.patterns.now) (not (g.row.WHOLE == 0)) a.here
+          a.self.now.walk.memory ws
           (best_of a.self.now.best) y.memory [] z) (sym found) w.steps;
       spent = omega (arith, spent, idle, lt);
       spent_entries = w.spent_entries;
@@ -173,7 +175,7 @@ returns-then-explore-clause-followed g c =
     }
 
 pub returns-then-explore-clause-again : goal.returns-then-explore-clause-again
-returns-then-explore-clause-again g c = λ tell there b at alike.
+returns-then-explore-clause-again g c = λ all tell there b at same alike.
     let a = c.args in let y = c.explore.new.self in
     let told = g.S.Beginning.told_of a.here.at in
     let ws = ways_at (g.P.Patterns.starts a.patterns.now) told a.self.now in
@@ -183,7 +185,7 @@ returns-then-explore-clause-again g c = λ tell there b at alike.
     a.here.at c.row.result.now y.memory.row c.set.ensures.found c.row.ensures in
     subst (λ z. StepsAt (g.P.Patterns.table a.patterns.now) at there
     (state_retold tell a.self.now.walk.memory) (all_retold tell ws) b (state_retold tell y.memory)
-    [] (best_again tell there.at true z b)) (sym found) (w.again tell there b at alike)
+    [] (best_again tell there.at true z b)) (sym found) (w.again all tell there b at same alike)
 
 pub returns-clause-followed : goal.returns-clause-followed
 returns-clause-followed g c =
@@ -196,9 +198,11 @@ returns-clause-followed g c =
     let spent = v.followed.spent in
     record {
       steps =
-          subst (λ b. StepsTo table a.here a.self.now.walk.memory ws (best_of a.self.now.best)
+          subst (λ b. StepsTo table (not (g.row.WHOLE == 0)) a.here a.self.now.walk.memory ws
+          (best_of a.self.now.best)
           c.ways.self.walk.memory [] b) (sym (ap best_of v.best))
-          (subst (λ ts. StepsTo table a.here a.self.now.walk.memory ws (best_of a.self.now.best)
+          (subst (λ ts. StepsTo table (not (g.row.WHOLE == 0)) a.here a.self.now.walk.memory ws
+          (best_of a.self.now.best)
           c.ways.self.walk.memory ts (best_of a.self.now.best))
           (drop_of_length-le ws (omega (arith, c.ways-test.false, e))) v.followed.steps);
       spent = omega (arith, e, far, spent);
@@ -209,7 +213,7 @@ returns-clause-followed g c =
     }
 
 pub returns-clause-again : goal.returns-clause-again
-returns-clause-again g c = λ tell there b at alike.
+returns-clause-again g c = λ all tell there b at same alike.
     let a = c.args in let i = a.self.now.walk.memory in
     let told = g.S.Beginning.told_of a.here.at in
     let ws = ways_at (g.P.Patterns.starts a.patterns.now) told a.self.now in
@@ -217,7 +221,7 @@ returns-clause-again g c = λ tell there b at alike.
     subst (λ (ts : List Thread). StepsAt (g.P.Patterns.table a.patterns.now) at there
     (state_retold tell i) (all_retold tell ws) b (state_retold tell c.ways.self.walk.memory)
     (all_retold tell ts) b) (drop_of_length-le ws (omega (arith, c.ways-test.false, e)))
-    (c.ways.invariant.followed.again tell there b at alike)
+    (c.ways.invariant.followed.again all tell there b at same alike)
 
 pub returns-then-explore-clause-hit : goal.returns-then-explore-clause-hit
 returns-then-explore-clause-hit g c = λ none.

@@ -1,4 +1,5 @@
 use Rattle.regex_lite_engine.proofs.Common.{◌≡◌, false, [], best_of, untold, StaysCounted}
+use Rattle.std.specs.Prelude.{not, ◌==◌}
 use Rattle.regex_lite_engine.specs.Pikevm.Room.{HasRoom}
 use Rattle.regex_lite_engine.specs.Pikevm.Searching.{ways_at}
 use Rattle.regex_lite_engine.proofs.pikevm.StepLemmas.{HasFollowed}
@@ -7,7 +8,7 @@ use Rattle.regex_lite_engine.proofs.pikevm.cache.Cache.follow.Given as goal
 abbrev pub invariant-ways : goal.invariant-ways
 invariant-ways g l = record {
   room : HasRoom (g.P.Patterns.table l.patterns) l.self.walk [];
-  followed : HasFollowed (g.P.Patterns.table l.patterns) l.here
+  followed : HasFollowed (g.P.Patterns.table l.patterns) (not (g.row.WHOLE == 0)) l.here
       (ways_at (g.P.Patterns.starts l.patterns) (g.S.Beginning.told_of l.here.at) l.initial.self)
       (best_of l.initial.self.best) l.initial.self.walk untold l.self.walk l.k false;
   best : l.self.best ≡ l.initial.self.best;

@@ -1,7 +1,9 @@
 use Rattle.regex_lite_engine.proofs.Common.{◌≡◌, ℕ, ◌+◌, List, length, sym, ap, ◌∙◌, subst, arith}
 use Rattle.regex_lite_engine.proofs.Common.{Text, row_of, arrow_count, all_retold, state_retold}
-use Rattle.regex_lite_engine.proofs.Common.{reading_count}
-use Rattle.regex_lite_engine.proofs.Common.{best_again, ThreadsBelow, best_of, IsComing}
+use Rattle.regex_lite_engine.proofs.Common.{reading_count, Bool, false}
+use Rattle.std.specs.Prelude.{not, ◌==◌}
+use Rattle.regex_lite_engine.proofs.Common.{best_again, ThreadsBelow, best_of, IsComing, IsComingTo}
+use Rattle.regex_lite_engine.proofs.Common.{refl}
 use Rattle.regex_lite_engine.proofs.Common.{with_starts, SearchAt, Told, lone}
 use Rattle.regex_lite_engine.specs.Pikevm.Room.{explores}
 use Rattle.regex_lite_engine.proofs.pikevm.AgainLemmas.{best_kept, start_retold}
@@ -15,10 +17,11 @@ use Rattle.regex_lite_engine.proofs.pikevm.TurnLemmas.{starts_up_to, turned_all,
 use Rattle.regex_lite_engine.proofs.pikevm.cache.Cache.turn.Goals as goal
 
 -- a search at the position, before any start is offered there
-abbrev search_at : Text → (entries : List ℕ) → (first last p : ℕ) → SearchAt
-search_at haystack entries first last p = record {
+abbrev search_at : Text → (entries : List ℕ) → (whole : Bool) → (first last p : ℕ) → SearchAt
+search_at haystack entries whole first last p = record {
   haystack = haystack;
   entries = entries;
+  whole = whole;
   first = first;
   last = last;
   p = p;
@@ -85,9 +88,11 @@ returns-clause-comes g c = λ haystack entries p first last is low are coming.
     let n = c.begin_position.new.self in let round = begins_position m n c.begin_position.ensures in
     let starts = g.P.Patterns.starts a.patterns.now in let told = g.S.Beginning.told_of a.here.at in
     let best = best_of a.self.now.best in let f = c.follow-hit.new.self in
-    subst (λ z. IsComing (g.P.Patterns.table a.patterns.now) haystack entries first last (p + 1) z
-    (best_of f.best)) (sym (turns_over f.walk.memory c.turn_over.new.self c.turn_over.ensures))
-    (turned_all (g.P.Patterns.table a.patterns.now) (search_at haystack entries first last p) a.here
+    subst (λ z. IsComingTo (g.P.Patterns.table a.patterns.now) haystack entries
+    (not (g.row.WHOLE == 0)) first last (p + 1) z (best_of f.best))
+    (sym (turns_over f.walk.memory c.turn_over.new.self c.turn_over.ensures))
+    (turned_all (g.P.Patterns.table a.patterns.now)
+    (search_at haystack entries (not (g.row.WHOLE == 0)) first last p) a.here
     m.threads best f.walk.memory (best_of f.best) (record {
       is = is;
       low = low;
@@ -102,7 +107,9 @@ returns-clause-comes g c = λ haystack entries p first last is low are coming.
       begins = begins_with m n starts told best round;
       steps = λ from.
           c.follow-hit.ensures.followed.steps
-          (record (search_at haystack entries first last p) { from = from });
+          (record (search_at haystack entries (not (g.row.WHOLE == 0)) first last p) {
+            from = from;
+          }) refl;
       kept = c.follow-hit.ensures.kept;
     }) coming)
 
@@ -117,7 +124,8 @@ returns-clause-own g c = λ haystack entries p first last begin len is low are c
     let ways = with_starts starts told best (length n.row) n.threads in
     let begins = begins_with m n starts told best round in
     let only =
-    turned_within table (search_at haystack entries first last p) a.here m.threads best left
+    turned_within table (search_at haystack entries (not (g.row.WHOLE == 0)) first last p) a.here
+    m.threads best left
     (best_of f.best) (record {
       is = is;
       low = low;
@@ -132,7 +140,9 @@ returns-clause-own g c = λ haystack entries p first last begin len is low are c
       begins = begins;
       steps = λ from.
           followed.followed.steps
-          (record (search_at haystack entries first last p) { from = from });
+          (record (search_at haystack entries (not (g.row.WHOLE == 0)) first last p) {
+            from = from;
+          }) refl;
       kept = followed.kept;
     }) coming begin len part in
     let outside =
@@ -163,7 +173,7 @@ returns-clause-own g c = λ haystack entries p first last begin len is low are c
 
 pub returns-clause-again : goal.returns-clause-again
 returns-clause-again g c =
-    λ tell there best tells to back haystack entries p first last alike is low high are coming.
+    λ all tell there best tells to back haystack entries p first last alike is low high are coming.
     let a = c.args in let m = a.self.now.walk.memory in let r = c.requires in
     let n = c.begin_position.new.self in let round = begins_position m n c.begin_position.ensures in
     let table = g.P.Patterns.table a.patterns.now in
@@ -178,7 +188,7 @@ returns-clause-again g c =
     let found = best_again tell there.at c.follow-hit.result (best_of f.best) best in
     subst (λ z. IsComing table haystack entries first last (p + 1) (all_retold tell z) found)
     (sym (turns_over f.walk.memory c.turn_over.new.self c.turn_over.ensures))
-    (turned_all table (search_at haystack entries first last p) there ts best
+    (turned_all table (search_at haystack entries false first last p) there ts best
     (state_retold tell f.walk.memory) found (record {
       is = is;
       low = low;
@@ -193,7 +203,7 @@ returns-clause-again g c =
       begins =
           subst (Begun starts retells best ts) (sym same) (start_begun starts retells 0 best ts);
       steps = λ from.
-          c.follow-hit.ensures.again tell there best
-          (record (search_at haystack entries first last p) { from = from }) alike;
+          c.follow-hit.ensures.again all tell there best
+          (record (search_at haystack entries false first last p) { from = from }) refl alike;
       kept = best_kept tell there.at c.follow-hit.result (best_of f.best) best;
     }) coming)

@@ -3,6 +3,7 @@ use Rattle.regex_lite_engine.proofs.Common.{if◌then◌else◌, ap, subst, arit
 use Rattle.regex_lite_engine.proofs.Common.{kept_back, place_of, places_of, LeadsBelow, ℕ, Bool}
 use Rattle.regex_lite_engine.proofs.Common.{false, List, inl, inr, Some, refl, ◌∙◌, length-set}
 use Rattle.regex_lite_engine.proofs.Common.{StepCounts}
+use Rattle.std.specs.Prelude.{not, ◌==◌}
 use Rattle.regex_lite_engine.specs.declared.pikevm.enter.Onward as code
 use Rattle.regex_lite_engine.specs.Pikevm.Entering.{completes, onto, Enters, pushing, reading_on}
 use Rattle.regex_lite_engine.specs.Pikevm.Machine.{explore, State, Job, Thread}
@@ -24,7 +25,7 @@ use Rattle.regex_lite_engine.proofs.pikevm.walk.Walk.come_to.Goals as goal
 pub returns-then-not-insert-clause-taken : goal.returns-then-not-insert-clause-taken
 returns-then-not-insert-clause-taken g c =
     let a = c.args in let w = a.self.now in
-    went_seen (places_of a.table.now) a.here (g.S.Beginning.told a.start) w
+    went_seen (places_of a.table.now) (not (g.row.WHOLE == 0)) a.here (g.S.Beginning.told a.start) w
     (record w { memory = c.insert.new.self; steps = c.count_try.new.self }) a.place c.requires
     (was_met _ c.insert.result (search rules) c.insert.ensures.fresh.1) c.insert.ensures.added
     c.count_try.ensures
@@ -48,19 +49,20 @@ returns-in-Complete-clause-taken g c =
     let x = c.look-found.result.now in let told = g.S.Beginning.told a.start in
     let size : length (map place_of a.table.now.places) ≡ length a.table.now.places =
     length-map a.table.now.places place_of in
-    let enters = subst (λ (o : code.Onward). Enters a.here told x (marked_in w.memory a.place)
+    let enters = subst (λ (o : code.Onward). Enters (not (g.row.WHOLE == 0)) a.here told x
+    (marked_in w.memory a.place)
     (record e { frames = onto o e.frames }) (completes o)) c.in-Complete.is
-    (subst (λ (z : State). Enters a.here told x z
+    (subst (λ (z : State). Enters (not (g.row.WHOLE == 0)) a.here told x z
     (record e { frames = onto c.enter-onward.result e.frames }) (completes c.enter-onward.result))
     {y = marked_in w.memory a.place} c.insert.ensures.added c.enter-onward.ensures.entered) in
     let same =
     later_same a.place w.memory n e c.insert.ensures.added c.enter-onward.ensures.same in
     let after = record w { memory = d; steps = c.look-found.new.steps } in
     subst
-    (λ (o : code.Onward). TakesFrame (places_of a.table.now) a.here told w
+    (λ (o : code.Onward). TakesFrame (places_of a.table.now) (not (g.row.WHOLE == 0)) a.here told w
     (explore a.place ∷ w.memory.frames) after (onto o d.frames) (completes o))
     (sym c.in-Complete.is)
-    (went_entered (places_of a.table.now) a.here told w a.place x e true
+    (went_entered (places_of a.table.now) (not (g.row.WHOLE == 0)) a.here told w a.place x e true
     (subst (λ z. LeadsBelow z (place_of x)) (sym size) c.look-found.ensures.inside)
     c.requires (not_yet (c.insert.ensures.fresh.0 (search rules)))
     (got_place a.table.now.places a.place x c.look-found.ensures.found) enters same after
@@ -75,12 +77,14 @@ returns-in_default-clause-taken g c =
     let x = c.look-found.result.now in let told = g.S.Beginning.told a.start in
     let size : length (map place_of a.table.now.places) ≡ length a.table.now.places =
     length-map a.table.now.places place_of in
-    let enters = subst (λ (z : State). Enters a.here told x z e (completes o))
+    let enters = subst (λ (z : State). Enters (not (g.row.WHOLE == 0)) a.here told x z e
+    (completes o))
     {y = marked_in w.memory a.place} c.insert.ensures.added c.enter-onward.ensures.entered in
     let same = ap (λ (z : State). record z { frames = left })
     (later_same a.place w.memory c.insert.new.self c.enter-onward.new.memory c.insert.ensures.added
     c.enter-onward.ensures.same) in
-    went_entered (places_of a.table.now) a.here told w a.place x e (completes o)
+    went_entered (places_of a.table.now) (not (g.row.WHOLE == 0)) a.here told w a.place x e
+    (completes o)
     (subst (λ z. LeadsBelow z (place_of x)) (sym size) c.look-found.ensures.inside)
     c.requires (not_yet (c.insert.ensures.fresh.0 (search rules)))
     (got_place a.table.now.places a.place x c.look-found.ensures.found) enters same
@@ -104,12 +108,12 @@ looking_width : (b : Bool) (m : State) (more : List Job)
 looking_width true m more = refl
 looking_width false m more = refl
 
-module _ (here : Here) (told : Told) (m e : State) (done : Bool) where
+module _ (whole : Bool) (here : Here) (told : Told) (m e : State) (done : Bool) where
   abbrev width : State → ℕ
   width z = length z.row
 
   -- entering a place leaves the row as long as it is
-  enters_width : (x : Place) → Enters here told x m e done → length e.row ≡ length m.row
+  enters_width : (x : Place) → Enters whole here told x m e done → length e.row ≡ length m.row
   enters_width (stored.Empty to) (same, ed) = ap width same
   enters_width (stored.Char ch to) (same, ed) = ap width same ∙ reading_width _ m _
   enters_width (stored.Class to set) (same, ed) = ap width same ∙ reading_width _ m _
@@ -128,7 +132,8 @@ returns-in_default-clause-kept g c =
     let a = c.args in let w = a.self.now.memory in let n = c.insert.new.self in
     let o = c.enter-onward.result in let e = c.enter-onward.new.memory in
     keeps_position a.place w n e c.insert.ensures.added c.enter-onward.ensures.same
-    (enters_width a.here (g.S.Beginning.told a.start) n (record e { frames = onto o e.frames })
+    (enters_width (not (g.row.WHOLE == 0)) a.here (g.S.Beginning.told a.start) n
+    (record e { frames = onto o e.frames })
     (completes o) c.look-found.result.now c.enter-onward.ensures.entered)
 
 pub insert-requires : goal.insert-requires
@@ -154,7 +159,8 @@ returns-in-Complete-clause-kept g c =
     let o = c.enter-onward.result in let e = c.enter-onward.new.memory in
     keeps_dropped w e c.drop_frames.new.self c.drop_frames.ensures
     (keeps_position a.place w n e c.insert.ensures.added c.enter-onward.ensures.same
-    (enters_width a.here (g.S.Beginning.told a.start) n (record e { frames = onto o e.frames })
+    (enters_width (not (g.row.WHOLE == 0)) a.here (g.S.Beginning.told a.start) n
+    (record e { frames = onto o e.frames })
     (completes o) c.look-found.result.now c.enter-onward.ensures.entered))
 
 pub returns-in-Complete-clause-tries : goal.returns-in-Complete-clause-tries

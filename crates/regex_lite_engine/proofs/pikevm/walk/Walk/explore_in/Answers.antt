@@ -1,5 +1,6 @@
 use Rattle.regex_lite_engine.proofs.Common.{true, false, List, [], ◌∷◌, refl, ◌∙◌, subst, arith}
 use Rattle.regex_lite_engine.proofs.Common.{length, places_of}
+use Rattle.std.specs.Prelude.{not, ◌==◌}
 use Rattle.regex_lite_engine.specs.Pikevm.Machine.{explore, Job}
 use Rattle.regex_lite_engine.specs.Pikevm.Room.{with_frames, GoesOn, IsFit}
 use Rattle.regex_lite_engine.proofs.search.CountLemmas.{counted_at_first, still_counted}
@@ -11,7 +12,7 @@ use Rattle.regex_lite_engine.proofs.pikevm.walk.Walk.explore_in.Goals as goal
 pub returns-in-None-clause-room : goal.returns-in-None-clause-room
 returns-in-None-clause-room g c =
     let a = c.args in let x = c.come_to.new.self in
-    (back_to (places_of a.table.now) a.here (g.S.Beginning.told a.start) x
+    (back_to (places_of a.table.now) (not (g.row.WHOLE == 0)) a.here (g.S.Beginning.told a.start) x
     (record x { memory = c.next_place.new.self }) [] c.in-None.ensures.place.0
     c.next_place.ensures.same refl c.in-Back.ensures.taken.fit).fit
 
@@ -23,16 +24,19 @@ returns-in-None-clause-explored g c =
     let first = with_frames a.self.now (explore a.first ∷ a.self.now.memory.frames) in
     let here = with_frames w (explore c.places.place ∷ w.memory.frames) in
     let went = c.in-Back.ensures.taken in
-    let back = back_to table a.here told x n [] c.in-None.ensures.place.0
+    let back = back_to table (not (g.row.WHOLE == 0)) a.here told x n [] c.in-None.ensures.place.0
     c.next_place.ensures.same refl went.fit in
-    goes_further table a.here told first here (with_frames n []) false c.places.invariant.on
-    (goes_further table a.here told here x (with_frames n []) false went.on back.on)
+    goes_further table (not (g.row.WHOLE == 0)) a.here told first here (with_frames n []) false
+    c.places.invariant.on
+    (goes_further table (not (g.row.WHOLE == 0)) a.here told here x (with_frames n []) false went.on
+    back.on)
 
 pub places-smaller : goal.places-smaller
 places-smaller g c =
     let a = c.args in let x = c.come_to.new.self in let went = c.in-Back.ensures.taken in
     let n = c.next_place.new.self in
-    let back = back_to (places_of a.table.now) a.here (g.S.Beginning.told a.start) x
+    let back = back_to (places_of a.table.now) (not (g.row.WHOLE == 0)) a.here
+    (g.S.Beginning.told a.start) x
     (record x { memory = n }) (explore c.in-Some.next ∷ n.frames) c.in-Some.ensures.place
     c.next_place.ensures.same refl went.fit in
     let less = went.less refl in let more = back.less in
@@ -48,13 +52,16 @@ places-preserved g c =
     let here = with_frames w (explore c.places.place ∷ w.memory.frames) in
     let left = explore c.in-Some.next ∷ n.frames in
     let went = c.in-Back.ensures.taken in
-    let back = back_to table a.here told x next left c.in-Some.ensures.place
+    let back = back_to table (not (g.row.WHOLE == 0)) a.here told x next left
+    c.in-Some.ensures.place
     c.next_place.ensures.same refl went.fit in
     let kept = keeps_threads y n c.next_place.ensures.same in
     record {
       room = back.fit;
-      on = goes_further table a.here told first here (with_frames next left) false v.on
-          (goes_further table a.here told here x (with_frames next left) false went.on back.on);
+      on = goes_further table (not (g.row.WHOLE == 0)) a.here told first here
+          (with_frames next left) false v.on
+          (goes_further table (not (g.row.WHOLE == 0)) a.here told here x (with_frames next left)
+          false went.on back.on);
       kept = record {
         threads = kept.threads ∙ c.in-Back.ensures.kept.threads ∙ v.kept.threads;
         room = kept.room ∙ c.in-Back.ensures.kept.room ∙ v.kept.room;
@@ -70,9 +77,11 @@ returns-in-Complete-clause-explored g c =
     let first = with_frames a.self.now (explore a.first ∷ a.self.now.memory.frames) in
     let here = with_frames w (explore c.places.place ∷ w.memory.frames) in
     let went = c.in-Complete.ensures.taken in
-    subst (λ (fs : List Job). GoesOn table a.here told first (with_frames x fs) true)
+    subst (λ (fs : List Job). GoesOn table (not (g.row.WHOLE == 0)) a.here told first
+    (with_frames x fs) true)
     {x = x.memory.frames} (went.cleared refl)
-    (goes_further table a.here told first here x true c.places.invariant.on went.on)
+    (goes_further table (not (g.row.WHOLE == 0)) a.here told first here x true c.places.invariant.on
+    went.on)
 
 pub places-preserved-in-To : goal.places-preserved-in-To
 places-preserved-in-To g c =
@@ -83,7 +92,8 @@ places-preserved-in-To g c =
     let to = with_frames x (explore c.in-To.next ∷ x.memory.frames) in
     record {
       room = c.in-To.ensures.taken.fit;
-      on = goes_further (places_of a.table.now) a.here (g.S.Beginning.told a.start) first here to
+      on = goes_further (places_of a.table.now) (not (g.row.WHOLE == 0)) a.here
+          (g.S.Beginning.told a.start) first here to
           false v.on c.in-To.ensures.taken.on;
       kept = record {
         threads = c.in-To.ensures.kept.threads ∙ v.kept.threads;
@@ -124,8 +134,8 @@ pub places-init : goal.places-init
 places-init g c = record {
   room = c.requires;
   on = record {
-    walks = λ at is ways best walking. walking;
-    again = λ tell there at alike is ways best walking. walking;
+    walks = λ at same is ways best walking. walking;
+    again = λ all tell there at same alike is ways best walking. walking;
     spent = omega arith;
     spent_entries = omega arith;
   };

@@ -1,24 +1,25 @@
 use Rattle.regex_lite_engine.proofs.Common.{◌^◌, ◌<◌, length, chars, arith, rules, places_of}
 use Rattle.regex_lite_engine.proofs.Common.{length-map, place_of, position_at, arrows_of}
+use Rattle.std.specs.Prelude.{not, ◌==◌}
 use Rattle.regex_lite_engine.proofs.search.AnchoredOutcomeLemmas.{none_from_dead}
 use Rattle.regex_lite_engine.proofs.search.FirstStartLemmas.{none_tried}
 use Rattle.regex_lite_engine.proofs.search.OutcomeLemmas.{can_count}
 use Rattle.regex_lite_engine.proofs.search.one_pattern.OnePattern.search_anchored.Goals as goal
 
 pub cache_for-requires : goal.cache_for-requires
-cache_for-requires c =
+cache_for-requires g c =
     let one = c.args.self.now in
     omega (arith, one.inside, length-map one.table.now.places place_of)
 
 pub run_anchored-requires-clause-counts : goal.run_anchored-requires-clause-counts
-run_anchored-requires-clause-counts c =
+run_anchored-requires-clause-counts g c =
     let haystack = c.args.haystack.now in
     let short : length haystack < 2 ^ 63 = search rules in
     can_count (places_of c.args.self.now.table.now) haystack (position_at haystack c.args.start)
     c.utf8.haystack short c.in_ok-cache.ensures.countable 1 (omega arith)
 
 pub returns : goal.returns
-returns c = record {
+returns g c = record {
   found = rw c.into_outcome.ensures.told at c.run_anchored.ensures.found;
   slots = search rules;
   cost = c.run_anchored.ensures.bounded;
@@ -26,14 +27,14 @@ returns c = record {
 }
 
 pub returns-then-not-may_start_at : goal.returns-then-not-may_start_at
-returns-then-not-may_start_at c =
+returns-then-not-may_start_at g c =
     let table = places_of c.args.self.now.table.now in
     let text = chars c.args.haystack.now in
     let entry = c.args.self.now.entry in
     let s = position_at c.args.haystack.now c.args.start in
     let steps = c.no_steps.result in
     let none = c.no_steps.ensures in record {
-      found = none_from_dead table text entry s
+      found = none_from_dead table text entry (not (g.row.WHOLE == 0)) s
           (c.may_start_at.ensures c.if-not-may_start_at.true);
       slots = tt;
       cost = none_tried (length table) (arrows_of table) text s steps.tried steps.entered

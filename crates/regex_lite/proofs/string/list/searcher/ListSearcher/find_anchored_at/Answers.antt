@@ -1,4 +1,4 @@
-use Rattle.regex_lite.proofs.Common.{◌≡◌, ℕ, Some, None, refl, sym, ◌∙◌, subst, IsMatchOf}
+use Rattle.regex_lite.proofs.Common.{◌≡◌, ℕ, false, Some, None, refl, sym, ◌∙◌, subst, IsMatchOf}
 use Rattle.regex_lite.proofs.Common.{Found, Match, haystack_of_match, span_of_match}
 use Rattle.regex_lite_engine.specs.Search.Outcomes.{IsSpanOutcomeAtOfList}
 use Rattle.regex_lite.specs.Anchored.{TellsMatchAtOfList}
@@ -13,7 +13,7 @@ use Rattle.regex_lite.proofs.string.list.searcher.ListSearcher.find_anchored_at.
 
 -- what the search told of
 told : (c : In_ok-number) → OfTrees c.self.inside.list.now
-    (λ trees. IsSpanOutcomeAtOfList trees c.args.haystack.now c.args.start
+    (λ trees. IsSpanOutcomeAtOfList false trees c.args.haystack.now c.args.start
     c.search_anchored.new.self.slots
     (Some (c.in_ok-number.number, (c.in_ok-number.from, c.in_ok-number.to))))
 told c =

@@ -1,0 +1,5 @@
+use Rattle.regex_lite.proofs.Common.{inr, IsCharBoundary-start}
+use Rattle.regex_lite.proofs.string.list.RegexList.full_captures.Goals as goal
+
+pub groups_anchored-requires : goal.groups_anchored-requires
+groups_anchored-requires c = inr (IsCharBoundary-start _ c.utf8.haystack)
