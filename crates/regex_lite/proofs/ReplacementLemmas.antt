@@ -50,10 +50,6 @@ replaced_at_end {a} so_far over = so_far.on [] (ahead_nil a over)
 pub record Counts (start a : Ahead) (count : ℕ) : Type 0 where
   pub on : (more : ℕ) → AreSoManyAhead a more → AreSoManyAhead start (count + more)
 
-pub counts_none : (start : Ahead) (count : ℕ) → count ≡ 0 → Counts start start count
-counts_none start count none =
-    record { on = λ more (list, are, is). (list, are, omega (arith, none, is)) }
-
 pub counts_one_more : {start old new : Ahead} {found : Found} {count now : ℕ}
     → Counts start old count → Passes old found new → now ≡ count + 1 → Counts start new now
 counts_one_more {start} {old} {new} {found} {count} so_far passes one = record {
