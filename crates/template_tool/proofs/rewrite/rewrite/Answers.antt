@@ -1,7 +1,7 @@
 use Rattle.std.proofs.Common.{None}
+use Rattle.std.proofs.lemmas.Result.{IfErr-weaker, IfOk-weaker}
 use Rattle.std.specs.Cow.{cow_str_bytes}
 use Rattle.regex_lite.specs.Ahead.{whole}
-use Rattle.template_tool.proofs.ResultLemmas.{each_err, each_ok}
 use Rattle.template_tool.proofs.rewrite.rewrite.Goals as goal
 
 pub returns : goal.returns
@@ -10,7 +10,7 @@ returns c =
     let template = c.args.template in
     let law = c.texts_rewrite_by_their_template.ensures in
     record {
-      rewritten = each_ok c.replace_all.result
+      rewritten = IfOk-weaker c.replace_all.result _ _
           (λ new replaced.
           let made = (law.rewritten (λ t. t.now) template ahead (cow_str_bytes new)).0 replaced in
           record {
@@ -21,7 +21,7 @@ returns c =
             whole = made.whole;
           })
           c.replace_all.ensures.replaced;
-      refused = each_err c.replace_all.result
+      refused = IfErr-weaker c.replace_all.result _ _
           (λ error said. law.refused (λ t. t.now) template ahead error said)
           c.replace_all.ensures.refused;
     }
