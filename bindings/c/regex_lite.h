@@ -169,6 +169,7 @@ enum {
                                    * the call says whether it writes how much is needed */
     REGEX_LITE_OUT_OF_MEMORY = 6, /* a request for memory was refused */
     REGEX_LITE_NO_GROUP = 7,      /* no group has this index */
+    REGEX_LITE_NO_PATTERN = 8,    /* the list has no pattern with this number */
     REGEX_LITE_SYNTAX = 10,       /* from here on of a pattern: bad syntax */
     REGEX_LITE_NESTING = 11,      /* deeper than the nest limit */
     REGEX_LITE_GROUPS = 12,       /* more groups than can be numbered */
@@ -223,6 +224,12 @@ size_t regex_lite_groups(regex_lite *handle);
 /* At least this many groups take part in every match; 0 where that isn't known. */
 size_t regex_lite_static_groups(regex_lite *handle);
 
+/* Whether the pattern may match the empty text, as far as it tells by itself: its looks, such as ^
+ * and \b, are taken to hold. REGEX_LITE_NO means that no match is empty; with REGEX_LITE_YES there
+ * may still be no empty match, as of \b\B. A handle that holds nothing is
+ * REGEX_LITE_NOTHING_HELD. */
+uint32_t regex_lite_may_be_empty(regex_lite *handle);
+
 /* Writes the name of a group: REGEX_LITE_YES or REGEX_LITE_NO_ROOM, with its length written either
  * way; REGEX_LITE_NO where it has none, as the whole match has; or REGEX_LITE_NO_GROUP. */
 uint32_t regex_lite_group_name(regex_lite *handle, size_t index, uint8_t *room, size_t room_len,
@@ -253,6 +260,19 @@ uint32_t regex_lite_is_match(regex_lite *handle, const uint8_t *text, size_t len
 uint32_t regex_lite_find(regex_lite *handle, const uint8_t *text, size_t len, size_t start,
                          regex_lite_span *span);
 
+/* Whether a match of the pattern starts at this very offset: REGEX_LITE_YES or REGEX_LITE_NO. Looks
+ * see the whole text, as with regex_lite_is_match: ^ matches at the start of the text, and not at
+ * that of the search. The search is over as soon as no match that starts there can come: where none
+ * does, it doesn't go over the rest of the text. The whole text is still read once, as above. */
+uint32_t regex_lite_is_match_anchored(regex_lite *handle, const uint8_t *text, size_t len,
+                                      size_t start);
+
+/* Writes the match that starts at this very offset, of several the one that the pattern prefers:
+ * REGEX_LITE_YES, or REGEX_LITE_NO. It is the match that regex_lite_find writes where that starts
+ * at this offset. It reads the whole text, whatever the start, and looks see the whole text. */
+uint32_t regex_lite_find_anchored(regex_lite *handle, const uint8_t *text, size_t len,
+                                  size_t start, regex_lite_span *span);
+
 /* Does the same as regex_lite_find, and also writes what the search cost, where the answer is
  * REGEX_LITE_YES or REGEX_LITE_NO. It reads the whole text, whatever the start. */
 uint32_t regex_lite_find_counted(regex_lite *handle, const uint8_t *text, size_t len, size_t start,
@@ -282,6 +302,12 @@ uint32_t regex_lite_find_each(regex_lite *handle, const uint8_t *texts, size_t l
  * takes quadratic time. */
 uint32_t regex_lite_captures(regex_lite *handle, const uint8_t *text, size_t len, size_t start,
                              regex_lite_span *spans, size_t room, size_t *count);
+
+/* Writes the groups of the match that regex_lite_find_anchored writes, and how many they are. The
+ * answers, and what is written with too little room, are those of regex_lite_captures. */
+uint32_t regex_lite_captures_anchored(regex_lite *handle, const uint8_t *text, size_t len,
+                                      size_t start, regex_lite_span *spans, size_t room,
+                                      size_t *count);
 
 /* Writes the next matches of a text from left to right, as many as there is room for, and how many
  * these are: REGEX_LITE_YES, or REGEX_LITE_NO where none is left. No two overlap. With a `room` of
@@ -361,6 +387,10 @@ size_t regex_lite_list_len(regex_lite_list *handle);
 uint32_t regex_lite_list_pattern_at(regex_lite_list *handle, size_t number, uint8_t *room,
                                     size_t room_len, size_t *len);
 
+/* What regex_lite_may_be_empty returns for the pattern with this number; or REGEX_LITE_NO_PATTERN
+ * where the list has no such pattern. */
+uint32_t regex_lite_list_may_be_empty(regex_lite_list *handle, size_t number);
+
 /* How many places the patterns have together, written out, and how many arrows lead from place to
  * place: a search tries at most (arrows + patterns) * (characters + 1) places. 0 where nothing is
  * held. */
@@ -379,6 +409,18 @@ uint32_t regex_lite_list_is_match(regex_lite_list *handle, const uint8_t *text, 
 uint32_t regex_lite_list_find(regex_lite_list *handle, const uint8_t *text, size_t len,
                               size_t start, regex_lite_list_span *span);
 
+/* Whether a match of one of the patterns starts at this very offset: REGEX_LITE_YES or
+ * REGEX_LITE_NO. Looks see the whole text, and the whole text is read. */
+uint32_t regex_lite_list_is_match_anchored(regex_lite_list *handle, const uint8_t *text, size_t len,
+                                           size_t start);
+
+/* Writes the match that starts at this very offset, of the pattern with the lowest number that
+ * matches there, with that number: REGEX_LITE_YES, or REGEX_LITE_NO. Looks see the whole text. It
+ * reads the whole text, whatever the start: for all tokens of a long text call
+ * regex_lite_list_find_all, and check that each match starts where the one before it ends. */
+uint32_t regex_lite_list_find_anchored(regex_lite_list *handle, const uint8_t *text, size_t len,
+                                       size_t start, regex_lite_list_span *span);
+
 /* Does the same as regex_lite_list_find, and also writes what the search cost, where the answer is
  * REGEX_LITE_YES or REGEX_LITE_NO. It reads the whole text, whatever the start. */
 uint32_t regex_lite_list_find_counted(regex_lite_list *handle, const uint8_t *text, size_t len,
@@ -392,6 +434,34 @@ uint32_t regex_lite_list_find_counted(regex_lite_list *handle, const uint8_t *te
 uint32_t regex_lite_list_captures(regex_lite_list *handle, const uint8_t *text, size_t len,
                                   size_t start, regex_lite_span *spans, size_t room,
                                   regex_lite_list_groups *groups);
+
+/* Writes the groups of the match that regex_lite_list_find_anchored writes, the number of its
+ * pattern, and how many groups that has. The answers, and what is written with too little room, are
+ * those of regex_lite_list_captures. */
+uint32_t regex_lite_list_captures_anchored(regex_lite_list *handle, const uint8_t *text, size_t len,
+                                           size_t start, regex_lite_span *spans, size_t room,
+                                           regex_lite_list_groups *groups);
+
+/* Whether the pattern with this number matches somewhere from this offset on: REGEX_LITE_YES or
+ * REGEX_LITE_NO; or REGEX_LITE_NO_PATTERN where the list has no such pattern. This call and the
+ * next two search for that pattern alone, and return what the calls for a regex of it return,
+ * whatever the other patterns match: a caller that prefers some patterns to others asks for them in
+ * that order. They read the whole text, whatever the start. */
+uint32_t regex_lite_list_is_match_of(regex_lite_list *handle, size_t number, const uint8_t *text,
+                                     size_t len, size_t start);
+
+/* Writes the match of the pattern with this number that starts first from this offset on:
+ * REGEX_LITE_YES, REGEX_LITE_NO or REGEX_LITE_NO_PATTERN. */
+uint32_t regex_lite_list_find_of(regex_lite_list *handle, size_t number, const uint8_t *text,
+                                 size_t len, size_t start, regex_lite_span *span);
+
+/* Writes the groups of the match that regex_lite_list_find_of writes, and how many they are, by the
+ * indices that they have in their own pattern: REGEX_LITE_YES, REGEX_LITE_NO or
+ * REGEX_LITE_NO_PATTERN. With room for fewer it only writes how many they are:
+ * REGEX_LITE_NO_ROOM. */
+uint32_t regex_lite_list_captures_of(regex_lite_list *handle, size_t number, const uint8_t *text,
+                                     size_t len, size_t start, regex_lite_span *spans, size_t room,
+                                     size_t *count);
 
 /* Writes the next matches of a text from left to right, whichever pattern each is of, as many as
  * there is room for, and how many these are: REGEX_LITE_YES, or REGEX_LITE_NO where none is left.

@@ -19,7 +19,7 @@ static void test_texts(void) {
         "the room is too small",
         "out of memory",
         "there is no group with this index",
-        NULL,
+        "there is no pattern with this number",
         NULL,
         "the pattern has a syntax error",
         "the pattern exceeds the limit on nesting",

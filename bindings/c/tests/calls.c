@@ -151,6 +151,7 @@ static void test_properties(void) {
     WANT(len == 11 && room[0] == '.');
     WANT(regex_lite_groups(&regex) == 3);
     WANT(regex_lite_static_groups(&regex) == 0);
+    WANT(regex_lite_may_be_empty(&regex) == REGEX_LITE_NO);
     WANT(regex_lite_group_name(&regex, 2, room, 20, &len) == REGEX_LITE_YES);
     WANT(is(room, len, "x"));
     WANT(regex_lite_group_name(&regex, 2, room, 0, &len) == REGEX_LITE_NO_ROOM && len == 1);
@@ -163,6 +164,8 @@ static void test_properties(void) {
     WANT(build(&regex, "(a)(b)", &defaults) == REGEX_LITE_YES);
     WANT(regex_lite_static_groups(&regex) == 3);
     WANT(regex_lite_places(&regex) > 0 && regex_lite_arrows(&regex) > 0);
+    WANT(build(&regex, "a*\\b", &defaults) == REGEX_LITE_YES);
+    WANT(regex_lite_may_be_empty(&regex) == REGEX_LITE_YES);
     regex_lite_free(&regex);
 }
 
@@ -342,6 +345,7 @@ static void test_bad_input(void) {
     WANT(regex_lite_find_all(&regex, wide, 3, &walk, &span, 1, &n) == REGEX_LITE_NOTHING_HELD);
     WANT(regex_lite_replace(&regex, wide, 3, wide, 3, &all, room, 4) == REGEX_LITE_NOTHING_HELD);
     WANT(regex_lite_pattern(&regex, room, 4, &n) == REGEX_LITE_NOTHING_HELD);
+    WANT(regex_lite_may_be_empty(&regex) == REGEX_LITE_NOTHING_HELD);
     WANT(regex_lite_group_name(&regex, 0, room, 4, &n) == REGEX_LITE_NOTHING_HELD);
     WANT(regex_lite_group_index(&regex, wide, 3, &n) == REGEX_LITE_NOTHING_HELD);
     WANT(regex_lite_groups(&regex) == 0 && regex_lite_static_groups(&regex) == 0);

@@ -134,7 +134,7 @@ static int call_all(void) {
     uint8_t message[100], room[99];
     regex_lite_cut cut = REGEX_LITE_UNCUT;
     const size_t lens[2] = {7, 12};
-    uint32_t answers[11], others;
+    uint32_t answers[14], others;
     size_t n;
     int wrong = 0;
     answers[0] = regex_lite_new(&regex, TEXT("\\b(?<name>[Ss]am)(wise)?\\b"), &options, message,
@@ -153,7 +153,10 @@ static int call_all(void) {
     answers[8] = regex_lite_captures_all(&regex, TEXT(text), &walk, spans, 3, &n);
     answers[9] = regex_lite_split(&regex, TEXT(text), &cut, spans, 3, &n);
     answers[10] = regex_lite_find_each(&regex, TEXT(text), lens, 2, spans, 2);
-    for (int i = 0; i < 11; i++)
+    answers[11] = regex_lite_is_match_anchored(&regex, TEXT(text), 7);
+    answers[12] = regex_lite_find_anchored(&regex, TEXT(text), 7, spans);
+    answers[13] = regex_lite_captures_anchored(&regex, TEXT(text), 7, spans, 3, &n);
+    for (int i = 0; i < 14; i++)
         if (answers[i] != REGEX_LITE_YES &&
             answers[i] != (i == 0 ? REGEX_LITE_OUT_OF_MEMORY : others)) {
             printf("call %d: %u\n", i, (unsigned)answers[i]);
@@ -177,7 +180,7 @@ static int call_lists(void) {
     regex_lite_span spans[3];
     regex_lite_cost cost;
     uint8_t message[100], matched[2];
-    uint32_t answers[8], others;
+    uint32_t answers[14], others;
     size_t n;
     int wrong = 0;
     answers[0] = regex_lite_list_new(&list, TEXT(patterns), each, 2, message, sizeof message,
@@ -191,7 +194,13 @@ static int call_lists(void) {
     answers[6] = regex_lite_list_find_counted(&list, TEXT(text), 0, &span, &cost);
     answers[7] = regex_lite_list_captures_all(&list, TEXT(text), &group_walk, &groups, 1, spans, 3,
                                               &n);
-    for (int i = 0; i < 8; i++)
+    answers[8] = regex_lite_list_is_match_anchored(&list, TEXT(text), 9);
+    answers[9] = regex_lite_list_find_anchored(&list, TEXT(text), 9, &span);
+    answers[10] = regex_lite_list_captures_anchored(&list, TEXT(text), 9, spans, 3, &groups);
+    answers[11] = regex_lite_list_is_match_of(&list, 1, TEXT(text), 0);
+    answers[12] = regex_lite_list_find_of(&list, 1, TEXT(text), 0, spans);
+    answers[13] = regex_lite_list_captures_of(&list, 1, TEXT(text), 0, spans, 3, &n);
+    for (int i = 0; i < 14; i++)
         if (answers[i] != REGEX_LITE_YES &&
             answers[i] != (i == 0 ? REGEX_LITE_OUT_OF_MEMORY : others)) {
             printf("call %d of a list: %u\n", i, (unsigned)answers[i]);

@@ -1,9 +1,10 @@
 -- What a call returns of a text that can be searched.
 use Rattle.regex_lite_c.proofs.Common.{◌≡◌, ℕ, ◌<◌, ◌≤◌, ◌⊎◌, List, IsUtf8}
-use Rattle.regex_lite_c.proofs.Common.{IsCharBoundary, inl, inr, arith, cases_lt, NO_ROOM}
-use Rattle.regex_lite_c.proofs.Common.{OUT_OF_MEMORY, YES}
+use Rattle.regex_lite_c.proofs.Common.{IsCharBoundary, length, inl, inr, arith, cases_lt, NO_ROOM}
+use Rattle.regex_lite_c.proofs.Common.{OUT_OF_MEMORY, YES, Groups, AreWritten, Span}
 use Rattle.std.proofs.Common.{◌≢◌}
 use Rattle.regex_lite_c.specs.Answers.{IsOfFound, RefusesText}
+use Rattle.regex_lite_c.specs.GroupAnswers.{IsGroupsAnswerOf}
 use Rattle.regex_lite_c.specs.declared.answer.TheConstants.{NOT_TEXT, BAD_OFFSET}
 
 -- no answer of a text that can be searched is a refusal of the text
@@ -47,3 +48,25 @@ yes_or_no_room room count answer written no_room = elim (cases_lt room count) [
         λ _. (own.0, above, own.1),
       )
 ]
+
+-- what a search for groups returns where these are found, of which this is told, and are written if
+-- there is room for them
+pub groups_found : {T : Type 0} (AreFirst : T → Groups → Type 0) (are_none : Type 0)
+    (bytes : List ℕ) (start : ℕ) (old new : List Span) (old_told told : T) (answer : ℕ)
+    (groups : Groups) → IsUtf8 bytes → IsCharBoundary bytes start → AreFirst told groups
+    → (length groups.spans ≤ length old → (answer ≡ YES) × AreWritten groups.spans old new)
+    → (length old < length groups.spans → (answer ≡ NO_ROOM) × (new ≡ old))
+    → IsGroupsAnswerOf AreFirst are_none bytes start old new old_told told answer
+groups_found AreFirst are_none bytes start old new old_told told answer groups utf8 boundary are
+    written no_room =
+    let own = yes_or_no_room (length old) (length groups.spans) answer written no_room in
+    record {
+      found = λ yes. (groups, are, own.1 yes);
+      no_room = λ full. (groups, are, (own.2 (λ yes. omega (arith, full, yes))).1);
+      none = λ no. let full = (own.2 (λ yes. omega (arith, no, yes))).0 in
+          absurd (omega (arith, no, full));
+      same = λ other. (own.2 other).2;
+      same_told = λ other more. absurd (more (own.2 other).0);
+      refused = nothing_refused bytes start answer utf8 boundary own.0;
+      one_of = one_of_more answer own.0;
+    }

@@ -1,3 +1,4 @@
 -- lemmas that the proofs of lists share
 pub mod ListBuildLemmas
 pub mod ListSearchLemmas
+pub mod ListedLemmas

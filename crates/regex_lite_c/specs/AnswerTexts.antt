@@ -2,8 +2,8 @@
 use Rattle.std.specs.Prelude.{◌==◌, ℕ, List, codes, if◌then◌else◌}
 use Rattle.regex_lite_c.specs.declared.answer.TheConstants.{NO, YES, NOTHING_HELD, NOT_TEXT}
 use Rattle.regex_lite_c.specs.declared.answer.TheConstants.{BAD_OFFSET, NO_ROOM, OUT_OF_MEMORY}
-use Rattle.regex_lite_c.specs.declared.answer.TheConstants.{NO_GROUP, SYNTAX, NESTING, GROUPS, SIZE}
-use Rattle.regex_lite_c.specs.declared.answer.TheConstants.{PLACES, SLOTS}
+use Rattle.regex_lite_c.specs.declared.answer.TheConstants.{NO_GROUP, NO_PATTERN, SYNTAX, NESTING}
+use Rattle.regex_lite_c.specs.declared.answer.TheConstants.{GROUPS, SIZE, PLACES, SLOTS}
 
 -- the text of the answer with this number, which may be the number of none
 abbrev pub answer_text : (answer : ℕ) → List ℕ
@@ -16,6 +16,7 @@ answer_text answer =
     if answer == NO_ROOM then codes "the room is too small" else
     if answer == OUT_OF_MEMORY then codes "out of memory" else
     if answer == NO_GROUP then codes "there is no group with this index" else
+    if answer == NO_PATTERN then codes "there is no pattern with this number" else
     if answer == SYNTAX then codes "the pattern has a syntax error" else
     if answer == NESTING then codes "the pattern exceeds the limit on nesting" else
     if answer == GROUPS then codes "the pattern has too many groups" else

@@ -1,5 +1,5 @@
 -- What is searched for, a regex or several patterns, and how what is found is written.
-use Rattle.std.specs.Prelude.{◌≡◌, ℕ, Bool, false, true, List, Option, Some, None, MatchOption}
+use Rattle.std.specs.Prelude.{◌≡◌, ℕ, Bool, false, true, List, Option, Some, MatchOption}
 use Rattle.std.specs.Prelude.{IsSome, chars, length}
 use Rattle.regex_lite_syntax.specs.Text.{Text}
 use Rattle.regex_lite_engine.specs.Search.Answer.{Found}
@@ -10,21 +10,18 @@ use Rattle.regex_lite.specs.Items.{AreGroupsFound}
 use Rattle.regex_lite.specs.ListAhead.{AreGroupsFoundInList}
 use Rattle.regex_lite.specs.MatchList.{IsAnswerOf, IsAnswerOfPatterns}
 use Rattle.regex_lite.specs.Pieces.{found_span}
-use Rattle.regex_lite.specs.RegexListSearches.{AnyMatches, TellsGroupsOfList}
-use Rattle.regex_lite.specs.Searches.{MatchesFrom, TellsGroups}
 use Rattle.regex_lite_c.specs.Costs.{IsCostOfListSearch, IsCostOfSearch}
-use Rattle.regex_lite_c.specs.ListSpans.{AreFirstListGroups, FindsListSpan, TellsListSpan}
 use Rattle.regex_lite_c.specs.ListSpans.{list_span_of}
-use Rattle.regex_lite_c.specs.Spans.{AreFirstGroups, FindsSpan, TellsSpan, span_of}
+use Rattle.regex_lite_c.specs.Spans.{span_of}
 use Rattle.regex_lite_c.specs.declared.list.types.ListGroups.{ListGroups}
 use Rattle.regex_lite_c.specs.declared.list.types.ListSpan.{ListSpan}
 use Rattle.regex_lite_c.specs.declared.types.Cost.{Cost}
 use Rattle.regex_lite_c.specs.declared.types.Span.{Span}
 
 -- A search gives answers, in each of which a match was found. What is told of one is written as
--- what stands for it, which shows where the match ends. From an offset on there is a match, one
--- with this span is found first, or none is, and finding out costs this. Of the groups of a match
--- this is told besides their spans. A walk over all matches writes it of each, if it is to be told
+-- what stands for it, which shows where the match ends. To search from an offset on costs this. Of
+-- the groups of a match this is told besides their spans. A walk over all matches writes it of
+-- each, if it is to be told
 pub record Kind (S X T : Type 0) : Type 1 where
   pub Answer : Type 0
   pub Told : Type 0
@@ -33,15 +30,10 @@ pub record Kind (S X T : Type 0) : Type 1 where
   pub tell : (haystack : List ℕ) → Answer → Told
   pub stands_for : Told → X
   pub end_of : X → ℕ
-  pub Matches : S → (haystack : List ℕ) → (start : ℕ) → Type 0
-  pub Finds : S → (haystack : List ℕ) → (start : ℕ) → X → Type 0
-  pub FindsNone : S → (haystack : List ℕ) → (start : ℕ) → Type 0
   pub IsCost : S → (haystack : List ℕ) → (start : ℕ) → Cost → Type 0
   pub AreGroups : S → (haystack : List ℕ) → Answer → Groups → Type 0
   pub groups_told : Answer → (count : ℕ) → T
   pub is_told : Bool
-  pub AreFirst : S → (haystack : List ℕ) → (start : ℕ) → T → Groups → Type 0
-  pub AreNone : S → (haystack : List ℕ) → (start : ℕ) → Type 0
 
 -- where a match starts and ends, as it is written
 abbrev pub told_of : (haystack : List ℕ) → Found → Option (ℕ × ℕ)
@@ -57,15 +49,10 @@ of_regex = record {
   tell = told_of;
   stands_for = span_of;
   end_of = λ span. span.end;
-  Matches = MatchesFrom;
-  Finds = FindsSpan;
-  FindsNone = λ re haystack start. TellsSpan re haystack start None;
   IsCost = IsCostOfSearch;
   AreGroups = AreGroupsFound;
   groups_told = λ _ count. count;
   is_told = false;
-  AreFirst = AreFirstGroups;
-  AreNone = λ re haystack start. TellsGroups re haystack start None;
 }
 
 -- the number of a pattern, and where its match starts and ends, as it is written
@@ -82,23 +69,13 @@ of_patterns = record {
   tell = told_of_answer;
   stands_for = list_span_of;
   end_of = λ span. span.end;
-  Matches = AnyMatches;
-  Finds = FindsListSpan;
-  FindsNone = λ list haystack start. TellsListSpan list haystack start None;
   IsCost = IsCostOfListSearch;
   AreGroups = λ list haystack answer. AreGroupsFoundInList list haystack answer.0 answer.1;
   groups_told = λ answer count. record { number = answer.0; count = count };
   is_told = true;
-  AreFirst = AreFirstListGroups;
-  AreNone = λ list haystack start. TellsGroupsOfList list haystack start None;
 }
 
 module _ {S X T : Type 0} (kind : Kind S X T) where
-  -- this is found from the offset on, or nothing is
-  abbrev pub IsFirst : S → (haystack : List ℕ) → (start : ℕ) → Option X → Type 0
-  IsFirst sought haystack start span =
-      MatchOption span (kind.FindsNone sought haystack start) (kind.Finds sought haystack start)
-
   -- the next of the matches ahead came, as it is written; or there was none, and none comes from
   -- then on
   abbrev pub GivesWritten : (old : AheadOf S) → Option X → (new : AheadOf S) → Type 0
@@ -107,12 +84,6 @@ module _ {S X T : Type 0} (kind : Kind S X T) where
       (λ span. (answer : kind.Answer)
       × PassesAnswer kind.found_of kind.IsAnswerTo old answer new
       × (span ≡ kind.stands_for (kind.tell old.haystack answer)))
-
-  -- these groups are found from the offset on, of which this is told, or none are
-  abbrev pub AreFirstTold : S → (haystack : List ℕ) → (start : ℕ) → Option (T × Groups) → Type 0
-  AreFirstTold sought haystack start own =
-      MatchOption own (kind.AreNone sought haystack start)
-      (λ own. kind.AreFirst sought haystack start own.0 own.1)
 
   -- the groups of the next of the matches ahead came, of which this is told; or there was none
   abbrev pub GivesGroups : (old : AheadOf S) → Option (T × Groups) → (new : AheadOf S) → Type 0

@@ -9,6 +9,8 @@ pub mod ListBuilding
 pub mod Spans
 pub mod ListSpans
 pub mod Kinds
+pub mod Anchored
+pub mod SearchKinds
 pub mod Rooms
 pub mod Costs
 pub mod Names

@@ -1,5 +1,5 @@
 //! The numbers that calls return.
-ghost use Rattle.std.specs.Prelude.{◌≡◌};
+ghost use Rattle.std.specs.Prelude.{◌≡◌, cond};
 ghost use Rattle.regex_lite_syntax.specs.Errors.{kind_of};
 ghost use Rattle.regex_lite_c.specs.AnswerTexts.{answer_text};
 ghost use Rattle.regex_lite_c.specs.Answers.{number_of};
@@ -30,6 +30,9 @@ pub(crate) const OUT_OF_MEMORY: u32 = 6;
 /// There is no group with this index.
 pub(crate) const NO_GROUP: u32 = 7;
 
+/// The list has no pattern with this number.
+pub(crate) const NO_PATTERN: u32 = 8;
+
 /// The grammar has no tree for the pattern.
 pub(crate) const SYNTAX: u32 = 10;
 
@@ -50,6 +53,13 @@ pub(crate) const SLOTS: u32 = 15;
 
 /// A replacer refused. No call here returns it, since no replacer of a caller is asked.
 pub(crate) const REPLACE: u32 = 16;
+
+/// Yes or no.
+pub(crate) fn answer_of(is_so: bool) -> u32
+    ensures { result ≡ cond is_so YES NO }
+{
+    if is_so { YES } else { NO }
+}
 
 /// The number of a refusal.
 pub(crate) fn number_of(error: &Error) -> u32
@@ -80,6 +90,7 @@ pub(crate) fn text_of_answer(answer: u32) -> &'static str
         NO_ROOM => "the room is too small",
         OUT_OF_MEMORY => "out of memory",
         NO_GROUP => "there is no group with this index",
+        NO_PATTERN => "there is no pattern with this number",
         SYNTAX => "the pattern has a syntax error",
         NESTING => "the pattern exceeds the limit on nesting",
         GROUPS => "the pattern has too many groups",

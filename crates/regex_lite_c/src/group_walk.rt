@@ -9,7 +9,7 @@ ghost use Rattle.regex_lite_c.specs.Walks.{walk_room};
 use crate::answer::{NO, NO_ROOM, NOTHING_HELD, OUT_OF_MEMORY, YES};
 use crate::groups::put_groups;
 use crate::handle::{Handle, Holds};
-use crate::sought::{GroupsAhead, Sought};
+use crate::sought::{GroupsAhead, Search, Sought};
 use crate::text::text_from;
 use crate::types::{MatchWalk, Span};
 use crate::written::Written;
@@ -70,7 +70,7 @@ pub(crate) fn captures_all<P: Sought>(
 pub(crate) fn fill_groups<'h, M: GroupsAhead<'h>>(
     matches: &mut M,
     walk: &mut MatchWalk,
-    told: &mut [<M::Sought as Written>::Told],
+    told: &mut [<M::Sought as Search>::Told],
     spans: &mut [Span],
 ) -> (u32, usize)
     requires { (M.ahead matches.old).limit ≡ None }

@@ -5,7 +5,7 @@ ghost use Rattle.regex_lite_c.specs.Spans.{AreWritten, AreWrittenAt};
 
 use crate::answer::{NO, NO_ROOM, NOTHING_HELD, OUT_OF_MEMORY, YES};
 use crate::handle::{Handle, Holds};
-use crate::sought::Sought;
+use crate::sought::Search;
 use crate::text::text_from;
 use crate::types::Span;
 use regex_lite::Captures;
@@ -36,22 +36,24 @@ pub extern "C" fn regex_lite_captures(
     answer
 }
 
-/// The groups of the first match of what is searched for.
-pub(crate) fn captures<P: Sought>(
-    sought: &P,
+/// The groups of the match that this search finds.
+pub(crate) fn captures<P: Search>(
+    search: &P,
     text: &[u8],
     start: usize,
     spans: &mut [Span],
     told: &mut P::Told,
 ) -> u32
-    ensures { IsGroupsAnswerOf P.kind sought.now text.now start spans.old spans.new
+    requires { P.can_search search.now }
+    ensures { IsGroupsAnswerOf (P.search.AreFirst search.now text.now start)
+        (P.search.AreNone search.now text.now start) text.now start spans.old spans.new
         told.old told.new result }
 {
     let text = match text_from(text, start) {
         Ok(text) => text,
         Err(refusal) => return refusal,
     };
-    match sought.first_groups(text, start) {
+    match search.first_groups(text, start) {
         Ok(Some((own, caps))) => {
             *told = own;
             write_groups(&caps, spans)

@@ -12,6 +12,7 @@
 #![tactic(auto)]
 
 mod about;
+mod anchored;
 mod answer;
 mod build;
 mod each;

@@ -1,8 +1,10 @@
 //! Several patterns that are searched for at once.
 
+mod anchored;
 mod build;
 mod group_walk;
 mod groups;
+mod listed;
 mod patterns;
 mod properties;
 mod search;

@@ -1,7 +1,8 @@
 //! What a regex says of its pattern and its groups.
 ghost use Rattle.std.specs.Prelude.{◌≡◌, IfSome, MatchOption, None};
-ghost use Rattle.std.specs.Prelude.{option_map, slice_get, unwrap_or};
-ghost use Rattle.regex_lite_syntax.specs.Tree.Properties.{captures_len, static_captures_len};
+ghost use Rattle.std.specs.Prelude.{cond, option_map, slice_get, unwrap_or};
+ghost use Rattle.regex_lite_syntax.specs.Tree.Properties.{captures_len, nullable};
+ghost use Rattle.regex_lite_syntax.specs.Tree.Properties.{static_captures_len};
 ghost use Rattle.regex_lite_engine.specs.Graph.PlaceCounts.{whole_arrows, whole_places};
 ghost use Rattle.regex_lite.specs.CaptureNames.{names_left};
 ghost use Rattle.regex_lite.specs.Expression.{OfTree};
@@ -9,7 +10,7 @@ ghost use Rattle.regex_lite.specs.Groups.{index_of, is_named};
 ghost use Rattle.regex_lite_c.specs.Names.{IsIndexAnswer, IsNameAnswer};
 ghost use Rattle.regex_lite_c.specs.Rooms.{IsWritten};
 
-use crate::answer::{NO, NO_GROUP, NOTHING_HELD, YES};
+use crate::answer::{NO, NO_GROUP, NOTHING_HELD, YES, answer_of};
 use crate::handle::{Handle, Holds, ask};
 use crate::room;
 use regex_lite::{CaptureNames, Regex};
@@ -56,6 +57,18 @@ pub extern "C" fn regex_lite_static_groups(alloc: Global, handle: &mut Handle) -
         0,
         |regex| regex.static_captures_len().unwrap_or(0),
     )
+}
+
+/// Whether the pattern may match the empty text, as far as it tells by itself, which takes its
+/// looks to hold: 1 or 0. With 0 each match reads a character.
+#[unsafe(no_mangle)]
+pub extern "C" fn regex_lite_may_be_empty(alloc: Global, handle: &mut Handle) -> u32
+    ensures same { handle.new.value ≡ handle.old.value }
+    ensures answer { MatchOption handle.old.value (result ≡ NOTHING_HELD)
+        (λ re. OfTree re (λ tree. result ≡ cond (nullable tree) YES NO)) }
+{
+    let say = |regex: &Regex| answer_of(regex.may_be_empty());
+    ask(alloc, handle, NOTHING_HELD, say)
 }
 
 /// How many places the pattern has when it is written out; 0 where nothing is held.

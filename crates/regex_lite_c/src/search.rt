@@ -7,7 +7,7 @@ ghost use Rattle.regex_lite_c.specs.Spans.{FindsSpan, TellsSpan};
 
 use crate::answer::{NO, NOTHING_HELD, OUT_OF_MEMORY, YES};
 use crate::handle::{Handle, Holds, ask};
-use crate::sought::Sought;
+use crate::sought::{Search, Sought};
 use crate::text::text_from;
 use crate::types::{Cost, Span};
 use regex_lite::Regex;
@@ -30,18 +30,19 @@ pub extern "C" fn regex_lite_is_match(
     ask(alloc, handle, NOTHING_HELD, say)
 }
 
-/// Whether what is searched for matches there.
-pub(crate) fn is_match<P: Sought>(sought: &P, text: &[u8], start: usize) -> u32
+/// Whether this search finds a match.
+pub(crate) fn is_match<P: Search>(search: &P, text: &[u8], start: usize) -> u32
+    requires { P.can_search search.now }
     ensures answer { IsSearchAnswer text.now start result
-        (P.kind.Matches sought.now text.now start)
-        (P.kind.Matches sought.now text.now start → ⊥) }
+        (P.search.Matches search.now text.now start)
+        (P.search.Matches search.now text.now start → ⊥) }
     ensures held { result ≢ NOTHING_HELD }
 {
     let text = match text_from(text, start) {
         Ok(text) => text,
         Err(refusal) => return refusal,
     };
-    match sought.has_match(text, start) {
+    match search.has_match(text, start) {
         Ok(true) => YES,
         Ok(false) => NO,
         Err(_) => OUT_OF_MEMORY,
@@ -71,11 +72,12 @@ pub extern "C" fn regex_lite_find(
     answer
 }
 
-/// Where what is searched for matches first.
-pub(crate) fn find<P: Sought>(sought: &P, text: &[u8], start: usize, span: &mut P::Span) -> u32
+/// The match that this search finds.
+pub(crate) fn find<P: Search>(search: &P, text: &[u8], start: usize, span: &mut P::Span) -> u32
+    requires { P.can_search search.now }
     ensures answer { IsSearchAnswer text.now start result
-        (P.kind.Finds sought.now text.now start span.new)
-        (P.kind.FindsNone sought.now text.now start) }
+        (P.search.Finds search.now text.now start span.new)
+        (P.search.FindsNone search.now text.now start) }
     ensures held { result ≢ NOTHING_HELD }
     ensures written { result ≢ YES → span.new ≡ span.old }
 {
@@ -83,7 +85,7 @@ pub(crate) fn find<P: Sought>(sought: &P, text: &[u8], start: usize, span: &mut 
         Ok(text) => text,
         Err(refusal) => return refusal,
     };
-    match sought.first_span(text, start) {
+    match search.first_span(text, start) {
         Ok(Some(found)) => {
             *span = found;
             YES
@@ -130,8 +132,8 @@ pub(crate) fn find_counted<P: Sought>(
     cost: &mut Cost,
 ) -> u32
     ensures answer { IsSearchAnswer text.now start result
-        (P.kind.Finds sought.now text.now start span.new)
-        (P.kind.FindsNone sought.now text.now start) }
+        (P.search.Finds sought.now text.now start span.new)
+        (P.search.FindsNone sought.now text.now start) }
     ensures held { result ≢ NOTHING_HELD }
     ensures cost { result ≤ YES → P.kind.IsCost sought.now text.now start cost.new }
     ensures entered { result ≡ YES → 0 < cost.new.entered }

@@ -1,10 +1,11 @@
 //! What is searched for, a regex or several patterns, as the calls for both see it.
-ghost use Rattle.std.specs.Prelude.{◌≡◌, ◌↔◌, ◌<◌, ◌≤◌, length, unwrap_or};
+ghost use Rattle.std.specs.Prelude.{◌≡◌, ◌↔◌, ◌<◌, ◌≤◌, length, unwrap_or, ⊤};
 ghost use Rattle.std.specs.Prelude.{IfErr, IfOk, IfSome, IsCharBoundary, IsTrue};
 ghost use Rattle.regex_lite.specs.Ahead.{AheadOf, after};
 ghost use Rattle.regex_lite_c.specs.Answers.{IsOfFound};
 ghost use Rattle.regex_lite_c.specs.GroupWalks.{IsFilled, group_room};
-ghost use Rattle.regex_lite_c.specs.Kinds.{AreFirstTold, GivesGroups, GivesWritten, IsFirst};
+ghost use Rattle.regex_lite_c.specs.Kinds.{GivesGroups, GivesWritten};
+ghost use Rattle.regex_lite_c.specs.SearchKinds.{AreFirstTold, IsFirst, SearchKind};
 ghost use Rattle.regex_lite_c.specs.Walks.{AreListed, NoneComes, ended_of};
 
 mod regex;
@@ -13,22 +14,50 @@ use crate::types::{Cost, MatchWalk, Span};
 use crate::written::Written;
 use regex_lite::{Captures, Error};
 
-/// What is searched for. A call in C is for one kind of it, and is passed on to a function for all.
-pub(crate) trait Sought: Written + Drop {
-    /// Whether there is a match from this offset on.
+/// A search for one match: from an offset on, or at the offset alone. A call in C is for one kind
+/// of it, and is passed on to a function for all.
+pub(crate) trait Search {
+    /// What is written of a match.
+    type Span: Copy;
+
+    /// What is written of its groups besides their spans.
+    type Told: Copy;
+
+    // One pattern of a list can be searched for only if the list has it.
+    ghost can_search: { Self → Type 0 } = { λ _. ⊤ };
+
+    ghost search: { SearchKind Self Self.Span Self.Told };
+
+    /// Whether the search finds a match.
     fn has_match(&self, text: &str, start: usize) -> Result<bool, Error>
-        requires { IsCharBoundary text.now start }
-        ensures { IfOk result (λ found. IsTrue found ↔ Self.kind.Matches self.now text.now start) };
+        requires can { Self.can_search self.now }
+        requires start { IsCharBoundary text.now start }
+        ensures { IfOk result
+            (λ found. IsTrue found ↔ Self.search.Matches self.now text.now start) };
 
-    /// The first match from this offset on.
+    /// The match that it finds.
     fn first_span(&self, text: &str, start: usize) -> Result<Option<Self::Span>, Error>
-        requires { IsCharBoundary text.now start }
-        ensures { IfOk result (IsFirst Self.kind self.now text.now start) };
+        requires can { Self.can_search self.now }
+        requires start { IsCharBoundary text.now start }
+        ensures { IfOk result (IsFirst Self.search self.now text.now start) };
 
-    /// The same, and what the search cost.
+    /// The groups of that match, and what is told of them.
+    fn first_groups<'h>(
+        &self,
+        text: &'h str,
+        start: usize,
+    ) -> Result<Option<(Self::Told, Captures<'h>)>, Error>
+        requires can { Self.can_search self.now }
+        requires start { IsCharBoundary text.now start }
+        ensures { IfOk result (AreFirstTold Self.search self.now text.now start) };
+}
+
+/// What is searched for from an offset on, for one match or for all.
+pub(crate) trait Sought: Written + Drop {
+    /// The first match from this offset on, and what the search cost.
     fn counted_span(&self, text: &str, start: usize) -> Result<(Option<Self::Span>, Cost), Error>
         requires { IsCharBoundary text.now start }
-        ensures found { IfOk result (λ told. IsFirst Self.kind self.now text.now start told.0) }
+        ensures found { IfOk result (λ told. IsFirst Self.search self.now text.now start told.0) }
         ensures cost { IfOk result (λ told. Self.kind.IsCost self.now text.now start told.1) }
         ensures entered { IfOk result (λ told. IfSome told.0 (λ _. 0 < told.1.entered)) };
 
@@ -46,15 +75,6 @@ pub(crate) trait Sought: Written + Drop {
         ensures none { IfOk result (λ count. count ≡ 0 → 0 < length spans.old
             → NoneComes Self.kind (after self.now text.now ended) × (spans.new ≡ spans.old)) }
         ensures refused { IfErr result (λ _. spans.new ≡ spans.old) };
-
-    /// The groups of the first match from this offset on, and what is told of them.
-    fn first_groups<'h>(
-        &self,
-        text: &'h str,
-        start: usize,
-    ) -> Result<Option<(Self::Told, Captures<'h>)>, Error>
-        requires { IsCharBoundary text.now start }
-        ensures { IfOk result (AreFirstTold Self.kind self.now text.now start) };
 
     /// Writes the groups of the next matches, and where the last of these ends. Returns the answer,
     /// and the number that goes with it.
@@ -80,7 +100,7 @@ pub(crate) trait Spans {
     ghost ahead: { Self → AheadOf Self.Sought };
 
     /// The next one, if there is one.
-    fn next_span(&mut self) -> Option<<Self::Sought as Written>::Span>
+    fn next_span(&mut self) -> Option<<Self::Sought as Search>::Span>
         ensures { GivesWritten Self.Sought.kind (ahead self.old) result (ahead self.new) };
 }
 
@@ -94,7 +114,7 @@ pub(crate) trait GroupsAhead<'h> {
     /// Those of the next one, if there is one.
     fn next_groups(
         &mut self,
-    ) -> Result<Option<(<Self::Sought as Written>::Told, Captures<'h>)>, Error>
+    ) -> Result<Option<(<Self::Sought as Search>::Told, Captures<'h>)>, Error>
         ensures { IfOk result
             (λ item. GivesGroups Self.Sought.kind (ahead self.old) item (ahead self.new)) };
 }

@@ -5,7 +5,7 @@ ghost use Rattle.regex_lite_c.specs.Walks.{IsWalkAnswerOf, NoneComes, walk_room}
 
 use crate::answer::{NO, NO_ROOM, NOTHING_HELD, OUT_OF_MEMORY, YES};
 use crate::handle::{Handle, Holds};
-use crate::sought::{Sought, Spans};
+use crate::sought::{Search, Sought, Spans};
 use crate::text::text_from;
 use crate::types::{MatchWalk, Span};
 use crate::written::Written;
@@ -90,7 +90,7 @@ fn go_on<P: Written>(walk: &mut MatchWalk, spans: &[P::Span], count: usize) -> u
 }
 
 /// Writes the next matches, and returns how many.
-pub(crate) fn fill<M: Spans>(matches: &mut M, spans: &mut [<M::Sought as Written>::Span]) -> usize
+pub(crate) fn fill<M: Spans>(matches: &mut M, spans: &mut [<M::Sought as Search>::Span]) -> usize
     requires { (M.ahead matches.old).limit ≡ None }
     ensures listed { AreListed M.Sought.kind (M.ahead matches.old) spans.old spans.new result }
     ensures within { result ≤ length spans.old }

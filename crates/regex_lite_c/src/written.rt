@@ -2,18 +2,13 @@
 ghost use Rattle.std.specs.Prelude.{◌≡◌};
 ghost use Rattle.regex_lite_c.specs.Kinds.{Kind};
 
-use crate::list::types::{ListGroups, ListSpan};
+use crate::list::types::ListSpan;
+use crate::sought::Search;
 use crate::types::Span;
 use regex_lite::{Regex, RegexList};
 
-/// What is searched for, and what is written of its matches.
-pub(crate) trait Written {
-    /// What is written of a match.
-    type Span: Copy;
-
-    /// What is written of its groups besides their spans.
-    type Told: Copy;
-
+/// What is searched for, and what is written of all its matches.
+pub(crate) trait Written: Search {
     ghost kind: { Kind Self Self.Span Self.Told };
 
     /// Where the match with this span ends.
@@ -28,10 +23,6 @@ pub(crate) trait Written {
 impl Written for Regex {
     ghost use Rattle.regex_lite_c.specs.Kinds.{of_regex};
 
-    type Span = Span;
-
-    type Told = usize;
-
     ghost kind = { of_regex };
 
     fn end_of(span: &Span) -> usize {
@@ -45,10 +36,6 @@ impl Written for Regex {
 
 impl Written for RegexList {
     ghost use Rattle.regex_lite_c.specs.Kinds.{of_patterns};
-
-    type Span = ListSpan;
-
-    type Told = ListGroups;
 
     ghost kind = { of_patterns };
 

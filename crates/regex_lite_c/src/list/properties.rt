@@ -1,12 +1,15 @@
 //! What a list of patterns says of its patterns.
-ghost use Rattle.std.specs.Prelude.{◌≡◌, IfSome, MatchOption, None, length};
+ghost use Rattle.std.specs.Prelude.{◌≡◌, IfSome, MatchOption, None, cond, length, slice_get};
+ghost use Rattle.regex_lite_syntax.specs.Tree.Properties.{nullable};
+ghost use Rattle.regex_lite.specs.Expression.{OfTree};
 ghost use Rattle.regex_lite.specs.RegexList.{OfTrees};
 ghost use Rattle.regex_lite_engine.specs.Graph.SideBySide.{arrows_of_all, places_of_all};
 ghost use Rattle.regex_lite_c.specs.Rooms.{IsPatternAnswer};
 
-use crate::answer::{NO, NOTHING_HELD};
+use crate::answer::{NO, NO_PATTERN, NOTHING_HELD, YES, answer_of};
 use crate::handle::{ListHandle, ask};
 use crate::room;
+use regex_lite::RegexList;
 use std::alloc::Global;
 
 /// How many patterns the list has; 0 where nothing is held.
@@ -40,6 +43,34 @@ pub extern "C" fn regex_lite_list_pattern_at(
         len,
         |list| list.as_str(number).ok_or(NO),
     )
+}
+
+/// Whether the pattern with this number may match the empty text, as far as it tells by itself,
+/// which takes its looks to hold: 1 or 0. With 0 each of its matches reads a character.
+#[unsafe(no_mangle)]
+pub extern "C" fn regex_lite_list_may_be_empty(
+    alloc: Global,
+    handle: &mut ListHandle,
+    number: usize,
+) -> u32
+    ensures same { handle.new.value ≡ handle.old.value }
+    ensures answer { MatchOption handle.old.value (result ≡ NOTHING_HELD)
+        (λ list. MatchOption (slice_get list number) (result ≡ NO_PATTERN)
+        (λ re. OfTree re (λ tree. result ≡ cond (nullable tree) YES NO))) }
+{
+    let say = |list: &RegexList| may_be_empty(list, number);
+    ask(alloc, handle, NOTHING_HELD, say)
+}
+
+/// Whether the pattern with this number may match the empty text.
+fn may_be_empty(list: &RegexList, number: usize) -> u32
+    ensures { MatchOption (slice_get list.now number) (result ≡ NO_PATTERN)
+        (λ re. OfTree re (λ tree. result ≡ cond (nullable tree) YES NO)) }
+{
+    if number >= list.len() {
+        return NO_PATTERN;
+    }
+    answer_of(list.may_be_empty(number))
 }
 
 /// How many places the patterns have together when they are written out; 0 where nothing is held.

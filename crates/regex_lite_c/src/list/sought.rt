@@ -3,7 +3,7 @@
 use crate::answer::OUT_OF_MEMORY;
 use crate::group_walk::fill_groups;
 use crate::list::types::{ListGroups, ListSpan};
-use crate::sought::{GroupsAhead, Sought, Spans};
+use crate::sought::{GroupsAhead, Search, Sought, Spans};
 use crate::types::{Cost, MatchWalk, Span};
 use crate::walk::fill;
 use regex_lite::{Captures, Error, ListCaptureMatches, ListMatches, RegexList};
@@ -40,7 +40,15 @@ impl<'r, 'h> GroupsAhead<'h> for ListCaptureMatches<'r, 'h> {
     }
 }
 
-impl Sought for RegexList {
+impl Search for RegexList {
+    ghost use Rattle.regex_lite_c.specs.SearchKinds.{patterns_search};
+
+    type Span = ListSpan;
+
+    type Told = ListGroups;
+
+    ghost search = { patterns_search };
+
     fn has_match(&self, text: &str, start: usize) -> Result<bool, Error> {
         self.is_match_at(text, start)
     }
@@ -52,6 +60,22 @@ impl Sought for RegexList {
         }
     }
 
+    fn first_groups<'h>(
+        &self,
+        text: &'h str,
+        start: usize,
+    ) -> Result<Option<(ListGroups, Captures<'h>)>, Error> {
+        match self.captures_at(text, start)? {
+            Some((number, caps)) => {
+                let count = caps.len();
+                Ok(Some((ListGroups { number, count }, caps)))
+            }
+            None => Ok(None),
+        }
+    }
+}
+
+impl Sought for RegexList {
     fn counted_span(&self, text: &str, start: usize) -> Result<(Option<ListSpan>, Cost), Error> {
         let (told, steps) = self.find_counted_at(text, start)?;
         match told {
@@ -68,20 +92,6 @@ impl Sought for RegexList {
     ) -> Result<usize, Error> {
         let mut matches = self.find_iter_after(text, ended)?;
         Ok(fill(&mut matches, spans))
-    }
-
-    fn first_groups<'h>(
-        &self,
-        text: &'h str,
-        start: usize,
-    ) -> Result<Option<(ListGroups, Captures<'h>)>, Error> {
-        match self.captures_at(text, start)? {
-            Some((number, caps)) => {
-                let count = caps.len();
-                Ok(Some((ListGroups { number, count }, caps)))
-            }
-            None => Ok(None),
-        }
     }
 
     fn write_groups_after(

@@ -2,7 +2,7 @@
 
 use crate::answer::OUT_OF_MEMORY;
 use crate::group_walk::fill_groups;
-use crate::sought::{GroupsAhead, Sought, Spans};
+use crate::sought::{GroupsAhead, Search, Sought, Spans};
 use crate::types::{Cost, MatchWalk, Span};
 use crate::walk::fill;
 use regex_lite::{CaptureMatches, Captures, Error, Matches, Regex};
@@ -35,7 +35,15 @@ impl<'r, 'h> GroupsAhead<'h> for CaptureMatches<'r, 'h> {
     }
 }
 
-impl Sought for Regex {
+impl Search for Regex {
+    ghost use Rattle.regex_lite_c.specs.SearchKinds.{regex_search};
+
+    type Span = Span;
+
+    type Told = usize;
+
+    ghost search = { regex_search };
+
     fn has_match(&self, text: &str, start: usize) -> Result<bool, Error> {
         self.is_match_at(text, start)
     }
@@ -47,6 +55,19 @@ impl Sought for Regex {
         }
     }
 
+    fn first_groups<'h>(
+        &self,
+        text: &'h str,
+        start: usize,
+    ) -> Result<Option<(usize, Captures<'h>)>, Error> {
+        match self.captures_at(text, start)? {
+            Some(caps) => Ok(Some((caps.len(), caps))),
+            None => Ok(None),
+        }
+    }
+}
+
+impl Sought for Regex {
     fn counted_span(&self, text: &str, start: usize) -> Result<(Option<Span>, Cost), Error> {
         let (found, steps) = self.find_counted_at(text, start)?;
         match found {
@@ -63,17 +84,6 @@ impl Sought for Regex {
     ) -> Result<usize, Error> {
         let mut matches = self.find_iter_after(text, ended)?;
         Ok(fill(&mut matches, spans))
-    }
-
-    fn first_groups<'h>(
-        &self,
-        text: &'h str,
-        start: usize,
-    ) -> Result<Option<(usize, Captures<'h>)>, Error> {
-        match self.captures_at(text, start)? {
-            Some(caps) => Ok(Some((caps.len(), caps))),
-            None => Ok(None),
-        }
     }
 
     fn write_groups_after(

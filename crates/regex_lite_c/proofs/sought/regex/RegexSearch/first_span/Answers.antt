@@ -1,5 +1,5 @@
 use Rattle.regex_lite_c.proofs.each.EachLemmas.{finds_span}
-use Rattle.regex_lite_c.proofs.sought.regex.RegexSought.first_span.Goals as goal
+use Rattle.regex_lite_c.proofs.sought.regex.RegexSearch.first_span.Goals as goal
 
 pub returns-in-Some : goal.returns-in-Some
 returns-in-Some c =

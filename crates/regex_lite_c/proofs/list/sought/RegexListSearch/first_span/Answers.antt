@@ -1,5 +1,5 @@
 use Rattle.regex_lite_c.proofs.list.ListSearchLemmas.{finds_list_span}
-use Rattle.regex_lite_c.proofs.list.sought.RegexListSought.first_span.Goals as goal
+use Rattle.regex_lite_c.proofs.list.sought.RegexListSearch.first_span.Goals as goal
 
 pub returns-in-Some : goal.returns-in-Some
 returns-in-Some c =

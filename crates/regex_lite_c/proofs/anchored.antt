@@ -1,0 +1,2 @@
+-- lemmas that the proofs of anchored searches share
+pub mod AnchoredLemmas

@@ -1,0 +1,55 @@
+-- What anchored searches return, in spans of a caller: their matches start where the search does.
+use Rattle.std.specs.Prelude.{◌≡◌, ℕ, false, List, Option, Some, chars, length}
+use Rattle.regex_lite.specs.Anchored.{TellsAnswerAt, TellsAnswerAtOfList, TellsGroupsAt}
+use Rattle.regex_lite.specs.Anchored.{TellsGroupsAtOfList}
+use Rattle.regex_lite.specs.Expression.{Expression}
+use Rattle.regex_lite.specs.Groups.{Groups}
+use Rattle.regex_lite.specs.Searches.{offsets}
+use Rattle.regex_lite_c.specs.ListSpans.{list_span_of}
+use Rattle.regex_lite_c.specs.Spans.{span_of}
+use Rattle.regex_lite_c.specs.declared.list.types.ListGroups.{ListGroups}
+use Rattle.regex_lite_c.specs.declared.list.types.ListSpan.{ListSpan}
+use Rattle.regex_lite_c.specs.declared.types.Span.{Span}
+
+-- what is returned of an anchored search for the pattern at this offset is where its match starts
+-- and ends
+abbrev pub TellsSpanAt : Expression → (haystack : List ℕ) → (start : ℕ) → Option (ℕ × ℕ) → Type 0
+TellsSpanAt re haystack start told =
+    TellsAnswerAt false
+    (λ tree found span. span ≡ offsets (chars haystack) (found.start, found.end))
+    re haystack start told
+
+-- the search finds a match, and the span is where that starts and ends
+abbrev pub FindsSpanAt : Expression → (haystack : List ℕ) → (start : ℕ) → Span → Type 0
+FindsSpanAt re haystack start span =
+    (told : ℕ × ℕ) × TellsSpanAt re haystack start (Some told) × (span ≡ span_of (Some told))
+
+-- these are the groups of the match that starts at this offset, this many
+abbrev pub AreGroupsAt : Expression → (haystack : List ℕ) → (start : ℕ) → (count : ℕ) → Groups
+    → Type 0
+AreGroupsAt re haystack start count groups =
+    TellsGroupsAt re haystack start (Some groups) × (count ≡ length groups.spans)
+
+-- what is returned of an anchored search for the patterns at this offset is the number of the
+-- pattern that matches there, and where its match starts and ends
+abbrev pub TellsListSpanAt : List Expression → (haystack : List ℕ) → (start : ℕ)
+    → Option (ℕ × (ℕ × ℕ)) → Type 0
+TellsListSpanAt list haystack start told =
+    TellsAnswerAtOfList false
+    (λ tree found span. span ≡ offsets (chars haystack) (found.start, found.end))
+    list haystack start told
+
+-- the search finds a match, and the span is where that starts and ends, with its pattern's number
+abbrev pub FindsListSpanAt : List Expression → (haystack : List ℕ) → (start : ℕ) → ListSpan
+    → Type 0
+FindsListSpanAt list haystack start span =
+    (told : ℕ × (ℕ × ℕ)) × TellsListSpanAt list haystack start (Some told)
+    × (span ≡ list_span_of told)
+
+-- these are the groups of the match that starts at this offset, as many as are told, of the pattern
+-- with the number that is returned
+abbrev pub AreListGroupsAt : List Expression → (haystack : List ℕ) → (start : ℕ) → ListGroups
+    → Groups → Type 0
+AreListGroupsAt list haystack start told groups =
+    TellsGroupsAtOfList list haystack start (Some (told.number, groups))
+    × (told.count ≡ length groups.spans)
