@@ -1,5 +1,7 @@
 //! Several patterns that are searched for at once.
 
+mod anchored;
+mod listed;
 mod searches;
 
 use std::fmt;

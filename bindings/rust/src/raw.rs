@@ -18,7 +18,7 @@ mod types;
 pub use handle::{Handle, Held};
 pub use list::List;
 pub use one::{escape, One};
-pub use types::{GroupCount, ListSpan, Span, Walk};
+pub use types::{Anchor, GroupCount, ListSpan, Span, Walk};
 
 use crate::error::Error;
 
@@ -39,7 +39,8 @@ fn is_yes(answer: u32) -> Result<bool, Error> {
         NO => Ok(false),
         BAD_OFFSET => Err(Error::BadOffset),
         OUT_OF_MEMORY => Err(Error::OutOfMemory),
-        // The handle holds something, the text is UTF-8, and each buffer is long enough.
+        // The handle holds something, the text is UTF-8, each buffer is long enough, and a list has
+        // the pattern that is asked about.
         other => unreachable!("the library answers {other}"),
     }
 }

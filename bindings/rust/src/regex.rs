@@ -1,5 +1,6 @@
 //! A pattern that is searched for.
 
+mod anchored;
 mod groups;
 mod replacing;
 mod searches;
@@ -117,6 +118,20 @@ impl Regex {
     /// [`Captures::extract`](crate::Captures::extract) returns.
     pub fn static_captures_len(&self) -> Option<usize> {
         self.own_groups().static_len()
+    }
+
+    /// Returns whether the pattern may match the empty text, as far as it tells by itself: its
+    /// looks, such as `^` and `\b`, are taken to hold. Where this is `false`, no match is empty.
+    ///
+    /// ```
+    /// use regex_lite_proved::Regex;
+    ///
+    /// assert!(Regex::new("a*")?.may_be_empty());
+    /// assert!(!Regex::new("a+$")?.may_be_empty());
+    /// # Ok::<(), regex_lite_proved::Error>(())
+    /// ```
+    pub fn may_be_empty(&self) -> bool {
+        self.shared.lock().may_be_empty()
     }
 
     /// Returns how many places the pattern has, written out: the states of its NFA. A search of a

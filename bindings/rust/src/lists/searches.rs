@@ -7,7 +7,7 @@ use crate::error::{unwrap, Error};
 use crate::iterators::{
     ListCaptureMatches, ListMatches, TryListCaptureMatches, TryListMatches, Unwrapped,
 };
-use crate::raw::resize;
+use crate::raw::{resize, Anchor, Span};
 use crate::{Captures, Cost, Match, RegexList};
 
 /// These calls search for the first match, whichever pattern it is of. A match comes with the
@@ -42,7 +42,7 @@ impl RegexList {
 
     /// Returns whether one of the patterns matches from the offset on.
     pub fn try_is_match_at(&self, text: &str, start: usize) -> Result<bool, Error> {
-        self.shared.lock().is_match(text, start)
+        self.shared.lock().is_match(text, start, Anchor::None)
     }
 
     /// Returns whether each pattern matches somewhere, by their numbers.
@@ -96,7 +96,7 @@ impl RegexList {
         text: &'h str,
         start: usize,
     ) -> Result<Option<(usize, Match<'h>)>, Error> {
-        let span = self.shared.lock().find(text, start)?;
+        let span = self.shared.lock().find(text, start, Anchor::None)?;
         Ok(span.map(|span| Match::numbered(text, span)))
     }
 
@@ -164,10 +164,29 @@ impl RegexList {
         text: &'h str,
         start: usize,
     ) -> Result<Option<(usize, Captures<'h>)>, Error> {
+        self.captures_by(text, start, Anchor::None)
+    }
+
+    /// Returns the groups of the first match.
+    pub(super) fn captures_by<'h>(
+        &self,
+        text: &'h str,
+        start: usize,
+        anchor: Anchor,
+    ) -> Result<Option<(usize, Captures<'h>)>, Error> {
+        let mut spans = self.room()?;
+        let number = self
+            .shared
+            .lock()
+            .captures(text, start, anchor, &mut spans)?;
+        Ok(number.map(|number| self.groups(text, number, spans)))
+    }
+
+    /// Returns room for the groups of a match, as many as some match had.
+    pub(super) fn room(&self) -> Result<Vec<Span>, Error> {
         let mut spans = Vec::new();
         resize(&mut spans, self.width.load(Ordering::Relaxed))?;
-        let number = self.shared.lock().captures(text, start, &mut spans)?;
-        Ok(number.map(|number| self.groups(text, number, spans)))
+        Ok(spans)
     }
 }
 

@@ -32,6 +32,7 @@ extern "C" {
         room_len: usize,
         len: *mut usize,
     ) -> u32;
+    pub fn regex_lite_may_be_empty(handle: *mut Handle<One>) -> u32;
     pub fn regex_lite_places(handle: *mut Handle<One>) -> usize;
     pub fn regex_lite_arrows(handle: *mut Handle<One>) -> usize;
     pub fn regex_lite_is_match(
@@ -41,6 +42,19 @@ extern "C" {
         start: usize,
     ) -> u32;
     pub fn regex_lite_find(
+        handle: *mut Handle<One>,
+        text: *const u8,
+        len: usize,
+        start: usize,
+        span: *mut Span,
+    ) -> u32;
+    pub fn regex_lite_is_match_anchored(
+        handle: *mut Handle<One>,
+        text: *const u8,
+        len: usize,
+        start: usize,
+    ) -> u32;
+    pub fn regex_lite_find_anchored(
         handle: *mut Handle<One>,
         text: *const u8,
         len: usize,
@@ -72,6 +86,15 @@ extern "C" {
         room: usize,
     ) -> u32;
     pub fn regex_lite_captures(
+        handle: *mut Handle<One>,
+        text: *const u8,
+        len: usize,
+        start: usize,
+        spans: *mut Span,
+        room: usize,
+        count: *mut usize,
+    ) -> u32;
+    pub fn regex_lite_captures_anchored(
         handle: *mut Handle<One>,
         text: *const u8,
         len: usize,
@@ -116,6 +139,7 @@ extern "C" {
         refusal: *mut ListRefusal,
     ) -> u32;
     pub fn regex_lite_list_free(handle: *mut Handle<List>);
+    pub fn regex_lite_list_may_be_empty(handle: *mut Handle<List>, number: usize) -> u32;
     pub fn regex_lite_list_places(handle: *mut Handle<List>) -> usize;
     pub fn regex_lite_list_arrows(handle: *mut Handle<List>) -> usize;
     pub fn regex_lite_list_is_match(
@@ -125,6 +149,19 @@ extern "C" {
         start: usize,
     ) -> u32;
     pub fn regex_lite_list_find(
+        handle: *mut Handle<List>,
+        text: *const u8,
+        len: usize,
+        start: usize,
+        span: *mut ListSpan,
+    ) -> u32;
+    pub fn regex_lite_list_is_match_anchored(
+        handle: *mut Handle<List>,
+        text: *const u8,
+        len: usize,
+        start: usize,
+    ) -> u32;
+    pub fn regex_lite_list_find_anchored(
         handle: *mut Handle<List>,
         text: *const u8,
         len: usize,
@@ -147,6 +184,40 @@ extern "C" {
         spans: *mut Span,
         room: usize,
         groups: *mut GroupCount,
+    ) -> u32;
+    pub fn regex_lite_list_captures_anchored(
+        handle: *mut Handle<List>,
+        text: *const u8,
+        len: usize,
+        start: usize,
+        spans: *mut Span,
+        room: usize,
+        groups: *mut GroupCount,
+    ) -> u32;
+    pub fn regex_lite_list_is_match_of(
+        handle: *mut Handle<List>,
+        number: usize,
+        text: *const u8,
+        len: usize,
+        start: usize,
+    ) -> u32;
+    pub fn regex_lite_list_find_of(
+        handle: *mut Handle<List>,
+        number: usize,
+        text: *const u8,
+        len: usize,
+        start: usize,
+        span: *mut Span,
+    ) -> u32;
+    pub fn regex_lite_list_captures_of(
+        handle: *mut Handle<List>,
+        number: usize,
+        text: *const u8,
+        len: usize,
+        start: usize,
+        spans: *mut Span,
+        room: usize,
+        count: *mut usize,
     ) -> u32;
     pub fn regex_lite_list_find_all(
         handle: *mut Handle<List>,

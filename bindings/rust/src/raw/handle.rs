@@ -5,7 +5,7 @@ use std::fmt;
 use std::marker::PhantomData;
 use std::ptr;
 
-use super::types::{GroupCount, Span, Walk};
+use super::types::{Anchor, GroupCount, Span, Walk};
 use super::{is_yes, resize, NO_ROOM, OUT_OF_MEMORY};
 use crate::error::Error;
 use crate::Cost;
@@ -18,12 +18,12 @@ pub trait Held: Sized + 'static {
     /// The calls for such a handle.
     const CALLS: Calls<Self>;
 
-    /// Writes the groups of the first match from the offset on, and how many they are. Returns the
-    /// answer of the call.
+    /// Writes the groups of the first match, and how many they are. Returns the answer of the call.
     fn captures(
         handle: &mut Handle<Self>,
         text: &str,
         start: usize,
+        anchor: Anchor,
         spans: &mut [Span],
         told: &mut GroupCount,
     ) -> u32;
@@ -40,13 +40,22 @@ pub trait Held: Sized + 'static {
     ) -> u32;
 }
 
+/// A call that returns whether there is a match.
+type IsMatch<H> = unsafe extern "C" fn(*mut Handle<H>, *const u8, usize, usize) -> u32;
+
+/// A call that writes where a match is.
+type Find<H> =
+    unsafe extern "C" fn(*mut Handle<H>, *const u8, usize, usize, *mut <H as Held>::Span) -> u32;
+
 /// The calls of a kind of handle that have the same parameters for both kinds.
 pub struct Calls<H: Held> {
     pub free: unsafe extern "C" fn(*mut Handle<H>),
     pub places: unsafe extern "C" fn(*mut Handle<H>) -> usize,
     pub arrows: unsafe extern "C" fn(*mut Handle<H>) -> usize,
-    pub is_match: unsafe extern "C" fn(*mut Handle<H>, *const u8, usize, usize) -> u32,
-    pub find: unsafe extern "C" fn(*mut Handle<H>, *const u8, usize, usize, *mut H::Span) -> u32,
+    pub is_match: IsMatch<H>,
+    pub is_match_anchored: IsMatch<H>,
+    pub find: Find<H>,
+    pub find_anchored: Find<H>,
     pub find_counted: unsafe extern "C" fn(
         *mut Handle<H>,
         *const u8,
@@ -97,17 +106,30 @@ impl<H: Held> Handle<H> {
         unsafe { (H::CALLS.arrows)(self) }
     }
 
-    /// Returns whether there is a match from the offset on.
-    pub fn is_match(&mut self, text: &str, start: usize) -> Result<bool, Error> {
+    /// Returns whether there is a match.
+    pub fn is_match(&mut self, text: &str, start: usize, anchor: Anchor) -> Result<bool, Error> {
+        let call = match anchor {
+            Anchor::None => H::CALLS.is_match,
+            Anchor::Start => H::CALLS.is_match_anchored,
+        };
         // SAFETY: the handle and the text are live, and the text is as long as is said.
-        is_yes(unsafe { (H::CALLS.is_match)(self, text.as_ptr(), text.len(), start) })
+        is_yes(unsafe { call(self, text.as_ptr(), text.len(), start) })
     }
 
-    /// Returns the first match from the offset on.
-    pub fn find(&mut self, text: &str, start: usize) -> Result<Option<H::Span>, Error> {
+    /// Returns the first match.
+    pub fn find(
+        &mut self,
+        text: &str,
+        start: usize,
+        anchor: Anchor,
+    ) -> Result<Option<H::Span>, Error> {
+        let call = match anchor {
+            Anchor::None => H::CALLS.find,
+            Anchor::Start => H::CALLS.find_anchored,
+        };
         let mut span = H::Span::default();
         // SAFETY: the handle, the text and the span are live, and the text is as long as is said.
-        let answer = unsafe { (H::CALLS.find)(self, text.as_ptr(), text.len(), start, &mut span) };
+        let answer = unsafe { call(self, text.as_ptr(), text.len(), start, &mut span) };
         Ok(is_yes(answer)?.then_some(span))
     }
 
@@ -151,26 +173,19 @@ impl<H: Held> Handle<H> {
         Ok(count)
     }
 
-    /// Writes the groups of the first match from the offset on, and returns the number of its
-    /// pattern, if there is a match. The buffer is made longer where it has to be, and then as long
-    /// as the match has groups.
+    /// Writes the groups of the first match, and returns the number of its pattern, if there is a
+    /// match. The buffer is made longer where it has to be, and then as long as the match has
+    /// groups.
     pub fn captures(
         &mut self,
         text: &str,
         start: usize,
+        anchor: Anchor,
         spans: &mut Vec<Span>,
     ) -> Result<Option<usize>, Error> {
-        let mut told = GroupCount::default();
-        let mut answer = H::captures(self, text, start, spans, &mut told);
-        if answer == NO_ROOM {
-            resize(spans, told.count)?;
-            answer = H::captures(self, text, start, spans, &mut told);
-        }
-        if !is_yes(answer)? {
-            return Ok(None);
-        }
-        spans.truncate(told.count);
-        Ok(Some(told.number))
+        groups_written(spans, |spans, told| {
+            H::captures(self, text, start, anchor, spans, told)
+        })
     }
 
     /// Writes the groups of the next matches and how many each has, and returns how many matches
@@ -195,6 +210,26 @@ impl<H: Held> Handle<H> {
         }
         Ok(count)
     }
+}
+
+/// Returns the number of the pattern of the match whose groups `call` writes, with how many they
+/// are, if there is a match. `call` returns its answer. The buffer is made longer where it has to
+/// be, and then as long as the match has groups.
+pub(super) fn groups_written(
+    spans: &mut Vec<Span>,
+    mut call: impl FnMut(&mut [Span], &mut GroupCount) -> u32,
+) -> Result<Option<usize>, Error> {
+    let mut told = GroupCount::default();
+    let mut answer = call(spans, &mut told);
+    if answer == NO_ROOM {
+        resize(spans, told.count)?;
+        answer = call(spans, &mut told);
+    }
+    if !is_yes(answer)? {
+        return Ok(None);
+    }
+    spans.truncate(told.count);
+    Ok(Some(told.number))
 }
 
 impl<H: Held> Drop for Handle<H> {

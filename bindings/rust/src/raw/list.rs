@@ -1,9 +1,9 @@
 //! The calls that a list of patterns alone has.
 
 use super::calls::*;
-use super::handle::{Calls, Handle, Held};
+use super::handle::{groups_written, Calls, Handle, Held};
 use super::one::refusal;
-use super::types::{GroupCount, ListPattern, ListRefusal, ListSpan, Span, Walk};
+use super::types::{Anchor, GroupCount, ListPattern, ListRefusal, ListSpan, Span, Walk};
 use super::{is_yes, resize, MESSAGE, YES};
 use crate::error::{Error, ListError};
 use crate::Options;
@@ -19,7 +19,9 @@ impl Held for List {
         places: regex_lite_list_places,
         arrows: regex_lite_list_arrows,
         is_match: regex_lite_list_is_match,
+        is_match_anchored: regex_lite_list_is_match_anchored,
         find: regex_lite_list_find,
+        find_anchored: regex_lite_list_find_anchored,
         find_counted: regex_lite_list_find_counted,
         find_all: regex_lite_list_find_all,
     };
@@ -28,12 +30,17 @@ impl Held for List {
         handle: &mut Handle<List>,
         text: &str,
         start: usize,
+        anchor: Anchor,
         spans: &mut [Span],
         told: &mut GroupCount,
     ) -> u32 {
+        let call = match anchor {
+            Anchor::None => regex_lite_list_captures,
+            Anchor::Start => regex_lite_list_captures_anchored,
+        };
         // SAFETY: all that is passed is live, and the text and the spans are as long as is said.
         unsafe {
-            regex_lite_list_captures(
+            call(
                 handle,
                 text.as_ptr(),
                 text.len(),
@@ -103,6 +110,65 @@ impl Handle<List> {
         let (pattern, options) = number.map_or(("", Options::default()), |k| patterns[k]);
         let error = refusal(answer, &message, told.message_len, pattern, &options);
         Err(ListError { number, error })
+    }
+
+    /// Returns whether the pattern with this number may match the empty text, as far as it tells by
+    /// itself. There is such a pattern.
+    pub fn may_be_empty(&mut self, number: usize) -> bool {
+        // SAFETY: the handle is live, and borrowed mutably.
+        unsafe { regex_lite_list_may_be_empty(self, number) == YES }
+    }
+
+    /// Returns whether the pattern with this number matches from the offset on. There is such a
+    /// pattern.
+    pub fn is_match_of(&mut self, number: usize, text: &str, start: usize) -> Result<bool, Error> {
+        // SAFETY: the handle and the text are live, and the text is as long as is said.
+        is_yes(unsafe {
+            regex_lite_list_is_match_of(self, number, text.as_ptr(), text.len(), start)
+        })
+    }
+
+    /// Returns the first match of the pattern with this number from the offset on. There is such a
+    /// pattern.
+    pub fn find_of(
+        &mut self,
+        number: usize,
+        text: &str,
+        start: usize,
+    ) -> Result<Option<Span>, Error> {
+        let mut span = Span::default();
+        let (bytes, len) = (text.as_ptr(), text.len());
+        // SAFETY: the handle, the text and the span are live, and the text is as long as is said.
+        let answer = unsafe { regex_lite_list_find_of(self, number, bytes, len, start, &mut span) };
+        Ok(is_yes(answer)?.then_some(span))
+    }
+
+    /// Writes the groups of that match, and returns whether there is one. There is such a pattern.
+    /// The buffer is made longer where it has to be, and then as long as the match has groups.
+    pub fn captures_of(
+        &mut self,
+        number: usize,
+        text: &str,
+        start: usize,
+        spans: &mut Vec<Span>,
+    ) -> Result<bool, Error> {
+        let found = groups_written(spans, |spans, told| {
+            // SAFETY: all that is passed is live, and the text and the spans are as long as is
+            // said.
+            unsafe {
+                regex_lite_list_captures_of(
+                    self,
+                    number,
+                    text.as_ptr(),
+                    text.len(),
+                    start,
+                    spans.as_mut_ptr(),
+                    spans.len(),
+                    &mut told.count,
+                )
+            }
+        });
+        Ok(found?.is_some())
     }
 
     /// Returns whether each pattern matches from the offset on. The list has `len` patterns.

@@ -2,7 +2,7 @@
 
 use super::calls::*;
 use super::handle::{Calls, Handle, Held};
-use super::types::{GroupCount, RawFault, Span, Walk};
+use super::types::{Anchor, GroupCount, RawFault, Span, Walk};
 use super::{is_yes, resize, written, MESSAGE, OUT_OF_MEMORY, SYNTAX, YES};
 use crate::error::{Error, Fault};
 use crate::Options;
@@ -21,7 +21,9 @@ impl Held for One {
         places: regex_lite_places,
         arrows: regex_lite_arrows,
         is_match: regex_lite_is_match,
+        is_match_anchored: regex_lite_is_match_anchored,
         find: regex_lite_find,
+        find_anchored: regex_lite_find_anchored,
         find_counted: regex_lite_find_counted,
         find_all: regex_lite_find_all,
     };
@@ -30,12 +32,17 @@ impl Held for One {
         handle: &mut Handle<One>,
         text: &str,
         start: usize,
+        anchor: Anchor,
         spans: &mut [Span],
         told: &mut GroupCount,
     ) -> u32 {
+        let call = match anchor {
+            Anchor::None => regex_lite_captures,
+            Anchor::Start => regex_lite_captures_anchored,
+        };
         // SAFETY: all that is passed is live, and the text and the spans are as long as is said.
         unsafe {
-            regex_lite_captures(
+            call(
                 handle,
                 text.as_ptr(),
                 text.len(),
@@ -113,6 +120,12 @@ impl Handle<One> {
     pub fn static_groups(&mut self) -> usize {
         // SAFETY: the handle is live, and borrowed mutably.
         unsafe { regex_lite_static_groups(self) }
+    }
+
+    /// Returns whether the pattern may match the empty text, as far as it tells by itself.
+    pub fn may_be_empty(&mut self) -> bool {
+        // SAFETY: the handle is live, and borrowed mutably.
+        unsafe { regex_lite_may_be_empty(self) == YES }
     }
 
     /// Returns the name of the group with this index, if it has one. There is such a group.

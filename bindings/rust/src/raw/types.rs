@@ -18,6 +18,15 @@ pub struct ListSpan {
     pub end: usize,
 }
 
+/// Where the match of a search may start.
+#[derive(Clone, Copy)]
+pub enum Anchor {
+    /// From the offset on.
+    None,
+    /// At the offset alone.
+    Start,
+}
+
 /// The number of the pattern that a match is of, and how many groups that has. The number is 0
 /// where there is one pattern.
 #[repr(C)]
