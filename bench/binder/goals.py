@@ -69,6 +69,8 @@ GOALS = (
          ''),
     Goal(r'`search(r"\d+ ms")` in a line', lambda module: module.search(r'\d+ ms', LINE), '3'),
     Goal('`search("bytes")` in a line', lambda module: module.search('bytes', LINE), '3'),
+    Goal(r'`match(r"\d+-\d+")` in a line', lambda module: module.match(r'\d+-\d+', LINE), ''),
+    Goal(r'`match(r"\d+ ms")` in a line', lambda module: module.match(r'\d+ ms', LINE), ''),
     Goal('`search("[a-z]")`, one `é`', lambda module: module.search('[a-z]', ACCENTED), '5 ms'),
 )
 

@@ -74,6 +74,11 @@ def search(pattern: Union[str, Pattern], string: str, flags: int = 0) -> Optiona
     return _compiled(pattern, flags).search(string)
 
 
+def match(pattern: Union[str, Pattern], string: str, flags: int = 0) -> Optional[Match]:
+    """`Pattern.match`."""
+    return _compiled(pattern, flags).match(string)
+
+
 def finditer(pattern: Union[str, Pattern], string: str, flags: int = 0) -> Iterator[Match]:
     """`Pattern.finditer`."""
     return _compiled(pattern, flags).finditer(string)

@@ -24,6 +24,7 @@ LONG = 1 << 14  # characters of a string that is encoded once, if it isn't ASCII
 Span = Optional[Tuple[int, int]]
 # Whether a group took part, where it starts, and where it ends: for each group of a match.
 Row = Tuple[Any, ...]
+Calls = Tuple[Callable[..., int], Callable[..., int]]
 
 
 _LIBRARY = load()
@@ -66,6 +67,7 @@ _new = call('new', c_uint32, _HANDLE, *TEXT, POINTER(Options), *_ROOM)
 _fault_at = call('fault_at', c_uint32, *TEXT, POINTER(Options), POINTER(Fault))
 _free = call('free', None, _HANDLE)
 _groups = call('groups', c_size_t, _HANDLE)
+_may_be_empty = call('may_be_empty', c_uint32, _HANDLE)
 _places = call('places', c_size_t, _HANDLE)
 _arrows = call('arrows', c_size_t, _HANDLE)
 _find_counted = call('find_counted', c_uint32, _HANDLE, *TEXT, c_size_t, POINTER(CSpan),
@@ -76,11 +78,13 @@ _find_each = call('find_each', c_uint32, _HANDLE, *TEXT, POINTER(c_size_t), c_si
 _replace = call('replace', c_uint32, _HANDLE, *TEXT, *TEXT, POINTER(Replacing), c_void_p,
                 c_size_t)
 _escape = call('escape', c_uint32, *TEXT, *_ROOM)
-_find = quick_call('find')
-_captures = quick_call('captures')
 _find_all = quick_call('find_all')
 _captures_all = quick_call('captures_all')
 _split = quick_call('split')
+# The calls that write the span of a match and its groups: of one that starts anywhere from the
+# offset on, and of one that starts at the offset itself.
+ANYWHERE = quick_call('find'), quick_call('captures')
+ANCHORED = quick_call('find_anchored'), quick_call('captures_anchored')
 SPAN, BYTE = struct.Struct('@?NN'), struct.Struct('@c')
 _START, _UNREAD = c_size_t.from_param(0), byref(c_size_t())  # the second for a count that is known
 
@@ -209,8 +213,12 @@ class Regex:
         checked(_group_name(self._handle, index, room, length.value, length))
         return room.raw.decode()
 
-    def captures(self, text: bytes, start: int) -> Optional[Row]:
-        """The groups of the first match from there on, in bytes of UTF-8."""
+    def may_be_empty(self) -> bool:
+        """Whether the pattern may match the empty text, with its looks taken to hold."""
+        return checked(_may_be_empty(self._handle))
+
+    def captures(self, text: bytes, start: int, calls: Calls = ANYWHERE) -> Optional[Row]:
+        """The groups of the match that these calls find from there on, in bytes of UTF-8."""
         # Memory is taken from the list, and put back, so that no two threads write to the same.
         try:
             memory = self._memory.pop()
@@ -221,9 +229,9 @@ class Regex:
         length.value = len(text)
         begin = c_size_t(start) if start else _START
         if self.groups == 1:
-            answer = _find(self._here, text, length, begin, there)
+            answer = calls[0](self._here, text, length, begin, there)
         else:
-            answer = _captures(self._here, text, length, begin, there, self._width, _UNREAD)
+            answer = calls[1](self._here, text, length, begin, there, self._width, _UNREAD)
         row = self._row.unpack(spans) if answer == YES else None
         self._memory.append(memory)
         return row if answer <= YES or checked(answer) else None

@@ -46,9 +46,12 @@ _LIST = POINTER(ListHandle)
 _list_new = call('list_new', c_uint32, _LIST, *TEXT, POINTER(ListPattern), c_size_t, c_void_p,
                  c_size_t, POINTER(ListRefusal))
 _list_free = call('list_free', None, _LIST)
+_list_may_be_empty = call('list_may_be_empty', c_uint32, _LIST, c_size_t)
 _list_matches = call('list_matches', c_uint32, _LIST, *TEXT, c_size_t, c_void_p, c_size_t,
                      POINTER(c_size_t))
-_list_captures = quick_call('list_captures')
+# The calls that write the groups of a match: of one that starts anywhere from the offset on, and of
+# one that starts at the offset itself.
+ANYWHERE, ANCHORED = quick_call('list_captures'), quick_call('list_captures_anchored')
 _list_find_all = quick_call('list_find_all')
 _list_captures_all = quick_call('list_captures_all')
 FOUND, SIZES = struct.Struct('@NNN'), struct.Struct('@NN')  # a ListSpan, and a ListGroups
@@ -75,15 +78,20 @@ class RawList:
     def __del__(self, free: Callable[..., int] = _list_free) -> None:
         free(self._handle)
 
-    def captures(self, text: bytes, start: int) -> Optional[Tuple[int, Row]]:
-        """The number of the pattern of the first match from there on, and its groups, in bytes of
-        UTF-8."""
+    def may_be_empty(self, number: int) -> bool:
+        """Whether this pattern may match the empty text, with its looks taken to hold."""
+        return checked(_list_may_be_empty(self._handle, number))
+
+    def captures(self, text: bytes, start: int,
+                 ask: Callable[..., int] = ANYWHERE) -> Optional[Tuple[int, Row]]:
+        """The number of the pattern of the match that this call finds from there on, and its
+        groups, in bytes of UTF-8."""
         groups = ListGroups()
         while True:
             room = self._room
             spans = Room(SPAN, room)
-            answer = _list_captures(self._here, text, c_size_t(len(text)), c_size_t(start),
-                                    spans.start, c_size_t(room), byref(groups))
+            answer = ask(self._here, text, c_size_t(len(text)), c_size_t(start), spans.start,
+                         c_size_t(room), byref(groups))
             if answer != NO_ROOM:
                 break
             self._room = max(room, groups.count)

@@ -2,12 +2,12 @@
 
 from __future__ import annotations
 
-from typing import Dict, Iterable, Iterator, List, Optional, Tuple
+from typing import Callable, Dict, Iterable, Iterator, List, Optional, Tuple
 
 from ._departures import warn_of_departures
 from ._flags import NEST_LIMIT, SIZE_LIMIT, Flags, options_of
 from ._library import encoded
-from ._list_library import RawList
+from ._list_library import ANCHORED, ANYWHERE, RawList
 from ._matches import Match, match_of
 from ._patterns import Pattern
 from ._texts import offsets_in, start_in
@@ -35,13 +35,17 @@ class RegexList:
 
     def search(self, string: str, pos: int = 0) -> Optional[Tuple[int, Match]]:
         """The first match that starts at this offset or later, and the number of its pattern."""
-        raw = encoded(string)
-        offsets = offsets_in(string, raw)
-        found = self._list.captures(raw, start_in(string, offsets, pos))
-        if found is None:
-            return None
-        number, row = found
-        return number, match_of(self._pattern(number), string, row, offsets)
+        return self._found(string, pos, ANYWHERE)
+
+    def match(self, string: str, pos: int = 0) -> Optional[Tuple[int, Match]]:
+        """The match that starts at this very offset, of the pattern with the lowest number that
+        matches there, and that number."""
+        return self._found(string, pos, ANCHORED)
+
+    def search_of(self, number: int, string: str, pos: int = 0) -> Optional[Match]:
+        """What the pattern with this number finds by itself, whatever the others match. Raises
+        IndexError where there is no such pattern."""
+        return self._pattern(self._index(number)).search(string, pos)
 
     def finditer(self, string: str) -> Iterator[Tuple[int, Match]]:
         """All matches, from left to right, each with the number of its pattern."""
@@ -62,8 +66,28 @@ class RegexList:
         """The numbers of the patterns that match somewhere, in order."""
         return self._list.matches(encoded(string))
 
+    def may_be_empty(self, number: int) -> bool:
+        """Whether the pattern with this number may match the empty string, with its looks taken to
+        hold. Raises IndexError where there is no such pattern."""
+        return self._list.may_be_empty(self._index(number))
+
     def __repr__(self) -> str:
         return f'regex_lite.RegexList({list(self.patterns)!r})'
+
+    def _found(self, string: str, pos: int,
+               ask: Callable[..., int]) -> Optional[Tuple[int, Match]]:
+        """The match that this call of the library finds, and the number of its pattern."""
+        raw = encoded(string)
+        offsets = offsets_in(string, raw)
+        found = self._list.captures(raw, start_in(string, offsets, pos), ask)
+        if found is None:
+            return None
+        number, row = found
+        return number, match_of(self._pattern(number), string, row, offsets)
+
+    def _index(self, number: int) -> int:
+        """The number of a pattern, which is counted from the end where it is negative."""
+        return range(len(self.patterns))[number]
 
     def _pattern(self, number: int) -> Pattern:
         """The pattern with this number, by itself: it knows the names of its groups."""

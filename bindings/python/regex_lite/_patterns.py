@@ -9,7 +9,7 @@ from typing import (Callable, Dict, Iterable, Iterator, List, Optional, Supports
                     Union, cast)
 
 from ._flags import NEST_LIMIT, SIZE_LIMIT, Flags, options_of
-from ._library import Regex, Row, encoded
+from ._library import ANCHORED, ANYWHERE, Calls, Regex, Row, encoded
 from ._literals import literal_of
 from ._matches import Match, match_of
 from ._templates import as_library_has_it, parts_of
@@ -42,16 +42,27 @@ class Pattern:
         names = {self._regex.name(i): i for i in range(1, self.groups + 1)}
         self.groupindex: Dict[str, int] = {name: i for name, i in names.items() if name is not None}
 
+    @property
+    def may_be_empty(self) -> bool:
+        """Whether the pattern may match the empty string, with its looks taken to hold: where this
+        is False, no match is empty."""
+        return self._regex.may_be_empty()
+
     def search(self, string: str, pos: int = 0) -> Optional[Match]:
         """The first match that starts at this offset or later."""
         raw, literal = encoded(string), self._literal
-        if literal is not None:
-            start = string.find(literal, max(pos, 0))
-            whole = True, start, start + len(literal)
-            return None if start < 0 else match_of(self, string, whole, None)
-        offsets = None if len(string) == len(raw) else Offsets(raw)
-        row = self._regex.captures(raw, start_in(string, offsets, pos) if pos else 0)
-        return None if row is None else match_of(self, string, row, offsets)
+        if literal is None:
+            return self._found(string, raw, pos, ANYWHERE)
+        return self._literal_at(string, string.find(literal, max(pos, 0)))
+
+    def match(self, string: str, pos: int = 0) -> Optional[Match]:
+        """The match that starts at this very offset: of several, the one that the pattern prefers.
+        An offset before the string, or after it, stands for its start or its end."""
+        raw, literal = encoded(string), self._literal
+        if literal is None:
+            return self._found(string, raw, pos, ANCHORED)
+        pos = max(pos, 0)
+        return self._literal_at(string, pos if string.startswith(literal, pos) else -1)
 
     def search_each(self, strings: Iterable[str]) -> List[Optional[Tuple[int, int]]]:
         """The span of the first match in each of the strings. Where they are many and short, it
@@ -116,6 +127,18 @@ class Pattern:
 
     def __repr__(self) -> str:
         return f'regex_lite.compile({self.pattern!r})'
+
+    def _found(self, string: str, raw: bytes, pos: int, calls: Calls) -> Optional[Match]:
+        """The match that these calls of the library find."""
+        offsets = None if len(string) == len(raw) else Offsets(raw)
+        row = self._regex.captures(raw, start_in(string, offsets, pos) if pos else 0, calls)
+        return None if row is None else match_of(self, string, row, offsets)
+
+    def _literal_at(self, string: str, start: int) -> Optional[Match]:
+        """The match of a pattern that is plain text, which stands there; or none, below 0."""
+        if start < 0 or self._literal is None:
+            return None
+        return match_of(self, string, (True, start, start + len(self._literal)), None)
 
     def _rows(self, raw: bytes, most: int = 0) -> Iterator[Row]:
         """The groups of all matches, of the first ones, or of none: as `most` says."""

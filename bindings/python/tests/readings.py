@@ -194,7 +194,15 @@ BY_TEXT: Dict[str, Callable[[Pair, str], bool]] = {
 
 def found_by(pattern: Any, text: str) -> Found:
     """The first match from each position on, with its groups."""
-    found = (pattern.search(text, pos) for pos in range(len(text) + 1))
+    return _told(pattern.search(text, pos) for pos in range(len(text) + 1))
+
+
+def started(pattern: Any, text: str) -> Found:
+    """The match that starts at each position, with its groups."""
+    return _told(pattern.match(text, pos) for pos in range(len(text) + 1))
+
+
+def _told(found: Iterator[Any]) -> Found:
     return [None if match is None else (match.span(), match.groups()) for match in found]
 
 

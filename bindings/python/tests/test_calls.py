@@ -45,6 +45,25 @@ class Searches(unittest.TestCase):
         self.assertIsNone(pattern.search('aba', 3))
         self.assertIsNone(regex_lite.compile('^b').search('ab', 1))
 
+    def test_match(self):
+        for pattern, string in (('b', 'ab'), ('a|ab', 'ab'), ('ab|a', 'ab'), ('[0-9]+', 'a72'),
+                                ('^b', 'ab'), (r'\bb', 'ab'), ('a*', 'baa'), ('(a)|(b)', 'üab'),
+                                ('(?m)^b', 'a\nb'), ('', ''), ('b', 'üb')):
+            ours, theirs = regex_lite.compile(pattern), re.compile(pattern)
+            for pos in range(-1, len(string) + 2):
+                found, wanted = ours.match(string, pos), theirs.match(string, pos)
+                self.assertEqual(found and (found.span(), found.groups()),
+                                 wanted and (wanted.span(), wanted.groups()),
+                                 (pattern, string, pos))
+        self.assertEqual(regex_lite.match('(?P<x>a)b', 'ab')['x'], 'a')
+        self.assertIsNone(regex_lite.match('b', 'ab'))
+        self.assertTrue(regex_lite.match('A', 'ab', regex_lite.I))
+
+    def test_emptiness(self):
+        for pattern, may_be_empty in (('a*', True), ('a+$', False), (r'\b\B', True), ('', True),
+                                      ('(?:|a)b', False), ('ab', False)):
+            self.assertIs(regex_lite.compile(pattern).may_be_empty, may_be_empty)
+
     def test_many_strings(self):
         strings = ['b52', '', 'ü7', '€', 'no', '12'] * 50
         wanted = [found and found.span() for found in (re.search(r'\d+', s) for s in strings)]

@@ -6,7 +6,7 @@ from collections import Counter
 from typing import Sequence
 
 from generators import EVERY, Generator
-from readings import BY_TEXT, REFUSED_HERE, REFUSED_THERE, WARNED, Pair, found_by, walked
+from readings import BY_TEXT, REFUSED_HERE, REFUSED_THERE, WARNED, Pair, found_by, started, walked
 from regex_lite._departures import Reader, departures_in
 
 SOUPS, TREES = 10000, 1500  # how many random patterns of each kind
@@ -57,12 +57,20 @@ class Comparison(unittest.TestCase):
             self.assertTrue(rows, (pair.pattern, pair.flags, text, theirs, ours))
             self.seen.update(rows if len(rows) == 1 else [])
         self.seen['same'] += ours == theirs and any(ours)
+        self.compare_starts(pair, text, rows)
         matches = [(match.span(), match.groups()) for match in pair.ours.finditer(text)]
         self.assertEqual(matches, walked(ours), (pair.pattern, text))
         others = [(match.span(), match.groups()) for match in pair.theirs.finditer(text)]
         if not rows and matches != others:
             self.assertTrue(any(start == end for (start, end), _ in others))
             self.seen['test_empty_matches'] += 1
+
+    def compare_starts(self, pair: Pair, text: str, rows: Sequence[str]) -> None:
+        """Compares what both find at each position alone, where no row explains a difference."""
+        if rows:
+            return
+        theirs, ours = started(pair.theirs, text), started(pair.ours, text)
+        self.assertEqual(ours, theirs, (pair.pattern, pair.flags, text))
 
     def test_each_difference_has_a_row_and_each_row_shows(self) -> None:
         for every in EVERY:

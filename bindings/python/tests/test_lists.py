@@ -19,6 +19,36 @@ class Lists(unittest.TestCase):
         self.assertEqual((number, found.span()), (1, (2, 5)))
         self.assertIsNone(words.search('()'))
 
+    def test_match(self):
+        words = regex_lite.RegexList(['if', '[a-z]+', '[0-9]+(é)?'])
+        text, at, found = 'iffy42éx', 0, []
+        while (token := words.match(text, at)) is not None:
+            number, match = token
+            self.assertEqual(match.start(), at)
+            found.append((number, match.group(), match.groups()))
+            at = match.end()
+        self.assertEqual(found, [(0, 'if', ()), (1, 'fy', ()), (2, '42é', ('é',)), (1, 'x', ())])
+        self.assertEqual(at, len(text))
+        self.assertIsNone(words.match('?if'))
+        self.assertIsNone(regex_lite.RegexList(['^b', 'c']).match('ab', 1))
+
+    def test_search_of(self):
+        rules = regex_lite.RegexList(['id=(?P<id>[0-9]+)', '([a-z]+)=([0-9]+)'])
+        self.assertEqual(rules.search_of(0, 'x=1&id=72')['id'], '72')
+        self.assertEqual(rules.search_of(1, 'x=1&id=72').groups(), ('x', '1'))
+        self.assertEqual(rules.search_of(1, 'é x=1', 1).span(), (2, 5))
+        self.assertEqual(rules.search_of(-1, 'x=1').re.pattern, '([a-z]+)=([0-9]+)')
+        self.assertIsNone(rules.search_of(0, 'x=1'))
+        for number in (2, -3):
+            self.assertRaises(IndexError, rules.search_of, number, 'x=1')
+
+    def test_emptiness(self):
+        words = regex_lite.RegexList(['a*', 'a+$', '^'])
+        self.assertEqual([words.may_be_empty(number) for number in range(3)], [True, False, True])
+        self.assertTrue(words.may_be_empty(-1))
+        for number in (3, -4):
+            self.assertRaises(IndexError, words.may_be_empty, number)
+
     def test_groups(self):
         lines = regex_lite.RegexList(['(?<key>[a-z]+)=([0-9]+)', '#(?<note>.*)'])
         number, found = lines.search('ü#width')
@@ -71,6 +101,7 @@ class Lists(unittest.TestCase):
         nothing = regex_lite.RegexList([])
         self.assertEqual((len(nothing), nothing.matches('a')), (0, []))
         self.assertIsNone(nothing.search('a'))
+        self.assertIsNone(nothing.match('a'))
         self.assertEqual(list(nothing.finditer('a')), [])
         self.assertEqual(list(nothing.spans('a')), [])
 

@@ -3,7 +3,7 @@
 import random
 import re
 import unittest
-from typing import Iterator, List, Tuple
+from typing import Iterator, List, Optional, Tuple
 
 import regex_lite
 from regex_lite._literals import literal_of
@@ -74,11 +74,16 @@ class Literals(unittest.TestCase):
             ours, library = regex_lite.compile(pattern), by_library(pattern)
             for string in strings:
                 for pos in (-1, 0, 1, len(string) // 2, len(string), len(string) + 1):
-                    found, wanted = ours.search(string, pos), library.search(string, pos)
-                    self.assertEqual(found is None, wanted is None)
-                    if found is not None and wanted is not None:
-                        self.assertEqual((found.span(), found.group(), found.groups()),
-                                         (wanted.span(), wanted.group(), wanted.groups()))
+                    self.compare(ours.search(string, pos), library.search(string, pos))
+                    self.compare(ours.match(string, pos), library.match(string, pos))
+
+    def compare(self, found: Optional[regex_lite.Match],
+                wanted: Optional[regex_lite.Match]) -> None:
+        """Both are the same match, or there is none."""
+        self.assertEqual(found is None, wanted is None)
+        if found is not None and wanted is not None:
+            self.assertEqual((found.span(), found.group(), found.groups()),
+                             (wanted.span(), wanted.group(), wanted.groups()))
 
     def test_split(self) -> None:
         for pattern, _, strings in literals():
@@ -94,7 +99,7 @@ class Literals(unittest.TestCase):
 
     def test_refused_strings(self) -> None:
         pattern = regex_lite.compile('a')
-        for call in (pattern.search, pattern.split):
+        for call in (pattern.search, pattern.match, pattern.split):
             self.assertRaises(UnicodeEncodeError, call, 'a\ud800')
             self.assertRaises(TypeError, call, b'a')
             self.assertRaises(TypeError, call, None)

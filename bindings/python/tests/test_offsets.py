@@ -48,6 +48,8 @@ class Agreement(unittest.TestCase):
                               *(order.randrange(len(string) + 1) for _ in range(9))):
                     found, wanted = ours.search(string, start), theirs.search(string, start)
                     self.assertEqual(found and found.span(), wanted and wanted.span())
+                    found, wanted = ours.match(string, start), theirs.match(string, start)
+                    self.assertEqual(found and found.span(), wanted and wanted.span())
 
     def test_parts(self):
         for string in STRINGS:
