@@ -273,6 +273,15 @@ uint32_t regex_lite_is_match_anchored(regex_lite *handle, const uint8_t *text, s
 uint32_t regex_lite_find_anchored(regex_lite *handle, const uint8_t *text, size_t len,
                                   size_t start, regex_lite_span *span);
 
+/* Whether the pattern matches the whole text: REGEX_LITE_YES or REGEX_LITE_NO. It is what
+ * regex_lite_is_match returns of the pattern between \A(?: and )\z, without another regex. */
+uint32_t regex_lite_is_full_match(regex_lite *handle, const uint8_t *text, size_t len);
+
+/* Writes the match of the whole text: REGEX_LITE_YES, or REGEX_LITE_NO. There may be one where
+ * regex_lite_find writes a shorter one, which the pattern prefers, as a|ab does in "ab". */
+uint32_t regex_lite_full_match(regex_lite *handle, const uint8_t *text, size_t len,
+                               regex_lite_span *span);
+
 /* Does the same as regex_lite_find, and also writes what the search cost, where the answer is
  * REGEX_LITE_YES or REGEX_LITE_NO. It reads the whole text, whatever the start. */
 uint32_t regex_lite_find_counted(regex_lite *handle, const uint8_t *text, size_t len, size_t start,
@@ -308,6 +317,12 @@ uint32_t regex_lite_captures(regex_lite *handle, const uint8_t *text, size_t len
 uint32_t regex_lite_captures_anchored(regex_lite *handle, const uint8_t *text, size_t len,
                                       size_t start, regex_lite_span *spans, size_t room,
                                       size_t *count);
+
+/* Writes the groups of the match of the whole text, and how many they are. There may be several ways
+ * to match it: they are those of the one that the pattern prefers. The answers, and what is written
+ * with too little room, are those of regex_lite_captures. */
+uint32_t regex_lite_full_captures(regex_lite *handle, const uint8_t *text, size_t len,
+                                  regex_lite_span *spans, size_t room, size_t *count);
 
 /* Writes the next matches of a text from left to right, as many as there is room for, and how many
  * these are: REGEX_LITE_YES, or REGEX_LITE_NO where none is left. No two overlap. With a `room` of
@@ -421,6 +436,14 @@ uint32_t regex_lite_list_is_match_anchored(regex_lite_list *handle, const uint8_
 uint32_t regex_lite_list_find_anchored(regex_lite_list *handle, const uint8_t *text, size_t len,
                                        size_t start, regex_lite_list_span *span);
 
+/* Whether one of the patterns matches the whole text: REGEX_LITE_YES or REGEX_LITE_NO. */
+uint32_t regex_lite_list_is_full_match(regex_lite_list *handle, const uint8_t *text, size_t len);
+
+/* Writes the match of the whole text, of the pattern with the lowest number that has one, with that
+ * number: REGEX_LITE_YES, or REGEX_LITE_NO. */
+uint32_t regex_lite_list_full_match(regex_lite_list *handle, const uint8_t *text, size_t len,
+                                    regex_lite_list_span *span);
+
 /* Does the same as regex_lite_list_find, and also writes what the search cost, where the answer is
  * REGEX_LITE_YES or REGEX_LITE_NO. It reads the whole text, whatever the start. */
 uint32_t regex_lite_list_find_counted(regex_lite_list *handle, const uint8_t *text, size_t len,
@@ -441,6 +464,13 @@ uint32_t regex_lite_list_captures(regex_lite_list *handle, const uint8_t *text, 
 uint32_t regex_lite_list_captures_anchored(regex_lite_list *handle, const uint8_t *text, size_t len,
                                            size_t start, regex_lite_span *spans, size_t room,
                                            regex_lite_list_groups *groups);
+
+/* Writes the groups of the match that regex_lite_list_full_match writes, the number of its pattern,
+ * and how many groups that has. The answers, and what is written with too little room, are those of
+ * regex_lite_list_captures. */
+uint32_t regex_lite_list_full_captures(regex_lite_list *handle, const uint8_t *text, size_t len,
+                                       regex_lite_span *spans, size_t room,
+                                       regex_lite_list_groups *groups);
 
 /* Whether the pattern with this number matches somewhere from this offset on: REGEX_LITE_YES or
  * REGEX_LITE_NO; or REGEX_LITE_NO_PATTERN where the list has no such pattern. This call and the

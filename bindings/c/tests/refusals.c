@@ -134,7 +134,7 @@ static int call_all(void) {
     uint8_t message[100], room[99];
     regex_lite_cut cut = REGEX_LITE_UNCUT;
     const size_t lens[2] = {7, 12};
-    uint32_t answers[14], others;
+    uint32_t answers[17], others;
     size_t n;
     int wrong = 0;
     answers[0] = regex_lite_new(&regex, TEXT("\\b(?<name>[Ss]am)(wise)?\\b"), &options, message,
@@ -156,7 +156,10 @@ static int call_all(void) {
     answers[11] = regex_lite_is_match_anchored(&regex, TEXT(text), 7);
     answers[12] = regex_lite_find_anchored(&regex, TEXT(text), 7, spans);
     answers[13] = regex_lite_captures_anchored(&regex, TEXT(text), 7, spans, 3, &n);
-    for (int i = 0; i < 14; i++)
+    answers[14] = regex_lite_is_full_match(&regex, TEXT("Samwise"));
+    answers[15] = regex_lite_full_match(&regex, TEXT("Samwise"), spans);
+    answers[16] = regex_lite_full_captures(&regex, TEXT("Samwise"), spans, 3, &n);
+    for (int i = 0; i < 17; i++)
         if (answers[i] != REGEX_LITE_YES &&
             answers[i] != (i == 0 ? REGEX_LITE_OUT_OF_MEMORY : others)) {
             printf("call %d: %u\n", i, (unsigned)answers[i]);
@@ -180,7 +183,7 @@ static int call_lists(void) {
     regex_lite_span spans[3];
     regex_lite_cost cost;
     uint8_t message[100], matched[2];
-    uint32_t answers[14], others;
+    uint32_t answers[17], others;
     size_t n;
     int wrong = 0;
     answers[0] = regex_lite_list_new(&list, TEXT(patterns), each, 2, message, sizeof message,
@@ -200,7 +203,10 @@ static int call_lists(void) {
     answers[11] = regex_lite_list_is_match_of(&list, 1, TEXT(text), 0);
     answers[12] = regex_lite_list_find_of(&list, 1, TEXT(text), 0, spans);
     answers[13] = regex_lite_list_captures_of(&list, 1, TEXT(text), 0, spans, 3, &n);
-    for (int i = 0; i < 14; i++)
+    answers[14] = regex_lite_list_is_full_match(&list, TEXT("#note"));
+    answers[15] = regex_lite_list_full_match(&list, TEXT("#note"), &span);
+    answers[16] = regex_lite_list_full_captures(&list, TEXT("#note"), spans, 3, &groups);
+    for (int i = 0; i < 17; i++)
         if (answers[i] != REGEX_LITE_YES &&
             answers[i] != (i == 0 ? REGEX_LITE_OUT_OF_MEMORY : others)) {
             printf("call %d of a list: %u\n", i, (unsigned)answers[i]);

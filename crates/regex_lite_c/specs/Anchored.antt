@@ -1,5 +1,7 @@
 -- What anchored searches return, in spans of a caller: their matches start where the search does.
 use Rattle.std.specs.Prelude.{◌≡◌, ℕ, false, List, Option, Some, chars, length}
+use Rattle.regex_lite_syntax.specs.Tree.{Tree}
+use Rattle.regex_lite_engine.specs.Search.Answer.{Found}
 use Rattle.regex_lite.specs.Anchored.{TellsAnswerAt, TellsAnswerAtOfList, TellsGroupsAt}
 use Rattle.regex_lite.specs.Anchored.{TellsGroupsAtOfList}
 use Rattle.regex_lite.specs.Expression.{Expression}
@@ -11,13 +13,15 @@ use Rattle.regex_lite_c.specs.declared.list.types.ListGroups.{ListGroups}
 use Rattle.regex_lite_c.specs.declared.list.types.ListSpan.{ListSpan}
 use Rattle.regex_lite_c.specs.declared.types.Span.{Span}
 
+-- a value is where what is found starts and ends
+abbrev pub IsSpanOf : (haystack : List ℕ) → Tree → Found → (ℕ × ℕ) → Type 0
+IsSpanOf haystack tree found span = span ≡ offsets (chars haystack) (found.start, found.end)
+
 -- what is returned of an anchored search for the pattern at this offset is where its match starts
 -- and ends
 abbrev pub TellsSpanAt : Expression → (haystack : List ℕ) → (start : ℕ) → Option (ℕ × ℕ) → Type 0
 TellsSpanAt re haystack start told =
-    TellsAnswerAt false
-    (λ tree found span. span ≡ offsets (chars haystack) (found.start, found.end))
-    re haystack start told
+    TellsAnswerAt false (IsSpanOf haystack) re haystack start told
 
 -- the search finds a match, and the span is where that starts and ends
 abbrev pub FindsSpanAt : Expression → (haystack : List ℕ) → (start : ℕ) → Span → Type 0
@@ -35,9 +39,7 @@ AreGroupsAt re haystack start count groups =
 abbrev pub TellsListSpanAt : List Expression → (haystack : List ℕ) → (start : ℕ)
     → Option (ℕ × (ℕ × ℕ)) → Type 0
 TellsListSpanAt list haystack start told =
-    TellsAnswerAtOfList false
-    (λ tree found span. span ≡ offsets (chars haystack) (found.start, found.end))
-    list haystack start told
+    TellsAnswerAtOfList false (IsSpanOf haystack) list haystack start told
 
 -- the search finds a match, and the span is where that starts and ends, with its pattern's number
 abbrev pub FindsListSpanAt : List Expression → (haystack : List ℕ) → (start : ℕ) → ListSpan

@@ -1,6 +1,7 @@
 -- What is returned of the groups of a match.
 use Rattle.std.specs.Prelude.{◌≡◌, ◌≢◌, ◌⊎◌, ◌<◌, ◌≤◌, ℕ, List, None, length}
-use Rattle.regex_lite.specs.Anchored.{TellsGroupsAt, TellsGroupsAtOfList}
+use Rattle.regex_lite.specs.Anchored.{TellsGroupsAt, TellsGroupsAtOfList, TellsWholeGroups}
+use Rattle.regex_lite.specs.Anchored.{TellsWholeGroupsOfList}
 use Rattle.regex_lite.specs.Expression.{Expression}
 use Rattle.regex_lite.specs.Groups.{Groups}
 use Rattle.regex_lite.specs.RegexListSearches.{TellsGroupsOfList}
@@ -9,6 +10,7 @@ use Rattle.regex_lite_c.specs.Anchored.{AreGroupsAt, AreListGroupsAt}
 use Rattle.regex_lite_c.specs.Answers.{IsFailure, RefusesText}
 use Rattle.regex_lite_c.specs.ListSpans.{AreFirstListGroups}
 use Rattle.regex_lite_c.specs.Spans.{AreFirstGroups, AreWritten}
+use Rattle.regex_lite_c.specs.Whole.{AreWholeGroups, AreWholeListGroups}
 use Rattle.regex_lite_c.specs.declared.answer.TheConstants.{NO, YES, NO_ROOM}
 use Rattle.regex_lite_c.specs.declared.list.types.ListGroups.{ListGroups}
 use Rattle.regex_lite_c.specs.declared.types.Span.{Span}
@@ -55,3 +57,17 @@ abbrev pub IsAnchoredListGroupsAnswer : List Expression → (bytes : List ℕ) �
 IsAnchoredListGroupsAnswer list bytes start old new old_told told answer =
     IsGroupsAnswerOf (AreListGroupsAt list bytes start)
     (TellsGroupsAtOfList list bytes start None) bytes start old new old_told told answer
+
+-- those of the match of a regex that is the whole text
+abbrev pub IsWholeGroupsAnswer : Expression → (bytes : List ℕ) → (old new : List Span)
+    → (old_count count answer : ℕ) → Type 0
+IsWholeGroupsAnswer re bytes old new old_count count answer =
+    IsGroupsAnswerOf (AreWholeGroups re bytes) (TellsWholeGroups re bytes None)
+    bytes 0 old new old_count count answer
+
+-- and those of the match of several patterns that is the whole text
+abbrev pub IsWholeListGroupsAnswer : List Expression → (bytes : List ℕ) → (old new : List Span)
+    → (old_told told : ListGroups) → (answer : ℕ) → Type 0
+IsWholeListGroupsAnswer list bytes old new old_told told answer =
+    IsGroupsAnswerOf (AreWholeListGroups list bytes) (TellsWholeGroupsOfList list bytes None)
+    bytes 0 old new old_told told answer

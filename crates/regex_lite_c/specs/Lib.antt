@@ -10,6 +10,7 @@ pub mod Spans
 pub mod ListSpans
 pub mod Kinds
 pub mod Anchored
+pub mod Whole
 pub mod SearchKinds
 pub mod Rooms
 pub mod Costs

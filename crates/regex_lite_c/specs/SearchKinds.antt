@@ -1,21 +1,26 @@
 -- The searches for one match, and how what they find is written.
-use Rattle.std.specs.Prelude.{ℕ, List, Option, None, MatchOption}
-use Rattle.regex_lite.specs.Anchored.{TellsGroupsAt, TellsGroupsAtOfList}
+use Rattle.std.specs.Prelude.{ℕ, List, Option, None, MatchOption, length}
+use Rattle.regex_lite.specs.Anchored.{TellsGroupsAt, TellsGroupsAtOfList, TellsWholeGroups}
+use Rattle.regex_lite.specs.Anchored.{TellsWholeGroupsOfList}
 use Rattle.regex_lite.specs.Expression.{Expression}
 use Rattle.regex_lite.specs.Groups.{Groups}
 use Rattle.regex_lite.specs.ListedPattern.{OfPattern}
-use Rattle.regex_lite.specs.MatchOffsets.{MatchesAt, SomeMatchesAt}
+use Rattle.regex_lite.specs.MatchOffsets.{MatchesAt, MatchesSpan, SomeMatchesAt}
+use Rattle.regex_lite.specs.MatchOffsets.{SomeMatchesWhole}
 use Rattle.regex_lite.specs.RegexListSearches.{AnyMatches, TellsGroupsOfList}
 use Rattle.regex_lite.specs.Searches.{MatchesFrom, TellsGroups}
 use Rattle.regex_lite_c.specs.Anchored.{AreGroupsAt, AreListGroupsAt, FindsListSpanAt, FindsSpanAt}
 use Rattle.regex_lite_c.specs.Anchored.{TellsListSpanAt, TellsSpanAt}
 use Rattle.regex_lite_c.specs.ListSpans.{AreFirstListGroups, FindsListSpan, TellsListSpan}
 use Rattle.regex_lite_c.specs.Spans.{AreFirstGroups, FindsSpan, TellsSpan}
+use Rattle.regex_lite_c.specs.Whole.{AreWholeGroups, AreWholeListGroups, FindsWholeListSpan}
+use Rattle.regex_lite_c.specs.Whole.{FindsWholeSpan, TellsWholeListSpan, TellsWholeSpan}
 use Rattle.regex_lite_c.specs.declared.anchored.Anchored.{Anchored}
 use Rattle.regex_lite_c.specs.declared.list.listed.Listed.{Listed}
 use Rattle.regex_lite_c.specs.declared.list.types.ListGroups.{ListGroups}
 use Rattle.regex_lite_c.specs.declared.list.types.ListSpan.{ListSpan}
 use Rattle.regex_lite_c.specs.declared.types.Span.{Span}
+use Rattle.regex_lite_c.specs.declared.whole.Whole.{Whole}
 
 -- What a search finds that starts at an offset: whether there is a match, that this is the span of
 -- the one that it finds, or that it finds none; and that these are the groups of that match, of
@@ -67,6 +72,28 @@ anchored_patterns_search = record {
   AreFirst = λ own haystack start told groups.
       AreListGroupsAt own.sought.now haystack start told groups;
   AreNone = λ own haystack start. TellsGroupsAtOfList own.sought.now haystack start None;
+}
+
+-- for a regex, the whole text, whatever the offset
+abbrev pub whole_regex_search : SearchKind (Whole Expression) Span ℕ
+whole_regex_search = record {
+  Matches = λ own haystack start. MatchesSpan own.sought.now haystack (0, length haystack);
+  Finds = λ own haystack start span. FindsWholeSpan own.sought.now haystack span;
+  FindsNone = λ own haystack start. TellsWholeSpan own.sought.now haystack None;
+  AreFirst = λ own haystack start count groups.
+      AreWholeGroups own.sought.now haystack count groups;
+  AreNone = λ own haystack start. TellsWholeGroups own.sought.now haystack None;
+}
+
+-- for several patterns, the whole text, whatever the offset
+abbrev pub whole_patterns_search : SearchKind (Whole (List Expression)) ListSpan ListGroups
+whole_patterns_search = record {
+  Matches = λ own haystack start. SomeMatchesWhole own.sought.now haystack;
+  Finds = λ own haystack start span. FindsWholeListSpan own.sought.now haystack span;
+  FindsNone = λ own haystack start. TellsWholeListSpan own.sought.now haystack None;
+  AreFirst = λ own haystack start told groups.
+      AreWholeListGroups own.sought.now haystack told groups;
+  AreNone = λ own haystack start. TellsWholeGroupsOfList own.sought.now haystack None;
 }
 
 -- the list has a pattern with this number, of which this is said

@@ -32,4 +32,5 @@ mod text;
 mod types;
 mod version;
 mod walk;
+mod whole;
 mod written;

@@ -12,3 +12,4 @@ mod sought;
 pub(crate) mod types;
 mod walk;
 mod which;
+mod whole;

@@ -1,19 +1,52 @@
--- Matches that an anchored search returns.
+-- Matches that an anchored search returns, and one for a whole match.
+use Rattle.std.proofs.Common.{Bool}
 use Rattle.regex_lite_c.proofs.Common.{◌≡◌, ℕ, List, Some, chars, Expression, span_of, Span}
-use Rattle.regex_lite.specs.Anchored.{IsToldOfNumbered, TellsMatchAt, TellsMatchAtOfList}
+use Rattle.regex_lite.specs.Anchored.{IsToldOfNumbered, TellsAnswerAt, TellsAnswerAtOfList}
+use Rattle.regex_lite.specs.Anchored.{TellsMatchAt, TellsMatchAtOfList, TellsWholeMatch}
+use Rattle.regex_lite.specs.Anchored.{TellsWholeMatchOfList}
 use Rattle.regex_lite.specs.declared.string.matches.Match.{Match}
 use Rattle.regex_lite.specs.MatchViews.{span_of_match}
-use Rattle.regex_lite.specs.Searches.{offsets}
-use Rattle.regex_lite_c.specs.Anchored.{FindsListSpanAt, FindsSpanAt}
+use Rattle.regex_lite.specs.Searches.{IsMatchOf}
+use Rattle.regex_lite_c.specs.Anchored.{FindsListSpanAt, FindsSpanAt, IsSpanOf}
 use Rattle.regex_lite_c.specs.ListSpans.{list_span_of}
+use Rattle.regex_lite_c.specs.Whole.{FindsWholeListSpan, FindsWholeSpan}
 use Rattle.regex_lite_c.specs.declared.list.types.ListSpan.{ListSpan}
+
+-- with the match its span is told
+tells_span : (whole : Bool) (re : Expression) (haystack : List ℕ) (start : ℕ) (found : Match)
+    → TellsAnswerAt whole (λ tree. IsMatchOf haystack) re haystack start (Some found)
+    → TellsAnswerAt whole (IsSpanOf haystack) re haystack start (Some (span_of_match found))
+tells_span whole re haystack start found (tree, are, (own, answer, is_match)) =
+    (tree, are, (own, answer, is_match.span))
+
+-- the same for several patterns
+tells_list_span : (whole : Bool) (list : List Expression) (haystack : List ℕ) (start number : ℕ)
+    (found : Match)
+    → TellsAnswerAtOfList whole (λ tree. IsMatchOf haystack) list haystack start
+    (Some (number, found))
+    → TellsAnswerAtOfList whole (IsSpanOf haystack) list haystack start
+    (Some (number, span_of_match found))
+tells_list_span whole list haystack start number found (trees, are, (own, answer, told)) =
+    let at : IsToldOfNumbered (IsSpanOf haystack) trees own (number, span_of_match found) = record {
+      number = told.number;
+      tree = told.tree;
+      numbered = told.numbered;
+      value = told.value.span;
+    } in
+    (trees, are, (own, answer, at))
 
 -- the search finds a match that is the answer, with this span
 pub finds_span_at : (re : Expression) (haystack : List ℕ) (start : ℕ) (found : Match)
     (span : Span) → TellsMatchAt re haystack start (Some found)
     → span ≡ span_of (Some (span_of_match found)) → FindsSpanAt re haystack start span
-finds_span_at re haystack start found span (tree, are, (own, answer, is_match)) is =
-    (span_of_match found, (tree, are, (own, answer, is_match.span)), is)
+finds_span_at re haystack start found span told is =
+    (span_of_match found, tells_span _ re haystack start found told, is)
+
+pub finds_whole_span : (re : Expression) (haystack : List ℕ) (found : Match) (span : Span)
+    → TellsWholeMatch re haystack (Some found)
+    → span ≡ span_of (Some (span_of_match found)) → FindsWholeSpan re haystack span
+finds_whole_span re haystack found span told is =
+    (span_of_match found, tells_span _ re haystack 0 found told, is)
 
 -- the same for several patterns
 pub finds_list_span_at : (list : List Expression) (haystack : List ℕ) (start number : ℕ)
@@ -21,13 +54,13 @@ pub finds_list_span_at : (list : List Expression) (haystack : List ℕ) (start n
     → TellsMatchAtOfList list haystack start (Some (number, found))
     → span ≡ list_span_of (number, span_of_match found)
     → FindsListSpanAt list haystack start span
-finds_list_span_at list haystack start number found span (trees, are, (own, answer, told)) is =
-    let at : IsToldOfNumbered
-    (λ tree own span. span ≡ offsets (chars haystack) (own.start, own.end))
-    trees own (number, span_of_match found) = record {
-      number = told.number;
-      tree = told.tree;
-      numbered = told.numbered;
-      value = told.value.span;
-    } in
-    ((number, span_of_match found), (trees, are, (own, answer, at)), is)
+finds_list_span_at list haystack start number found span told is =
+    ((number, span_of_match found), tells_list_span _ list haystack start number found told, is)
+
+pub finds_whole_list_span : (list : List Expression) (haystack : List ℕ) (number : ℕ)
+    (found : Match) (span : ListSpan)
+    → TellsWholeMatchOfList list haystack (Some (number, found))
+    → span ≡ list_span_of (number, span_of_match found)
+    → FindsWholeListSpan list haystack span
+finds_whole_list_span list haystack number found span told is =
+    ((number, span_of_match found), tells_list_span _ list haystack 0 number found told, is)

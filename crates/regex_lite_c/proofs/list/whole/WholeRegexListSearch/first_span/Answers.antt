@@ -1,0 +1,7 @@
+use Rattle.regex_lite_c.proofs.anchored.AnchoredLemmas.{finds_whole_list_span}
+use Rattle.regex_lite_c.proofs.list.whole.WholeRegexListSearch.first_span.Goals as goal
+
+pub returns-in-Some : goal.returns-in-Some
+returns-in-Some c =
+    finds_whole_list_span c.args.self.now.sought.now c.args.text.now c.in-Some.number
+    c.in-Some.found c.of.result (rw c.in-Some.is at c.in_ok-number.ensures.found) c.of.ensures

@@ -1,0 +1,6 @@
+use Rattle.regex_lite_c.proofs.Common.{sym}
+use Rattle.regex_lite_c.proofs.whole.regex_lite_is_full_match.Goals as goal
+
+pub returns-clause-answer : goal.returns-clause-answer
+returns-clause-answer c =
+    rw c.in-Some.ensures.taken (rw (sym c.deref.ensures) c.is_match-answer.ensures.answer)
