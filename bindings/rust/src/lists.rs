@@ -3,6 +3,7 @@
 mod anchored;
 mod listed;
 mod searches;
+mod whole;
 
 use std::fmt;
 use std::sync::atomic::{AtomicUsize, Ordering};

@@ -18,7 +18,7 @@ mod types;
 pub use handle::{Handle, Held};
 pub use list::List;
 pub use one::{escape, One};
-pub use types::{Anchor, GroupCount, ListSpan, Span, Walk};
+pub use types::{GroupCount, ListSpan, Span, Walk, Where};
 
 use crate::error::Error;
 

@@ -4,6 +4,7 @@ mod anchored;
 mod groups;
 mod replacing;
 mod searches;
+mod whole;
 
 use std::fmt;
 use std::str::FromStr;

@@ -1,7 +1,7 @@
 //! Anchored searches for several patterns: for the match that starts at the offset.
 
 use crate::error::{unwrap, Error};
-use crate::raw::Anchor;
+use crate::raw::Where;
 use crate::{Captures, Match, RegexList};
 
 /// These calls find only a match that starts at the offset itself, of the pattern with the lowest
@@ -25,7 +25,7 @@ impl RegexList {
 
     /// Returns whether a match of one of the patterns starts at the offset.
     pub fn try_is_match_anchored_at(&self, text: &str, start: usize) -> Result<bool, Error> {
-        self.shared.lock().is_match(text, start, Anchor::Start)
+        self.shared.lock().is_match(text, Where::At(start))
     }
 
     /// Returns the match that starts at the offset.
@@ -54,7 +54,7 @@ impl RegexList {
         text: &'h str,
         start: usize,
     ) -> Result<Option<(usize, Match<'h>)>, Error> {
-        let span = self.shared.lock().find(text, start, Anchor::Start)?;
+        let span = self.shared.lock().find(text, Where::At(start))?;
         Ok(span.map(|span| Match::numbered(text, span)))
     }
 
@@ -75,6 +75,6 @@ impl RegexList {
         text: &'h str,
         start: usize,
     ) -> Result<Option<(usize, Captures<'h>)>, Error> {
-        self.captures_by(text, start, Anchor::Start)
+        self.captures_by(text, Where::At(start))
     }
 }

@@ -7,7 +7,7 @@ use crate::error::{unwrap, Error};
 use crate::iterators::{
     ListCaptureMatches, ListMatches, TryListCaptureMatches, TryListMatches, Unwrapped,
 };
-use crate::raw::{resize, Anchor, Span};
+use crate::raw::{resize, Span, Where};
 use crate::{Captures, Cost, Match, RegexList};
 
 /// These calls search for the first match, whichever pattern it is of. A match comes with the
@@ -42,7 +42,7 @@ impl RegexList {
 
     /// Returns whether one of the patterns matches from the offset on.
     pub fn try_is_match_at(&self, text: &str, start: usize) -> Result<bool, Error> {
-        self.shared.lock().is_match(text, start, Anchor::None)
+        self.shared.lock().is_match(text, Where::From(start))
     }
 
     /// Returns whether each pattern matches somewhere, by their numbers.
@@ -96,7 +96,7 @@ impl RegexList {
         text: &'h str,
         start: usize,
     ) -> Result<Option<(usize, Match<'h>)>, Error> {
-        let span = self.shared.lock().find(text, start, Anchor::None)?;
+        let span = self.shared.lock().find(text, Where::From(start))?;
         Ok(span.map(|span| Match::numbered(text, span)))
     }
 
@@ -164,21 +164,17 @@ impl RegexList {
         text: &'h str,
         start: usize,
     ) -> Result<Option<(usize, Captures<'h>)>, Error> {
-        self.captures_by(text, start, Anchor::None)
+        self.captures_by(text, Where::From(start))
     }
 
     /// Returns the groups of the first match.
     pub(super) fn captures_by<'h>(
         &self,
         text: &'h str,
-        start: usize,
-        anchor: Anchor,
+        place: Where,
     ) -> Result<Option<(usize, Captures<'h>)>, Error> {
         let mut spans = self.room()?;
-        let number = self
-            .shared
-            .lock()
-            .captures(text, start, anchor, &mut spans)?;
+        let number = self.shared.lock().captures(text, place, &mut spans)?;
         Ok(number.map(|number| self.groups(text, number, spans)))
     }
 

@@ -61,6 +61,13 @@ extern "C" {
         start: usize,
         span: *mut Span,
     ) -> u32;
+    pub fn regex_lite_is_full_match(handle: *mut Handle<One>, text: *const u8, len: usize) -> u32;
+    pub fn regex_lite_full_match(
+        handle: *mut Handle<One>,
+        text: *const u8,
+        len: usize,
+        span: *mut Span,
+    ) -> u32;
     pub fn regex_lite_find_counted(
         handle: *mut Handle<One>,
         text: *const u8,
@@ -99,6 +106,14 @@ extern "C" {
         text: *const u8,
         len: usize,
         start: usize,
+        spans: *mut Span,
+        room: usize,
+        count: *mut usize,
+    ) -> u32;
+    pub fn regex_lite_full_captures(
+        handle: *mut Handle<One>,
+        text: *const u8,
+        len: usize,
         spans: *mut Span,
         room: usize,
         count: *mut usize,
@@ -168,6 +183,17 @@ extern "C" {
         start: usize,
         span: *mut ListSpan,
     ) -> u32;
+    pub fn regex_lite_list_is_full_match(
+        handle: *mut Handle<List>,
+        text: *const u8,
+        len: usize,
+    ) -> u32;
+    pub fn regex_lite_list_full_match(
+        handle: *mut Handle<List>,
+        text: *const u8,
+        len: usize,
+        span: *mut ListSpan,
+    ) -> u32;
     pub fn regex_lite_list_find_counted(
         handle: *mut Handle<List>,
         text: *const u8,
@@ -190,6 +216,14 @@ extern "C" {
         text: *const u8,
         len: usize,
         start: usize,
+        spans: *mut Span,
+        room: usize,
+        groups: *mut GroupCount,
+    ) -> u32;
+    pub fn regex_lite_list_full_captures(
+        handle: *mut Handle<List>,
+        text: *const u8,
+        len: usize,
         spans: *mut Span,
         room: usize,
         groups: *mut GroupCount,

@@ -5,7 +5,7 @@ use std::fmt;
 use std::marker::PhantomData;
 use std::ptr;
 
-use super::types::{Anchor, GroupCount, Span, Walk};
+use super::types::{GroupCount, Span, Walk, Where};
 use super::{is_yes, resize, NO_ROOM, OUT_OF_MEMORY};
 use crate::error::Error;
 use crate::Cost;
@@ -22,8 +22,7 @@ pub trait Held: Sized + 'static {
     fn captures(
         handle: &mut Handle<Self>,
         text: &str,
-        start: usize,
-        anchor: Anchor,
+        place: Where,
         spans: &mut [Span],
         told: &mut GroupCount,
     ) -> u32;
@@ -54,8 +53,10 @@ pub struct Calls<H: Held> {
     pub arrows: unsafe extern "C" fn(*mut Handle<H>) -> usize,
     pub is_match: IsMatch<H>,
     pub is_match_anchored: IsMatch<H>,
+    pub is_full_match: unsafe extern "C" fn(*mut Handle<H>, *const u8, usize) -> u32,
     pub find: Find<H>,
     pub find_anchored: Find<H>,
+    pub full_match: unsafe extern "C" fn(*mut Handle<H>, *const u8, usize, *mut H::Span) -> u32,
     pub find_counted: unsafe extern "C" fn(
         *mut Handle<H>,
         *const u8,
@@ -107,29 +108,30 @@ impl<H: Held> Handle<H> {
     }
 
     /// Returns whether there is a match.
-    pub fn is_match(&mut self, text: &str, start: usize, anchor: Anchor) -> Result<bool, Error> {
-        let call = match anchor {
-            Anchor::None => H::CALLS.is_match,
-            Anchor::Start => H::CALLS.is_match_anchored,
-        };
+    pub fn is_match(&mut self, text: &str, place: Where) -> Result<bool, Error> {
+        let (bytes, len) = (text.as_ptr(), text.len());
         // SAFETY: the handle and the text are live, and the text is as long as is said.
-        is_yes(unsafe { call(self, text.as_ptr(), text.len(), start) })
+        is_yes(unsafe {
+            match place {
+                Where::From(start) => (H::CALLS.is_match)(self, bytes, len, start),
+                Where::At(start) => (H::CALLS.is_match_anchored)(self, bytes, len, start),
+                Where::Whole => (H::CALLS.is_full_match)(self, bytes, len),
+            }
+        })
     }
 
     /// Returns the first match.
-    pub fn find(
-        &mut self,
-        text: &str,
-        start: usize,
-        anchor: Anchor,
-    ) -> Result<Option<H::Span>, Error> {
-        let call = match anchor {
-            Anchor::None => H::CALLS.find,
-            Anchor::Start => H::CALLS.find_anchored,
-        };
+    pub fn find(&mut self, text: &str, place: Where) -> Result<Option<H::Span>, Error> {
         let mut span = H::Span::default();
+        let (bytes, len) = (text.as_ptr(), text.len());
         // SAFETY: the handle, the text and the span are live, and the text is as long as is said.
-        let answer = unsafe { call(self, text.as_ptr(), text.len(), start, &mut span) };
+        let answer = unsafe {
+            match place {
+                Where::From(start) => (H::CALLS.find)(self, bytes, len, start, &mut span),
+                Where::At(start) => (H::CALLS.find_anchored)(self, bytes, len, start, &mut span),
+                Where::Whole => (H::CALLS.full_match)(self, bytes, len, &mut span),
+            }
+        };
         Ok(is_yes(answer)?.then_some(span))
     }
 
@@ -179,12 +181,11 @@ impl<H: Held> Handle<H> {
     pub fn captures(
         &mut self,
         text: &str,
-        start: usize,
-        anchor: Anchor,
+        place: Where,
         spans: &mut Vec<Span>,
     ) -> Result<Option<usize>, Error> {
         groups_written(spans, |spans, told| {
-            H::captures(self, text, start, anchor, spans, told)
+            H::captures(self, text, place, spans, told)
         })
     }
 

@@ -3,7 +3,7 @@
 use super::calls::*;
 use super::handle::{groups_written, Calls, Handle, Held};
 use super::one::refusal;
-use super::types::{Anchor, GroupCount, ListPattern, ListRefusal, ListSpan, Span, Walk};
+use super::types::{GroupCount, ListPattern, ListRefusal, ListSpan, Span, Walk, Where};
 use super::{is_yes, resize, MESSAGE, YES};
 use crate::error::{Error, ListError};
 use crate::Options;
@@ -20,8 +20,10 @@ impl Held for List {
         arrows: regex_lite_list_arrows,
         is_match: regex_lite_list_is_match,
         is_match_anchored: regex_lite_list_is_match_anchored,
+        is_full_match: regex_lite_list_is_full_match,
         find: regex_lite_list_find,
         find_anchored: regex_lite_list_find_anchored,
+        full_match: regex_lite_list_full_match,
         find_counted: regex_lite_list_find_counted,
         find_all: regex_lite_list_find_all,
     };
@@ -29,26 +31,23 @@ impl Held for List {
     fn captures(
         handle: &mut Handle<List>,
         text: &str,
-        start: usize,
-        anchor: Anchor,
+        place: Where,
         spans: &mut [Span],
         told: &mut GroupCount,
     ) -> u32 {
-        let call = match anchor {
-            Anchor::None => regex_lite_list_captures,
-            Anchor::Start => regex_lite_list_captures_anchored,
-        };
+        let (bytes, len) = (text.as_ptr(), text.len());
+        let (room, most) = (spans.as_mut_ptr(), spans.len());
         // SAFETY: all that is passed is live, and the text and the spans are as long as is said.
         unsafe {
-            call(
-                handle,
-                text.as_ptr(),
-                text.len(),
-                start,
-                spans.as_mut_ptr(),
-                spans.len(),
-                told,
-            )
+            match place {
+                Where::From(start) => {
+                    regex_lite_list_captures(handle, bytes, len, start, room, most, told)
+                }
+                Where::At(start) => {
+                    regex_lite_list_captures_anchored(handle, bytes, len, start, room, most, told)
+                }
+                Where::Whole => regex_lite_list_full_captures(handle, bytes, len, room, most, told),
+            }
         }
     }
 

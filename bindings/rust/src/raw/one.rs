@@ -2,7 +2,7 @@
 
 use super::calls::*;
 use super::handle::{Calls, Handle, Held};
-use super::types::{Anchor, GroupCount, RawFault, Span, Walk};
+use super::types::{GroupCount, RawFault, Span, Walk, Where};
 use super::{is_yes, resize, written, MESSAGE, OUT_OF_MEMORY, SYNTAX, YES};
 use crate::error::{Error, Fault};
 use crate::Options;
@@ -22,8 +22,10 @@ impl Held for One {
         arrows: regex_lite_arrows,
         is_match: regex_lite_is_match,
         is_match_anchored: regex_lite_is_match_anchored,
+        is_full_match: regex_lite_is_full_match,
         find: regex_lite_find,
         find_anchored: regex_lite_find_anchored,
+        full_match: regex_lite_full_match,
         find_counted: regex_lite_find_counted,
         find_all: regex_lite_find_all,
     };
@@ -31,26 +33,24 @@ impl Held for One {
     fn captures(
         handle: &mut Handle<One>,
         text: &str,
-        start: usize,
-        anchor: Anchor,
+        place: Where,
         spans: &mut [Span],
         told: &mut GroupCount,
     ) -> u32 {
-        let call = match anchor {
-            Anchor::None => regex_lite_captures,
-            Anchor::Start => regex_lite_captures_anchored,
-        };
+        let (bytes, len) = (text.as_ptr(), text.len());
+        let (room, most) = (spans.as_mut_ptr(), spans.len());
+        let count = &mut told.count;
         // SAFETY: all that is passed is live, and the text and the spans are as long as is said.
         unsafe {
-            call(
-                handle,
-                text.as_ptr(),
-                text.len(),
-                start,
-                spans.as_mut_ptr(),
-                spans.len(),
-                &mut told.count,
-            )
+            match place {
+                Where::From(start) => {
+                    regex_lite_captures(handle, bytes, len, start, room, most, count)
+                }
+                Where::At(start) => {
+                    regex_lite_captures_anchored(handle, bytes, len, start, room, most, count)
+                }
+                Where::Whole => regex_lite_full_captures(handle, bytes, len, room, most, count),
+            }
         }
     }
 

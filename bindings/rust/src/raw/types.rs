@@ -18,13 +18,15 @@ pub struct ListSpan {
     pub end: usize,
 }
 
-/// Where the match of a search may start.
+/// Where the match of a search may stand.
 #[derive(Clone, Copy)]
-pub enum Anchor {
-    /// From the offset on.
-    None,
-    /// At the offset alone.
-    Start,
+pub enum Where {
+    /// It starts at this offset or later.
+    From(usize),
+    /// It starts at this offset.
+    At(usize),
+    /// It is the whole text.
+    Whole,
 }
 
 /// The number of the pattern that a match is of, and how many groups that has. The number is 0

@@ -1,7 +1,7 @@
 //! Anchored searches: for the match that starts at the offset.
 
 use crate::error::{unwrap, Error};
-use crate::raw::Anchor;
+use crate::raw::Where;
 use crate::{Captures, Match, Regex};
 
 /// These calls find only a match that starts at the offset itself, and are over as soon as none
@@ -24,7 +24,7 @@ impl Regex {
 
     /// Returns whether a match starts at the offset.
     pub fn try_is_match_anchored_at(&self, text: &str, start: usize) -> Result<bool, Error> {
-        self.shared.lock().is_match(text, start, Anchor::Start)
+        self.shared.lock().is_match(text, Where::At(start))
     }
 
     /// Returns the match that starts at the offset: of several, the one that the pattern prefers.
@@ -47,7 +47,7 @@ impl Regex {
         text: &'h str,
         start: usize,
     ) -> Result<Option<Match<'h>>, Error> {
-        let span = self.shared.lock().find(text, start, Anchor::Start)?;
+        let span = self.shared.lock().find(text, Where::At(start))?;
         Ok(span.map(|span| Match::new(text, span)))
     }
 
@@ -63,6 +63,6 @@ impl Regex {
         text: &'h str,
         start: usize,
     ) -> Result<Option<Captures<'h>>, Error> {
-        self.captures_by(text, start, Anchor::Start)
+        self.captures_by(text, Where::At(start))
     }
 }

@@ -3,7 +3,7 @@
 use crate::batches::Groups;
 use crate::error::{unwrap, Error};
 use crate::iterators::{CaptureMatches, TryCaptureMatches, Unwrapped};
-use crate::raw::{resize, Anchor};
+use crate::raw::{resize, Where};
 use crate::{CaptureLocations, Captures, Match, Regex};
 
 /// These calls search for matches with their groups. A call whose name ends in `_at` begins at an
@@ -49,22 +49,18 @@ impl Regex {
         text: &'h str,
         start: usize,
     ) -> Result<Option<Captures<'h>>, Error> {
-        self.captures_by(text, start, Anchor::None)
+        self.captures_by(text, Where::From(start))
     }
 
     /// Returns the groups of the first match.
     pub(super) fn captures_by<'h>(
         &self,
         text: &'h str,
-        start: usize,
-        anchor: Anchor,
+        place: Where,
     ) -> Result<Option<Captures<'h>>, Error> {
         let mut spans = Vec::new();
         resize(&mut spans, self.captures_len())?;
-        let found = self
-            .shared
-            .lock()
-            .captures(text, start, anchor, &mut spans)?;
+        let found = self.shared.lock().captures(text, place, &mut spans)?;
         Ok(found.map(|_| Captures::new(text, spans, &self.pattern)))
     }
 
@@ -153,7 +149,7 @@ impl Regex {
         let found = self
             .shared
             .lock()
-            .captures(text, start, Anchor::None, spans)?;
+            .captures(text, Where::From(start), spans)?;
         Ok(found.map(|_| Match::new(text, spans[0])))
     }
 }

@@ -3,7 +3,7 @@
 use crate::batches::Spans;
 use crate::error::{unwrap, Error};
 use crate::iterators::{Matches, Split, SplitN, TryMatches, TrySplit, TrySplitN, Unwrapped};
-use crate::raw::{self, Anchor};
+use crate::raw::{self, Where};
 use crate::{Cost, Match, Regex};
 
 /// These calls search for the first match. A call whose name ends in `_at` begins at an offset.
@@ -43,7 +43,7 @@ impl Regex {
 
     /// Returns whether the pattern matches from the offset on.
     pub fn try_is_match_at(&self, text: &str, start: usize) -> Result<bool, Error> {
-        self.shared.lock().is_match(text, start, Anchor::None)
+        self.shared.lock().is_match(text, Where::From(start))
     }
 
     /// Returns the match that starts first and, of those that start there, the one that the pattern
@@ -72,7 +72,7 @@ impl Regex {
 
     /// Returns the first match from the offset on.
     pub fn try_find_at<'h>(&self, text: &'h str, start: usize) -> Result<Option<Match<'h>>, Error> {
-        let span = self.shared.lock().find(text, start, Anchor::None)?;
+        let span = self.shared.lock().find(text, Where::From(start))?;
         Ok(span.map(|span| Match::new(text, span)))
     }
 
