@@ -71,6 +71,10 @@ GOALS = (
     Goal('`search("bytes")` in a line', lambda module: module.search('bytes', LINE), '3'),
     Goal(r'`match(r"\d+-\d+")` in a line', lambda module: module.match(r'\d+-\d+', LINE), ''),
     Goal(r'`match(r"\d+ ms")` in a line', lambda module: module.match(r'\d+ ms', LINE), ''),
+    Goal(r'`fullmatch(r"\d+-.* ms")` of the line',
+         lambda module: module.fullmatch(r'\d+-.* ms', LINE), ''),
+    Goal(r'`fullmatch(r"\d+-\d+")` of the line',
+         lambda module: module.fullmatch(r'\d+-\d+', LINE), ''),
     Goal('`search("[a-z]")`, one `é`', lambda module: module.search('[a-z]', ACCENTED), '5 ms'),
 )
 

@@ -4,7 +4,8 @@ No pattern makes a search explode: its time grows with the text alone. README.md
 from `re`.
 """
 
-from ._calls import compile, escape, findall, finditer, match, search, split, sub, subn
+from ._calls import (compile, escape, findall, finditer, fullmatch, match, search, split, sub,
+                     subn)
 from ._departures import DepartureWarning
 from ._errors import error
 from ._flags import DOTALL, IGNORECASE, MULTILINE, VERBOSE, Flags, I, M, S, X
@@ -15,4 +16,4 @@ from ._patterns import Pattern
 __version__ = '0.1.9'
 __all__ = ['DOTALL', 'DepartureWarning', 'IGNORECASE', 'MULTILINE', 'VERBOSE', 'Flags', 'I', 'M',
            'Match', 'Pattern', 'RegexList', 'S', 'X', 'compile', 'error', 'escape', 'findall',
-           'finditer', 'match', 'search', 'split', 'sub', 'subn']
+           'finditer', 'fullmatch', 'match', 'search', 'split', 'sub', 'subn']

@@ -79,6 +79,11 @@ def match(pattern: Union[str, Pattern], string: str, flags: int = 0) -> Optional
     return _compiled(pattern, flags).match(string)
 
 
+def fullmatch(pattern: Union[str, Pattern], string: str, flags: int = 0) -> Optional[Match]:
+    """`Pattern.fullmatch`."""
+    return _compiled(pattern, flags).fullmatch(string)
+
+
 def finditer(pattern: Union[str, Pattern], string: str, flags: int = 0) -> Iterator[Match]:
     """`Pattern.finditer`."""
     return _compiled(pattern, flags).finditer(string)

@@ -51,6 +51,16 @@ def quick_call(name: str) -> Callable[..., int]:
     return guarded(function, _HAS_LOCK)
 
 
+def whole_call(name: str) -> Callable[..., int]:
+    """A function of the library for a match of the whole text, called as those for a match from an
+    offset on: it takes no offset."""
+    function = quick_call(name)
+
+    def whole(handle: object, text: bytes, length: object, _: object, *room: object) -> int:
+        return function(handle, text, length, *room)
+    return whole
+
+
 def guarded(function: Callable[..., int], has_lock: bool) -> Callable[..., int]:
     """The function, under a lock of its own where the interpreter has none."""
     if has_lock:
@@ -82,9 +92,10 @@ _find_all = quick_call('find_all')
 _captures_all = quick_call('captures_all')
 _split = quick_call('split')
 # The calls that write the span of a match and its groups: of one that starts anywhere from the
-# offset on, and of one that starts at the offset itself.
+# offset on, of one that starts at the offset itself, and of one that is the whole text.
 ANYWHERE = quick_call('find'), quick_call('captures')
 ANCHORED = quick_call('find_anchored'), quick_call('captures_anchored')
+WHOLE = whole_call('full_match'), whole_call('full_captures')
 SPAN, BYTE = struct.Struct('@?NN'), struct.Struct('@c')
 _START, _UNREAD = c_size_t.from_param(0), byref(c_size_t())  # the second for a count that is known
 

@@ -8,7 +8,7 @@ from ctypes import POINTER, byref, c_size_t, c_uint32, c_void_p
 from typing import Callable, Iterator, List, Optional, Sequence, Tuple
 
 from ._library import (LONGEST_MESSAGE, NO_ROOM, SPAN, TEXT, YES, Room, Row, call, checked, encoded,
-                       quick_call, refusal, room_sizes, row_of)
+                       quick_call, refusal, room_sizes, row_of, whole_call)
 from ._structures import Options, Walk
 
 
@@ -49,9 +49,10 @@ _list_free = call('list_free', None, _LIST)
 _list_may_be_empty = call('list_may_be_empty', c_uint32, _LIST, c_size_t)
 _list_matches = call('list_matches', c_uint32, _LIST, *TEXT, c_size_t, c_void_p, c_size_t,
                      POINTER(c_size_t))
-# The calls that write the groups of a match: of one that starts anywhere from the offset on, and of
-# one that starts at the offset itself.
+# The calls that write the groups of a match: of one that starts anywhere from the offset on, of one
+# that starts at the offset itself, and of one that is the whole text.
 ANYWHERE, ANCHORED = quick_call('list_captures'), quick_call('list_captures_anchored')
+WHOLE = whole_call('list_full_captures')
 _list_find_all = quick_call('list_find_all')
 _list_captures_all = quick_call('list_captures_all')
 FOUND, SIZES = struct.Struct('@NNN'), struct.Struct('@NN')  # a ListSpan, and a ListGroups

@@ -7,7 +7,7 @@ from typing import Callable, Dict, Iterable, Iterator, List, Optional, Tuple
 from ._departures import warn_of_departures
 from ._flags import NEST_LIMIT, SIZE_LIMIT, Flags, options_of
 from ._library import encoded
-from ._list_library import ANCHORED, ANYWHERE, RawList
+from ._list_library import ANCHORED, ANYWHERE, WHOLE, RawList
 from ._matches import Match, match_of
 from ._patterns import Pattern
 from ._texts import offsets_in, start_in
@@ -41,6 +41,11 @@ class RegexList:
         """The match that starts at this very offset, of the pattern with the lowest number that
         matches there, and that number."""
         return self._found(string, pos, ANCHORED)
+
+    def fullmatch(self, string: str) -> Optional[Tuple[int, Match]]:
+        """The match of the whole string, of the pattern with the lowest number that has one, and that
+        number."""
+        return self._found(string, 0, WHOLE)
 
     def search_of(self, number: int, string: str, pos: int = 0) -> Optional[Match]:
         """What the pattern with this number finds by itself, whatever the others match. Raises

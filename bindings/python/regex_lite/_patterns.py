@@ -9,7 +9,7 @@ from typing import (Callable, Dict, Iterable, Iterator, List, Optional, Supports
                     Union, cast)
 
 from ._flags import NEST_LIMIT, SIZE_LIMIT, Flags, options_of
-from ._library import ANCHORED, ANYWHERE, Calls, Regex, Row, encoded
+from ._library import ANCHORED, ANYWHERE, WHOLE, Calls, Regex, Row, encoded
 from ._literals import literal_of
 from ._matches import Match, match_of
 from ._templates import as_library_has_it, parts_of
@@ -63,6 +63,14 @@ class Pattern:
             return self._found(string, raw, pos, ANCHORED)
         pos = max(pos, 0)
         return self._literal_at(string, pos if string.startswith(literal, pos) else -1)
+
+    def fullmatch(self, string: str) -> Optional[Match]:
+        """The match of the whole string, also where the pattern prefers a shorter one: of the ways
+        to match the string, it has the groups of the one that the pattern prefers."""
+        raw, literal = encoded(string), self._literal
+        if literal is None:
+            return self._found(string, raw, 0, WHOLE)
+        return self._literal_at(string, 0 if string == literal else -1)
 
     def search_each(self, strings: Iterable[str]) -> List[Optional[Tuple[int, int]]]:
         """The span of the first match in each of the strings. Where they are many and short, it

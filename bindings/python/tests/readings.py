@@ -5,6 +5,7 @@ import re
 import sys
 import warnings
 from importlib import import_module
+from itertools import chain
 from typing import Any, Callable, Dict, Iterator, List, NamedTuple, Optional, Tuple, Type
 
 import regex_lite
@@ -198,8 +199,9 @@ def found_by(pattern: Any, text: str) -> Found:
 
 
 def started(pattern: Any, text: str) -> Found:
-    """The match that starts at each position, with its groups."""
-    return _told(pattern.match(text, pos) for pos in range(len(text) + 1))
+    """The match that starts at each position, and that of the whole text, with their groups."""
+    starts = (pattern.match(text, pos) for pos in range(len(text) + 1))
+    return _told(chain(starts, [pattern.fullmatch(text)]))
 
 
 def _told(found: Iterator[Any]) -> Found:

@@ -14,8 +14,9 @@ import regex_lite
 
 PROJECT = Path(__file__).resolve().parent.parent / 'pyproject.toml'
 LONGEST_WAIT = 60  # seconds, for another process
-CALLS = (('compile', ()), ('search', ('a',)), ('match', ('a',)), ('findall', ('a',)),
-         ('finditer', ('a',)), ('split', ('a',)), ('sub', ('b', 'a')), ('subn', ('b', 'a')))
+CALLS = (('compile', ()), ('search', ('a',)), ('match', ('a',)), ('fullmatch', ('a',)),
+         ('findall', ('a',)), ('finditer', ('a',)), ('split', ('a',)), ('sub', ('b', 'a')),
+         ('subn', ('b', 'a')))
 
 
 class Index:

@@ -90,8 +90,9 @@ class Warnings(unittest.TestCase):
                          [Path(__file__)] * len(wanted))
 
     def test_each_pattern_once(self):
-        calls = (('compile', ()), ('search', ('a',)), ('match', ('a',)), ('findall', ('a',)),
-                 ('finditer', ('a',)), ('split', ('a',)), ('sub', ('b', 'a')), ('subn', ('b', 'a')))
+        calls = (('compile', ()), ('search', ('a',)), ('match', ('a',)), ('fullmatch', ('a',)),
+                 ('findall', ('a',)), ('finditer', ('a',)), ('split', ('a',)), ('sub', ('b', 'a')),
+                 ('subn', ('b', 'a')))
         for name, arguments in calls:
             pattern, call = f'asked of {name}', getattr(regex_lite, name)
             self.assert_asked(lambda: call(pattern, *arguments), (pattern, 0))

@@ -59,6 +59,18 @@ class Searches(unittest.TestCase):
         self.assertIsNone(regex_lite.match('b', 'ab'))
         self.assertTrue(regex_lite.match('A', 'ab', regex_lite.I))
 
+    def test_fullmatch(self):
+        for pattern in ('a|ab', '(a|ab)(c|bcd)?', 'a*?', '^a$', '(?m)a$', r'a\b', '(ü)+|b', '',
+                        '(?:(a)|(b))*'):
+            ours, theirs = regex_lite.compile(pattern), re.compile(pattern)
+            for string in ('', 'a', 'ab', 'abc', 'abcd', 'a\n', 'a\nb', 'aaa', 'üü', 'bab'):
+                found, wanted = ours.fullmatch(string), theirs.fullmatch(string)
+                self.assertEqual(found and (found.span(), found.groups()),
+                                 wanted and (wanted.span(), wanted.groups()), (pattern, string))
+        self.assertEqual(regex_lite.fullmatch('(?P<x>a)b', 'ab')['x'], 'a')
+        self.assertIsNone(regex_lite.fullmatch('a', 'ab'))
+        self.assertTrue(regex_lite.fullmatch('A', 'a', regex_lite.I))
+
     def test_emptiness(self):
         for pattern, may_be_empty in (('a*', True), ('a+$', False), (r'\b\B', True), ('', True),
                                       ('(?:|a)b', False), ('ab', False)):

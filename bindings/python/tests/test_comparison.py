@@ -66,7 +66,8 @@ class Comparison(unittest.TestCase):
             self.seen['test_empty_matches'] += 1
 
     def compare_starts(self, pair: Pair, text: str, rows: Sequence[str]) -> None:
-        """Compares what both find at each position alone, where no row explains a difference."""
+        """Compares what both find at each position alone, and as the whole text, where no row
+        explains a difference."""
         if rows:
             return
         theirs, ours = started(pair.theirs, text), started(pair.ours, text)

@@ -185,8 +185,10 @@ class Rows(unittest.TestCase):
         self.assertTrue(regex_lite.search(r'\x{61}', 'a'))
 
     def test_calls(self) -> None:
-        self.assertFalse(hasattr(regex_lite, 'fullmatch'))
-        self.assertFalse(hasattr(regex_lite.compile('a'), 'fullmatch'))
+        self.assertEqual(re.compile('a').fullmatch('bab', 1, 2).span(), (1, 2))
+        self.assertRaises(TypeError, regex_lite.compile('a').fullmatch, 'bab', 1)
+        self.assertEqual(re.compile('a').match('bab', 1, 2).span(), (1, 2))
+        self.assertRaises(TypeError, regex_lite.compile('a').match, 'bab', 1, 2)
 
     def test_pos(self) -> None:
         for pattern, theirs, ours in (('a[b-a]', 2, 1), ('a{2,1}', 2, 1),

@@ -32,6 +32,13 @@ class Lists(unittest.TestCase):
         self.assertIsNone(words.match('?if'))
         self.assertIsNone(regex_lite.RegexList(['^b', 'c']).match('ab', 1))
 
+    def test_fullmatch(self):
+        kinds = regex_lite.RegexList(['b(c)?', '[a-z](b)?(c)?(é)?'])
+        found = [kinds.fullmatch(string) for string in ('bc', 'bcé', 'bc ', 'abcé')]
+        self.assertEqual([it and (it[0], it[1].span(), it[1].groups()) for it in found],
+                         [(0, (0, 2), ('c',)), (1, (0, 3), (None, 'c', 'é')), None,
+                          (1, (0, 4), ('b', 'c', 'é'))])
+
     def test_search_of(self):
         rules = regex_lite.RegexList(['id=(?P<id>[0-9]+)', '([a-z]+)=([0-9]+)'])
         self.assertEqual(rules.search_of(0, 'x=1&id=72')['id'], '72')
@@ -102,6 +109,7 @@ class Lists(unittest.TestCase):
         self.assertEqual((len(nothing), nothing.matches('a')), (0, []))
         self.assertIsNone(nothing.search('a'))
         self.assertIsNone(nothing.match('a'))
+        self.assertIsNone(nothing.fullmatch(''))
         self.assertEqual(list(nothing.finditer('a')), [])
         self.assertEqual(list(nothing.spans('a')), [])
 

@@ -76,6 +76,7 @@ class Literals(unittest.TestCase):
                 for pos in (-1, 0, 1, len(string) // 2, len(string), len(string) + 1):
                     self.compare(ours.search(string, pos), library.search(string, pos))
                     self.compare(ours.match(string, pos), library.match(string, pos))
+                self.compare(ours.fullmatch(string), library.fullmatch(string))
 
     def compare(self, found: Optional[regex_lite.Match],
                 wanted: Optional[regex_lite.Match]) -> None:
@@ -99,7 +100,7 @@ class Literals(unittest.TestCase):
 
     def test_refused_strings(self) -> None:
         pattern = regex_lite.compile('a')
-        for call in (pattern.search, pattern.match, pattern.split):
+        for call in (pattern.search, pattern.match, pattern.fullmatch, pattern.split):
             self.assertRaises(UnicodeEncodeError, call, 'a\ud800')
             self.assertRaises(TypeError, call, b'a')
             self.assertRaises(TypeError, call, None)
