@@ -1,25 +1,6 @@
 /* Calls each search for a whole match, with what it takes and what it refuses. The values that are
  * expected are those that the Rust crate finds of the pattern as \A(?:..)\z. */
-#include "want.h"
-
-static uint32_t build(regex_lite *regex, const char *pattern) {
-    uint8_t message[100];
-    size_t len;
-    return regex_lite_new(regex, TEXT(pattern), &defaults, message, sizeof message, &len);
-}
-
-/* Builds the list of two patterns. */
-static uint32_t build_two(regex_lite_list *list, const char *first, const char *second) {
-    regex_lite_list_pattern each[2] = {{0, REGEX_LITE_DEFAULTS}, {0, REGEX_LITE_DEFAULTS}};
-    regex_lite_list_refusal refusal;
-    uint8_t bytes[100], message[100];
-    each[0].len = strlen(first);
-    each[1].len = strlen(second);
-    memcpy(bytes, first, each[0].len);
-    memcpy(bytes + each[0].len, second, each[1].len);
-    return regex_lite_list_new(list, bytes, each[0].len + each[1].len, each, 2, message,
-                               sizeof message, &refusal);
-}
+#include "built.h"
 
 /* Whether the three calls find the whole text. */
 static bool is_whole(const char *pattern, const char *text) {
