@@ -22,7 +22,7 @@ use Rattle.regex_lite_engine.specs.Search.Starts.{AreAllAtEnd, AreReading, TellR
 use Rattle.regex_lite_engine.specs.Search.Starts.{may_be_empty}
 use Rattle.regex_lite_syntax.specs.Prefilter.Heads.{AreSecondOfTree, AreHeadsOfTree}
 use Rattle.regex_lite_syntax.specs.Prefilter.ListHeads.{AreHeadsOfTrees}
-use Rattle.regex_lite_syntax.specs.Prefilter.Needed.{IsNeededBy, IsOutOfReach, NeededWord}
+use Rattle.regex_lite_syntax.specs.Prefilter.Needed.{IsNeededBy, IsOutOfReach, NeededWords}
 use Rattle.regex_lite_syntax.specs.Prefilter.StartFacts.{AreEachFactsOf, AreFactsOfTree}
 use Rattle.regex_lite_syntax.specs.Prefilter.StartFacts.{NeverStarts, NoneStandsIn, StartFacts}
 use Rattle.regex_lite_syntax.specs.Prefilter.Words.{AreWordsOfTree}
@@ -87,7 +87,7 @@ never_starts tree facts of_tree haystack i (inl never) j m =
 never_starts tree facts of_tree haystack i (inr (inr out)) j m =
     by_needed facts.needed of_tree.needed out
   where
-    by_needed : (o : Option NeededWord) → IfSome o (IsNeededBy tree)
+    by_needed : (o : Option NeededWords) → IfSome o (IsNeededBy tree)
         → MatchOption o ⊥ (λ needed. IsOutOfReach needed haystack i) → ⊥
     by_needed None told out = out
     by_needed (Some needed) told out = out (told haystack i j m)

@@ -6,7 +6,7 @@ use Rattle.regex_lite_engine.proofs.Common.{None, Option, NeverBegins}
 use Rattle.std.proofs.Common.{MatchOption, encode_utf8_all}
 use Rattle.std.proofs.Math.ListN.{drop_of_length-le}
 use Rattle.std.proofs.lemmas.List.{drop-drop, get_or-drop}
-use Rattle.regex_lite_syntax.specs.Prefilter.Needed.{IsNextReach, IsOutOfReach, NeededWord, Reaches}
+use Rattle.regex_lite_syntax.specs.Prefilter.Needed.{IsNextReach, IsOutOfReach, NeededWords, Reaches}
 use Rattle.regex_lite_syntax.specs.Prefilter.StartFacts.{NeverStarts, StartFacts}
 use Rattle.regex_lite_syntax.specs.Prefilter.Starts.{begins_with}
 use Rattle.regex_lite_syntax.specs.Prefilter.Words.{AnyStandsAt, NoneStands, StartsWith, word_at}
@@ -16,7 +16,7 @@ use Rattle.regex_lite_engine.proofs.OffsetLemmas.{rest_at}
 use Rattle.regex_lite_engine.proofs.search.SkipLemmas.{AllBetween}
 
 -- it isn't reached from a position if it isn't from its offset
-pub out_of_reach : (needed : NeededWord) (bs : List ℕ) → IsUtf8 bs → (i : ℕ)
+pub out_of_reach : (needed : NeededWords) (bs : List ℕ) → IsUtf8 bs → (i : ℕ)
     → ¬ Reaches needed bs (offset (chars bs) i) → IsOutOfReach needed (chars bs) i
 out_of_reach needed bs utf8 i never (k, (low, (number, inside, stands), led)) =
     never (off + k, (omega arith, (number, inside, subst (StartsWith word) same stands), leads))
@@ -25,7 +25,7 @@ out_of_reach needed bs utf8 i never (k, (low, (number, inside, stands), led)) =
     off = offset (chars bs) i
 
     word : List Letter
-    word = word_at (needed.word ∷ []) number
+    word = word_at needed.words number
 
     rest : encode_utf8_all (drop i (chars bs)) ≡ drop off bs
     rest = sym (ap (drop off) (sym (encodes-chars bs utf8)) ∙ rest_at (chars bs) i)
@@ -58,18 +58,18 @@ stands_inside words bs from at inside (number, small, stands) none =
     ]
 
 -- where the word is reached next, it stands inside, and it is reached from nowhere before
-pub next_inside : (needed : NeededWord) (bs : List ℕ) (from : ℕ) (next : Option Reach)
+pub next_inside : (needed : NeededWords) (bs : List ℕ) (from : ℕ) (next : Option Reach)
     → from ≤ length bs → IsNextReach needed bs from next → MatchOption next
     ((k : ℕ) → from ≤ k → ¬ Reaches needed bs k)
     (λ reach. (from ≤ reach.from) × (reach.from ≤ reach.word) × (reach.from ≤ length bs)
     × ((k : ℕ) → from ≤ k → k < reach.from → ¬ Reaches needed bs k))
 next_inside needed bs from None inside none = none
 next_inside needed bs from (Some reach) inside (low, (order, there, led), first, none) =
-    let last = stands_inside (needed.word ∷ []) bs from reach.word inside there first in
+    let last = stands_inside needed.words bs from reach.word inside there first in
     (low, order, omega (arith, order, last), none)
 
 -- what a search has passed over by a word that each match needs
-module _ (facts : StartFacts) (needed : NeededWord) (known : facts.needed ≡ Some needed)
+module _ (facts : StartFacts) (needed : NeededWords) (known : facts.needed ≡ Some needed)
     (bs : List ℕ) (utf8 : IsUtf8 bs) where
   unreached : (i : ℕ) → ¬ Reaches needed bs (offset (chars bs) i) → NeverStarts facts (chars bs) i
   unreached i never =

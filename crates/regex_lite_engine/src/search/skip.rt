@@ -90,8 +90,8 @@ fn first_by_needed(filter: &Filter, needed: &Needed, haystack: &str, from: usize
     }
 }
 
-/// The first offset from this one on from which the word may be reached, and one up to which it
-/// is then. Behind a character that may stand before the word it isn't looked for: a search has
+/// The first offset from this one on from which a word may be reached, and one up to which it is
+/// then. Behind a character that may stand before the words none is looked for: a search has
 /// come from there, and looked for it before. So a text is looked at once, and not once for each
 /// position.
 fn next_reach(needed: &Needed, bytes: &[u8], from: usize) -> Option<Reach>

@@ -12,5 +12,7 @@ pub mod RowLemmas
 pub mod WordWalkLemmas
 pub mod WordPassLemmas
 pub mod LeadLemmas
+pub mod NeededBranchLemmas
 pub mod NeededRowLemmas
+pub mod NeededSearchLemmas
 pub mod NeededWalkLemmas

@@ -1,4 +1,4 @@
--- How one walk over a tree finds a word that each match has.
+-- How one walk over a tree finds words of which each match has one.
 use Rattle.std.specs.Prelude.{◌≡◌, ◌⊎◌, ◌+◌, ◌≤◌, ◌<◌, ℕ, List, [], ◌∷◌, ◌++◌, drop}
 use Rattle.std.specs.Prelude.{encode_utf8_all}
 use Rattle.std.specs.Prelude.{length, slice_index, true}
@@ -8,15 +8,15 @@ use Rattle.regex_lite_syntax.specs.Tree.Matches.{Matches}
 use Rattle.regex_lite_syntax.specs.declared.prefilter.starts.Starts.{Starts}
 use Rattle.regex_lite_syntax.specs.declared.prefilter.words.letter.Letter.{Letter}
 use Rattle.regex_lite_syntax.specs.declared.prefilter.words.needed_walk.NeededWalk.{NeededWalk}
-use Rattle.regex_lite_syntax.specs.Prefilter.Needed.{NeededWord, Reaches}
+use Rattle.regex_lite_syntax.specs.Prefilter.Needed.{NeededWords, Reaches}
 use Rattle.regex_lite_syntax.specs.Prefilter.Starts.{AreBetween, begins_with, IsWider}
 use Rattle.regex_lite_syntax.specs.Prefilter.Starts.{ReadsAmong}
 use Rattle.regex_lite_syntax.specs.Prefilter.Words.{IsLetter, StartsWith}
 
--- this word, with these characters before it
-abbrev pub as_needed : (word : List Letter) → (lead : Starts) → NeededWord
-as_needed word lead = record {
-  word = word;
+-- these words, with these characters before them
+abbrev pub as_needed : (words : List (List Letter)) → (lead : Starts) → NeededWords
+as_needed words lead = record {
+  words = words;
   lead = lead;
 }
 
@@ -25,8 +25,8 @@ abbrev pub AreAmong : Starts → (bytes : List ℕ) → (count : ℕ) → Type 0
 AreAmong starts bytes count =
     (k : ℕ) → k < count → begins_with starts (slice_index bytes k) ≡ true
 
--- the best word stands in the bytes of a match, and the row right before the rest of them, each
--- behind characters that may lead to it. A word without letters stands everywhere
+-- one of the best words stands in the bytes of a match, and the row right before the rest of them,
+-- each behind characters that may lead to it. A word without letters stands everywhere
 pub record HasFound (bytes rest : List ℕ) (walk : NeededWalk) : Type 0 where
   pub best : Reaches (as_needed walk.best walk.best_lead) bytes 0
   pub row_at : ℕ
@@ -39,9 +39,16 @@ pub record HasFound (bytes rest : List ℕ) (walk : NeededWalk) : Type 0 where
 pub record EndsRow (before after : NeededWalk) : Type 0 where
   pub row : after.row ≡ []
   pub best : (as_needed after.best after.best_lead ≡ as_needed before.best before.best_lead)
-      ⊎ (as_needed after.best after.best_lead ≡ as_needed before.row before.row_lead)
+      ⊎ (as_needed after.best after.best_lead ≡ as_needed (before.row ∷ []) before.row_lead)
   pub read : after.read ≡ before.read
   pub led : after.row_lead ≡ before.read
+
+-- what was found before a match of the tree stays found, and other words may be the best
+pub record Chooses (tree : Tree) (before after : NeededWalk) : Type 0 where
+  pub finds : (haystack : Text) (bytes : List ℕ) (i j : ℕ)
+      → HasFound bytes (encode_utf8_all (drop i haystack)) before → Matches haystack tree i j
+      → HasFound bytes (encode_utf8_all (drop i haystack)) after
+  pub read : after.read ≡ before.read
 
 -- what was found stays found behind any characters that are counted as read
 pub record Leaves (before after : NeededWalk) : Type 0 where

@@ -6,7 +6,7 @@ use Rattle.regex_lite_syntax.specs.Tree.{Tree}
 use Rattle.regex_lite_syntax.specs.declared.prefilter.heads.Heads.{Heads}
 use Rattle.regex_lite_syntax.specs.declared.prefilter.words.letter.Letter.{Letter}
 use Rattle.regex_lite_syntax.specs.Prefilter.Heads.{AreHeadsOfTree, NeverBegins}
-use Rattle.regex_lite_syntax.specs.Prefilter.Needed.{IsNeededBy, IsOutOfReach, NeededWord}
+use Rattle.regex_lite_syntax.specs.Prefilter.Needed.{IsNeededBy, IsOutOfReach, NeededWords}
 use Rattle.regex_lite_syntax.specs.Prefilter.WholeWords.{IsItsWords}
 use Rattle.regex_lite_syntax.specs.Prefilter.Words.{AnyStandsAt, AreWordsOfTree}
 
@@ -17,7 +17,7 @@ pub record StartFacts : Type 0 where
   pub heads : Heads
   pub words : Option (List (List Letter))
   pub are_all : Bool
-  pub needed : Option NeededWord
+  pub needed : Option NeededWords
 
 -- this is so of the matches of the tree
 pub record AreFactsOfTree (tree : Tree) (facts : StartFacts) : Type 0 where

@@ -26,7 +26,7 @@ pub struct Filter {
     words: Option<Box<Words>>,
     /// Whether the tree is nothing but one of its words.
     are_all: bool,
-    /// A word that stands in each match, if one is known and no words are.
+    /// Words of which one stands in each match, if some are known and none with which matches begin.
     needed: Option<Box<Needed>>,
 }
 
@@ -117,7 +117,7 @@ impl Filter {
         }
     }
 
-    /// A word that stands in each match, if one is known.
+    /// Words of which one stands in each match, if some are known.
     #[inline(always)]
     pub fn needed(&self) -> Option<&Needed>
         ensures { option_map (λ needed. needed.now) result ≡ self.now.needed }
@@ -129,7 +129,7 @@ impl Filter {
     }
 }
 
-/// A word that each match of the tree needs, if one is known and there is memory.
+/// Words of which each match of the tree needs one, if some are known and there is memory.
 // Not inlined, as the next one isn't.
 #[inline(never)]
 fn needed_by(alloc: Global, hir: &Hir) -> Option<Box<Needed>>

@@ -10,6 +10,7 @@ ghost use Rattle.regex_lite_syntax.specs.Prefilter.Words.{AnyStandsAt, AreLong, 
 ghost use Rattle.regex_lite_syntax.specs.Prefilter.Words.{IsLead};
 ghost use Rattle.regex_lite_syntax.specs.Prefilter.Words.{IsNextWord, NoneStands, word_at};
 
+mod few_words;
 mod frequency;
 mod gain;
 mod leaps;

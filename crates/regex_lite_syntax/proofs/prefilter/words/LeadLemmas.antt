@@ -12,7 +12,7 @@ use Rattle.std.proofs.lemmas.Bool.{cond-false, cond-true}
 use Rattle.std.proofs.Common.{le-ltb, lt-ltb}
 use Rattle.std.proofs.lemmas.List.{drop-drop}
 use Rattle.std.proofs.lemmas.Str.{encode_ascii, len_utf8_bounds, length-encode}
-use Rattle.regex_lite_syntax.specs.Prefilter.Needed.{IsNextReach, NeededWord, Reaches}
+use Rattle.regex_lite_syntax.specs.Prefilter.Needed.{IsNextReach, NeededWords, Reaches}
 use Rattle.regex_lite_syntax.specs.Prefilter.NeededWalk.{AreAmong}
 use Rattle.regex_lite_syntax.specs.Prefilter.Starts.{AreBetween}
 use Rattle.regex_lite_syntax.specs.Prefilter.Words.{AnyStandsAt, NoneStands}
@@ -125,9 +125,9 @@ bytes_later s h i j le all =
 
 -- where only such characters lead back from the word to an offset, and no further, it is the next
 -- one from which the word is reached
-pub next_reached : (needed : NeededWord) (bytes : List ℕ) (from start word : ℕ) → from ≤ start
-    → start ≤ word → NoneStands (needed.word ∷ []) bytes from word
-    → AnyStandsAt (needed.word ∷ []) bytes word
+pub next_reached : (needed : NeededWords) (bytes : List ℕ) (from start word : ℕ) → from ≤ start
+    → start ≤ word → NoneStands needed.words bytes from word
+    → AnyStandsAt needed.words bytes word
     → ((k : ℕ) → start ≤ k → k < word → begins_with needed.lead (slice_index bytes k) ≡ true)
     → (from < start → begins_with needed.lead (slice_index bytes (start - 1)) ≡ false)
     → IsNextReach needed bytes from (Some (record { from = start; word = word }))
@@ -143,8 +143,8 @@ next_reached needed bytes from start word low high none stands led stops =
           true≢false (sym is ∙ off)
     ]
 
-pub never_reached : (needed : NeededWord) (bytes : List ℕ) (from : ℕ)
-    → ((at : ℕ) → from ≤ at → ¬ AnyStandsAt (needed.word ∷ []) bytes at)
+pub never_reached : (needed : NeededWords) (bytes : List ℕ) (from : ℕ)
+    → ((at : ℕ) → from ≤ at → ¬ AnyStandsAt needed.words bytes at)
     → IsNextReach needed bytes from None
 never_reached needed bytes from none k later (at, (le, there, ahead)) =
     none at (omega (arith, later, le)) there

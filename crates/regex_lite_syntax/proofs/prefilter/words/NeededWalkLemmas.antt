@@ -1,6 +1,6 @@
--- How a word that each match has is found, kind by kind of tree.
+-- How words are found of which each match has one, kind by kind of tree.
 use Rattle.regex_lite_syntax.proofs.Common.{◌≡◌, ℕ, suc, ◌+◌, ◌-◌, ◌<◌, ◌≤◌, Bool, Some}
-use Rattle.regex_lite_syntax.proofs.Common.{List, [], ◌++◌, length, drop, Option, Tree, Trees}
+use Rattle.regex_lite_syntax.proofs.Common.{List, [], ◌∷◌, ◌++◌, length, drop, Option, Tree, Trees}
 use Rattle.regex_lite_syntax.proofs.Common.{Matches, Chain, Text, sym, ap, ◌∙◌}
 use Rattle.regex_lite_syntax.proofs.Common.{subst, arith, IsTrue, in_ranges, look, class, true}
 use Rattle.regex_lite_syntax.proofs.Common.{repetition, concat, more, ClassRange, Look, Letter}
@@ -13,7 +13,7 @@ use Rattle.regex_lite_syntax.specs.Tree.{character, empty, none}
 use Rattle.regex_lite_syntax.specs.Tree.Matches.{Passes}
 use Rattle.regex_lite_syntax.specs.declared.prefilter.words.needed_walk.NeededWalk.{NeededWalk}
 use Rattle.regex_lite_syntax.specs.Prefilter.Needed.{IsNeededBy, Reaches}
-use Rattle.regex_lite_syntax.specs.Prefilter.NeededWalk.{as_needed, EndsRow, FindsBytes}
+use Rattle.regex_lite_syntax.specs.Prefilter.NeededWalk.{as_needed, Chooses, EndsRow, FindsBytes}
 use Rattle.regex_lite_syntax.specs.Prefilter.NeededWalk.{FindsLetter, FindsPast, HasFound, Leaves}
 use Rattle.regex_lite_syntax.specs.Prefilter.Starts.{ReadsAmong}
 use Rattle.regex_lite_syntax.proofs.ForwardLemmas.{chain_forward, is_forward, passes_forward}
@@ -110,6 +110,16 @@ finds_any tree before walk reads left = record {
       left.finds h bytes i j (is_forward h tree i j matches).0 (reads h i j matches) found;
   reads = reads;
   wider = left.wider;
+}
+
+-- and before it other words may become the best
+pub chosen_first : (tree : Tree) (before now after : NeededWalk) → Chooses tree before now
+    → FindsPast tree now after → FindsPast tree before after
+chosen_first tree before now walk chooses past = record {
+  finds = λ h bytes i j found matches.
+      past.finds h bytes i j (chooses.finds h bytes i j found matches) matches;
+  reads = past.reads;
+  wider = subst (λ read. IsWider read walk.read) chooses.read past.wider;
 }
 
 -- what was found up to so many passes, where others may follow
@@ -222,8 +232,8 @@ parts_left all left before now walk parts any leaves = record {
   wider = grown_on before.read now.read walk.read parts.wider leaves.wider;
 }
 
--- the best word of the whole tree is one that each match has
-pub needed_by_walk : (tree : Tree) (before now after : NeededWalk) → before.best ≡ []
+-- each match of the whole tree has one of the best words
+pub needed_by_walk : (tree : Tree) (before now after : NeededWalk) → before.best ≡ [] ∷ []
     → before.row ≡ [] → FindsPast tree before now → EndsRow now after
     → IsNeededBy tree (as_needed after.best after.best_lead)
 needed_by_walk tree before now walk no_best no_row past ends h i j matches =
@@ -238,7 +248,7 @@ needed_by_walk tree before now walk no_best no_row past ends h i j matches =
 
     begins : HasFound bytes bytes before
     begins = record {
-      best = subst (λ word. Reaches (as_needed word before.best_lead) bytes 0) (sym no_best)
+      best = subst (λ words. Reaches (as_needed words before.best_lead) bytes 0) (sym no_best)
           (0, (omega arith, any_stands [] bytes 0 tt, λ k low lt. absurd (omega (arith, lt))));
       row_at = 0;
       row = subst (λ row. StartsWith row bytes) (sym no_row) tt;

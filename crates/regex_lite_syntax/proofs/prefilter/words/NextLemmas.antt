@@ -3,7 +3,7 @@ use Rattle.regex_lite_syntax.proofs.Common.{◌≡◌, ℕ, zero, suc, ◌+◌, 
 use Rattle.regex_lite_syntax.proofs.Common.{length, drop, arith, subst, sym, cases_lt, cases_eq}
 use Rattle.regex_lite_syntax.proofs.Common.{Option, Some, None, false, refl, false≢true}
 use Rattle.regex_lite_syntax.proofs.Common.{length-drop, MatchOption, IfSome, IsCharBoundary}
-use Rattle.regex_lite_syntax.proofs.Common.{get_or, ap, ◌∙◌, NoneStands, Letter}
+use Rattle.regex_lite_syntax.proofs.Common.{get_or, ap, ◌∙◌, NoneStands, Letter, min, inl, inr}
 use Rattle.std.proofs.Common.{⊎_elim, is_some, drop-cons}
 use Rattle.regex_lite_syntax.specs.Prefilter.Words.{AreSuited, IsFirstAt, IsNextWord, IsSuited}
 use Rattle.regex_lite_syntax.specs.Prefilter.Words.{word_at, AnyStandsAt, StartsWith}
@@ -64,18 +64,40 @@ next_from word bytes from middle to None order front none nowhere =
 next_from word bytes from middle to (Some at) order front (low, back, stands) nowhere =
     (omega arith, none_joined (word ∷ []) bytes from middle at front back, stands)
 
--- what is found among the offsets behind which as many bytes are left is the next at all
-pub next_with_room : (word : List Letter) (bytes : List ℕ) (from : ℕ) (found : Option ℕ)
+-- what is found among the offsets behind which as many bytes are left, up to a limit, is the next
+-- up to there
+pub next_to_limit : (word : List Letter) (bytes : List ℕ) (from limit end : ℕ) (found : Option ℕ)
     → 0 < length word → length word ≤ length bytes
-    → MatchOption found (NoneStands (word ∷ []) bytes from (length bytes - length word + 1))
+    → end ≡ min (length bytes - length word + 1) limit
+    → MatchOption found (NoneStands (word ∷ []) bytes from end)
+    (λ at. (from ≤ at) × NoneStands (word ∷ []) bytes from at
+    × AnyStandsAt (word ∷ []) bytes at)
+    → MatchOption found (NoneStands (word ∷ []) bytes from limit)
+    (λ at. (from ≤ at) × NoneStands (word ∷ []) bytes from at
+    × AnyStandsAt (word ∷ []) bytes at)
+next_to_limit word bytes from limit end None some room is none = λ at low high stands.
+    elim (cases_lt at end) [
+      | inl below ↦ none at low below stands
+      | inr above ↦
+          none_past_end word bytes (length bytes - length word + 1)
+          (length bytes - length word + 1) (omega (arith, some, room))
+          (none_at_first (word ∷ []) bytes (length bytes - length word + 1)) at
+          (omega (arith, above, high, is)) stands
+    ]
+next_to_limit word bytes from limit end (Some at) some room is found = found
+
+-- what is found up to the end is the next at all
+pub next_at_all : (word : List Letter) (bytes : List ℕ) (from : ℕ) (found : Option ℕ)
+    → 0 < length word
+    → MatchOption found (NoneStands (word ∷ []) bytes from (length bytes))
     (λ at. (from ≤ at) × NoneStands (word ∷ []) bytes from at
     × AnyStandsAt (word ∷ []) bytes at)
     → MatchOption found ((at : ℕ) → from ≤ at → ¬ AnyStandsAt (word ∷ []) bytes at)
     (λ at. (from ≤ at) × NoneStands (word ∷ []) bytes from at
     × AnyStandsAt (word ∷ []) bytes at)
-next_with_room word bytes from None some room none =
-    none_past_end word bytes from (length bytes - length word + 1) (omega (arith, some, room)) none
-next_with_room word bytes from (Some at) some room found = found
+next_at_all word bytes from None some none =
+    none_past_end word bytes from (length bytes) (omega (arith, some)) none
+next_at_all word bytes from (Some at) some found = found
 
 -- where none is found, none stands
 pub none_found : (word : List Letter) (bytes : List ℕ) (from to : ℕ) (found : Option ℕ)

@@ -1,23 +1,28 @@
-//! A word that each match of a pattern has, and what stands before it.
+//! Words of which each match of a pattern has one, and what stands before it.
 ghost use Rattle.std.specs.Prelude.{◌≡◌, ◌≤◌, ◌<◌, ◌-◌, ℕ, IfSome, false, length, slice_index};
 ghost use Rattle.std.specs.Prelude.{true};
 ghost use Rattle.regex_lite_syntax.specs.Tree.Views.{tree_of};
-ghost use Rattle.regex_lite_syntax.specs.Prefilter.Needed.{IsNeededBy, IsNextReach};
+ghost use Rattle.regex_lite_syntax.specs.Prefilter.Needed.{HavePairs, IsNeededBy, IsNextBelow};
+ghost use Rattle.regex_lite_syntax.specs.Prefilter.Needed.{IsNextOf, IsNextReach};
 ghost use Rattle.regex_lite_syntax.specs.Prefilter.Starts.{begins_with};
 
 use crate::hir::Hir;
 use crate::prefilter::starts::Starts;
+use crate::prefilter::words::few_words::{FewWords, MOST};
 use crate::prefilter::words::needed_walk::NeededWalk;
 use crate::prefilter::words::pair::Pair;
-use crate::prefilter::words::short_word::ShortWord;
 use std::marker::Model;
 
-/// A word that stands in each match, and the characters that may stand before it there. A match
-/// begins only where such characters lead to the word.
+/// In how many bytes each of several words is looked for first.
+const AT_FIRST: usize = 64;
+
+/// Words of which one stands in each match, and the characters that may stand before it there. A
+/// match begins only where such characters lead to a word.
 #[derive(Drop)]
 pub struct Needed {
-    word: ShortWord,
-    pair: Pair,
+    words: FewWords,
+    /// How each word is found.
+    pairs: [Pair; MOST],
     lead: Starts,
 }
 
@@ -31,35 +36,34 @@ pub struct Reach {
 }
 
 impl Model for Needed {
-    ghost use Rattle.std.specs.Prelude.{◌<◌, length};
-    ghost use Rattle.regex_lite_syntax.specs.Prefilter.Needed.{NeededWord};
+    ghost use Rattle.std.specs.Prelude.{length};
+    ghost use Rattle.regex_lite_syntax.specs.Prefilter.Needed.{HavePairs, NeededWords};
 
-    ghost Value = { NeededWord };
+    ghost Value = { NeededWords };
 
     ghost view = { λ needed. record {
-      word = needed.word;
+      words = needed.words;
       lead = needed.lead;
     } };
 
-    ghost invariant = { λ needed. (needed.pair.first < length needed.word)
-        × (needed.pair.second < length needed.word) };
+    ghost invariant = { λ needed. HavePairs needed.words (length needed.words) needed.pairs };
 }
 
 impl Needed {
-    /// One of the tree, if one is known that is rare enough. None if it is what matches begin with,
-    /// since their first characters tell as much.
+    /// Those of the tree, if some are known that are rare enough. None if they are what matches
+    /// begin with, since their first characters tell as much.
     pub(crate) fn of(hir: &Hir) -> Option<Needed>
         ensures { IfSome result (IsNeededBy (tree_of hir.now)) }
     {
-        let (word, lead) = NeededWalk::of(hir)?;
+        let (words, lead) = NeededWalk::of(hir)?;
         if !lead.any {
             return None;
         }
-        let pair = Pair::of(word.letters());
-        Some(Needed { word, pair, lead })
+        let pairs = pairs_of(&words)?;
+        Some(Needed { words, pairs, lead })
     }
 
-    /// The first offset from this one on from which the word is reached, and where it stands then.
+    /// The first offset from this one on from which a word is reached, and where it stands then.
     ///
     /// Condition: the offset is at most the length.
     // Not inlined, as the search for words isn't.
@@ -68,11 +72,52 @@ impl Needed {
         requires { from ≤ length bytes.now }
         ensures { IsNextReach self.now bytes.now from result }
     {
-        let Some(word) = self.pair.find(self.word.letters(), bytes, from) else {
-            return None;
-        };
+        let word = self.next_word(bytes, from)?;
         let from = self.lead_start(bytes, from, word);
         Some(Reach { from, word })
+    }
+
+    /// The first offset from this one on at which a word stands. Several are looked for in few
+    /// bytes first, and then in twice as many each time, so that one that is far away is not looked
+    /// for much further than up to another.
+    fn next_word(&self, bytes: &[u8], from: usize) -> Option<usize>
+        requires { from ≤ length bytes.now }
+        ensures next { IsNextOf self.now.words bytes.now from result }
+        ensures inside { IfSome result (λ at. at < length bytes.now) }
+    {
+        if self.words.len() == 1 {
+            return self.pairs[0].find(self.words.word(0), bytes, from);
+        }
+        let mut at = from;
+        let mut len = AT_FIRST;
+        'blocks: while at < bytes.len() {
+            let end = at.saturating_add(len).min(bytes.len());
+            let found = self.next_below(bytes, at, end);
+            if found.is_some() {
+                return found;
+            }
+            at = end;
+            len = len.saturating_mul(2);
+        }
+        None
+    }
+
+    /// The first offset from the first of these on, and before the second, at which a word stands.
+    fn next_below(&self, bytes: &[u8], from: usize, limit: usize) -> Option<usize>
+        requires order { from ≤ limit }
+        requires inside { limit ≤ length bytes.now }
+        ensures { IsNextBelow self.now.words bytes.now from limit result }
+    {
+        let mut found = None;
+        let mut end = limit;
+        'words: for k in 0..self.words.len() {
+            let at = self.pairs[k].find_below(self.words.word(k), bytes, from, end);
+            if let Some(at) = at {
+                found = Some(at);
+                end = at;
+            }
+        }
+        found
     }
 
     /// Where the characters begin that may stand before the word, if it stands at the second
@@ -104,4 +149,19 @@ impl Needed {
     {
         self.lead.begins_in(byte as usize)
     }
+}
+
+/// How each of the words is found. None if one of them has no letter.
+fn pairs_of(words: &FewWords) -> Option<[Pair; MOST]>
+    ensures { IfSome result (HavePairs words.now (length words.now)) }
+{
+    let mut pairs = [Pair::of_first(); MOST];
+    'words: for k in 0..words.len() {
+        let word = words.word(k);
+        if word.is_empty() {
+            return None;
+        }
+        pairs[k] = Pair::of(word);
+    }
+    Some(pairs)
 }

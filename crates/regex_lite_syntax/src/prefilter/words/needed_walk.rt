@@ -1,16 +1,18 @@
-//! A word that each match of a tree has, found by one walk over it.
+//! Words of which each match of a tree has one, found by one walk over it.
 ghost use Rattle.std.specs.Prelude.{◌≡◌, ◌<◌, ℕ, Bool, IfSome, encode_utf8, length, map};
 ghost use Rattle.std.specs.Prelude.{true};
-ghost use Rattle.regex_lite_syntax.specs.Tree.{class, concat, repetition, trees};
+ghost use Rattle.regex_lite_syntax.specs.Tree.{alternation, class, concat, repetition, trees};
 ghost use Rattle.regex_lite_syntax.specs.Tree.Views.{tree_of};
 ghost use Rattle.regex_lite_syntax.specs.Prefilter.Needed.{IsNeededBy};
-ghost use Rattle.regex_lite_syntax.specs.Prefilter.NeededWalk.{EndsRow, FindsBytes, FindsLetter};
+ghost use Rattle.regex_lite_syntax.specs.Prefilter.NeededWalk.{Chooses, EndsRow, FindsBytes};
+ghost use Rattle.regex_lite_syntax.specs.Prefilter.NeededWalk.{FindsLetter};
 ghost use Rattle.regex_lite_syntax.specs.Prefilter.NeededWalk.{FindsPast, Leaves, as_needed};
 ghost use Rattle.regex_lite_syntax.specs.Prefilter.Starts.{ReadsAmong, begins_with};
 
 use crate::class::Class;
 use crate::hir::Hir;
 use crate::prefilter::starts::Starts;
+use crate::prefilter::words::few_words::{FewWords, MOST};
 use crate::prefilter::words::letter::Letter;
 use crate::prefilter::words::pair::rank_of;
 use crate::prefilter::words::short_word::ShortWord;
@@ -19,15 +21,21 @@ use crate::prefilter::words::spelling::letter_of;
 /// A letter of a greater rank rules out too little by itself.
 const COMMON: u8 = 8;
 
+/// And so does one of a greater rank than this, if it is one of several.
+const COMMON_AMONG_SEVERAL: u8 = 6;
+
 /// Behind as many letters no more parts are looked at, so that a long pattern costs little.
 const LOOKED_AT: usize = 128;
 
-/// The words that stand in each match of the parts over which the walk has gone.
+/// How many branches are looked at, so that many of them, or those in others, cost little.
+const BRANCHES: usize = 16;
+
+/// The words of which one stands in each match of the parts over which the walk has gone.
 #[derive(Drop)]
 pub(crate) struct NeededWalk {
-    /// The best of them so far. It has no letters if there is none.
-    best: ShortWord,
-    /// The rank of its rarest letter.
+    /// The best of them so far: a word without letters if none is known.
+    best: FewWords,
+    /// The rank of the rarest letter of each, or the greatest of these.
     best_rank: u8,
     /// The letters with which these parts end.
     row: ShortWord,
@@ -35,7 +43,9 @@ pub(crate) struct NeededWalk {
     row_rank: u8,
     /// How many letters more are looked at.
     left: usize,
-    /// The characters that may stand before the best word.
+    /// How many branches more are.
+    branches: usize,
+    /// The characters that may stand before the best words.
     best_lead: Starts,
     /// Those that may stand before the row.
     row_lead: Starts,
@@ -43,28 +53,25 @@ pub(crate) struct NeededWalk {
     read: Starts,
 }
 
+/// Words of which each match of some branches has one, and what may stand before them.
+#[derive(Drop)]
+struct BranchWords {
+    words: FewWords,
+    /// The greatest rank of a branch's best words.
+    rank: u8,
+    lead: Starts,
+}
+
 impl NeededWalk {
-    /// A word that each match of the tree has, and the characters that may stand before it. None
-    /// if none is known that is rare enough.
-    pub(super) fn of(hir: &Hir) -> Option<(ShortWord, Starts)>
-        ensures some { IfSome result (λ told. 0 < length told.0) }
+    /// Words of which each match of the tree has one, and the characters that may stand before it.
+    /// None if none are known that are rare enough.
+    pub(super) fn of(hir: &Hir) -> Option<(FewWords, Starts)>
         ensures needed { IfSome result
             (λ told. IsNeededBy (tree_of hir.now) (as_needed told.0 told.1)) }
     {
-        let mut walk = NeededWalk {
-            best: ShortWord::new(),
-            best_rank: u8::MAX,
-            row: ShortWord::new(),
-            row_rank: u8::MAX,
-            left: LOOKED_AT,
-            best_lead: Starts::nowhere(),
-            row_lead: Starts::nowhere(),
-            read: Starts::nowhere(),
-        };
-        walk.visit(hir);
-        walk.end_row();
-        let len = walk.best.len();
-        if len == 0 || (len == 1 && walk.best_rank > COMMON) {
+        let mut walk = NeededWalk::new(BRANCHES);
+        walk.go_over(hir);
+        if !walk.is_rare() {
             return None;
         }
         let NeededWalk {
@@ -73,6 +80,43 @@ impl NeededWalk {
             ..
         } = walk;
         Some((best, best_lead))
+    }
+
+    /// A walk that has gone over nothing, and looks at so many branches.
+    fn new(branches: usize) -> NeededWalk {
+        NeededWalk {
+            best: FewWords::new(),
+            best_rank: u8::MAX,
+            row: ShortWord::new(),
+            row_rank: u8::MAX,
+            left: LOOKED_AT,
+            branches,
+            best_lead: Starts::nowhere(),
+            row_lead: Starts::nowhere(),
+            read: Starts::nowhere(),
+        }
+    }
+
+    /// Goes over this tree alone, whatever it has gone over before.
+    #[cycle(visit)]
+    fn go_over(&mut self, hir: &Hir)
+        ensures { IsNeededBy (tree_of hir.now) (as_needed self.new.best self.new.best_lead) }
+    {
+        self.row.clear();
+        self.row_rank = u8::MAX;
+        self.best.set_to_one(&self.row);
+        self.best_rank = u8::MAX;
+        self.left = LOOKED_AT;
+        self.read.set_to(&Starts::nowhere());
+        self.row_lead.set_to(&Starts::nowhere());
+        self.visit(hir);
+        self.end_row();
+    }
+
+    /// Whether the best words rule out enough.
+    fn is_rare(&self) -> bool {
+        let len = self.best.shortest();
+        len > 1 || (len == 1 && self.best_rank <= COMMON)
     }
 
     /// Goes over the tree.
@@ -98,7 +142,10 @@ impl NeededWalk {
             }
             Hir::Capture { body, .. } => self.visit(body),
             Hir::Concat(parts) => self.visit_parts(parts),
-            Hir::Alternation(_) => self.leave(hir),
+            Hir::Alternation(branches) => {
+                self.choose_among(branches);
+                self.leave(hir);
+            }
         }
     }
 
@@ -137,6 +184,56 @@ impl NeededWalk {
         if most != Some(least) {
             self.end_row();
         }
+    }
+
+    /// Takes words of these branches, one of which comes next, for the best ones, if each branch
+    /// has some, and they are rarer.
+    #[cycle(visit)]
+    fn choose_among(&mut self, branches: &[Hir])
+        ensures { Chooses (alternation (trees (map tree_of branches.now))) self.old self.new }
+    {
+        let Some(found) = NeededWalk::words_of(branches, &mut self.branches) else {
+            return;
+        };
+        if found.rank < self.best_rank {
+            self.best = found.words;
+            self.best_rank = found.rank;
+            self.best_lead.set_to(&self.read);
+            self.best_lead.add_starts(&found.lead);
+        }
+    }
+
+    /// Words of which each match of these branches has one. None if some branch has none that are
+    /// rare enough, or if there are too many of them, or more branches than are left to look at.
+    #[cycle(visit)]
+    fn words_of(branches: &[Hir], left: &mut usize) -> Option<BranchWords>
+        ensures { IfSome result
+            (λ found. IsNeededBy (alternation (trees (map tree_of branches.now)))
+            (as_needed found.words found.lead)) }
+    {
+        if branches.len() > MOST || branches.len() > *left {
+            return None;
+        }
+        let mut found = BranchWords {
+            words: FewWords::new(),
+            rank: 0,
+            lead: Starts::nowhere(),
+        };
+        let mut walk = NeededWalk::new(*left);
+        for branch in branches {
+            walk.branches = walk.branches.saturating_sub(1);
+            walk.go_over(branch);
+            *left = walk.branches;
+            if !walk.is_rare() || !found.words.add_all(&walk.best) {
+                return None;
+            }
+            found.rank = found.rank.max(walk.best_rank);
+            found.lead.add_starts(&walk.best_lead);
+        }
+        if found.words.shortest() == 1 && found.rank > COMMON_AMONG_SEVERAL {
+            return None;
+        }
+        Some(found)
     }
 
     /// Goes over a character of the set.
@@ -205,9 +302,9 @@ impl NeededWalk {
     fn end_row(&mut self)
         ensures { EndsRow self.old self.new }
     {
-        let is_longer = self.row.len() > self.best.len();
+        let is_longer = self.row.len() > self.best.shortest();
         if self.row_rank < self.best_rank || (self.row_rank == self.best_rank && is_longer) {
-            std::mem::swap(&mut self.best, &mut self.row);
+            self.best.set_to_one(&self.row);
             self.best_rank = self.row_rank;
             std::mem::swap(&mut self.best_lead, &mut self.row_lead);
         }

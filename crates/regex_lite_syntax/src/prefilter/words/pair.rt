@@ -1,6 +1,6 @@
 //! A search for one word by its two rarest letters.
-ghost use Rattle.std.specs.Prelude.{◌≡◌, ◌<◌, ◌≤◌, ◌+◌, ◌∷◌, [], ℕ, MatchOption, false, length};
-ghost use Rattle.std.specs.Prelude.{slice_index};
+ghost use Rattle.std.specs.Prelude.{◌≡◌, ◌<◌, ◌≤◌, ◌+◌, ◌∷◌, [], ℕ, IfSome, MatchOption, false};
+ghost use Rattle.std.specs.Prelude.{length, slice_index};
 ghost use Rattle.regex_lite_syntax.specs.Prefilter.Words.{AnyStandsAt, IsLetter, NoneStands};
 
 use crate::prefilter::words::frequency::frequency;
@@ -27,6 +27,14 @@ pub(super) struct Pair {
 }
 
 impl Pair {
+    /// That of a word's first letter alone.
+    pub(super) fn of_first() -> Pair {
+        Pair {
+            first: 0,
+            second: 0,
+        }
+    }
+
     /// That of the word.
     ///
     /// Condition: it has a letter.
@@ -66,8 +74,7 @@ impl Pair {
     }
 
     /// The first offset from this one on at which the word stands.
-    // Not inlined, since the loop of a search is so large that this one would lose its registers.
-    #[inline(never)]
+    #[inline(always)]
     pub(super) fn find(self, word: &[Letter], bytes: &[u8], from: usize) -> Option<usize>
         requires from { from ≤ length bytes.now }
         requires first { self.first < length word.now }
@@ -77,10 +84,33 @@ impl Pair {
             (λ at. (from ≤ at) × NoneStands (word.now ∷ []) bytes.now from at
             × AnyStandsAt (word.now ∷ []) bytes.now at) }
     {
+        self.find_below(word, bytes, from, bytes.len())
+    }
+
+    /// The first offset from the first of these on, and before the second, at which the word
+    /// stands.
+    // Not inlined, since the loop of a search is so large that this one would lose its registers.
+    #[inline(never)]
+    pub(super) fn find_below(
+        self,
+        word: &[Letter],
+        bytes: &[u8],
+        from: usize,
+        limit: usize,
+    ) -> Option<usize>
+        requires order { from ≤ limit }
+        requires inside { limit ≤ length bytes.now }
+        requires first { self.first < length word.now }
+        requires second { self.second < length word.now }
+        ensures next { MatchOption result (NoneStands (word.now ∷ []) bytes.now from limit)
+            (λ at. (from ≤ at) × NoneStands (word.now ∷ []) bytes.now from at
+            × AnyStandsAt (word.now ∷ []) bytes.now at) }
+        ensures before { IfSome result (λ at. at < limit) }
+    {
         if bytes.len() - from < word.len() {
             return None;
         }
-        let end = bytes.len() - word.len() + 1;
+        let end = (bytes.len() - word.len() + 1).min(limit);
         if end - from >= BLOCK {
             self.find_in_blocks::<BLOCK>(word, bytes, from, end)
         } else {
@@ -102,9 +132,10 @@ impl Pair {
         requires room { end + length word.now ≤ length bytes.now + 1 }
         requires first { self.first < length word.now }
         requires second { self.second < length word.now }
-        ensures { MatchOption result (NoneStands (word.now ∷ []) bytes.now from end)
+        ensures next { MatchOption result (NoneStands (word.now ∷ []) bytes.now from end)
             (λ at. (from ≤ at) × NoneStands (word.now ∷ []) bytes.now from at
             × AnyStandsAt (word.now ∷ []) bytes.now at) }
+        ensures before { IfSome result (λ at. at < end) }
     {
         let mut at = from;
         'blocks: while end - at >= N {
@@ -150,9 +181,10 @@ impl Pair {
         requires room { end + length word.now ≤ length bytes.now + 1 }
         requires first { self.first < length word.now }
         requires second { self.second < length word.now }
-        ensures { MatchOption result (NoneStands (word.now ∷ []) bytes.now from end)
+        ensures next { MatchOption result (NoneStands (word.now ∷ []) bytes.now from end)
             (λ at. (from ≤ at) × NoneStands (word.now ∷ []) bytes.now from at
             × AnyStandsAt (word.now ∷ []) bytes.now at) }
+        ensures before { IfSome result (λ at. at < end) }
     {
         let (a, b) = (word[self.first], word[self.second]);
         // Where the word was last found not to stand.

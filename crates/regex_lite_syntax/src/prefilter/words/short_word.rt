@@ -74,4 +74,12 @@ impl ShortWord {
     {
         self.len = 0;
     }
+
+    /// Becomes the same as the other.
+    pub(super) fn set_to(&mut self, other: &ShortWord)
+        ensures { self.new ≡ other.now }
+    {
+        self.letters = other.letters;
+        self.len = other.len;
+    }
 }

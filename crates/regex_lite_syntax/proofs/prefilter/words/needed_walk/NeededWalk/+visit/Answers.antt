@@ -1,16 +1,23 @@
 use Rattle.regex_lite_syntax.proofs.Common.{◌≡◌, ◌+◌, ◌∙◌, Bool, false, true, false≢true, refl}
 use Rattle.regex_lite_syntax.proofs.Common.{ap, arith, drop, drop_all, repetition, subst, sym}
-use Rattle.regex_lite_syntax.proofs.Common.{tree_of}
+use Rattle.regex_lite_syntax.proofs.Common.{tree_of, [], ◌∷◌, begins_with}
+use Rattle.std.proofs.Common.{encode_utf8_all}
 use Rattle.std.specs.Prelude.{not}
-use Rattle.regex_lite_syntax.specs.Prefilter.NeededWalk.{FindsPast}
-use Rattle.regex_lite_syntax.proofs.LeafLemmas.{tree_is-Char, tree_is-Repetition}
+use Rattle.regex_lite_syntax.specs.Prefilter.NeededWalk.{as_needed, Chooses, FindsPast}
+use Rattle.regex_lite_syntax.proofs.LeafLemmas.{tree_is-Alternation, tree_is-Char}
+use Rattle.regex_lite_syntax.proofs.LeafLemmas.{tree_is-Repetition}
 use Rattle.regex_lite_syntax.proofs.TreeLemmas.{trees_more, trees_of}
 use Rattle.regex_lite_syntax.proofs.prefilter.starts.ReadLemmas.{reads_passes}
-use Rattle.regex_lite_syntax.proofs.prefilter.words.NeededWalkLemmas.{all_parts_passed, finds_any}
+use Rattle.regex_lite_syntax.proofs.prefilter.words.NeededBranchLemmas.{among_first, among_second}
+use Rattle.regex_lite_syntax.proofs.prefilter.words.NeededBranchLemmas.{branch_found, EachIfLeft}
+use Rattle.regex_lite_syntax.proofs.prefilter.words.NeededBranchLemmas.{EachNeeds, needed_by_branches}
+use Rattle.regex_lite_syntax.proofs.prefilter.words.NeededBranchLemmas.{reached_behind, ReachesToo}
+use Rattle.regex_lite_syntax.proofs.prefilter.words.NeededBranchLemmas.{reaches_first, reaches_last}
+use Rattle.regex_lite_syntax.proofs.prefilter.words.NeededWalkLemmas.{all_parts_passed, chosen_first, finds_any}
 use Rattle.regex_lite_syntax.proofs.prefilter.words.NeededWalkLemmas.{all_passes_passed}
 use Rattle.regex_lite_syntax.proofs.prefilter.words.NeededWalkLemmas.{FindsPasses, pass_passed}
 use Rattle.regex_lite_syntax.proofs.prefilter.words.NeededWalkLemmas.{finds_character}
-use Rattle.regex_lite_syntax.proofs.prefilter.words.NeededWalkLemmas.{finds_passes, FindsParts}
+use Rattle.regex_lite_syntax.proofs.prefilter.words.NeededWalkLemmas.{finds_passes, FindsParts, needed_by_walk}
 use Rattle.regex_lite_syntax.proofs.prefilter.words.NeededWalkLemmas.{part_passed, parts_left}
 use Rattle.regex_lite_syntax.proofs.prefilter.words.SpellingLemmas.{same_limits}
 use Rattle.regex_lite_syntax.proofs.prefilter.words.needed_walk.NeededWalk.+visit.Goals as goal
@@ -31,8 +38,12 @@ visit-returns-in-Char t c =
 pub visit-returns-in-Alternation : goal.visit-returns-in-Alternation
 visit-returns-in-Alternation t c =
     let left = c.leave-in-Alternation in
-    finds_any (tree_of c.args.hir.now) c.args.self.now left.new.self left.ensures.reads
-    left.ensures.left
+    let tree = tree_of c.args.hir.now in
+    chosen_first tree c.args.self.now c.choose_among.new.self left.new.self
+    (subst (λ tree. Chooses tree c.args.self.now c.choose_among.new.self)
+    (sym (tree_is-Alternation _ c.in-Alternation.is c.deref-in-Alternation.ensures.value))
+    c.choose_among.ensures)
+    (finds_any tree c.choose_among.new.self left.new.self left.ensures.reads left.ensures.left)
 
 pub visit_passes-passes-preserved : goal.visit_passes-passes-preserved
 visit_passes-passes-preserved t c =
@@ -101,3 +112,65 @@ visit_parts-returns t c =
     (subst (λ left. FindsParts (trees_of hirs) left c.args.self.now c.loop-part.self)
     (ap trees_of (drop_all c.loop-part.part-index hirs (omega (arith, c.loop-part-test.false))))
     c.loop-part.invariant)
+
+pub choose_among-returns-then-found-self : goal.choose_among-returns-then-found-self
+choose_among-returns-then-found-self t c =
+    let walk = c.args.self.now in
+    let own = c.in-Some.found in
+    let lead = c.add_starts.new.self in
+    record {
+      finds = λ h bytes i j found matches. record {
+        best = reached_behind walk own.words own.lead lead bytes (encode_utf8_all (drop i h)) found
+            (λ ch is. among_first c.set_to.new.self own.lead lead c.add_starts.ensures ch
+            (ap (λ s. begins_with s ch) c.set_to.ensures ∙ is))
+            (among_second c.set_to.new.self own.lead lead c.add_starts.ensures)
+            (c.in-Some.ensures h i j matches);
+        row_at = found.row_at;
+        row = found.row;
+        behind = found.behind;
+        led = found.led;
+        read = found.read;
+      };
+      read = refl;
+    }
+
+pub go_over-returns : goal.go_over-returns
+go_over-returns t c =
+    needed_by_walk (tree_of c.args.hir.now) _ c.visit.new.self c.end_row.new.self
+    (c.set_to_one.ensures ∙ ap (λ word. word ∷ []) c.clear.ensures) c.clear.ensures
+    c.visit.ensures c.end_row.ensures
+
+pub words_of-loop-branch-init : goal.words_of-loop-branch-init
+words_of-loop-branch-init t c = λ needed more each. each
+
+pub words_of-loop-branch-preserved : goal.words_of-loop-branch-preserved
+words_of-loop-branch-preserved t c =
+    let hirs = c.args.branches.now in
+    let k = c.loop-branch.branch-index in
+    let branch = c.branch-item.result in
+    let one = trees_more hirs k branch c.loop-branch-test.true c.branch-item.is in
+    let found = c.loop-branch.found in
+    let own = c.go_over.new.self in
+    let lead = c.add_starts.new.self in
+    let all = c.if-not-add_all.ensures refl in
+    branch_found (trees_of hirs) (trees_of (drop (k + 1) hirs)) (tree_of branch)
+    (as_needed found.words found.lead) (as_needed own.best own.best_lead)
+    (as_needed c.add_all.new.self lead) c.go_over.ensures
+    (subst (λ words. ReachesToo (as_needed own.best own.best_lead) (as_needed words lead))
+    (sym all) (reaches_last own.best found.words own.best_lead lead
+    (among_second found.lead own.best_lead lead c.add_starts.ensures)))
+    (subst (λ words. ReachesToo (as_needed found.words found.lead) (as_needed words lead))
+    (sym all) (reaches_first found.words own.best found.lead lead
+    (among_first found.lead own.best_lead lead c.add_starts.ensures)))
+    (subst (λ left. EachIfLeft (trees_of hirs) left (as_needed found.words found.lead)) one
+    c.loop-branch.invariant)
+
+pub words_of-returns : goal.words_of-returns
+words_of-returns t c =
+    let hirs = c.args.branches.now in
+    let needed = as_needed c.loop-branch.found.words c.loop-branch.found.lead in
+    needed_by_branches (trees_of hirs) needed
+    (c.loop-branch.invariant needed (λ bytes from reaches. reaches)
+    (subst (λ left. EachNeeds left needed)
+    (sym (ap trees_of (drop_all c.loop-branch.branch-index hirs
+    (omega (arith, c.loop-branch-test.false))))) tt))

@@ -61,5 +61,5 @@ offsets-preserved c = record {
       ]);
 }
 
-pub returns : goal.returns
-returns c = λ at low high. c.offsets.invariant.none at low (omega arith)
+pub returns-clause-next : goal.returns-clause-next
+returns-clause-next c = λ at low high. c.offsets.invariant.none at low (omega arith)
