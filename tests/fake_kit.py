@@ -65,6 +65,7 @@ class Built(unittest.TestCase):
                 shutil.copy2(root, to)
         shutil.copytree(TOP / 'bin', self.top / 'bin')
         shutil.copytree(TOP / 'bindings' / 'c', self.top / 'bindings' / 'c')
+        shutil.copytree(TOP / 'man', self.top / 'man')
         shutil.copy2(TOP / 'crates.txt', self.top)
         (self.top / 'tests').mkdir()
         shutil.copy2(TOP / 'tests' / 'scratch.py', self.top / 'tests')
