@@ -73,6 +73,13 @@ class Answer(NamedTuple):
         return ' and '.join(words)
 
 
+def files() -> list[Path]:
+    """The files of the repository, by their paths."""
+    listed = subprocess.run(['git', 'ls-files', '--cached', '--others', '--exclude-standard'],
+                            cwd=TOP, check=True, stdout=subprocess.PIPE, encoding='utf-8')
+    return [TOP / line for line in listed.stdout.splitlines() if (TOP / line).is_file()]
+
+
 def program_files(program: str) -> dict[str, str]:
     """The files of a program of these tests, by their paths in the repository, and the file that
     lists its crates."""
