@@ -21,7 +21,7 @@ LICENCE = 'LICENSE-MIT'
 GLIBC = re.compile(r'\bGLIBC_([\d.]+)')
 STRIP = ('strip', '--enable-deterministic-archives')
 PROVED = 'What it returns is proved.'
-UNPROVED = 'This package was built without a proof, for trying it out: it promises nothing.'
+UNPROVED = 'It was built without a proof, for trying it out, and promises nothing.'
 
 
 class Commit(NamedTuple):
@@ -64,16 +64,19 @@ PACKAGES = (
             'regular expressions for untrusted patterns and texts', '''
  A library for C that searches texts for regular expressions. The time of a
  search grows linearly with the text, whatever the pattern, so that both may
- come from strangers. {said}
+ come from strangers.
  .
+ {said}
  It needs a processor of the level x86-64-v2.
 '''),
     Package(DEVELOPMENT, ('usr/include/*', f'usr/{LIBRARIES}/*', 'usr/share/man/man3/*'),
             ('docs/SYNTAX.md', 'bindings/c/example.c'),
-            f'Section: libdevel\nMulti-Arch: same\nDepends: {SHARED} (= {{version}})',
+            f'Section: libdevel\nMulti-Arch: same\nDepends: {SHARED} (= {{version}})\n'
+            f'Suggests: {PROGRAM}',
             'regular expressions for untrusted texts - development files', '''
  The header, the archive, the file for pkg-config and the manual pages of a
  library for C that searches texts for regular expressions in linear time.
+ .
  {said}
 '''),
     Package(PROGRAM, ('usr/bin/*', 'usr/share/man/man1/*'), ('docs/SYNTAX.md', 'docs/GUIDE.md'),
@@ -81,8 +84,9 @@ PACKAGES = (
             'search standard input for a regular expression', '''
  A program that finds the matches of a regular expression in its input, their
  groups or what stands between them, and replaces them. The time of a search
- grows linearly with the input, whatever the pattern. {said}
+ grows linearly with the input, whatever the pattern.
  .
+ {said}
  It needs a processor of the level x86-64-v2.
 '''),
 )

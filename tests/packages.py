@@ -260,19 +260,8 @@ def refusals(tests: Tests, clone: Clone) -> None:
                done.stdout)
 
 
-def same(tests: Tests, one: Path, other: Path) -> None:
-    """Both folders have the same packages, byte by byte."""
-    for name in sorted({path.name for folder in (one, other) for path in folder.iterdir()}):
-        pair = [folder / name for folder in (one, other)]
-        tests.note(f'{name} is the same again', all(it.is_file() for it in pair)
-                   and pair[0].read_bytes() == pair[1].read_bytes())
-
-
-def run_all(tests: Tests) -> None:
-    """Runs all of these tests."""
-    clone = Clone(tests, tests.scratch / 'clone')
-    clone.lay_out()
-    made = clone.top / 'made'  # not a part of the commit
+def made_once(tests: Tests, clone: Clone, made: Path) -> None:
+    """Packages of the clone have what they are to have, can be installed, and work."""
     done = clone.package(made)
     tests.note('bin/package', done.returncode == 0 and is_noted(clone, 'library ', 'build '),
                done.stdout)
@@ -281,20 +270,36 @@ def run_all(tests: Tests) -> None:
             print(line)
     tarball(tests, clone, made / f'regex_lite-{VERSION}-sources.tar.gz')
     debs = sorted(made.glob('*.deb'))
+    for package in debs:
+        contents(tests, package)
     if debs:
-        for package in debs:
-            contents(tests, package)
         installed(tests, debs)
     elif tests.program is not None:
         program_runs(tests, tests.program)
     for package in made.glob('*.whl'):
         wheel(tests, package, VERSION)
-    other = Clone(tests, tests.scratch / 'another' / 'place')
-    clone.git('clone', '-q', '.', other.top)
+
+
+def made_again(tests: Tests, clone: Clone, made: Path) -> None:
+    """The packages are the same, byte by byte, in another place and with other settings."""
     again = tests.scratch / 'again'
-    done = other.package('--take', again, env=ELSEWHERE, umask='077')
+    done = clone.package('--take', again, env=ELSEWHERE, umask='077')
     tests.note('bin/package --take', done.returncode == 0
                and is_noted(clone, 'library --take', 'build --take'), done.stdout)
-    same(tests, made, again)
+    for name in sorted({path.name for folder in (made, again) for path in folder.iterdir()}):
+        pair = [folder / name for folder in (made, again)]
+        tests.note(f'{name} is the same again', all(it.is_file() for it in pair)
+                   and pair[0].read_bytes() == pair[1].read_bytes())
+
+
+def run_all(tests: Tests) -> None:
+    """Runs all of these tests."""
+    clone = Clone(tests, tests.scratch / 'clone')
+    clone.lay_out()
+    other = Clone(tests, tests.scratch / 'another' / 'place')
+    clone.git('clone', '-q', '.', other.top)
+    made = clone.top / 'made'  # not a part of the commit
+    made_once(tests, clone, made)
+    made_again(tests, other, made)
     unproved(tests, clone, made)
     refusals(tests, other)
