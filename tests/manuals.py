@@ -16,6 +16,7 @@ COMMENT = re.compile(r'/\*.*?\*/', re.DOTALL)
 PROTOTYPE = re.compile(r'^(\w+) (regex_lite_\w+)\((.*?)\);', re.DOTALL | re.MULTILINE)
 OWN_NAME = re.compile(r'\b(?:REGEX_LITE|regex_lite)_\w+')
 GUARD = 'REGEX_LITE_H'
+STRUCT = re.compile(r'^typedef struct (\w+) \{\n(.*?)^\} \1;$', re.DOTALL | re.MULTILINE)
 FUNCTION = re.compile(r'^\.Ft (\w+)\n\.Fo (\w+)\n((?:\.Fa .*\n)*)\.Fc$', re.MULTILINE)
 ARGUMENT = re.compile(r'"([^"]*)"')
 EXAMPLES = re.compile(r'^\.Sh EXAMPLES\n(.*?)(?=^\.Sh )', re.DOTALL | re.MULTILINE)
@@ -72,6 +73,15 @@ def functions() -> Iterator[tuple[str, bool]]:
     for function in sorted(declared.union(shown)):
         yield (f'{function} is not declared both in {HEADER.name} and, once, in a manual page',
                function in declared and shown.count(function) == 1)
+
+
+def structs() -> Iterator[tuple[str, bool]]:
+    """Each struct that a page shows, with whether the header declares it like that."""
+    declared = {name: body.split() for name, body in STRUCT.findall(code_of_header())}
+    for page in MANUALS:
+        shown = STRUCT.findall(COMMENT.sub('', page.read_text(encoding='utf-8')))
+        for name, body in shown:
+            yield f'{page.name} shows another {name}', declared.get(name) == body.split()
 
 
 def names() -> Iterator[tuple[str, bool]]:
@@ -139,6 +149,7 @@ def complaints() -> Iterator[tuple[str, bool]]:
 def checks() -> Iterator[tuple[str, bool]]:
     """All that is to hold of the pages: what is wrong where it doesn't, and whether it does."""
     yield from functions()
+    yield from structs()
     yield from names()
     yield from title_has_functions()
     yield from program()
