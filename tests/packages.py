@@ -1,8 +1,6 @@
 """Tests of the packages that bin/package makes: that the same commit gives the same bytes, that
-each package can be installed and works there, and that one without a proof says so.
-
-They are made in clones of the working tree, in which the two builds are stand-ins: these copy the
-library and the program that have been built already."""
+each package can be installed and works there, and that one without a proof says so. They are made
+in clones of the working tree, of the library and the program that have been built already."""
 
 import gzip
 import io
@@ -17,29 +15,13 @@ from typing import Optional, Protocol, Union
 
 import c_library
 import manuals
-from scratch import TOP, files, write_script
+from clones import TIME, Clone
+from scratch import TOP
 
 sys.path.insert(0, str(TOP / 'bindings' / 'python' / 'tests'))
 from test_installed import OFFLINE, PIP, SEARCH, builder, run
 
 Word = Union[str, Path]  # of a command
-# The stand-ins copy what has been built, and note how they were called.
-LIBRARY = '''#!/bin/sh
-set -eu
-[ "$1" != --install ] || exec "${0%/*}/installs" "$@"
-echo "library ${2:+$1}" >>"$NOTED"
-while [ $# -gt 1 ]; do shift; done
-cp -a "$BUILT" "$1"
-'''
-BUILD = '''#!/bin/sh
-set -eu
-echo "build ${1-}" >>"$NOTED"
-echo "$PROGRAM"
-'''
-TIME = 1796109026  # of the commit
-WHO = {name: value for who in ('AUTHOR', 'COMMITTER') for name, value in (
-    (f'GIT_{who}_NAME', 'A Packer'), (f'GIT_{who}_EMAIL', 'packer@example.org'),
-    (f'GIT_{who}_DATE', f'{TIME} +0900'))}
 # How else the second packages are made.
 ELSEWHERE = {'TZ': 'Pacific/Chatham', 'LC_ALL': 'C', 'XZ_DEFAULTS': '--threads=3'}
 VERSION = c_library.output('sed', '-n', 's/^#define REGEX_LITE_VERSION "\\(.*\\)"$/\\1/p',
@@ -55,6 +37,10 @@ INSTALLED = {
     'rxl': {'usr/bin/rxl', 'usr/share/man/man1/rxl.1.gz'},
 }
 DOCUMENTS = ('copyright', 'changelog.gz', 'changelog.Debian.gz')  # of each of them
+# What the environment may name, and what packages say then.
+NAMED = {'SOURCE_DATE_EPOCH': '1000000000', 'DEBFULLNAME': 'B. Uilder',
+         'DEBEMAIL': 'builder@example.org'}
+NAMED_TIME, NAMED_MAINTAINER = ' 2001-09-0', 'B. Uilder <builder@example.org>'
 # What dpkg is told of the machine: the version of its C library.
 STATUS = '''Package: libc6
 Status: install ok installed
@@ -70,43 +56,6 @@ class Tests(c_library.Tests, Protocol):
     """Who counts the tests, with the program that has been built too."""
 
     program: Optional[Path]  # there is one where these tests run
-
-
-class Clone:
-    """A clone of the working tree as a commit, with the stand-ins."""
-
-    def __init__(self, tests: Tests, top: Path) -> None:
-        self.top = top
-        self.noted = tests.scratch / 'noted'
-        self.env = {**os.environ, **WHO, 'BUILT': str(tests.built), 'PROGRAM': str(tests.program),
-                    'NOTED': str(self.noted)}
-
-    def git(self, *words: Word) -> str:
-        """What git prints."""
-        return subprocess.run(['git', *words], check=True, cwd=self.top, env=self.env,
-                              stdout=subprocess.PIPE, encoding='utf-8').stdout
-
-    def lay_out(self) -> None:
-        """Writes the files, and makes the commit."""
-        for file in files():
-            target = self.top / file.relative_to(TOP)
-            target.parent.mkdir(parents=True, exist_ok=True)
-            shutil.copy2(file, target)
-        scripts = self.top / 'bin'
-        (scripts / 'library').rename(scripts / 'installs')
-        write_script(scripts / 'library', LIBRARY)
-        write_script(scripts / 'build', BUILD)
-        self.git('init', '-q', '-b', 'main')
-        self.git('add', '-A')
-        self.git('commit', '-q', '-m', 'Pack')
-
-    def package(self, *words: Word, env: Optional[dict[str, str]] = None,
-                umask: str = '022') -> 'subprocess.CompletedProcess[str]':
-        """Makes packages."""
-        return subprocess.run(['sh', '-c', f'umask {umask}; exec "$@"', 'sh',
-                               self.top / 'bin' / 'package', *words], check=False,
-                              env={**self.env, **(env or {})}, stdout=subprocess.PIPE,
-                              stderr=subprocess.STDOUT, encoding='utf-8')
 
 
 def content(archive: tarfile.TarFile, member: tarfile.TarInfo) -> bytes:
@@ -198,7 +147,10 @@ def installed(tests: Tests, packages: Sequence[Path]) -> None:
 
 def program_runs(tests: Tests, program: Path) -> None:
     """The examples of the manual page of rxl print what it says."""
-    env = {**os.environ, 'PATH': f'{program.parent}{os.pathsep}{os.environ["PATH"]}'}
+    folder = tests.scratch / 'path'
+    folder.mkdir()
+    (folder / 'rxl').symlink_to(program)
+    env = {**os.environ, 'PATH': f'{folder}{os.pathsep}{os.environ["PATH"]}'}
     for command, printed in manuals.runs(manuals.PROGRAM):
         tests.run(f'an example of rxl(1): {command}', ['sh', '-euc', command], printed,
                   cwd=tests.scratch, env=env)
@@ -218,21 +170,18 @@ def wheel(tests: Tests, package: Path, version: str) -> None:
     shutil.rmtree(target, ignore_errors=True)
 
 
-def is_noted(clone: Clone, *calls: str) -> bool:
-    """Whether the builds have been called like this, and nothing else has."""
-    noted = clone.noted.read_text(encoding='utf-8').splitlines()
-    clone.noted.unlink()
-    return noted == list(calls)
-
-
 def unproved(tests: Tests, clone: Clone, made: Path) -> None:
-    """Packages without a proof say so, and one with a proof is an upgrade of them."""
-    done = clone.package('--try', made)
+    """Packages without a proof say so, and one with a proof is an upgrade of them. These have the
+    time and the maintainer that the environment names."""
+    done = clone.package('--try', made, env=NAMED)
     tests.note('bin/package --try', done.returncode == 0
-               and is_noted(clone, 'library --try', 'build --try'), done.stdout)
+               and clone.has_noted('library --try', 'build --try'), done.stdout)
     for package in made.glob('*unproved*.deb'):
-        version, text = (c_library.output('dpkg-deb', '-f', package, name).strip()
-                         for name in ('Version', 'Description'))
+        version, text, who = (c_library.output('dpkg-deb', '-f', package, name).strip()
+                              for name in ('Version', 'Description', 'Maintainer'))
+        listed = c_library.output('dpkg-deb', '-c', package).splitlines()
+        tests.note(f'time and maintainer of {package.name}', who == NAMED_MAINTAINER
+                   and all(NAMED_TIME in line for line in listed), who)
         tests.note(f'{package.name} says that it is unproved',
                    '~unproved' in package.name and '(unproved)\n' in text
                    and 'built without a proof' in text and 'is proved' not in text, text)
@@ -263,7 +212,7 @@ def refusals(tests: Tests, clone: Clone) -> None:
 def made_once(tests: Tests, clone: Clone, made: Path) -> None:
     """Packages of the clone have what they are to have, can be installed, and work."""
     done = clone.package(made)
-    tests.note('bin/package', done.returncode == 0 and is_noted(clone, 'library ', 'build '),
+    tests.note('bin/package', done.returncode == 0 and clone.has_noted('library ', 'build '),
                done.stdout)
     for line in done.stdout.splitlines():
         if 'left out' in line:
@@ -285,7 +234,7 @@ def made_again(tests: Tests, clone: Clone, made: Path) -> None:
     again = tests.scratch / 'again'
     done = clone.package('--take', again, env=ELSEWHERE, umask='077')
     tests.note('bin/package --take', done.returncode == 0
-               and is_noted(clone, 'library --take', 'build --take'), done.stdout)
+               and clone.has_noted('library --take', 'build --take'), done.stdout)
     for name in sorted({path.name for folder in (made, again) for path in folder.iterdir()}):
         pair = [folder / name for folder in (made, again)]
         tests.note(f'{name} is the same again', all(it.is_file() for it in pair)
@@ -294,9 +243,9 @@ def made_again(tests: Tests, clone: Clone, made: Path) -> None:
 
 def run_all(tests: Tests) -> None:
     """Runs all of these tests."""
-    clone = Clone(tests, tests.scratch / 'clone')
+    clone, other = (Clone(tests.scratch / name, tests.built, tests.program, tests.scratch / 'noted')
+                    for name in ('clone', 'another/place'))
     clone.lay_out()
-    other = Clone(tests, tests.scratch / 'another' / 'place')
     clone.git('clone', '-q', '.', other.top)
     made = clone.top / 'made'  # not a part of the commit
     made_once(tests, clone, made)
