@@ -192,10 +192,12 @@ impl NeededWalk {
     fn choose_among(&mut self, branches: &[Hir])
         ensures { Chooses (alternation (trees (map tree_of branches.now))) self.old self.new }
     {
-        let Some(found) = NeededWalk::words_of(branches, &mut self.branches) else {
+        let most = self.best_rank.min(self.row_rank);
+        let Some(found) = NeededWalk::words_of(branches, most, &mut self.branches) else {
             return;
         };
-        if found.rank < self.best_rank {
+        // What matches begin with isn't needed, as `Needed::of` says.
+        if self.read.any || found.lead.any {
             self.best = found.words;
             self.best_rank = found.rank;
             self.best_lead.set_to(&self.read);
@@ -203,15 +205,16 @@ impl NeededWalk {
         }
     }
 
-    /// Words of which each match of these branches has one. None if some branch has none that are
-    /// rare enough, or if there are too many of them, or more branches than are left to look at.
+    /// Words of which each match of these branches has one, of a lower rank than this. None if some
+    /// branch has none that are rare enough, or if there are too many of them, or more branches
+    /// than are left to look at.
     #[cycle(visit)]
-    fn words_of(branches: &[Hir], left: &mut usize) -> Option<BranchWords>
+    fn words_of(branches: &[Hir], most: u8, left: &mut usize) -> Option<BranchWords>
         ensures { IfSome result
             (λ found. IsNeededBy (alternation (trees (map tree_of branches.now)))
             (as_needed found.words found.lead)) }
     {
-        if branches.len() > MOST || branches.len() > *left {
+        if branches.len() > MOST || branches.len() > *left || !may_have_words(branches) {
             return None;
         }
         let mut found = BranchWords {
@@ -224,7 +227,7 @@ impl NeededWalk {
             walk.branches = walk.branches.saturating_sub(1);
             walk.go_over(branch);
             *left = walk.branches;
-            if !walk.is_rare() || !found.words.add_all(&walk.best) {
+            if !walk.is_rare() || walk.best_rank >= most || !found.words.add_all(&walk.best) {
                 return None;
             }
             found.rank = found.rank.max(walk.best_rank);
@@ -311,5 +314,40 @@ impl NeededWalk {
         self.row_lead.set_to(&self.read);
         self.row.clear();
         self.row_rank = u8::MAX;
+    }
+}
+
+/// Whether each of these branches may have a word. Asked first, since many have none, such as those
+/// of numbers.
+fn may_have_words(branches: &[Hir]) -> bool {
+    for branch in branches {
+        let may_have = match branch {
+            Hir::Concat(parts) => any_may_have_word(parts),
+            _ => may_have_word(branch),
+        };
+        if !may_have {
+            return false;
+        }
+    }
+    true
+}
+
+/// Whether one of these parts may have a word.
+fn any_may_have_word(parts: &[Hir]) -> bool {
+    for part in parts {
+        if may_have_word(part) {
+            return true;
+        }
+    }
+    false
+}
+
+/// Whether the tree may have a word. It isn't looked into.
+fn may_have_word(hir: &Hir) -> bool {
+    match hir {
+        Hir::Empty | Hir::Look(_) => false,
+        Hir::Class(set) => letter_of(set).is_some(),
+        Hir::Repetition { least, .. } => *least > 0,
+        _ => true,
     }
 }

@@ -113,8 +113,8 @@ visit_parts-returns t c =
     (ap trees_of (drop_all c.loop-part.part-index hirs (omega (arith, c.loop-part-test.false))))
     c.loop-part.invariant)
 
-pub choose_among-returns-then-found-self : goal.choose_among-returns-then-found-self
-choose_among-returns-then-found-self t c =
+pub choose_among-returns-then-self : goal.choose_among-returns-then-self
+choose_among-returns-then-self t c =
     let walk = c.args.self.now in
     let own = c.in-Some.found in
     let lead = c.add_starts.new.self in
