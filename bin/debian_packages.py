@@ -74,8 +74,8 @@ PACKAGES = (
             f'Section: libdevel\nMulti-Arch: same\nDepends: {SHARED} (= {{version}})\n'
             f'Suggests: {PROGRAM}',
             'regular expressions for untrusted texts - development files', '''
- The header, the archive, the file for pkg-config and the manual pages of a
- library for C that searches texts for regular expressions in linear time.
+ The headers for C and C++, the archive, the file for pkg-config and the manual
+ pages of a library that searches texts for regular expressions in linear time.
  .
  {said}
 '''),

@@ -64,7 +64,8 @@ class Built(unittest.TestCase):
                 to.parent.mkdir(parents=True, exist_ok=True)
                 shutil.copy2(root, to)
         shutil.copytree(TOP / 'bin', self.top / 'bin')
-        shutil.copytree(TOP / 'bindings' / 'c', self.top / 'bindings' / 'c')
+        for binding in ('c', 'cpp'):
+            shutil.copytree(TOP / 'bindings' / binding, self.top / 'bindings' / binding)
         shutil.copytree(TOP / 'man', self.top / 'man')
         shutil.copy2(TOP / 'crates.txt', self.top)
         (self.top / 'tests').mkdir()
