@@ -2,25 +2,29 @@
 
 from __future__ import annotations
 
+import copyreg
 import operator
-from typing import Dict, Iterator, List, Optional, Tuple, Union
+from typing import Any, Callable, Dict, Iterator, List, Optional, Tuple, Union
 
 from ._departures import warn_of_departures
 from ._flags import NEST_LIMIT, SIZE_LIMIT
-from ._library import encoded, escaped
+from ._foreign import encoded, escaped
 from ._matches import Match
 from ._patterns import Pattern, Replacement
+from ._templates import forget_templates
 
 MOST_CACHED = 512  # patterns
 MOST_OF_CACHED = 4096  # places of a pattern that is remembered, and its characters
+_GAPS = str.maketrans({gap: f'\\{gap}' for gap in ' \t\n\r\v\f'})
 
+Source = Union[str, Pattern[str]]
 # The type is a part of the key, so that text and bytes are never compared.
-Key = Tuple[type, Union[str, Pattern], int]
-_cache: Dict[Key, Pattern] = {}
+Key = Tuple[type, str, int]
+_cache: Dict[Key, Pattern[str]] = {}
 
 
-def compile(pattern: Union[str, Pattern], flags: int = 0, *, nest_limit: Optional[int] = None,
-            size_limit: Optional[int] = None) -> Pattern:
+def compile(pattern: Source, flags: int = 0, *, nest_limit: Optional[int] = None,
+            size_limit: Optional[int] = None) -> Pattern[str]:
     """The pattern, ready to be searched for. Without limits it may be the one that an earlier call
     has returned: the last 512 patterns are remembered, but for very large ones.
 
@@ -31,32 +35,43 @@ def compile(pattern: Union[str, Pattern], flags: int = 0, *, nest_limit: Optiona
         return _compiled(pattern, flags)
     if isinstance(pattern, Pattern):
         raise ValueError('cannot process limits with a compiled pattern')
-    new = Pattern(pattern, flags, nest_limit=NEST_LIMIT if nest_limit is None else nest_limit,
-                  size_limit=SIZE_LIMIT if size_limit is None else size_limit)
+    new: Pattern[str] = Pattern(
+        pattern, flags, nest_limit=NEST_LIMIT if nest_limit is None else nest_limit,
+        size_limit=SIZE_LIMIT if size_limit is None else size_limit)
     warn_of_departures(pattern, flags, 2)
     return new
 
 
-def _compiled(pattern: Union[str, Pattern], flags: int) -> Pattern:
+def purge() -> None:
+    """Forgets all patterns that the module remembers."""
+    _cache.clear()
+    forget_templates()
+
+
+def _compiled(pattern: Source, flags: int) -> Pattern[str]:
     """The pattern, ready to be searched for, and remembered. Called by what users call, since a
     warning points at the caller of that."""
     if flags.__class__ is not int:
         flags = int(operator.index(flags))
-    key = (pattern.__class__, pattern, flags)
-    known = _cache.get(key)
-    if known is not None:
-        return known
     if isinstance(pattern, Pattern):
         if flags:
             raise ValueError('cannot process flags argument with a compiled pattern')
         return pattern
-    new = Pattern(pattern, flags)
+    key = (pattern.__class__, pattern, flags)
+    try:
+        known = _cache.get(key)
+    except TypeError:  # what can't be a key is no str
+        encoded(pattern)
+        raise
+    if known is not None:
+        return known
+    new: Pattern[str] = Pattern(pattern, flags)
     warn_of_departures(pattern, flags, 3)
     _remember(key, new)
     return new
 
 
-def _remember(key: Key, new: Pattern) -> None:
+def _remember(key: Key, new: Pattern[str]) -> None:
     """Puts a pattern into the cache, in the place of the oldest one if that is full. Strangers can
     write patterns that take 10 MB each, so none of these is remembered."""
     if max(len(new.pattern), new._regex.places) > MOST_OF_CACHED:
@@ -69,50 +84,68 @@ def _remember(key: Key, new: Pattern) -> None:
     _cache[key] = new
 
 
-def search(pattern: Union[str, Pattern], string: str, flags: int = 0) -> Optional[Match]:
+def _pickled(pattern: Pattern[str]) -> Tuple[Callable[..., Pattern[str]], Tuple[object, ...]]:
+    """How `pickle` makes a pattern anew."""
+    return _unpickled, (pattern.pattern, int(pattern.flags), *pattern._limits)
+
+
+def _unpickled(pattern: str, flags: int, nest_limit: int, size_limit: int) -> Pattern[str]:
+    """The pattern, which may be the one that is remembered. Nothing is warned of again."""
+    if (nest_limit, size_limit) != (NEST_LIMIT, SIZE_LIMIT):
+        return Pattern(pattern, flags, nest_limit=nest_limit, size_limit=size_limit)
+    key = (str, pattern, flags)
+    known = _cache.get(key)
+    if known is None:
+        known = Pattern(pattern, flags)
+        _remember(key, known)
+    return known
+
+
+copyreg.pickle(Pattern, _pickled)
+
+
+def search(pattern: Source, string: str, flags: int = 0) -> Optional[Match[str]]:
     """`Pattern.search`."""
     return _compiled(pattern, flags).search(string)
 
 
-def match(pattern: Union[str, Pattern], string: str, flags: int = 0) -> Optional[Match]:
+def match(pattern: Source, string: str, flags: int = 0) -> Optional[Match[str]]:
     """`Pattern.match`."""
     return _compiled(pattern, flags).match(string)
 
 
-def fullmatch(pattern: Union[str, Pattern], string: str, flags: int = 0) -> Optional[Match]:
+def fullmatch(pattern: Source, string: str, flags: int = 0) -> Optional[Match[str]]:
     """`Pattern.fullmatch`."""
     return _compiled(pattern, flags).fullmatch(string)
 
 
-def finditer(pattern: Union[str, Pattern], string: str, flags: int = 0) -> Iterator[Match]:
+def finditer(pattern: Source, string: str, flags: int = 0) -> Iterator[Match[str]]:
     """`Pattern.finditer`."""
     return _compiled(pattern, flags).finditer(string)
 
 
-def findall(pattern: Union[str, Pattern], string: str,
-            flags: int = 0) -> List[Union[str, Tuple[str, ...]]]:
+def findall(pattern: Source, string: str, flags: int = 0) -> List[Any]:
     """`Pattern.findall`."""
     return _compiled(pattern, flags).findall(string)
 
 
-def split(pattern: Union[str, Pattern], string: str, maxsplit: int = 0,
-          flags: int = 0) -> List[Optional[str]]:
+def split(pattern: Source, string: str, maxsplit: int = 0,
+          flags: int = 0) -> List[Union[str, Any]]:
     """`Pattern.split`."""
     return _compiled(pattern, flags).split(string, maxsplit)
 
 
-def sub(pattern: Union[str, Pattern], repl: Replacement, string: str, count: int = 0,
-        flags: int = 0) -> str:
+def sub(pattern: Source, repl: Replacement, string: str, count: int = 0, flags: int = 0) -> str:
     """`Pattern.sub`."""
     return _compiled(pattern, flags).sub(repl, string, count)
 
 
-def subn(pattern: Union[str, Pattern], repl: Replacement, string: str, count: int = 0,
+def subn(pattern: Source, repl: Replacement, string: str, count: int = 0,
          flags: int = 0) -> Tuple[str, int]:
     """`Pattern.subn`."""
     return _compiled(pattern, flags).subn(repl, string, count)
 
 
-def escape(text: str) -> str:
-    """The pattern that means this text and nothing else."""
-    return escaped(encoded(text)).decode()
+def escape(pattern: str) -> str:
+    """The pattern that means this text and nothing else, in verbose mode too."""
+    return escaped(encoded(pattern)).decode().translate(_GAPS)

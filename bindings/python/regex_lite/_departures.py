@@ -31,7 +31,7 @@ _OPERATOR = r'(?:[*+?]|\{[0-9]+(?:,[0-9]*)?\})'
 _FOREIGN = '[\x85\xa0\u1680\u2000-\u200a\u2028\u2029\u202f\u205f\u3000]'
 # A comment has one end alone, so that no search for what follows a gap tries others.
 _COMMENT = r'\#[^\n]*(?:\n|\Z)'
-_GAP = rf'(?:[ \t\n\r\v\f]|{_FOREIGN}|{_COMMENT})'
+GAP = rf'(?:[ \t\n\r\v\f]|{_FOREIGN}|{_COMMENT})'
 
 # The parts of a pattern outside classes, by their kinds, and those of verbose mode.
 _PARTS = rf'''
@@ -65,10 +65,10 @@ def _compiled(plain: str, verbose: str) -> Dict[bool, Pattern[str]]:
 _PART = _compiled(_PARTS, _GAPS)
 # The beginning of a class, after its bracket, and then one part of it.
 _HEAD = _compiled(r'\^?(?:(?P<dashes>-+)|(?P<bracket>\]))?',
-                  rf'{_GAP}*\^?{_GAP}*(?:(?P<dashes>-(?:{_GAP}*-)*)|(?P<bracket>\]))?')
+                  rf'{GAP}*\^?{GAP}*(?:(?P<dashes>-(?:{GAP}*-)*)|(?P<bracket>\]))?')
 _NAMED = r'(?P<end>\]) | (?P<named_class>\[:\^?[a-z]+:\])'
 _ITEM = _compiled(rf'{_NAMED} | (?:\\.|[^\\])(?:-(?:\\.|[^\\\]-]))?',
-                  rf'{_NAMED} | (?P<class_gap>{_GAP})'
+                  rf'{_NAMED} | (?P<class_gap>{GAP})'
                   r' | (?:\\.|[^\\])(?:-(?:\\.|[^\\\]\s\#-]))?')
 # An accepted pattern without any of these departs in none of these ways. To look for them takes a
 # small part of the time for building the pattern, and to read it all may take more.
@@ -81,6 +81,7 @@ _CLASS_WITH_GAP = re.compile(r'''\[(?<!\\\[)(?:\^?\])?
 _VERBOSE_FLAG = re.compile(r'\(\?[a-zA-Z]*x')
 _DIRECTIVE = re.compile(r'\(\?[a-zA-Z]+\)')
 _ZERO = re.compile(r'\{0+(?:,0+)?\}')
+_VERBOSE, _UNICODE = int(re.VERBOSE), int(re.UNICODE)
 # From this version on `re` refuses a directive that isn't at the start.
 _AT_START_ALONE = sys.version_info >= (3, 11)
 
@@ -109,15 +110,19 @@ class _Open(NamedTuple):
 
     verbose: bool  # as it is outside the group
     left: int  # the greatest index of a group before it that is left in the pattern
+    group: int  # its index, or 0 where it has none
 
 
 class Reader:
-    """Reads an accepted pattern from left to right, as the library does."""
+    """Reads an accepted pattern from left to right, as the library does.
+
+    `innermost` has for each group, by its index, the greatest index of one in it, or its own."""
 
     def __init__(self, pattern: str, flags: int) -> None:
         self.pattern = pattern
         self.found: List[Departure] = []
-        self._verbose = bool(flags & re.VERBOSE)
+        self.innermost = [0]
+        self.verbose = bool(int(flags) & _VERBOSE)  # as it is where the reader stands
         self._open: List[_Open] = []
         self._at_start = True
         # The number of groups, and the greatest index of one that `{0}` hasn't taken out: as it is,
@@ -129,7 +134,7 @@ class Reader:
         """The departures in the pattern."""
         pos = 0
         while pos < len(self.pattern):
-            part = _PART[self._verbose].match(self.pattern, pos)
+            part = _PART[self.verbose].match(self.pattern, pos)
             if part is None:
                 break  # a backslash at the end, which is refused
             pos = part.end()
@@ -166,7 +171,7 @@ class Reader:
 
     def _switch(self, part: re.Match[str]) -> None:
         """Goes on under other flags."""
-        self._verbose = self._with(part['letters'])
+        self.verbose = self._with(part['letters'])
         if not (self._at_start or _AT_START_ALONE):
             self._add('directive', part.start(), part.group())
 
@@ -179,35 +184,38 @@ class Reader:
     def _close(self) -> None:
         """Goes out of a group, which is the last item then."""
         if self._open:
-            self._verbose, self._left_before = self._open.pop()
+            self.verbose, self._left_before, group = self._open.pop()
+            if group:
+                self.innermost[group] = self._groups
 
     def _item(self, part: re.Match[str]) -> None:
         """Goes over something without groups, or into a group."""
         self._at_start = False
         self._left_before = self._left
         if part['flags']:
-            self._open.append(_Open(self._verbose, self._left))
-            self._verbose = self._with(part['flags'])
+            self._open.append(_Open(self.verbose, self._left, 0))
+            self.verbose = self._with(part['flags'])
         elif part['open']:
-            self._open.append(_Open(self._verbose, self._left))
             self._groups += 1
+            self._open.append(_Open(self.verbose, self._left, self._groups))
             self._left = self._groups
+            self.innermost.append(self._groups)
 
     def _with(self, flags: str) -> bool:
         """Whether verbose mode is on under the flags of a group or a directive."""
         on, _, off = flags.partition('-')
-        return 'x' in on or 'x' not in off and self._verbose
+        return 'x' in on or 'x' not in off and self.verbose
 
     def _class(self, start: int) -> int:
         """Goes over a class, after its bracket, and returns its end."""
         self._at_start = False
         self._left_before = self._left
-        head = _HEAD[self._verbose].match(self.pattern, start)
+        head = _HEAD[self.verbose].match(self.pattern, start)
         assert head is not None  # it may be empty
         self._head(head)
         pos = head.end()
         while pos < len(self.pattern):
-            item = _ITEM[self._verbose].match(self.pattern, pos)
+            item = _ITEM[self.verbose].match(self.pattern, pos)
             if item is None:
                 break  # a backslash at the end, which is refused
             pos = item.end()
@@ -237,7 +245,7 @@ def _may_depart(pattern: str, flags: int) -> bool:
     """Whether there is a sign of a departure."""
     if _SIGN.search(pattern):
         return True
-    if flags & re.VERBOSE or _VERBOSE_FLAG.search(pattern):
+    if int(flags) & _VERBOSE or _VERBOSE_FLAG.search(pattern):
         if _VERBOSE_SIGN.search(pattern) or _CLASS_WITH_GAP.search(pattern):
             return True
     return not _AT_START_ALONE and _DIRECTIVE.search(pattern, 1) is not None
@@ -252,8 +260,10 @@ def warn_of_departures(pattern: str, flags: int, stacklevel: int) -> None:
     """Warns of each way in which `re` would read an accepted pattern otherwise, once for each.
 
     `stacklevel` means what it would mean in a call of `warnings.warn` by the caller."""
-    kinds: Dict[str, Departure] = {}
+    kinds: Dict[str, str] = {}
     for departure in departures_in(pattern, flags):
-        kinds.setdefault(departure.kind, departure)
-    for departure in kinds.values():
-        warnings.warn(str(departure), DepartureWarning, stacklevel + 1)
+        kinds.setdefault(departure.kind, str(departure))
+    if int(flags) & _UNICODE:
+        kinds['unicode'] = f'the flag UNICODE {MEANINGS["unicode"]}'
+    for said in kinds.values():
+        warnings.warn(said, DepartureWarning, stacklevel + 1)

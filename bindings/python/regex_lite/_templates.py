@@ -4,35 +4,45 @@ from __future__ import annotations
 
 import re
 from functools import lru_cache
-from typing import TYPE_CHECKING, List, NamedTuple, Tuple, Union
+from typing import TYPE_CHECKING, Any, List, NamedTuple, Optional, Tuple, Union
+
+from ._errors import error
 
 if TYPE_CHECKING:
     from ._matches import Match
     from ._patterns import Pattern
 
 MOST_READ = 512  # templates that are remembered
+MOST_DIGITS = 9  # of an index that some pattern may have
 # A text, or the index of a group.
 Part = Union[str, int]
 
 _ESCAPES = {'n': '\n', 't': '\t', 'r': '\r', 'a': '\a', 'b': '\b', 'f': '\f', 'v': '\v',
             '\\': '\\'}
-_BACKSLASH = re.compile(r'\\(?:g<(?P<name>[^>]*)>|(?P<index>[1-9][0-9]?)|(?P<escape>.?))',
-                        re.DOTALL)
+_BACKSLASH = re.compile(r'''\\(?:
+    g<(?P<name>[^>]+)>
+  | (?P<octal>0[0-7]{0,2}|[1-7][0-7]{2})
+  | (?P<index>[1-9][0-9]?)
+  | (?P<escape>.?))''', re.DOTALL | re.VERBOSE)
 
 
 class Reference(NamedTuple):
-    """The index of a group, written out, or its name."""
+    """The index of a group, as it is written and as a number, or its name, and where in the
+    template it stands."""
 
     name: str
+    number: Optional[int]
+    pos: int
 
 
-def parts_of(template: str, pattern: Pattern) -> List[Part]:
-    """The texts and the groups of a template, in order."""
-    return [part if isinstance(part, str) else _index(part.name, pattern)
+def parts_of(template: str, pattern: Pattern[Any]) -> List[Part]:
+    """The texts and the groups of a template, in order. Raises `error` where the template is wrong,
+    or has an index that no group has, and IndexError for a name that none has."""
+    return [part if isinstance(part, str) else _index(part, template, pattern)
             for part in _read(template)]
 
 
-def expanded(parts: List[Part], found: Match) -> str:
+def expanded(parts: List[Part], found: Match[Any]) -> str:
     """The parts with the texts of the groups of a match."""
     return ''.join(part if isinstance(part, str) else found[part] or '' for part in parts)
 
@@ -41,6 +51,11 @@ def as_library_has_it(parts: List[Part]) -> str:
     """The parts as a template of the library, where `${1}` is a group and `$$` is a `$`."""
     return ''.join(part.replace('$', '$$') if isinstance(part, str) else f'${{{part}}}'
                    for part in parts)
+
+
+def forget_templates() -> None:
+    """Forgets the templates that have been read."""
+    _read.cache_clear()
 
 
 @lru_cache(MOST_READ)
@@ -52,20 +67,59 @@ def _read(template: str) -> Tuple[Union[str, Reference], ...]:
     for found in _BACKSLASH.finditer(template):
         texts.append(template[end:found.start()])
         end = found.end()
-        escape = found['escape']
-        if escape is None:
-            parts += [''.join(texts), Reference(found['index'] or found['name'])]
+        kind = found.lastgroup or ''
+        if kind in ('name', 'index'):
+            parts += [''.join(texts),
+                      Reference(found[kind], _number(found[kind]), found.start(kind))]
             texts = []
-        elif escape in _ESCAPES:
-            texts.append(_ESCAPES[escape])
         else:
-            raise ValueError(f'no such escape in a template: \\{escape}')
+            texts.append(_escaped(found, template))
     return (*parts, ''.join([*texts, template[end:]]))
 
 
-def _index(name: str, pattern: Pattern) -> int:
+def _escaped(found: re.Match[str], template: str) -> str:
+    """The text of an escape."""
+    octal, escape, start = found['octal'], found['escape'], found.start()
+    if octal is not None:
+        if int(octal, 8) > 0o377:
+            raise error(f'octal escape value \\{octal} outside of range 0-0o377', template, start)
+        return chr(int(octal, 8))
+    if escape == 'g':
+        raise _unfinished(template, found.end())
+    if escape == '':
+        raise error('bad escape (end of pattern)', template, start)
+    if escape not in _ESCAPES and escape.isascii() and escape.isalpha():
+        raise error(f'bad escape \\{escape}', template, start)
+    return _ESCAPES.get(escape, found.group())
+
+
+def _unfinished(template: str, pos: int) -> error:
+    """What is raised where no name follows a `\\g`, which ends there."""
+    if template[pos:pos + 1] != '<':
+        return error('missing <', template, pos)
+    if template[pos + 1:pos + 2] in ('', '>'):
+        return error('missing group name', template, pos + 1)
+    return error('missing >, unterminated name', template, pos + 1)
+
+
+def _number(name: str) -> Optional[int]:
+    """The index that is written out, if it is one; too large a number stands for those above it."""
+    if not (name.isdecimal() and name.isascii()):
+        return None
+    digits = name.lstrip('0')[:MOST_DIGITS + 1]
+    return int(digits or '0')
+
+
+def _index(reference: Reference, template: str, pattern: Pattern[Any]) -> int:
     """The index of a group."""
-    index = int(name) if name.isdecimal() else pattern.groupindex.get(name, -1)
-    if not 0 <= index <= pattern.groups:
-        raise IndexError(f'no such group: {name}')
-    return index
+    name, number, pos = reference
+    if number is not None:
+        if number < pattern._regex.groups:
+            return number
+        raise error(f'invalid group reference {name.lstrip("0")}', template, pos)
+    index = pattern.groupindex.get(name)
+    if index is not None:
+        return index
+    if name.isidentifier():
+        raise IndexError(f'unknown group name {name!r}')
+    raise error(f'bad character in group name {name!r}', template, pos)

@@ -2,9 +2,17 @@
 
 from __future__ import annotations
 
-from typing import Callable, Iterable, List, Optional, Tuple
+import operator
+import sys
+from typing import Callable, Iterable, List, Optional, SupportsIndex, Tuple
+
+from ._foreign import encoded
 
 BLOCK = 1024  # bytes between two offsets that are remembered
+# The `endpos` of a search that goes up to the end, wherever that is. It is told by its identity,
+# which takes less than to compare it; another number as large means the same.
+END = sys.maxsize
+Bounds = Tuple[int, int]  # the offsets between which a string is searched
 
 
 class Offsets:
@@ -52,9 +60,37 @@ class Offsets:
         return blocks[number]
 
 
+# The part of a string that a search sees, its UTF-8, where the search begins in that, the offsets in
+# the part, and the bounds of the search, unless it sees the whole string. The part begins where the
+# string does, so looks see what comes before the search, and it ends where the search has to.
+Part = Tuple[str, bytes, int, Optional[Offsets], Optional[Bounds]]
+
+
+def part_in(string: str, pos: SupportsIndex, endpos: SupportsIndex) -> Optional[Part]:
+    """The part of a string that is searched from one offset up to another one, or none where the
+    first is greater. Offsets before the string, or after it, stand for its start or its end."""
+    if pos == 0 and endpos is END:
+        raw = encoded(string)
+        return string, raw, 0, offsets_in(string, raw), None
+    start, end = bounds = bounds_in(string, pos, endpos)
+    text = string[:end]
+    raw = encoded(text)
+    offsets = offsets_in(text, raw)
+    if start > end:
+        return None
+    return text, raw, start_in(text, offsets, start), offsets, bounds
+
+
+def bounds_in(string: str, pos: SupportsIndex, endpos: SupportsIndex) -> Bounds:
+    """The offsets within the string that these stand for."""
+    length = len(string)
+    return (min(max(operator.index(pos), 0), length), min(max(operator.index(endpos), 0), length))
+
+
 def offsets_in(string: str, raw: bytes) -> Optional[Offsets]:
-    """The offsets in a string, of which an ASCII one needs none."""
-    return None if len(string) == len(raw) else Offsets(raw)
+    """The offsets in a string, of which an ASCII one needs none. One of a type of its own has some
+    too, since its parts are texts of the type str."""
+    return None if len(string) == len(raw) and string.__class__ is str else Offsets(raw)
 
 
 def start_in(string: str, offsets: Optional[Offsets], pos: int) -> int:
@@ -66,13 +102,13 @@ def start_in(string: str, offsets: Optional[Offsets], pos: int) -> int:
 
 def texts_at(spans: Iterable[Tuple[int, int]], string: str, raw: bytes) -> List[str]:
     """The parts of a string that have these spans in its UTF-8."""
-    if len(string) == len(raw):
+    if len(string) == len(raw) and string.__class__ is str:
         return [string[start:end] for start, end in spans]
     return [raw[start:end].decode() for start, end in spans]
 
 
 def part_of(string: str, raw: bytes) -> Callable[[int, int], str]:
     """The function that returns the part of a string between two offsets in its UTF-8."""
-    if len(string) == len(raw):
+    if len(string) == len(raw) and string.__class__ is str:
         return lambda start, end: string[start:end]
     return lambda start, end: raw[start:end].decode()

@@ -120,7 +120,7 @@ class Pair:
         self.pattern = pattern
         self.flags = flags
         self.theirs: Optional[re.Pattern[str]] = None
-        self.ours: Optional[regex_lite.Pattern] = None
+        self.ours: Optional[regex_lite.Pattern[str]] = None
         self.fault = ''
         is_unicode = is_unicode or _UNICODE.search(pattern) is not None
         full = flags if is_unicode else flags | re.ASCII

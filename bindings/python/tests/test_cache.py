@@ -1,19 +1,16 @@
-"""The patterns that the module remembers, and threads that share them."""
+"""The patterns that the module remembers."""
 
+import pickle
 import re
 import subprocess
 import sys
-import threading
-import time
 import unittest
 import unittest.mock
 import warnings
 from pathlib import Path
 
 import regex_lite
-from regex_lite import _calls, _library, _lists
-
-THREADS = 8
+from regex_lite import _calls, _lists, _templates
 
 
 class Remembered(unittest.TestCase):
@@ -39,6 +36,23 @@ class Remembered(unittest.TestCase):
         for large in ('[a-z]{9999}', 'a' * 9999, '(?x) # ' + 'a' * 9999):
             self.assertIsNot(regex_lite.compile(large), regex_lite.compile(large))
 
+    def test_purge(self):
+        pattern = regex_lite.compile('purged')
+        regex_lite.sub('a', r'-\g<0>', 'a')
+        self.assertGreater(_templates._read.cache_info().currsize, 0)
+        regex_lite.purge()
+        self.assertEqual((_templates._read.cache_info().currsize, len(_calls._cache)), (0, 0))
+        self.assertIsNot(regex_lite.compile('purged'), pattern)
+        self.assertEqual(regex_lite.compile('purged'), pattern)
+
+    def test_pickled(self):
+        pattern = regex_lite.compile('pickled', regex_lite.I)
+        self.assertIs(pickle.loads(pickle.dumps(pattern)), pattern)
+        regex_lite.purge()
+        again = pickle.loads(pickle.dumps(pattern))
+        self.assertIs(regex_lite.compile('pickled', regex_lite.I), again)
+        self.assertIsNot(again, pattern)
+
     def test_limits(self):
         pattern = regex_lite.compile('((a))')
         self.assertIsNot(regex_lite.compile('((a))', nest_limit=9), pattern)
@@ -47,7 +61,7 @@ class Remembered(unittest.TestCase):
     def test_refusals(self):
         for _ in range(2):
             self.assertRaises(regex_lite.error, regex_lite.compile, '(a')
-            self.assertRaises(ValueError, regex_lite.compile, 'a', re.ASCII)
+            self.assertRaises(ValueError, regex_lite.compile, 'a', re.LOCALE)
 
     def test_types_are_not_compared(self):
         lines = ('import regex_lite\nregex_lite.compile("a")\n'
@@ -114,71 +128,6 @@ class Warnings(unittest.TestCase):
             warnings.simplefilter('error')
             for _ in range(2):
                 self.assertRaises(UserWarning, regex_lite.compile, 'asked again')
-
-
-class Threads(unittest.TestCase):
-    """Threads that use the same pattern at once."""
-
-    def setUp(self):
-        interval = sys.getswitchinterval()
-        self.addCleanup(sys.setswitchinterval, interval)
-        sys.setswitchinterval(1e-6)
-
-    def in_threads(self, work):
-        """Calls a function with the number of each thread, and returns what was raised."""
-        raised = []
-
-        def run(number):
-            try:
-                work(number)
-            except BaseException as fault:  # pylint: disable=broad-except
-                raised.append(fault)
-        threads = [threading.Thread(target=run, args=(number,)) for number in range(THREADS)]
-        for thread in threads:
-            thread.start()
-        for thread in threads:
-            thread.join()
-        return raised
-
-    def test_one_pattern(self):
-        pattern = regex_lite.compile(r'(é+)(\d)?')
-
-        def work(number):
-            string = '-' * number + 'é' * (number + 1) + str(number)
-            for _ in range(300):
-                self.assertEqual(pattern.search(string).span(), (number, 2 * number + 2))
-                self.assertEqual(pattern.findall(string), [('é' * (number + 1), str(number))])
-        self.assertEqual(self.in_threads(work), [])
-
-    def test_one_match(self):
-        string = 'é' * 5000 + 'a' * 5000
-        matches = list(regex_lite.finditer('é|a', string))
-
-        def work(number):
-            for i in range(number, len(matches), THREADS // 2):
-                self.assertEqual(matches[-i - 1].span(), (len(string) - i - 1, len(string) - i))
-        self.assertEqual(self.in_threads(work), [])
-
-    def test_module_calls(self):
-        def work(number):
-            for i in range(300):
-                word = f'thread{number % 2}{i}'
-                self.assertEqual(regex_lite.search(word, f'-{word}-').span(), (1, len(word) + 1))
-        self.assertEqual(self.in_threads(work), [])
-
-    def test_without_the_lock_of_the_interpreter(self):
-        inside, most = [], []
-
-        def call(number):
-            inside.append(number)
-            time.sleep(1e-3)
-            most.append(len(inside))
-            inside.remove(number)
-            return number
-        alone = _library.guarded(call, has_lock=False)
-        self.assertEqual(self.in_threads(alone), [])
-        self.assertEqual(most, [1] * THREADS)
-        self.assertIs(_library.guarded(call, has_lock=True), call)
 
 
 if __name__ == '__main__':

@@ -104,9 +104,13 @@ class Searches(unittest.TestCase):
         self.assertTrue(regex_lite.search('^b', 'a\nb', regex_lite.MULTILINE))
         self.assertTrue(regex_lite.search('a.b', 'a\nb', regex_lite.DOTALL))
         self.assertTrue(regex_lite.search('a b', 'ab', regex_lite.VERBOSE))
-        for name in ('IGNORECASE', 'MULTILINE', 'DOTALL', 'VERBOSE', 'I', 'M', 'S', 'X'):
-            self.assertEqual(getattr(regex_lite, name), int(getattr(re, name)))
-        self.assertRaises(ValueError, regex_lite.compile, 'a', re.ASCII)
+        for name in ('ASCII', 'IGNORECASE', 'LOCALE', 'MULTILINE', 'DOTALL', 'UNICODE', 'VERBOSE',
+                     *'AILMSUX'):
+            self.assertIs(getattr(regex_lite, name), getattr(re, name))
+        self.assertEqual(regex_lite.NOFLAG, 0)
+        self.assertIs(regex_lite.RegexFlag, re.RegexFlag)
+        for flag in (re.LOCALE, re.DEBUG, 1 << 20, re.ASCII | re.UNICODE):
+            self.assertRaises(ValueError, regex_lite.compile, 'a', flag)
 
 
 class Refusals(unittest.TestCase):
@@ -115,7 +119,7 @@ class Refusals(unittest.TestCase):
     def test_pattern(self):
         with self.assertRaises(regex_lite.error) as caught:
             regex_lite.compile('a(b')
-        self.assertEqual(caught.exception.msg, "found open group without closing ')'")
+        self.assertEqual(caught.exception.msg, refused(re, 'a(b').msg)
         self.assertEqual(caught.exception.pattern, 'a(b')
 
     def test_places(self):
@@ -137,8 +141,8 @@ class Refusals(unittest.TestCase):
             self.assertIsNone(refused(regex_lite, pattern, flags).end, pattern)
 
     def test_place_in_text(self):
-        self.assertEqual(str(refused(regex_lite, 'a(b')),
-                         "found open group without closing ')' at position 1")
+        for pattern in ('a(b', 'a\n(b'):
+            self.assertEqual(str(refused(regex_lite, pattern)), str(refused(re, pattern)))
 
     def test_no_place(self):
         for pattern, limit in (('((a))', {'nest_limit': 1}), ('a', {'size_limit': 143})):
@@ -157,14 +161,6 @@ class Refusals(unittest.TestCase):
         self.assertRaises(TypeError, regex_lite.search, 'a', b'a')
         self.assertRaises(TypeError, regex_lite.compile, b'a')
         self.assertRaises(UnicodeEncodeError, regex_lite.search, 'a', '\ud800')
-
-    def test_templates(self):
-        self.assertRaises(IndexError, regex_lite.sub, 'a', r'\1', 'a')
-        self.assertRaises(IndexError, regex_lite.sub, 'a', r'\g<x>', 'a')
-        for wrong in (r'\q', '\\', r'\g', r'\g<1', r'\g1>'):
-            self.assertRaises(ValueError, regex_lite.sub, '(a)', wrong, 'a')
-        self.assertRaises(IndexError, regex_lite.sub, '(a)', r'\g<>', 'a')
-        self.assertRaises(IndexError, regex_lite.sub, '(a)', r'\2', 'no match')
 
 
 class Lists(unittest.TestCase):

@@ -1,5 +1,7 @@
 """What departs from `re`: each row of the tables in README.md."""
 
+import contextlib
+import io
 import re
 import sys
 import unittest
@@ -118,6 +120,7 @@ class Rows(unittest.TestCase):
             self.differ(pattern.upper(), text, None, [text])
         self.differ(r'\bb', 'üb', None, ['b'])
         self.differ(r'(?u)\w', 'ü', ['ü'], None)
+        self.differ(r'\w', 'ü', ['ü'], None, re.UNICODE)
         for pattern, text in (('Ü', 'ü'), ('k', '\u212a'), ('s', '\u017f'), ('[j-l]', '\u212a')):
             self.differ(pattern, text, [text], None, re.IGNORECASE)
 
@@ -157,7 +160,12 @@ class Rows(unittest.TestCase):
 
     def test_strings(self) -> None:
         self.assertTrue(re.search(b'a', b'a'))
-        self.assertRaises(TypeError, regex_lite.search, b'a', b'a')
+        calls: Sequence[Any] = (regex_lite.Pattern, regex_lite.compile, regex_lite.escape,
+                                regex_lite.compile('a').search, regex_lite.compile('(a)').findall)
+        for call in calls:
+            for data in (b'a', bytearray(b'a'), memoryview(b'a')):
+                with self.assertRaisesRegex(TypeError, 'characters, not bytes, so decode them'):
+                    call(data)
         self.assertTrue(re.search('.', '\ud800'))
         self.assertRaises(UnicodeEncodeError, regex_lite.search, '.', '\ud800')
         self.assertRaises(UnicodeEncodeError, regex_lite.compile, '\ud800')
@@ -184,19 +192,65 @@ class Rows(unittest.TestCase):
         self.only(regex_lite, r'\x{61}', r'\u{61}', r'\U{61}')
         self.assertTrue(regex_lite.search(r'\x{61}', 'a'))
 
-    def test_calls(self) -> None:
-        self.assertEqual(re.compile('a').fullmatch('bab', 1, 2).span(), (1, 2))
-        self.assertRaises(TypeError, regex_lite.compile('a').fullmatch, 'bab', 1)
-        self.assertEqual(re.compile('a').match('bab', 1, 2).span(), (1, 2))
-        self.assertRaises(TypeError, regex_lite.compile('a').match, 'bab', 1, 2)
+    def test_bounds(self) -> None:
+        theirs, ours = re.compile('').match('bab', 2, 1), regex_lite.compile('').match('bab', 2, 1)
+        self.assertEqual(theirs and theirs.span(), (2, 2))
+        self.assertIsNone(ours)
+        for module in (re, regex_lite):
+            self.assertIsNone(module.compile('').search('bab', 2, 1))
+            self.assertIsNone(module.compile('').fullmatch('bab', 2, 1))
 
-    def test_pos(self) -> None:
-        for pattern, theirs, ours in (('a[b-a]', 2, 1), ('a{2,1}', 2, 1),
-                                      ('a(?P<b>c)(?P<b>d)', 13, 9), ('(?iz)', 3, 0)):
+    def test_lastindex(self) -> None:
+        pattern, text = '(?:(x?)y|a(z?))*', 'ay'
+        self.differ(pattern, text, ['ay', '', ''], ['ay', '', ''])
+        theirs, ours = re.search(pattern, text), regex_lite.search(pattern, text)
+        self.assertEqual((theirs and theirs.lastindex, ours and ours.lastindex), (1, 2))
+
+    def test_unicode_flag(self) -> None:
+        self.assertEqual(re.compile('(?i)a').flags, re.I | re.U)
+        self.assertEqual(regex_lite.compile('(?i)a').flags, re.I)
+        for module in (re, regex_lite):
+            self.assertEqual(module.compile('(?i)a', re.A).flags, re.I | re.A)
+            self.assertEqual(module.compile('a', re.U).flags, re.U)
+
+    def test_scanners(self) -> None:
+        for module, groups in ((re, 2), (regex_lite, 0)):
+            scanner = module.Scanner([('a', lambda it, _: it.match.re.groups), ('b', None)])
+            self.assertEqual(scanner.scan('ab'), ([groups], ''))
+
+    def test_template_numbers(self) -> None:
+        self.assertRaises(regex_lite.error, regex_lite.sub, '(a)', r'\g<+1>', 'a')
+        if sys.version_info < (3, 12):
+            self.assertEqual(re.sub('(a)', r'\g<+1>', 'a'), 'a')
+        else:
+            self.assertRaises(re.error, re.sub, '(a)', r'\g<+1>', 'a')
+
+    def test_faults(self) -> None:
+        for pattern, theirs, ours in (('(?<x>a)(', 1, 7), ('a**(', 2, 3), ('(?=a)(', 5, 0)):
             for module, pos in ((re, theirs), (regex_lite, ours)):
                 with self.assertRaises(module.error) as caught:
                     module.compile(pattern)
                 self.assertEqual(caught.exception.pos, pos, pattern)
+
+    def test_other_flags(self) -> None:
+        with contextlib.redirect_stdout(io.StringIO()):
+            re.compile('a', re.DEBUG)
+            template = getattr(re, 'TEMPLATE', None)
+            if template is not None:
+                re.compile('a', template)
+                self.assertRaises(ValueError, regex_lite.compile, 'a', template)
+        self.assertRaises(ValueError, regex_lite.compile, 'a', re.DEBUG)
+        for name in ('DEBUG', 'TEMPLATE', 'template'):
+            self.assertFalse(hasattr(regex_lite, name))
+
+    def test_large_numbers(self) -> None:
+        self.assertRaises(OverflowError, re.compile, 'a{99999999999}')
+        self.assertRaises(regex_lite.error, regex_lite.compile, 'a{99999999999}')
+
+    def test_repr(self) -> None:
+        self.assertEqual(repr(re.compile('a', re.I)), "re.compile('a', re.IGNORECASE)")
+        self.assertEqual(repr(regex_lite.compile('a', re.I)),
+                         "regex_lite.compile('a', regex_lite.IGNORECASE)")
 
 
 class Tables(unittest.TestCase):

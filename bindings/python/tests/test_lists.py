@@ -1,6 +1,7 @@
 """Several patterns at once. The values that are expected are those of `re`, of the library's
 documents, or of the Rust crate."""
 
+import itertools
 import re
 import unittest
 
@@ -38,6 +39,8 @@ class Lists(unittest.TestCase):
         self.assertEqual([it and (it[0], it[1].span(), it[1].groups()) for it in found],
                          [(0, (0, 2), ('c',)), (1, (0, 3), (None, 'c', 'é')), None,
                           (1, (0, 4), ('b', 'c', 'é'))])
+        deepest = regex_lite.RegexList(['(?:' * 50 + 'a|ab' + ')' * 50])
+        self.assertEqual(deepest.fullmatch('-ab-', 1, 3)[1].span(), (1, 3))
 
     def test_search_of(self):
         rules = regex_lite.RegexList(['id=(?P<id>[0-9]+)', '([a-z]+)=([0-9]+)'])
@@ -117,12 +120,44 @@ class Lists(unittest.TestCase):
         names = regex_lite.RegexList(['frodo', 'sam'], regex_lite.I)
         number, found = names.search('Mr SAM')
         self.assertEqual((number, found.group(), found.re.flags), (1, 'SAM', regex_lite.I))
-        self.assertRaises(ValueError, regex_lite.RegexList, ['a'], re.ASCII)
+        self.assertRaises(ValueError, regex_lite.RegexList, ['a'], re.LOCALE)
+        self.assertRaises(ValueError, regex_lite.RegexList, ['a', '(?u)b'], re.ASCII)
+
+    def test_offsets(self):
+        """The first of the patterns that match in `re` is what is found."""
+        sources = ('ab', '[a-z]+?', r'\b1', '1+$', 'é|éb', '^b')
+        theirs = [re.compile(source, re.ASCII) for source in sources]
+        ours, every = regex_lite.RegexList(sources), re.compile(
+            '|'.join(f'({source})' for source in sources), re.ASCII)
+        for text in ('ab1é', 'éb11', '', 'b1ab', 'éabéb1b'):
+            for pos, endpos in itertools.product((-1, 0, 1, 2, 3, 9), repeat=2):
+                for name in ('search', 'match', 'fullmatch'):
+                    each = [getattr(pattern, name)(text, pos, endpos) for pattern in theirs]
+                    first = min(((found.start(), number) for number, found in enumerate(each)
+                                 if found is not None), default=(0, None))[1]
+                    wanted = None if first is None else (
+                        first, each[first].span(), each[first].pos, each[first].endpos)
+                    found = getattr(ours, name)(text, pos, endpos)
+                    self.assertEqual(found and (found[0], found[1].span(), found[1].pos,
+                                                found[1].endpos), wanted, (text, pos, endpos, name))
+                wanted = [(found.lastindex - 1, found.span())
+                          for found in every.finditer(text, pos, endpos)]
+                self.assertEqual(list(ours.spans(text, pos, endpos)), wanted)
+                self.assertEqual([(number, found.span()) for number, found
+                                  in ours.finditer(text, pos, endpos)], wanted)
+                matching = [number for number, pattern in enumerate(theirs)
+                            if pattern.search(text, pos, endpos)]
+                self.assertEqual(ours.matches(text, pos, endpos), matching)
+                for number, pattern in enumerate(theirs):
+                    found = ours.search_of(number, text, pos, endpos)
+                    self.assertEqual(found is None, number not in matching)
 
     def test_refusals(self):
         with self.assertRaises(regex_lite.error) as caught:
             regex_lite.RegexList(['a', 'b(c', 'd)'])
-        self.assertEqual(caught.exception.msg, "found open group without closing ')'")
+        with self.assertRaises(re.error) as theirs:
+            re.compile('b(c')
+        self.assertEqual(caught.exception.msg, theirs.exception.msg)
         self.assertEqual((caught.exception.pattern, caught.exception.pos), ('b(c', 1))
         self.assertRaises(regex_lite.error, regex_lite.RegexList, ['a', '((b))'], nest_limit=1)
         self.assertRaises(TypeError, regex_lite.RegexList, ['a', b'b'])

@@ -14,9 +14,9 @@ TEXTS = 400  # of each alphabet
 CONTROLS = {r'\a': '\a', r'\f': '\f', r'\n': '\n', r'\r': '\r', r'\t': '\t', r'\v': '\v'}
 
 
-def by_library(pattern: str) -> regex_lite.Pattern:
+def by_library(pattern: str) -> regex_lite.Pattern[str]:
     """The pattern, which the library searches for in any case."""
-    made = regex_lite.Pattern(pattern)
+    made: regex_lite.Pattern[str] = regex_lite.Pattern(pattern)
     made._literal = None
     return made
 
@@ -78,8 +78,8 @@ class Literals(unittest.TestCase):
                     self.compare(ours.match(string, pos), library.match(string, pos))
                 self.compare(ours.fullmatch(string), library.fullmatch(string))
 
-    def compare(self, found: Optional[regex_lite.Match],
-                wanted: Optional[regex_lite.Match]) -> None:
+    def compare(self, found: Optional[regex_lite.Match[str]],
+                wanted: Optional[regex_lite.Match[str]]) -> None:
         """Both are the same match, or there is none."""
         self.assertEqual(found is None, wanted is None)
         if found is not None and wanted is not None:

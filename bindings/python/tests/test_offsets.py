@@ -7,7 +7,7 @@ import time
 import unittest
 
 import regex_lite
-from regex_lite import _library
+from regex_lite import _foreign
 
 MOST_SECONDS = 0.1  # of processor time, of which a hundredth is taken
 # Characters of one to four bytes, also at the borders of blocks of offsets.
@@ -84,12 +84,12 @@ class Agreement(unittest.TestCase):
 
     def test_other_interpreters(self):
         string = 'é' * 20000
-        kept = _library._kept_utf8
-        self.addCleanup(setattr, _library, '_kept_utf8', kept)
+        kept = _foreign._kept_utf8
+        self.addCleanup(setattr, _foreign, '_kept_utf8', kept)
         self.assertIsNotNone(kept)
-        self.assertEqual(_library.encoded(string), string.encode())
-        _library._kept_utf8 = None
-        self.assertEqual(_library.encoded(string), string.encode())
+        self.assertEqual(_foreign.encoded(string), string.encode())
+        _foreign._kept_utf8 = None
+        self.assertEqual(_foreign.encoded(string), string.encode())
 
 
 class Costs(unittest.TestCase):

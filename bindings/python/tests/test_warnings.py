@@ -76,6 +76,13 @@ class Warned(unittest.TestCase):
         texts = [str(warned.message)[:6] for warned in warnings_of(r'a++b++\<\>')]
         self.assertEqual(texts, ["'++' a", "'\\\\<' "])
 
+    def test_flag(self) -> None:
+        for pattern, number in (('a', 1), ('(?u)a', 1), ('a++', 2)):
+            said = [str(warned.message) for warned in warnings_of(pattern, re.UNICODE)]
+            self.assertEqual(len(said), number)
+            self.assertIn(f'the flag UNICODE {MEANINGS["unicode"]}', said)
+        self.assertEqual(warnings_of('a', re.ASCII), [])
+
     def test_directives(self) -> None:
         found = [each.kind for each in departures_in('a(?i)b', 0)]
         self.assertEqual(found, [] if sys.version_info >= (3, 11) else ['directive'])
