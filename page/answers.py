@@ -1,14 +1,18 @@
-"""What the page shows of a pattern and a text, from the library's calls."""
+"""What the page shows of patterns and a text, from the library's calls."""
 
 from __future__ import annotations
 
 import json
 from itertools import accumulate
-from typing import List, Optional, Sequence, Tuple, TypedDict
+from typing import Dict, List, NamedTuple, Optional, Sequence, Tuple, TypedDict
 
+from page.code import code_for, is_short
+from page.code.templates import groups_of
+from page.questions import FLAGS, Question, question_of
 from page.replies import Reply, refusal
+from page.searches import OneSearch, Search, search_for
 from regex_lite import error
-from regex_lite._library import Options, Regex, Span, Walk, encoded
+from regex_lite._library import Options, Regex, Span, encoded, spans_of
 
 MOST_MATCHES = 1000  # that are shown
 MOST_GROUPS = 100  # of a match that are shown, besides the match itself
@@ -16,39 +20,38 @@ MOST_CELLS = 5_000  # groups of all matches that are shown
 MOST_SPANS = 200_000  # groups of all matches that are asked for
 MOST_REPLACED = 50_000  # characters of the replaced text that are shown
 LONGEST_REPLACED = 16 << 20  # bytes that the replaced text may have for it to be made
-FLAGS = 'imsRUx'
-
-
-class Question(TypedDict):
-    """What stands in the fields of the page."""
-
-    pattern: str
-    flags: str
-    text: str
-    replacement: str
 
 
 class Answer(TypedDict, total=False):
-    """What is shown: why the pattern is refused and where it is at fault, or all the rest. A place
-    in the pattern, and the spans of the groups of each match, are given in bytes, and in units of
-    UTF-16, as strings of the page have them. A pattern that is not finished has no place where its
-    fault ends. `groups` counts those of the pattern, and `count` all matches; `names`, `spans` and
-    `matches` have the first ones alone where they are too many."""
+    """What is shown: why a pattern is refused, which one, and where it is at fault, or all the
+    rest. A place in a pattern, and the spans of the groups of each match, are given in bytes, and
+    in units of UTF-16, as strings of the page have them. A pattern that is not finished has no
+    place where its fault ends. `numbers` has the number of the pattern of each match, `groups` the
+    greatest number of groups of a match, and `names` the names of the groups of each pattern of
+    which a match is shown. `count` counts all matches, `counts` those of each pattern, and
+    `matched` has the patterns that match somewhere. `names`, `numbers`, `spans` and `matches` have
+    the first ones alone where they are too many. Nothing is replaced for several patterns, and
+    there is no code where it would be too long."""
 
     refusal: str
+    number: int
     fault: Tuple[int, int]
     fault_end: Tuple[int, int]
     groups: int
-    names: List[Optional[str]]
+    names: List[List[Optional[str]]]
+    numbers: List[int]
     spans: List[List[Span]]
     matches: List[List[Span]]
     count: int
+    counts: List[int]
+    matched: List[int]
     replaced: Optional[str]
     is_cut: bool
     tried: int
     bound: int
     places: int
     arrows: int
+    code: Dict[str, str]
 
 
 def reply_to(sent: bytes) -> Reply:
@@ -63,34 +66,30 @@ def reply_to(sent: bytes) -> Reply:
         return refusal(200, 'out of memory')
 
 
-def question_of(value: object) -> Question:
-    """The question that a page has sent. It is a ValueError if this is none."""
-    fields = Question.__annotations__.keys()
-    if not isinstance(value, dict) or value.keys() != fields:
-        raise ValueError('the request has other fields than those of the page')
-    if not all(isinstance(field, str) for field in value.values()):
-        raise ValueError('a field of the request is not a text')
-    if not set(value['flags']) <= set(FLAGS):
-        raise ValueError(f'a flag of the request is none of {FLAGS}')
-    return Question(pattern=value['pattern'], flags=value['flags'], text=value['text'],
-                    replacement=value['replacement'])
-
-
 def answer_to(question: Question) -> Answer:
     """What is shown of a question."""
-    options = Options(*(flag in question['flags'] for flag in FLAGS), 50, 10485760)
+    options = Options(*(flag in question['flags'] for flag in FLAGS), question['nest_limit'],
+                      question['size_limit'])
     try:
-        regex = Regex(question['pattern'], options)
-        return _found(regex, encoded(question['text']), encoded(question['replacement']))
+        text, template = encoded(question['text']), encoded(question['replacement'])
+        search = search_for(question['patterns'], options)
     except error as fault:
-        return _refused(fault)
+        return _refused(fault, question['patterns'])
     except UnicodeEncodeError:
         return Answer(refusal='half of a character (a lone surrogate) stands in a field')
+    answer = _found(search, text, len(question['patterns']))
+    if isinstance(search, OneSearch):
+        answer.update(_replaced(search.regex, text, template, answer['count']))
+    if is_short(question):
+        answer['code'] = code_for(question, groups_of(search.regex_of(0)))
+    return answer
 
 
-def _refused(fault: error) -> Answer:
+def _refused(fault: error, patterns: Sequence[str]) -> Answer:
     """Why a pattern is refused, and where it is at fault, if it has a place for that."""
     answer = Answer(refusal=fault.msg)
+    if fault.pattern in patterns:  # It isn't where the patterns are too large together.
+        answer['number'] = patterns.index(fault.pattern)
     if fault.pos is not None:
         answer['fault'] = _place(fault.pattern[:fault.pos])
     if fault.end is not None:
@@ -104,37 +103,67 @@ def _place(before: str) -> Tuple[int, int]:
     return len(raw), _units_before(raw)[-1]
 
 
-def _found(regex: Regex, text: bytes, replacement: bytes) -> Answer:
-    """What a regex finds in a text."""
-    walk, shown = Walk(), min(regex.groups, MOST_GROUPS + 1)
-    most = min(MOST_MATCHES, MOST_CELLS // shown, MOST_SPANS // regex.groups)
-    every = regex.next_captures(text, walk, max(most, 1))
-    matches = [spans[:shown] for spans in every]
-    count = len(matches) + regex.count(text, walk)
-    replaced = _replaced(regex, text, replacement, count)
+class _Shown(NamedTuple):
+    """The matches that are shown: the number of the pattern of each, and the spans of its
+    groups."""
+
+    numbers: List[int]
+    matches: List[List[Span]]
+
+
+def _shown(search: Search, text: bytes) -> _Shown:
+    numbers: List[int] = []
+    matches: List[List[Span]] = []
+    cells = asked = 0
+    for number, row in search.rows(text):
+        spans = spans_of(row[:3 * (MOST_GROUPS + 1)])
+        cells += len(spans)
+        asked += len(row) // 3
+        if matches and (cells > MOST_CELLS or asked > MOST_SPANS):
+            break
+        numbers.append(number)
+        matches.append(spans)
+        if len(matches) == MOST_MATCHES:
+            break
+    return _Shown(numbers, matches)
+
+
+def _found(search: Search, text: bytes, patterns: int) -> Answer:
+    """What a search for so many patterns finds in a text."""
+    shown = _shown(search, text)
+    regexes = {number: search.regex_of(number)
+               for number in (shown.numbers if patterns > 1 else [0])}
+    counts = search.counts(text)
     at = _units_before(text)
     length = len(text.decode())
     return Answer(
-        groups=regex.groups - 1,
-        names=[regex.name(i) for i in range(shown)],
-        spans=matches,
-        matches=[[span and (at[span[0]], at[span[1]]) for span in spans] for spans in matches],
-        count=count,
-        replaced=None if replaced is None else replaced[:MOST_REPLACED],
-        is_cut=replaced is not None and len(replaced) > MOST_REPLACED,
-        tried=regex.tried(text),
-        bound=(regex.arrows + 1) * (length + 1),
-        places=regex.places,
-        arrows=regex.arrows)
+        groups=max((regex.groups - 1 for regex in regexes.values()), default=0),
+        names=[_names(regexes[number]) if number in regexes else [] for number in range(patterns)],
+        numbers=shown.numbers,
+        spans=shown.matches,
+        matches=[[span and (at[span[0]], at[span[1]]) for span in spans]
+                 for spans in shown.matches],
+        count=sum(counts),
+        counts=counts,
+        matched=search.matched(text),
+        tried=search.tried(text),
+        bound=(search.arrows + patterns) * (length + 1),
+        places=search.places,
+        arrows=search.arrows)
 
 
-def _replaced(regex: Regex, text: bytes, template: bytes, count: int) -> Optional[str]:
+def _names(regex: Regex) -> List[Optional[str]]:
+    """The names of the groups that are shown."""
+    return [regex.name(i) for i in range(min(regex.groups, MOST_GROUPS + 1))]
+
+
+def _replaced(regex: Regex, text: bytes, template: bytes, count: int) -> Answer:
     """The text with all its matches replaced, unless it may be too long."""
     longest = len(text) * (1 + template.count(b'$')) + count * len(template)
     if longest > LONGEST_REPLACED:
-        return None
-    replaced: str = regex.replaced(text, template, 0, is_literal=False)[0]
-    return replaced
+        return Answer(replaced=None, is_cut=False)
+    replaced = regex.replaced(text, template, 0, is_literal=False)[0]
+    return Answer(replaced=replaced[:MOST_REPLACED], is_cut=len(replaced) > MOST_REPLACED)
 
 
 def _units_before(text: bytes) -> Sequence[int]:

@@ -8,10 +8,11 @@ from http.server import BaseHTTPRequestHandler
 from pathlib import Path
 from socket import SHUT_WR
 from time import monotonic
-from typing import TYPE_CHECKING, Callable, List, Optional
+from typing import TYPE_CHECKING, Callable, Dict, List, Optional, Tuple
 
 from page.pool import Gone
 from page.replies import Reply, refusal
+from page.syntax import cheat_sheet
 
 if TYPE_CHECKING:
     from page.server import Server
@@ -21,10 +22,7 @@ LONGEST_LENGTH = len(str(MOST_BYTES))
 MOST_SKIPPED = 64 << 20  # bytes that are read of a refused request, so that its sender sees why
 SKIPPING = 2  # seconds for that
 SECONDS = 30  # that a sender may wait within a request
-STATIC = Path(__file__).parent / 'static'
-FILES = {path: (f'text/{kind}', (STATIC / name).read_bytes())
-         for path, name, kind in (('/', 'index.html', 'html'), ('/page.css', 'page.css', 'css'),
-                                  ('/page.js', 'page.js', 'javascript'))}
+KINDS = {'.html': 'text/html', '.css': 'text/css', '.js': 'text/javascript'}
 CALL = '/search'
 # Nothing but these files is loaded, no other page may frame this one, and nothing is kept.
 HEADERS = {'Content-Security-Policy': "default-src 'none'; script-src 'self'; style-src 'self'; "
@@ -32,6 +30,18 @@ HEADERS = {'Content-Security-Policy': "default-src 'none'; script-src 'self'; st
                                       "frame-ancestors 'none'",
            'X-Content-Type-Options': 'nosniff', 'Referrer-Policy': 'no-referrer',
            'Cross-Origin-Resource-Policy': 'same-origin', 'Cache-Control': 'no-store'}
+
+
+def _files() -> Dict[str, Tuple[str, bytes]]:
+    """The kind and the content of each file of the page, by its path."""
+    files = {f'/{file.name}': (KINDS[file.suffix], file.read_bytes())
+             for file in (Path(__file__).parent / 'static').iterdir()}
+    kind, content = files.pop('/index.html')
+    files['/'] = kind, content.replace(b'<!-- syntax -->', cheat_sheet().encode())
+    return files
+
+
+FILES = _files()
 
 
 class Refused(Exception):

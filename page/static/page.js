@@ -1,97 +1,18 @@
-// Asks what the pattern finds whenever a field changes, and draws what comes back. All that is
-// typed is put into the page as text, never as markup.
-'use strict';
+// Asks what the patterns find whenever a field changes, and draws what comes back.
 
-const MOST_MARKED = 50000;  // characters of the text in which matches are marked
-const MOST_CELL = 200;      // characters of a group that the table shows
+import { copy, drawCode } from './code.js';
+import { LIMITS, fill, foundNotes, patternFields, question, watchFields } from './fields.js';
+import { fragmentOf, questionOf } from './link.js';
+import { drawMarks } from './marks.js';
+import { drawTable } from './table.js';
+import { cost, element, field, found, groupsNote, number, replacedNote, say, summary }
+  from './words.js';
+
 const MOST_AROUND = 100;    // characters of a refused pattern before its fault, in it, and after it
 const MOST_BYTES = 2 << 20; // of a request
 const SOON = 150;           // milliseconds after which a search is shown to run
-const COLOURS = 5;
 
-const field = (name) => document.getElementById(name);
 const main = field('main');
-const pattern = field('pattern');
-const text = field('text');
-const replacement = field('replacement');
-const marks = field('marks');
-
-const number = (value) => value.toLocaleString('en');
-const counted = (value, noun) => `${number(value)} ${noun}${value === 1 ? '' : 's'}`;
-
-function element(kind, name, content) {
-  const made = document.createElement(kind);
-  if (name) made.className = name;
-  made.textContent = content;
-  return made;
-}
-
-// The parts of a match, each with the last group that it is in: groups may overlap where a loop
-// has left one from an earlier pass.
-function parts(groups) {
-  const taken = groups.filter((group) => group !== null);
-  const ends = [...new Set(taken.flat())].sort((a, b) => a - b);
-  return ends.slice(1).map((end, i) => {
-    const start = ends[i];
-    const last = groups.findLastIndex((group) => group && group[0] <= start && end <= group[1]);
-    return { start, end, group: last };
-  });
-}
-
-function drawMarks(haystack, matches) {
-  const drawn = document.createDocumentFragment();
-  let at = 0;
-  matches.forEach((groups, i) => {
-    const [start, end] = groups[0];
-    if (end > MOST_MARKED) return;
-    drawn.append(haystack.slice(at, start));
-    if (start === end) drawn.append(element('span', 'empty', ''));
-    for (const part of parts(groups)) {
-      const whole = i % 2 === 0 ? 'match' : 'other';
-      const name = part.group === 0 ? whole : `group${(part.group - 1) % COLOURS + 1}`;
-      drawn.append(element('span', name, haystack.slice(part.start, part.end)));
-    }
-    at = end;
-  });
-  // A line feed at the end has a line of its own in the field above.
-  drawn.append(haystack.slice(at, Math.max(at, MOST_MARKED)), '\n');
-  marks.replaceChildren(drawn);
-  marks.scrollTop = text.scrollTop;
-}
-
-function cell(haystack, group, bytes, index) {
-  const made = document.createElement('td');
-  if (group === null) {
-    made.append(element('small', '', 'took no part'));
-    return made;
-  }
-  const [start, end] = group;
-  const shown = haystack.slice(start, Math.min(end, start + MOST_CELL));
-  const name = index === 0 ? 'match' : `group${(index - 1) % COLOURS + 1}`;
-  const cut = end - start > MOST_CELL ? '…' : '';
-  made.append(element('span', name, shown + cut), ' ',
-    element('small', '', `${bytes[0]}..${bytes[1]}`));
-  return made;
-}
-
-function drawTable(haystack, { names = [], matches = [], spans = [] }) {
-  const head = document.createElement('tr');
-  ['', ...names].forEach((name, i) => {
-    const title = ['#', 'match'][i] ?? (name === null ? `${i - 1}` : `${i - 1} ${name}`);
-    const made = element('th', '', title);
-    made.scope = 'col';
-    head.append(made);
-  });
-  const rows = matches.map((groups, i) => {
-    const row = document.createElement('tr');
-    const made = element('th', '', `${i + 1}`);
-    made.scope = 'row';
-    row.append(made, ...groups.map((group, k) => cell(haystack, group, spans[i][k], k)));
-    return row;
-  });
-  field('matches').tHead.replaceChildren(...(names.length > 0 ? [head] : []));
-  field('matches').tBodies[0].replaceChildren(...rows);
-}
 
 // A refused pattern, marked where it is at fault; or from there on, where it isn't finished.
 function drawFault(refused, { fault, fault_end: faultEnd }) {
@@ -105,68 +26,54 @@ function drawFault(refused, { fault, fault_end: faultEnd }) {
   const after = last < end ? '' : refused.slice(end, end + MOST_AROUND);
   const shown = element('code', '', (first > 0 ? '…' : '') + refused.slice(first, at));
   const kind = faultEnd === undefined ? 'unfinished' : '';
-  shown.append(element('mark', kind, refused.slice(at, last) + (last < end ? '…' : '')),
-    after + (last === end && end + MOST_AROUND < refused.length ? '…' : ''));
+  const mark = element('mark', kind, refused.slice(at, last) + (last < end ? '…' : ''));
+  shown.append(mark, after + (last === end && end + MOST_AROUND < refused.length ? '…' : ''));
   field('fault').replaceChildren(faultEnd === undefined
     ? `Not finished, from offset ${number(bytes)} on: `
     : `From offset ${number(bytes)} to ${number(endBytes)}: `, shown);
+  field('fault').scrollTop = mark.offsetTop - field('fault').offsetTop;
 }
 
-function groupsNote({ groups = 0, names = [null] }) {
-  return groups < names.length ? ''
-    : `The first ${number(names.length - 1)} of ${number(groups)} groups are shown.`;
-}
-
-function summary(answer, haystack) {
-  const notes = [counted(answer.count, 'match').replace('matchs', 'matches')];
-  if (answer.count > answer.matches.length) {
-    notes.push(`the first ${number(answer.matches.length)} are shown`);
+// Why the question is refused, and in which field.
+function drawRefusal(asked, answer) {
+  const isList = asked.patterns.length > 1;
+  patternFields().forEach((area, i) => {
+    area.setAttribute('aria-invalid', 'refusal' in answer && answer.number === i);
+  });
+  for (const name of Object.keys(LIMITS)) {
+    field(name).setAttribute('aria-invalid', asked[name] === null);
   }
-  if (haystack.length > MOST_MARKED) {
-    notes.push(`marked in the first ${number(MOST_MARKED)} characters`);
-  }
-  return notes.join(', ');
+  const own = isList && answer.number !== undefined ? `Pattern ${answer.number}: ` : '';
+  say('refusal', 'refusal' in answer ? own + answer.refusal : '');
+  drawFault(asked.patterns[answer.number], answer);
 }
 
-function cost(answer) {
-  const share = `${number(answer.tried)} of at most ${number(answer.bound)} tries`;
-  return `The first search made ${share}. The pattern has ${counted(answer.places, 'place')} and `
-    + `${counted(answer.arrows, 'arrow')}.`;
-}
-
-// Keeps what is below the fields as high as it is, or lets it be as high as what it holds.
-function keepHeights(isKept) {
-  for (const part of [field('replaced-part'), field('matches-part')]) {
-    part.style.minHeight = isKept ? `${part.getBoundingClientRect().height}px` : '';
-  }
-}
-
-function show(question, answer) {
+function show(asked, answer) {
+  const patterns = asked.patterns.length;
   const isRefused = 'refusal' in answer;
-  keepHeights(isRefused);
-  pattern.setAttribute('aria-invalid', isRefused);
-  field('refusal').textContent = isRefused ? answer.refusal : '';
-  drawFault(question.pattern, answer);
-  field('summary').textContent = isRefused ? '' : summary(answer, question.text);
-  field('cost').textContent = isRefused ? '' : cost(answer);
-  const replaced = isRefused ? '' : answer.replaced;
-  field('replaced').textContent = replaced ?? '';
-  field('replaced-note').textContent = replaced === null ? 'The replaced text may be too long.'
-    : answer.is_cut ? `These are its first ${number(replaced.length)} characters.` : '';
-  field('matches-note').textContent = groupsNote(answer);
-  drawMarks(question.text, answer.matches ?? []);
-  drawTable(question.text, answer);
+  drawRefusal(asked, answer);
+  say('summary', isRefused ? '' : summary(answer, asked.text));
+  say('cost', isRefused ? '' : cost(answer, patterns));
+  foundNotes().forEach((note, i) => {
+    note.textContent = isRefused || patterns === 1 ? '' : found(answer, i);
+  });
+  say('replaced', answer.replaced ?? '');
+  say('replaced-note', isRefused ? '' : replacedNote(answer, patterns));
+  say('matches-note', groupsNote(answer));
+  drawMarks(asked.text, answer, patterns > 1);
+  drawTable(asked.text, answer, patterns > 1);
+  drawCode(answer);
 }
 
-function asked() {
-  const flags = [...document.querySelectorAll('input[name="flag"]:checked')];
-  return { pattern: pattern.value, flags: flags.map((flag) => flag.value).join(''),
-    text: text.value, replacement: replacement.value };
-}
-
-async function answerTo(question, signal) {
-  const body = new Blob([JSON.stringify(question)], { type: 'application/json' });
-  if (body.size > MOST_BYTES) return { refusal: 'pattern and text have over 2 MB' };
+async function answerTo(asked, signal) {
+  for (const [name, most] of Object.entries(LIMITS)) {
+    if (asked[name] === null) {
+      return { refusal: `the limit of ${name === 'nest_limit' ? 'nesting' : 'size'} is no whole `
+        + `number up to ${number(most)}` };
+    }
+  }
+  const body = new Blob([JSON.stringify(asked)], { type: 'application/json' });
+  if (body.size > MOST_BYTES) return { refusal: 'patterns and text have over 2 MB' };
   try {
     return await (await fetch('search', { method: 'POST', body, signal })).json();
   } catch {
@@ -179,35 +86,76 @@ let busyTimer = null;
 let answeredText = '';
 function showBusy() {
   main.classList.add('busy');
-  field('busy').textContent = 'Searching … What is shown is out of date.';
+  say('busy', 'Searching … What is shown is out of date.');
 }
 
 function endBusy() {
   clearTimeout(busyTimer);
   busyTimer = null;
   main.classList.remove('busy');
-  field('busy').textContent = '';
+  say('busy', '');
 }
 
 // The last question alone is of use: the server ends the search for the one before, whose
 // connection is closed.
 let waiting = null;
 async function ask() {
-  waiting?.abort();
   const own = new AbortController();
   waiting = own;
-  busyTimer ??= setTimeout(showBusy, SOON);
-  const question = asked();
-  main.classList.toggle('moved', question.text !== answeredText);
-  const answer = await answerTo(question, own.signal);
+  const asked = question();
+  main.classList.toggle('moved', asked.text !== answeredText);
+  const answer = await answerTo(asked, own.signal);
   if (own !== waiting) return;
   waiting = null;
-  answeredText = question.text;
+  answeredText = asked.text;
   endBusy();
-  show(question, answer);
+  show(asked, answer);
+  field('results').setAttribute('aria-busy', false);
 }
 
-field('form').addEventListener('input', ask);
-field('form').addEventListener('submit', (event) => event.preventDefault());
-text.addEventListener('scroll', () => { marks.scrollTop = text.scrollTop; });
-ask();
+// Asks once the fields no longer change: they may do so a thousand times at once, as where a
+// program types a text of many lines.
+let due = null;
+function askSoon() {
+  waiting?.abort();
+  waiting = null;
+  busyTimer ??= setTimeout(showBusy, SOON);
+  field('results').setAttribute('aria-busy', true);
+  clearTimeout(due);
+  due = setTimeout(ask);
+}
+
+// Puts what stands in the fields into the address, and copies that.
+async function makeLink() {
+  try {
+    history.replaceState(null, '', fragmentOf(question()));
+  } catch (fault) {
+    say('link-note', `There is no link: ${fault.message}.`);
+    return;
+  }
+  const isCopied = await copy(location.href);
+  say('link-note', isCopied ? 'The link was copied, and is in the address bar.'
+    : 'The link is in the address bar.');
+}
+
+// Takes the question from the address, if it has one.
+function takeLink() {
+  say('link-note', '');
+  if (location.hash.length > 1) {
+    try {
+      fill(questionOf(location.hash));
+    } catch (fault) {
+      say('link-note', `The link is ignored: ${fault.message}.`);
+    }
+  }
+  askSoon();
+}
+
+field('form').addEventListener('input', () => {
+  say('link-note', '');
+  askSoon();
+});
+field('link').addEventListener('click', makeLink);
+window.addEventListener('hashchange', takeLink);
+watchFields(askSoon);
+takeLink();

@@ -4,7 +4,7 @@ closed without one. PORT stands for the port of the server."""
 from __future__ import annotations
 
 import json
-from typing import List, NamedTuple, Optional
+from typing import List, NamedTuple, Optional, Tuple
 
 from page.tests.running import GOOD
 
@@ -33,7 +33,7 @@ def of_body(body: bytes) -> bytes:
 
 
 def of_fields(**fields: object) -> bytes:
-    """A question with these fields."""
+    """A question with these fields in the place of its own."""
     return of_body(json.dumps({**GOOD, **fields}).encode())
 
 
@@ -78,15 +78,18 @@ BODIES = [
         ('deep lists', b'[' * 100_000), ('deep objects', b'{"a":' * 100_000),
         ('a number of 100,000 digits', b'1' * 100_000), ('not a number', b'NaN'),
         ('two values', BODY + BODY), ('null bytes', bytes(100)), ('all bytes', bytes(range(256))))]
-FIELDS = [
-    BadRequest('a number for a text', of_fields(text=1), 400),
-    BadRequest('null for a pattern', of_fields(pattern=None), 400),
-    BadRequest('a list for flags', of_fields(flags=['i']), 400),
-    BadRequest('an object for a replacement', of_fields(replacement={}), 400),
-    BadRequest('one field more', of_fields(more=''), 400),
-    BadRequest('an unknown flag', of_fields(flags='z'), 400),
-    BadRequest('flags that are no letters', of_fields(flags='\ud800'), 400),
-]
+VALUES: List[Tuple[str, str, object]] = [
+    ('a number for a text', 'text', 1), ('null for patterns', 'patterns', None),
+    ('a text for patterns', 'patterns', 'a'), ('no pattern', 'patterns', []),
+    ('101 patterns', 'patterns', ['a'] * 101), ('null for a pattern', 'patterns', ['a', None]),
+    ('a list for a pattern', 'patterns', [['a']]), ('a list for flags', 'flags', ['i']),
+    ('an object for a replacement', 'replacement', {}), ('one field more', 'more', ''),
+    ('an unknown flag', 'flags', 'z'), ('flags that are no letters', 'flags', '\ud800'),
+    ('a text for a limit', 'nest_limit', '50'), ('no limit', 'size_limit', None),
+    ('a limit that is true', 'nest_limit', True), ('half a limit', 'size_limit', 50.5),
+    ('a negative limit', 'nest_limit', -1), ('a nest limit of 2^32', 'nest_limit', 1 << 32),
+    ('a size limit of 2^53', 'size_limit', 1 << 53)]
+FIELDS = [BadRequest(name, of_fields(**{field: value}), 400) for name, field, value in VALUES]
 PATHS = [
     BadRequest(f'{method} {path}', f'{method} {path} HTTP/1.1\r\n'.encode() + HOST + KIND
                + b'Content-Length: 2\r\n\r\n{}', status) for method, path, status in (

@@ -17,6 +17,7 @@ from page.tests.running import WithServer
 BROWSER = shutil.which('chromium')
 OPTIONS = ('--headless=new', '--no-sandbox', '--disable-gpu', '--disable-dev-shm-usage',
            '--no-first-run', '--remote-debugging-pipe')
+SHIFT = 8  # as a modifier
 SECONDS = 20  # that a page may take until it shows what is wanted
 
 
@@ -26,11 +27,11 @@ class Browser:
     def __init__(self) -> None:
         read, self._write = os.pipe()
         self._read, write = os.pipe()
-        self._folder = tempfile.TemporaryDirectory(ignore_cleanup_errors=True)
+        self._folder = tempfile.mkdtemp()
         # The browser takes requests from file 3, and writes to file 4.
         self._process = subprocess.Popen(
             ['sh', '-c', f'exec "$@" 3<&{read} 4>&{write}', 'sh', BROWSER or '', *OPTIONS,
-             f'--user-data-dir={self._folder.name}'], pass_fds=(read, write),
+             f'--user-data-dir={self._folder}'], pass_fds=(read, write),
             stdout=subprocess.DEVNULL, stderr=subprocess.DEVNULL, start_new_session=True)
         os.close(read)
         os.close(write)
@@ -74,11 +75,21 @@ class Browser:
         return self.call('Runtime.evaluate', expression=expression, awaitPromise=True,
                          returnByValue=True)['result'].get('value')
 
-    def press(self, key: str, code: int, text: str = '') -> None:
+    def press(self, key: str, code: int, text: str = '', is_shifted: bool = False) -> None:
         """Presses a key."""
         for kind in ('keyDown', 'keyUp'):
             self.call('Input.dispatchKeyEvent', type=kind, key=key, code=key,
-                      windowsVirtualKeyCode=code, text=text if kind == 'keyDown' else '')
+                      modifiers=SHIFT if is_shifted else 0, windowsVirtualKeyCode=code,
+                      text=text if kind == 'keyDown' else '')
+
+    def tab(self, times: int = 1) -> None:
+        """Goes to the next element that the keyboard comes to."""
+        for _ in range(times):
+            self.press('Tab', 9)
+
+    def enter(self, is_shifted: bool = False) -> None:
+        """Presses the key Enter."""
+        self.press('Enter', 13, '\r', is_shifted)
 
     def write(self, name: str, text: str) -> None:
         """Writes into a field, instead of what it holds."""
@@ -91,7 +102,7 @@ class Browser:
         self._process.wait()
         self._replies.close()
         os.close(self._write)
-        self._folder.cleanup()
+        shutil.rmtree(self._folder, ignore_errors=True)
 
 
 @unittest.skipIf(BROWSER is None, 'there is no chromium')
@@ -115,11 +126,29 @@ class InBrowser(WithServer):
         return str(self.browser.value(f'document.getElementById("{name}")?.textContent'))
 
     def shows(self, name: str, wanted: str) -> None:
-        """Waits until an element has this text."""
+        """Waits until the last question is answered, and an element has this text."""
+        self.has(f'document.getElementById("{name}")?.textContent', wanted)
+
+    def open(self, fragment: str) -> None:
+        """Opens the page with this fragment in a new tab."""
+        self.browser.show(f'http://127.0.0.1:{self.port}/{fragment}')
+
+    def has(self, expression: str, wanted: object) -> None:
+        """Waits until the last question is answered, and an expression has this value."""
         last = time.monotonic() + SECONDS
-        while self.text(name) != wanted:
-            self.assertLess(time.monotonic(), last, f'{name} is {self.text(name)!r}')
+        state = f'[document.getElementById("results")?.ariaBusy, {expression}]'
+        while (value := self.browser.value(state)) != ['false', wanted]:
+            self.assertLess(time.monotonic(), last, f'{state} is {value!r}, not {wanted!r}, and '
+                            f'what is refused is {self.text("refusal")!r}')
             time.sleep(0.02)
+
+    def holds(self, name: str) -> object:
+        """What a field holds."""
+        return self.browser.value(f'document.getElementById("{name}")?.value')
+
+    def focused(self) -> object:
+        """What has the focus: the identifier of the element, or else its text."""
+        return self.browser.value('document.activeElement.id || document.activeElement.innerText')
 
     def marked(self, name: str) -> object:
         """The texts of the marks of a kind."""

@@ -16,10 +16,21 @@ from http.client import HTTPConnection
 from pathlib import Path
 from typing import IO, Any, Callable, Dict, List, Mapping, Sequence, Tuple
 
+from page.questions import NEST_LIMIT, SIZE_LIMIT, Question
+
 TOP = Path(__file__).resolve().parent.parent.parent
-HOSTILE = {'pattern': '(?:a{500}){400}[bc]', 'text': 'a' * 100_000, 'replacement': '', 'flags': ''}
-GOOD = {'pattern': 'a', 'text': 'a', 'replacement': '', 'flags': ''}
 SHARE = 0.02  # of a processor that a search takes at least, however many others there are
+
+
+def question(*patterns: str, flags: str = '', text: str = '', replacement: str = '',
+             nest_limit: int = NEST_LIMIT, size_limit: int = SIZE_LIMIT) -> Question:
+    """A question, by default with no flag and the usual limits."""
+    return Question(patterns=list(patterns), flags=flags, nest_limit=nest_limit,
+                    size_limit=size_limit, text=text, replacement=replacement)
+
+
+HOSTILE = question('(?:a{500}){400}[bc]', text='a' * 100_000)
+GOOD = question('a', text='a')
 
 
 class WithServer(unittest.TestCase):
@@ -57,15 +68,18 @@ class WithServer(unittest.TestCase):
 
     def ask(self, pattern: str, text: str, replacement: str = '',
             flags: str = '') -> Dict[str, Any]:
+        """What is shown of one pattern and a text."""
+        return self.answer(question(pattern, text=text, replacement=replacement, flags=flags))
+
+    def answer(self, question: Question) -> Dict[str, Any]:
         """What is shown of a question, which is answered."""
-        status, content, _ = self.send('POST', '/search', {
-            'pattern': pattern, 'text': text, 'replacement': replacement, 'flags': flags})
+        status, content, _ = self.send('POST', '/search', question)
         self.assertEqual(status, 200)
         shown = json.loads(content)
         assert isinstance(shown, dict)
         return shown
 
-    def asked(self, question: Mapping[str, str]) -> socket.socket:
+    def asked(self, question: Question) -> socket.socket:
         """A connection over which a question was sent, whose reply nobody reads."""
         body = json.dumps(question).encode()
         connection = socket.create_connection(('127.0.0.1', self.port), timeout=60)
@@ -76,7 +90,7 @@ class WithServer(unittest.TestCase):
         return connection
 
     def wait(self, is_so: Callable[[], bool], seconds: float, what: str) -> None:
-        """Waits until something is so, at most for the time that this is on a machine for itself."""
+        """Waits until something is so, at most for this time on a machine for itself."""
         begun = time.monotonic()
         while not is_so():
             taken = time.monotonic() - begun

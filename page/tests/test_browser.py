@@ -62,9 +62,8 @@ class Page(InBrowser):
                          'underline')
         self.assertEqual(self.browser.value(f'getComputedStyle({mark}).textDecorationStyle'),
                          'wavy')
-        self.assertEqual(self.browser.value(
-            'document.getElementById("pattern").getAttribute("aria-describedby")'),
-            'refusal fault')
+        self.assertIn('refusal fault', self.browser.value(
+            'document.getElementById("pattern").getAttribute("aria-describedby")'))
         # One that is not finished is marked in another way.
         for pattern, before, marked in (
                 ('ü😀(<b>', 'Not finished, from offset 6 on: ü😀', '(<b>'),
@@ -95,7 +94,8 @@ class Page(InBrowser):
         self.browser.write('text', 'SAM')
         self.browser.write('pattern', 'sam')
         self.shows('summary', '0 matches')
-        self.browser.press('Tab', 9)
+        for _ in range(2):  # to the button that adds a pattern, and to the first flag
+            self.browser.press('Tab', 9)
         self.browser.press(' ', 32, ' ')
         self.shows('summary', '1 match')
 
@@ -123,7 +123,7 @@ class Page(InBrowser):
 
     @unittest.skipIf(PICTURE is None, 'no picture is wanted')
     def test_picture(self) -> None:
-        self.browser.call('Emulation.setDeviceMetricsOverride', width=860, height=900,
+        self.browser.call('Emulation.setDeviceMetricsOverride', width=1360, height=1000,
                           deviceScaleFactor=1, mobile=False)
         data = self.browser.call('Page.captureScreenshot', format='png')['data']
         with open(PICTURE or '', 'wb') as file:

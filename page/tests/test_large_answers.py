@@ -20,7 +20,7 @@ class Busy(InBrowser):
     def be_hostile(self) -> None:
         """Asks a question whose search runs until it is ended."""
         self.browser.write('text', HOSTILE['text'])
-        self.browser.write('pattern', HOSTILE['pattern'])
+        self.browser.write('pattern', HOSTILE['patterns'][0])
 
     def is_busy(self) -> bool:
         """Whether the page shows that a search runs."""
@@ -55,6 +55,14 @@ class Busy(InBrowser):
         self.assertLess(time.monotonic() - begun, 4)
         self.assertFalse(self.is_busy())
         self.assertEqual(self.searching(), [])
+
+    def test_many_changes_at_once(self) -> None:
+        self.browser.value('performance.clearResourceTimings()')
+        self.browser.write('text', 'line\n' * 1000)  # as a thousand lines that are typed
+        self.browser.write('pattern', 'line')
+        self.shows('summary', '1,000 matches')
+        sent = self.browser.value('performance.getEntriesByType("resource").length')
+        self.assertLessEqual(sent, 10)
 
     def test_tabs_that_are_closed(self) -> None:
         self.be_hostile()

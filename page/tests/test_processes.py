@@ -78,7 +78,7 @@ class Script(unittest.TestCase):
         builder = self.top / 'bin' / 'library'
         builder.write_text(BUILDER)
         builder.chmod(builder.stat().st_mode | stat.S_IXUSR)
-        for name in ('page', 'bindings'):
+        for name in ('page', 'bindings', 'docs'):
             (self.top / name).symlink_to(TOP / name)
         self.log = tempfile.TemporaryFile()
         self.addCleanup(self.log.close)

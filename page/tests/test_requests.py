@@ -8,7 +8,7 @@ from typing import List
 
 from page.server import MOST_CONNECTIONS, hosts_at
 from page.tests.bad_requests import BODY, CUT_SHORT, HOST, KIND, WHOLE, get, of_body
-from page.tests.running import HOSTILE, WithServer
+from page.tests.running import HOSTILE, WithServer, question
 
 RESETS = struct.pack('ii', 1, 0)  # a connection that is closed with this is reset
 
@@ -61,7 +61,7 @@ class Requests(WithServer):
 
     def test_clients_that_go_within_an_answer(self) -> None:
         for _ in range(20):
-            connection = self.asked({**HOSTILE, 'pattern': 'a'})
+            connection = self.asked(question('a', text=HOSTILE['text']))
             connection.recv(1)
             connection.setsockopt(socket.SOL_SOCKET, socket.SO_LINGER, RESETS)
             connection.close()

@@ -9,7 +9,7 @@ from typing import Callable, Iterator, List, Optional, Sequence, Tuple
 
 from ._foreign import (LONGEST_MESSAGE, NO_ROOM, SPAN, TEXT, YES, Call, Options, Room, Row, Shared,
                        call, checked, encoded, refusal, room_sizes, row_of, search_call, whole_call)
-from ._structures import Walk
+from ._structures import Cost, Walk
 
 
 class ListHandle(ctypes.Structure):
@@ -48,6 +48,8 @@ _list_new = call('list_new', c_uint32, _LIST, *TEXT, POINTER(ListPattern), c_siz
 _list_free = call('list_free', None, _LIST)
 _list_arrows = call('list_arrows', c_size_t, _LIST)
 _list_may_be_empty = call('list_may_be_empty', c_uint32, _LIST, c_size_t)
+_list_places = call('list_places', c_size_t, _LIST)
+_list_find_counted = search_call('list_find_counted')
 _list_matches = search_call('list_matches')
 # The calls that write the groups of a match: of one that starts anywhere from the offset on, of one
 # that starts at the offset itself, and of one that is the whole text.
@@ -76,7 +78,9 @@ class RawList(Shared[ListHolder]):
     def __init__(self, patterns: Sequence[str], options: Options) -> None:
         self._patterns, self._options, self._len = patterns, options, len(patterns)
         holder = self._build()
-        super().__init__(holder, _list_arrows(holder.handle) + max(1, self._len))
+        self.places = _list_places(holder.handle)
+        self.arrows = _list_arrows(holder.handle)
+        super().__init__(holder, self.arrows + max(1, self._len))
         self._room = 4  # groups for which there is room at first
 
     def _build(self) -> ListHolder:
@@ -174,3 +178,9 @@ class RawList(Shared[ListHolder]):
         checked(self._ask(_list_matches, text, c_size_t(start), flags, c_size_t(self._len),
                           byref(count)))
         return [number for number, flag in enumerate(flags.raw) if flag]
+
+    def tried(self, text: bytes) -> int:
+        """How many places a search for the first match tries."""
+        span, cost = ListSpan(), Cost()
+        checked(self._ask(_list_find_counted, text, c_size_t(0), byref(span), byref(cost)))
+        return int(cost.tried)
