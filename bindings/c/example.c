@@ -13,8 +13,9 @@ int main(int argc, char **argv) {
     regex_lite_walk walk = REGEX_LITE_START;
     regex_lite_span spans[64];
     uint8_t message[100];
-    uint32_t answer = regex_lite_new(&regex, (const uint8_t *)pattern, strlen(pattern), &options,
-                                     message, sizeof message, &message_len);
+    regex_lite_answer answer =
+        regex_lite_new(&regex, (const uint8_t *)pattern, strlen(pattern), &options, message,
+                       sizeof message, &message_len);
     if (answer != REGEX_LITE_YES) {
         fprintf(stderr, "%u: %.*s\n", (unsigned)answer, (int)message_len, (char *)message);
         return 2;

@@ -157,9 +157,9 @@ typedef struct regex_lite_list_groups {
     size_t count;
 } regex_lite_list_groups;
 
-/* What a call returns. Where it isn't REGEX_LITE_YES, the call has written only what its
- * description says. */
-enum {
+/* An answer: what a call returns. Where it isn't REGEX_LITE_YES, the call has written only what
+ * its description says. */
+typedef enum regex_lite_answer {
     REGEX_LITE_NO = 0,            /* there is none */
     REGEX_LITE_YES = 1,           /* there is one, and everything was written */
     REGEX_LITE_NOTHING_HELD = 2,  /* the handle holds nothing */
@@ -176,17 +176,17 @@ enum {
     REGEX_LITE_SIZE = 13,         /* larger than the size limit */
     REGEX_LITE_PLACES = 14,       /* more places than can be numbered */
     REGEX_LITE_SLOTS = 15         /* more ends of groups than can be numbered */
-};
+} regex_lite_answer;
 
 /* Writes the version of the library, as text: REGEX_LITE_VERSION, followed by "+unproved" if the
  * library was built without a proof. Returns REGEX_LITE_YES, or REGEX_LITE_NO_ROOM; its length is
  * written either way. Ten bytes more than REGEX_LITE_VERSION has are enough. */
-uint32_t regex_lite_version(uint8_t *room, size_t room_len, size_t *len);
+regex_lite_answer regex_lite_version(uint8_t *room, size_t room_len, size_t *len);
 
 /* Writes what an answer means, as English text: REGEX_LITE_YES, or REGEX_LITE_NO_ROOM; its length
  * is written either way. A number that is no answer has the text "unknown answer". No text has more
  * than 100 bytes. */
-uint32_t regex_lite_strerror(uint32_t answer, uint8_t *room, size_t room_len, size_t *len);
+regex_lite_answer regex_lite_strerror(uint32_t answer, uint8_t *room, size_t room_len, size_t *len);
 
 /* Builds the regex of a pattern: REGEX_LITE_YES, and the handle holds it; otherwise it returns why
  * not, and the handle holds nothing. What it held before is freed.
@@ -194,9 +194,9 @@ uint32_t regex_lite_strerror(uint32_t answer, uint8_t *room, size_t room_len, si
  * The text of a refusal is written to the message, also where memory ran out, and its length to
  * message_len; a message that is longer than its room isn't written, but its length is. No message
  * has more than 100 bytes. message_len is 0 with REGEX_LITE_YES and with REGEX_LITE_NOT_TEXT. */
-uint32_t regex_lite_new(regex_lite *handle, const uint8_t *pattern, size_t pattern_len,
-                        const regex_lite_options *options, uint8_t *message, size_t message_room,
-                        size_t *message_len);
+regex_lite_answer regex_lite_new(regex_lite *handle, const uint8_t *pattern, size_t pattern_len,
+                                 const regex_lite_options *options, uint8_t *message,
+                                 size_t message_room, size_t *message_len);
 
 /* Writes where in a pattern its first fault is: REGEX_LITE_YES. It returns REGEX_LITE_NO where the
  * syntax has no fault; the limits of the options don't count.
@@ -209,14 +209,15 @@ uint32_t regex_lite_new(regex_lite *handle, const uint8_t *pattern, size_t patte
  *
  * A pattern that isn't valid UTF-8 is REGEX_LITE_NOT_TEXT, and one with more groups than can be
  * numbered may be REGEX_LITE_GROUPS. */
-uint32_t regex_lite_fault_at(const uint8_t *pattern, size_t pattern_len,
-                             const regex_lite_options *options, regex_lite_fault *fault);
+regex_lite_answer regex_lite_fault_at(const uint8_t *pattern, size_t pattern_len,
+                                      const regex_lite_options *options, regex_lite_fault *fault);
 
 /* Frees what the handle holds, if anything. */
 void regex_lite_free(regex_lite *handle);
 
 /* Writes the pattern: REGEX_LITE_YES, or REGEX_LITE_NO_ROOM. Its length is written either way. */
-uint32_t regex_lite_pattern(regex_lite *handle, uint8_t *room, size_t room_len, size_t *len);
+regex_lite_answer regex_lite_pattern(regex_lite *handle, uint8_t *room, size_t room_len,
+                                     size_t *len);
 
 /* How many groups a match has, the whole match among them; 0 where nothing is held. */
 size_t regex_lite_groups(regex_lite *handle);
@@ -228,16 +229,16 @@ size_t regex_lite_static_groups(regex_lite *handle);
  * and \b, are taken to hold. REGEX_LITE_NO means that no match is empty; with REGEX_LITE_YES there
  * may still be no empty match, as of \b\B. A handle that holds nothing is
  * REGEX_LITE_NOTHING_HELD. */
-uint32_t regex_lite_may_be_empty(regex_lite *handle);
+regex_lite_answer regex_lite_may_be_empty(regex_lite *handle);
 
 /* Writes the name of a group: REGEX_LITE_YES or REGEX_LITE_NO_ROOM, with its length written either
  * way; REGEX_LITE_NO where it has none, as the whole match has; or REGEX_LITE_NO_GROUP. */
-uint32_t regex_lite_group_name(regex_lite *handle, size_t index, uint8_t *room, size_t room_len,
-                               size_t *len);
+regex_lite_answer regex_lite_group_name(regex_lite *handle, size_t index, uint8_t *room,
+                                        size_t room_len, size_t *len);
 
 /* Writes the index of the group with a name: REGEX_LITE_YES, or REGEX_LITE_NO. */
-uint32_t regex_lite_group_index(regex_lite *handle, const uint8_t *name, size_t name_len,
-                                size_t *index);
+regex_lite_answer regex_lite_group_index(regex_lite *handle, const uint8_t *name, size_t name_len,
+                                         size_t *index);
 
 /* How many places the pattern has, written out, and how many arrows lead from place to place: a
  * search tries at most (arrows + 1) * (characters + 1) places. 0 where nothing is held. */
@@ -252,45 +253,47 @@ bool regex_lite_is_text(const uint8_t *bytes, size_t len);
  *
  * Like each call below that takes a start, it reads the whole text, not only the part from the
  * start on: see LONG TEXTS above before you call it in a loop. */
-uint32_t regex_lite_is_match(regex_lite *handle, const uint8_t *text, size_t len, size_t start);
+regex_lite_answer regex_lite_is_match(regex_lite *handle, const uint8_t *text, size_t len,
+                                      size_t start);
 
 /* Writes the match that starts first from this offset on, of those the one that the pattern
  * prefers: REGEX_LITE_YES, or REGEX_LITE_NO. It reads the whole text, whatever the start: for all
  * matches of a text, regex_lite_find_all takes linear time where a loop over this call doesn't. */
-uint32_t regex_lite_find(regex_lite *handle, const uint8_t *text, size_t len, size_t start,
-                         regex_lite_span *span);
+regex_lite_answer regex_lite_find(regex_lite *handle, const uint8_t *text, size_t len, size_t start,
+                                  regex_lite_span *span);
 
 /* Whether a match of the pattern starts at this very offset: REGEX_LITE_YES or REGEX_LITE_NO. Looks
  * see the whole text, as with regex_lite_is_match: ^ matches at the start of the text, and not at
  * that of the search. The search is over as soon as no match that starts there can come: where none
  * does, it doesn't go over the rest of the text. The whole text is still read once, as above. */
-uint32_t regex_lite_is_match_anchored(regex_lite *handle, const uint8_t *text, size_t len,
-                                      size_t start);
+regex_lite_answer regex_lite_is_match_anchored(regex_lite *handle, const uint8_t *text, size_t len,
+                                               size_t start);
 
 /* Writes the match that starts at this very offset, of several the one that the pattern prefers:
  * REGEX_LITE_YES, or REGEX_LITE_NO. It is the match that regex_lite_find writes where that starts
  * at this offset. It reads the whole text, whatever the start, and looks see the whole text. */
-uint32_t regex_lite_find_anchored(regex_lite *handle, const uint8_t *text, size_t len,
-                                  size_t start, regex_lite_span *span);
+regex_lite_answer regex_lite_find_anchored(regex_lite *handle, const uint8_t *text, size_t len,
+                                           size_t start, regex_lite_span *span);
 
 /* Whether the pattern matches the whole text: REGEX_LITE_YES or REGEX_LITE_NO. It is what
  * regex_lite_is_match returns of the pattern between \A(?: and )\z, without another regex. */
-uint32_t regex_lite_is_full_match(regex_lite *handle, const uint8_t *text, size_t len);
+regex_lite_answer regex_lite_is_full_match(regex_lite *handle, const uint8_t *text, size_t len);
 
 /* Writes the match of the whole text: REGEX_LITE_YES, or REGEX_LITE_NO. There may be one where
  * regex_lite_find writes a shorter one, which the pattern prefers, as a|ab does in "ab". */
-uint32_t regex_lite_full_match(regex_lite *handle, const uint8_t *text, size_t len,
-                               regex_lite_span *span);
+regex_lite_answer regex_lite_full_match(regex_lite *handle, const uint8_t *text, size_t len,
+                                        regex_lite_span *span);
 
 /* Does the same as regex_lite_find, and also writes what the search cost, where the answer is
  * REGEX_LITE_YES or REGEX_LITE_NO. It reads the whole text, whatever the start. */
-uint32_t regex_lite_find_counted(regex_lite *handle, const uint8_t *text, size_t len, size_t start,
-                                 regex_lite_span *span, regex_lite_cost *cost);
+regex_lite_answer regex_lite_find_counted(regex_lite *handle, const uint8_t *text, size_t len,
+                                          size_t start, regex_lite_span *span,
+                                          regex_lite_cost *cost);
 
 /* Writes the least offset at which a match ends that starts at this offset or later:
  * REGEX_LITE_YES, or REGEX_LITE_NO. It reads the whole text, whatever the start. */
-uint32_t regex_lite_shortest(regex_lite *handle, const uint8_t *text, size_t len, size_t start,
-                             size_t *end);
+regex_lite_answer regex_lite_shortest(regex_lite *handle, const uint8_t *text, size_t len,
+                                      size_t start, size_t *end);
 
 /* Searches many texts, whose bytes come one after another, and writes for each where its first
  * match is, by offsets in that text; is_there is false where it has none: REGEX_LITE_YES. With room
@@ -300,29 +303,30 @@ uint32_t regex_lite_shortest(regex_lite *handle, const uint8_t *text, size_t len
  * The lengths of the texts have to add up to `len`, and no text may end inside a character, else
  * the answer is REGEX_LITE_BAD_OFFSET. The texts are searched in the same memory, and what the
  * search of one learns of the pattern speeds up that of the next. */
-uint32_t regex_lite_find_each(regex_lite *handle, const uint8_t *texts, size_t len,
-                              const size_t *lens, size_t count, regex_lite_span *spans,
-                              size_t room);
+regex_lite_answer regex_lite_find_each(regex_lite *handle, const uint8_t *texts, size_t len,
+                                       const size_t *lens, size_t count, regex_lite_span *spans,
+                                       size_t room);
 
 /* Writes the groups of the match that regex_lite_find writes, from the whole match on, and how many
  * they are: REGEX_LITE_YES, or REGEX_LITE_NO. With room for fewer it only writes how many they are:
  * REGEX_LITE_NO_ROOM. It reads the whole text, whatever the start: for the groups of all matches
  * of a text use regex_lite_captures_all, which takes linear time where a loop over this call
  * takes quadratic time. */
-uint32_t regex_lite_captures(regex_lite *handle, const uint8_t *text, size_t len, size_t start,
-                             regex_lite_span *spans, size_t room, size_t *count);
+regex_lite_answer regex_lite_captures(regex_lite *handle, const uint8_t *text, size_t len,
+                                      size_t start, regex_lite_span *spans, size_t room,
+                                      size_t *count);
 
 /* Writes the groups of the match that regex_lite_find_anchored writes, and how many they are. The
  * answers, and what is written with too little room, are those of regex_lite_captures. */
-uint32_t regex_lite_captures_anchored(regex_lite *handle, const uint8_t *text, size_t len,
-                                      size_t start, regex_lite_span *spans, size_t room,
-                                      size_t *count);
+regex_lite_answer regex_lite_captures_anchored(regex_lite *handle, const uint8_t *text, size_t len,
+                                               size_t start, regex_lite_span *spans, size_t room,
+                                               size_t *count);
 
 /* Writes the groups of the match of the whole text, and how many they are. There may be several ways
  * to match it: they are those of the one that the pattern prefers. The answers, and what is written
  * with too little room, are those of regex_lite_captures. */
-uint32_t regex_lite_full_captures(regex_lite *handle, const uint8_t *text, size_t len,
-                                  regex_lite_span *spans, size_t room, size_t *count);
+regex_lite_answer regex_lite_full_captures(regex_lite *handle, const uint8_t *text, size_t len,
+                                           regex_lite_span *spans, size_t room, size_t *count);
 
 /* Writes the next matches of a text from left to right, as many as there is room for, and how many
  * these are: REGEX_LITE_YES, or REGEX_LITE_NO where none is left. No two overlap. With a `room` of
@@ -331,9 +335,9 @@ uint32_t regex_lite_full_captures(regex_lite *handle, const uint8_t *text, size_
  *
  * The walk is initialised with REGEX_LITE_START, and goes on with the same handle and text. Each
  * call reads the whole text once to check that it is UTF-8, so room for many matches is better. */
-uint32_t regex_lite_find_all(regex_lite *handle, const uint8_t *text, size_t len,
-                             regex_lite_walk *walk, regex_lite_span *spans, size_t room,
-                             size_t *count);
+regex_lite_answer regex_lite_find_all(regex_lite *handle, const uint8_t *text, size_t len,
+                                      regex_lite_walk *walk, regex_lite_span *spans, size_t room,
+                                      size_t *count);
 
 /* Writes the groups of the matches that regex_lite_find_all writes, those of a match in a row, and
  * how many matches these are: the groups of match i begin at i * regex_lite_groups. It writes as
@@ -345,9 +349,9 @@ uint32_t regex_lite_find_all(regex_lite *handle, const uint8_t *text, size_t len
  * Where memory runs out, the answer is REGEX_LITE_OUT_OF_MEMORY. Then the groups of the matches
  * before have been written, the count says how many matches these are, which may be 0, and the walk
  * goes on after them. Each call reads the whole text once, so room for many matches is better. */
-uint32_t regex_lite_captures_all(regex_lite *handle, const uint8_t *text, size_t len,
-                                 regex_lite_walk *walk, regex_lite_span *spans, size_t room,
-                                 size_t *count);
+regex_lite_answer regex_lite_captures_all(regex_lite *handle, const uint8_t *text, size_t len,
+                                          regex_lite_walk *walk, regex_lite_span *spans,
+                                          size_t room, size_t *count);
 
 /* Writes the next pieces of a text, as many as there is room for, and how many these are:
  * REGEX_LITE_YES, or REGEX_LITE_NO where none is left. The pieces are what stands before, between
@@ -357,20 +361,22 @@ uint32_t regex_lite_captures_all(regex_lite *handle, const uint8_t *text, size_t
  *
  * The cut is initialised with REGEX_LITE_UNCUT, and goes on with the same handle and text. Each
  * call reads the whole text once, so room for many pieces is better. */
-uint32_t regex_lite_split(regex_lite *handle, const uint8_t *text, size_t len, regex_lite_cut *cut,
-                          regex_lite_span *pieces, size_t room, size_t *count);
+regex_lite_answer regex_lite_split(regex_lite *handle, const uint8_t *text, size_t len,
+                                   regex_lite_cut *cut, regex_lite_span *pieces, size_t room,
+                                   size_t *count);
 
 /* Writes the text with its matches replaced, its length to replacing->len, and how many matches
  * were replaced to replacing->count: REGEX_LITE_YES, or REGEX_LITE_NO_ROOM with these two alone. In
  * a template $1 or $name is a group, and $$ is a $. */
-uint32_t regex_lite_replace(regex_lite *handle, const uint8_t *text, size_t len,
-                            const uint8_t *replacement, size_t replacement_len,
-                            regex_lite_replacing *replacing, uint8_t *room, size_t room_len);
+regex_lite_answer regex_lite_replace(regex_lite *handle, const uint8_t *text, size_t len,
+                                     const uint8_t *replacement, size_t replacement_len,
+                                     regex_lite_replacing *replacing, uint8_t *room,
+                                     size_t room_len);
 
 /* Writes a pattern that matches exactly this text, and its length: REGEX_LITE_YES, or
  * REGEX_LITE_NO_ROOM with the length alone. */
-uint32_t regex_lite_escape(const uint8_t *text, size_t len, uint8_t *room, size_t room_len,
-                           size_t *pattern_len);
+regex_lite_answer regex_lite_escape(const uint8_t *text, size_t len, uint8_t *room, size_t room_len,
+                                    size_t *pattern_len);
 
 /* SEVERAL PATTERNS AT ONCE. They are numbered from 0 on, in their order, and a search goes over the
  * text once for all of them. Of the matches that start first it finds that of the pattern with the
@@ -386,10 +392,10 @@ uint32_t regex_lite_escape(const uint8_t *text, size_t len, uint8_t *room, size_
  * patterns there are where none is: where memory runs out, or where the patterns have more places
  * together than can be numbered. The message is like that of regex_lite_new, and its length is also
  * 0 with REGEX_LITE_BAD_OFFSET. */
-uint32_t regex_lite_list_new(regex_lite_list *handle, const uint8_t *bytes, size_t len,
-                             const regex_lite_list_pattern *patterns, size_t count,
-                             uint8_t *message, size_t message_room,
-                             regex_lite_list_refusal *refusal);
+regex_lite_answer regex_lite_list_new(regex_lite_list *handle, const uint8_t *bytes, size_t len,
+                                      const regex_lite_list_pattern *patterns, size_t count,
+                                      uint8_t *message, size_t message_room,
+                                      regex_lite_list_refusal *refusal);
 
 /* Frees what the handle holds, if anything. */
 void regex_lite_list_free(regex_lite_list *handle);
@@ -399,12 +405,12 @@ size_t regex_lite_list_len(regex_lite_list *handle);
 
 /* Writes the pattern with this number: REGEX_LITE_YES or REGEX_LITE_NO_ROOM, with its length
  * written either way; or REGEX_LITE_NO where the list has no such pattern. */
-uint32_t regex_lite_list_pattern_at(regex_lite_list *handle, size_t number, uint8_t *room,
-                                    size_t room_len, size_t *len);
+regex_lite_answer regex_lite_list_pattern_at(regex_lite_list *handle, size_t number, uint8_t *room,
+                                             size_t room_len, size_t *len);
 
 /* What regex_lite_may_be_empty returns for the pattern with this number; or REGEX_LITE_NO_PATTERN
  * where the list has no such pattern. */
-uint32_t regex_lite_list_may_be_empty(regex_lite_list *handle, size_t number);
+regex_lite_answer regex_lite_list_may_be_empty(regex_lite_list *handle, size_t number);
 
 /* How many places the patterns have together, written out, and how many arrows lead from place to
  * place: a search tries at most (arrows + patterns) * (characters + 1) places. 0 where nothing is
@@ -415,90 +421,94 @@ size_t regex_lite_list_arrows(regex_lite_list *handle);
 /* Whether one of the patterns matches somewhere from this offset on: REGEX_LITE_YES or
  * REGEX_LITE_NO. Looks see the whole text, as with regex_lite_is_match, and the whole text is
  * read. */
-uint32_t regex_lite_list_is_match(regex_lite_list *handle, const uint8_t *text, size_t len,
-                                  size_t start);
+regex_lite_answer regex_lite_list_is_match(regex_lite_list *handle, const uint8_t *text, size_t len,
+                                           size_t start);
 
 /* Writes the match that is found from this offset on, with the number of its pattern:
  * REGEX_LITE_YES, or REGEX_LITE_NO. It reads the whole text, whatever the start: for all matches of
  * a text use regex_lite_list_find_all. */
-uint32_t regex_lite_list_find(regex_lite_list *handle, const uint8_t *text, size_t len,
-                              size_t start, regex_lite_list_span *span);
+regex_lite_answer regex_lite_list_find(regex_lite_list *handle, const uint8_t *text, size_t len,
+                                       size_t start, regex_lite_list_span *span);
 
 /* Whether a match of one of the patterns starts at this very offset: REGEX_LITE_YES or
  * REGEX_LITE_NO. Looks see the whole text, and the whole text is read. */
-uint32_t regex_lite_list_is_match_anchored(regex_lite_list *handle, const uint8_t *text, size_t len,
-                                           size_t start);
+regex_lite_answer regex_lite_list_is_match_anchored(regex_lite_list *handle, const uint8_t *text,
+                                                    size_t len, size_t start);
 
 /* Writes the match that starts at this very offset, of the pattern with the lowest number that
  * matches there, with that number: REGEX_LITE_YES, or REGEX_LITE_NO. Looks see the whole text. It
  * reads the whole text, whatever the start: for all tokens of a long text call
  * regex_lite_list_find_all, and check that each match starts where the one before it ends. */
-uint32_t regex_lite_list_find_anchored(regex_lite_list *handle, const uint8_t *text, size_t len,
-                                       size_t start, regex_lite_list_span *span);
+regex_lite_answer regex_lite_list_find_anchored(regex_lite_list *handle, const uint8_t *text,
+                                                size_t len, size_t start,
+                                                regex_lite_list_span *span);
 
 /* Whether one of the patterns matches the whole text: REGEX_LITE_YES or REGEX_LITE_NO. */
-uint32_t regex_lite_list_is_full_match(regex_lite_list *handle, const uint8_t *text, size_t len);
+regex_lite_answer regex_lite_list_is_full_match(regex_lite_list *handle, const uint8_t *text,
+                                                size_t len);
 
 /* Writes the match of the whole text, of the pattern with the lowest number that has one, with that
  * number: REGEX_LITE_YES, or REGEX_LITE_NO. */
-uint32_t regex_lite_list_full_match(regex_lite_list *handle, const uint8_t *text, size_t len,
-                                    regex_lite_list_span *span);
+regex_lite_answer regex_lite_list_full_match(regex_lite_list *handle, const uint8_t *text,
+                                             size_t len, regex_lite_list_span *span);
 
 /* Does the same as regex_lite_list_find, and also writes what the search cost, where the answer is
  * REGEX_LITE_YES or REGEX_LITE_NO. It reads the whole text, whatever the start. */
-uint32_t regex_lite_list_find_counted(regex_lite_list *handle, const uint8_t *text, size_t len,
-                                      size_t start, regex_lite_list_span *span,
-                                      regex_lite_cost *cost);
+regex_lite_answer regex_lite_list_find_counted(regex_lite_list *handle, const uint8_t *text,
+                                               size_t len, size_t start, regex_lite_list_span *span,
+                                               regex_lite_cost *cost);
 
 /* Writes the groups of the match that regex_lite_list_find writes, from the whole match on, the
  * number of its pattern, and how many groups that has: REGEX_LITE_YES, or REGEX_LITE_NO. With room
  * for fewer groups it only writes the two numbers: REGEX_LITE_NO_ROOM. It reads the whole text,
  * whatever the start: for the groups of all matches of a text use regex_lite_list_captures_all. */
-uint32_t regex_lite_list_captures(regex_lite_list *handle, const uint8_t *text, size_t len,
-                                  size_t start, regex_lite_span *spans, size_t room,
-                                  regex_lite_list_groups *groups);
+regex_lite_answer regex_lite_list_captures(regex_lite_list *handle, const uint8_t *text, size_t len,
+                                           size_t start, regex_lite_span *spans, size_t room,
+                                           regex_lite_list_groups *groups);
 
 /* Writes the groups of the match that regex_lite_list_find_anchored writes, the number of its
  * pattern, and how many groups that has. The answers, and what is written with too little room, are
  * those of regex_lite_list_captures. */
-uint32_t regex_lite_list_captures_anchored(regex_lite_list *handle, const uint8_t *text, size_t len,
-                                           size_t start, regex_lite_span *spans, size_t room,
-                                           regex_lite_list_groups *groups);
+regex_lite_answer regex_lite_list_captures_anchored(regex_lite_list *handle, const uint8_t *text,
+                                                    size_t len, size_t start,
+                                                    regex_lite_span *spans, size_t room,
+                                                    regex_lite_list_groups *groups);
 
 /* Writes the groups of the match that regex_lite_list_full_match writes, the number of its pattern,
  * and how many groups that has. The answers, and what is written with too little room, are those of
  * regex_lite_list_captures. */
-uint32_t regex_lite_list_full_captures(regex_lite_list *handle, const uint8_t *text, size_t len,
-                                       regex_lite_span *spans, size_t room,
-                                       regex_lite_list_groups *groups);
+regex_lite_answer regex_lite_list_full_captures(regex_lite_list *handle, const uint8_t *text,
+                                                size_t len, regex_lite_span *spans, size_t room,
+                                                regex_lite_list_groups *groups);
 
 /* Whether the pattern with this number matches somewhere from this offset on: REGEX_LITE_YES or
  * REGEX_LITE_NO; or REGEX_LITE_NO_PATTERN where the list has no such pattern. This call and the
  * next two search for that pattern alone, and return what the calls for a regex of it return,
  * whatever the other patterns match: a caller that prefers some patterns to others asks for them in
  * that order. They read the whole text, whatever the start. */
-uint32_t regex_lite_list_is_match_of(regex_lite_list *handle, size_t number, const uint8_t *text,
-                                     size_t len, size_t start);
+regex_lite_answer regex_lite_list_is_match_of(regex_lite_list *handle, size_t number,
+                                              const uint8_t *text, size_t len, size_t start);
 
 /* Writes the match of the pattern with this number that starts first from this offset on:
  * REGEX_LITE_YES, REGEX_LITE_NO or REGEX_LITE_NO_PATTERN. */
-uint32_t regex_lite_list_find_of(regex_lite_list *handle, size_t number, const uint8_t *text,
-                                 size_t len, size_t start, regex_lite_span *span);
+regex_lite_answer regex_lite_list_find_of(regex_lite_list *handle, size_t number,
+                                          const uint8_t *text, size_t len, size_t start,
+                                          regex_lite_span *span);
 
 /* Writes the groups of the match that regex_lite_list_find_of writes, and how many they are, by the
  * indices that they have in their own pattern: REGEX_LITE_YES, REGEX_LITE_NO or
  * REGEX_LITE_NO_PATTERN. With room for fewer it only writes how many they are:
  * REGEX_LITE_NO_ROOM. */
-uint32_t regex_lite_list_captures_of(regex_lite_list *handle, size_t number, const uint8_t *text,
-                                     size_t len, size_t start, regex_lite_span *spans, size_t room,
-                                     size_t *count);
+regex_lite_answer regex_lite_list_captures_of(regex_lite_list *handle, size_t number,
+                                              const uint8_t *text, size_t len, size_t start,
+                                              regex_lite_span *spans, size_t room, size_t *count);
 
 /* Writes the next matches of a text from left to right, whichever pattern each is of, as many as
  * there is room for, and how many these are: REGEX_LITE_YES, or REGEX_LITE_NO where none is left.
  * No two overlap. The walk is like that of regex_lite_find_all, and so are the answers. */
-uint32_t regex_lite_list_find_all(regex_lite_list *handle, const uint8_t *text, size_t len,
-                                  regex_lite_walk *walk, regex_lite_list_span *spans, size_t room,
-                                  size_t *count);
+regex_lite_answer regex_lite_list_find_all(regex_lite_list *handle, const uint8_t *text, size_t len,
+                                           regex_lite_walk *walk, regex_lite_list_span *spans,
+                                           size_t room, size_t *count);
 
 /* Writes the groups of the matches that regex_lite_list_find_all writes, those of a match in a row,
  * and how many matches these are. For each match it writes the number of its pattern, and how many
@@ -510,17 +520,18 @@ uint32_t regex_lite_list_find_all(regex_lite_list *handle, const uint8_t *text, 
  * Where memory runs out, the answer is REGEX_LITE_OUT_OF_MEMORY. Then the groups of the matches
  * before have been written, `count` says how many matches these are, which may be 0, and the walk
  * goes on after them. Each call reads the whole text once, so room for many matches is better. */
-uint32_t regex_lite_list_captures_all(regex_lite_list *handle, const uint8_t *text, size_t len,
-                                      regex_lite_walk *walk, regex_lite_list_groups *groups,
-                                      size_t groups_room, regex_lite_span *spans, size_t room,
-                                      size_t *count);
+regex_lite_answer regex_lite_list_captures_all(regex_lite_list *handle, const uint8_t *text,
+                                               size_t len, regex_lite_walk *walk,
+                                               regex_lite_list_groups *groups, size_t groups_room,
+                                               regex_lite_span *spans, size_t room, size_t *count);
 
 /* Writes for each pattern, by its number, whether it matches somewhere from this offset on, 1 or 0,
  * and how many patterns there are: REGEX_LITE_YES. With room for fewer bytes it only writes how
  * many there are: REGEX_LITE_NO_ROOM. For 16 patterns or more it may find out in one pass, and else
  * it searches for each pattern by itself. It reads the whole text, whatever the start. */
-uint32_t regex_lite_list_matches(regex_lite_list *handle, const uint8_t *text, size_t len,
-                                 size_t start, uint8_t *matched, size_t room, size_t *count);
+regex_lite_answer regex_lite_list_matches(regex_lite_list *handle, const uint8_t *text, size_t len,
+                                          size_t start, uint8_t *matched, size_t room,
+                                          size_t *count);
 
 #ifdef __cplusplus
 }

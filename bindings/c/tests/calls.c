@@ -2,7 +2,8 @@
  * expected come from the documents of the library and from the Rust crate. */
 #include "want.h"
 
-static uint32_t build(regex_lite *regex, const char *pattern, const regex_lite_options *options) {
+static regex_lite_answer build(regex_lite *regex, const char *pattern,
+                               const regex_lite_options *options) {
     uint8_t message[100];
     size_t len;
     return regex_lite_new(regex, TEXT(pattern), options, message, sizeof message, &len);
@@ -97,9 +98,10 @@ static void test_faults(void) {
 }
 
 /* Whether a pattern matches a text under these options. */
-static uint32_t matches(const char *pattern, const regex_lite_options *options, const char *text) {
+static regex_lite_answer matches(const char *pattern, const regex_lite_options *options,
+                                 const char *text) {
     regex_lite regex = REGEX_LITE_NOTHING;
-    uint32_t answer = build(&regex, pattern, options);
+    regex_lite_answer answer = build(&regex, pattern, options);
     WANT(answer == REGEX_LITE_YES);
     answer = regex_lite_is_match(&regex, TEXT(text), 0);
     regex_lite_free(&regex);

@@ -3,7 +3,7 @@
 #include "want.h"
 
 /* Builds the list of a name for b and c, of a or d, and of a text that may be empty. */
-static uint32_t build(regex_lite_list *list) {
+static regex_lite_answer build(regex_lite_list *list) {
     regex_lite_list_pattern each[3] = {
         {11, REGEX_LITE_DEFAULTS}, {6, REGEX_LITE_DEFAULTS}, {4, REGEX_LITE_DEFAULTS}};
     regex_lite_list_refusal refusal;
@@ -27,7 +27,7 @@ static bool is_at(regex_lite_list *list, size_t number, const char *text, size_t
 
 /* Whether they give this answer, and write nothing. */
 static bool is_refused(regex_lite_list *list, size_t number, const uint8_t *text, size_t len,
-                       size_t from, uint32_t answer) {
+                       size_t from, regex_lite_answer answer) {
     regex_lite_span span = {false, 9, 8}, groups[3] = {{false, 9, 8}, {false, 9, 8}, {false, 9, 8}};
     size_t count = 7;
     return regex_lite_list_is_match_of(list, number, text, len, from) == answer &&

@@ -5,8 +5,9 @@
 #define MOST 8
 
 /* Builds the list of these patterns, at most this many, each under the same options. */
-static uint32_t build_with(regex_lite_list *list, const char *const *patterns, size_t count,
-                           const regex_lite_options *options, regex_lite_list_refusal *refusal) {
+static regex_lite_answer build_with(regex_lite_list *list, const char *const *patterns,
+                                    size_t count, const regex_lite_options *options,
+                                    regex_lite_list_refusal *refusal) {
     uint8_t bytes[200], message[100];
     regex_lite_list_pattern each[MOST];
     size_t len = 0, i;
@@ -19,7 +20,7 @@ static uint32_t build_with(regex_lite_list *list, const char *const *patterns, s
     return regex_lite_list_new(list, bytes, len, each, count, message, sizeof message, refusal);
 }
 
-static uint32_t build(regex_lite_list *list, const char *const *patterns, size_t count) {
+static regex_lite_answer build(regex_lite_list *list, const char *const *patterns, size_t count) {
     regex_lite_list_refusal refusal;
     return build_with(list, patterns, count, &defaults, &refusal);
 }

@@ -2,7 +2,7 @@
  * crate. */
 #include "want.h"
 
-static uint32_t build(regex_lite *regex, const char *pattern) {
+static regex_lite_answer build(regex_lite *regex, const char *pattern) {
     uint8_t message[100];
     size_t len;
     return regex_lite_new(regex, TEXT(pattern), &defaults, message, sizeof message, &len);

@@ -46,7 +46,7 @@ void __wrap_free(void *place) {
 static int call_fault_at(void) {
     regex_lite_options options = REGEX_LITE_DEFAULTS;
     regex_lite_fault fault = {7, 7, false};
-    uint32_t answer = regex_lite_fault_at(TEXT("(?:(?<a>b)(c[b-a]"), &options, &fault);
+    regex_lite_answer answer = regex_lite_fault_at(TEXT("(?:(?<a>b)(c[b-a]"), &options, &fault);
     bool is_found = fault.start == 12 && fault.end == 16, is_same = fault.start == 7;
     if (answer == REGEX_LITE_YES ? is_found : answer == REGEX_LITE_OUT_OF_MEMORY && is_same)
         return 0;
@@ -65,9 +65,10 @@ static int call_refused(void) {
     static const char *const texts[] = {"found open group without closing ')'", "out of memory"};
     uint8_t message[100], list_message[100];
     size_t n;
-    uint32_t answer = regex_lite_new(&regex, TEXT("a(b"), &options, message, sizeof message, &n);
-    uint32_t of_list = regex_lite_list_new(&list, TEXT("a(b"), &each, 1, list_message,
-                                           sizeof list_message, &refusal);
+    regex_lite_answer answer =
+        regex_lite_new(&regex, TEXT("a(b"), &options, message, sizeof message, &n);
+    regex_lite_answer of_list = regex_lite_list_new(&list, TEXT("a(b"), &each, 1, list_message,
+                                                    sizeof list_message, &refusal);
     const char *text = texts[answer == REGEX_LITE_SYNTAX ? 0 : 1];
     const char *list_text = texts[of_list == REGEX_LITE_SYNTAX ? 0 : 1];
     if ((answer == REGEX_LITE_SYNTAX || answer == REGEX_LITE_OUT_OF_MEMORY) &&
@@ -81,8 +82,8 @@ static int call_refused(void) {
 }
 
 /* Whether this is what is written of the groups of two matches, or of one where memory ran out. */
-static bool is_part(uint32_t answer, const regex_lite_walk *walk, const regex_lite_span *spans,
-                    size_t count) {
+static bool is_part(regex_lite_answer answer, const regex_lite_walk *walk,
+                    const regex_lite_span *spans, size_t count) {
     if (answer == REGEX_LITE_YES) return count == 2 && walk->end == 5;
     if (answer != REGEX_LITE_OUT_OF_MEMORY) return false;
     parts += count;
@@ -102,7 +103,7 @@ static int call_parts(void) {
     regex_lite_span spans[4], list_spans[4];
     uint8_t message[100];
     size_t n, count, list_count;
-    uint32_t answer, of_list;
+    regex_lite_answer answer, of_list;
     bool is_so = true;
     for (n = 0; n < 4; n++) spans[n].start = spans[n].end = list_spans[n].start = 9;
     if (regex_lite_new(&regex, TEXT("(a)b"), &options, message, sizeof message, &n) ==
@@ -134,7 +135,7 @@ static int call_all(void) {
     uint8_t message[100], room[99];
     regex_lite_cut cut = REGEX_LITE_UNCUT;
     const size_t lens[2] = {7, 12};
-    uint32_t answers[17], others;
+    regex_lite_answer answers[17], others;
     size_t n;
     int wrong = 0;
     answers[0] = regex_lite_new(&regex, TEXT("\\b(?<name>[Ss]am)(wise)?\\b"), &options, message,
@@ -183,7 +184,7 @@ static int call_lists(void) {
     regex_lite_span spans[3];
     regex_lite_cost cost;
     uint8_t message[100], matched[2];
-    uint32_t answers[17], others;
+    regex_lite_answer answers[17], others;
     size_t n;
     int wrong = 0;
     answers[0] = regex_lite_list_new(&list, TEXT(patterns), each, 2, message, sizeof message,

@@ -35,7 +35,7 @@ static void test_find_all(void) {
         regex_lite_walk walk = REGEX_LITE_START;
         regex_lite_span spans[5];
         size_t fit = room < 3 ? room : 3;
-        uint32_t answer;
+        regex_lite_answer answer;
         blank_all(spans, 5);
         answer = regex_lite_find_all(&regex, TEXT("aXaXa"), &walk, spans, room, &count);
         WANT(answer == (room == 0 ? REGEX_LITE_NO_ROOM : REGEX_LITE_YES) && count == fit);
@@ -60,7 +60,7 @@ static void test_captures_all(void) {
         regex_lite_walk walk = REGEX_LITE_START;
         regex_lite_span spans[10];
         size_t fit = room / 2 < 4 ? room / 2 : 4;
-        uint32_t answer;
+        regex_lite_answer answer;
         blank_all(spans, 10);
         answer = regex_lite_captures_all(&regex, TEXT("abba"), &walk, spans, room, &count);
         WANT(answer == (room < 2 ? REGEX_LITE_NO_ROOM : REGEX_LITE_YES) && count == fit);
@@ -88,7 +88,7 @@ static void test_split(void) {
         regex_lite_cut cut = REGEX_LITE_UNCUT;
         regex_lite_span pieces[5];
         size_t fit = room < 3 ? room : 3;
-        uint32_t answer;
+        regex_lite_answer answer;
         blank_all(pieces, 5);
         answer = regex_lite_split(&regex, TEXT("aXbXc"), &cut, pieces, room, &count);
         WANT(answer == (room == 0 ? REGEX_LITE_NO_ROOM : REGEX_LITE_YES) && count == fit);
@@ -115,7 +115,7 @@ static void test_find_each(void) {
     build(&regex, "a");
     for (room = 0; room <= 4; room++) {
         regex_lite_span spans[5];
-        uint32_t answer;
+        regex_lite_answer answer;
         blank_all(spans, 5);
         answer = regex_lite_find_each(&regex, TEXT("xaxaa"), lens, 3, spans, room);
         if (room < 3) {
@@ -148,7 +148,7 @@ static void test_list_find_all(void) {
         regex_lite_walk walk = REGEX_LITE_START;
         regex_lite_list_span spans[6];
         size_t fit = room < 4 ? room : 4;
-        uint32_t answer;
+        regex_lite_answer answer;
         for (i = 0; i < 6; i++) spans[i].number = spans[i].start = spans[i].end = 99;
         answer = regex_lite_list_find_all(&list, TEXT("abaa"), &walk, spans, room, &count);
         WANT(answer == (room == 0 ? REGEX_LITE_NO_ROOM : REGEX_LITE_YES) && count == fit);
@@ -196,7 +196,7 @@ static void test_list_captures_all(void) {
             regex_lite_list_groups groups[5];
             regex_lite_span spans[8];
             size_t fit = fitting(matches, room);
-            uint32_t answer;
+            regex_lite_answer answer;
             for (i = 0; i < 5; i++) groups[i].number = groups[i].count = 99;
             blank_all(spans, 8);
             answer = regex_lite_list_captures_all(&list, TEXT("abaa"), &walk, groups, matches,
@@ -217,7 +217,8 @@ static void test_list_matches(void) {
     build_list(&list);
     for (room = 0; room <= 3; room++) {
         uint8_t matched[4] = {9, 9, 9, 9};
-        uint32_t answer = regex_lite_list_matches(&list, TEXT("bc"), 0, matched, room, &count);
+        regex_lite_answer answer =
+            regex_lite_list_matches(&list, TEXT("bc"), 0, matched, room, &count);
         WANT(answer == (room < 2 ? REGEX_LITE_NO_ROOM : REGEX_LITE_YES) && count == 2);
         for (i = 0; i < 4; i++) WANT(matched[i] == (room < 2 || i > 1 ? 9 : i));
     }

@@ -10,7 +10,7 @@ static pthread_mutex_t mutex = PTHREAD_MUTEX_INITIALIZER;
 static regex_lite shared = REGEX_LITE_NOTHING;
 static long built, searched;
 
-static uint32_t build(regex_lite *regex) {
+static regex_lite_answer build(regex_lite *regex) {
     uint8_t message[100];
     size_t len;
     return regex_lite_new(regex, TEXT("(a+)b"), &defaults, message, sizeof message, &len);
