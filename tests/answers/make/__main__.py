@@ -3,21 +3,17 @@ cases in the tests of regex_lite_engine.
 
 Each list has the cases picked by hand, from the files in picked/, and after them generated cases,
 by the quotas in choice.py, or in searches.py, lists.py, pattern_lists.py and list_matches.py for
-the lists that these make. The list of runs has no generated cases. The other four options write new
-cases to standard output and change no file: `--fresh SEED NUMBER` writes NUMBER cases of the whole
-grammar, `--fresh-searches` searches, `--fresh-lists` cases of the list of lists, and
-`--fresh-pattern-lists` searches for several patterns.
+the lists that these make. The list of runs has no generated cases.
 
-JUDGE is a program over the Rust crate regex-lite 0.1.9 with the changes that ../README.md names,
-started as `JUDGE batch`. For each line of standard input it writes one line. A question has four
-fields, separated by tabs: the word `is-match`, a `-` for default settings, the pattern and the
-haystack. In a field a backslash begins one of the escapes \\t, \\n, \\r, \\\\ and \\u{H}, where
-H is a character's number in hexadecimal. The answer is `ok:true`, `ok:false`, or `err:` and the
-text with which the pattern is refused. Another question has three fields: `build`, `limit:` and a
-size limit, or `nest:` and a nest limit; flags; the pattern. Its answer is `ok:`, or `err:` and a
-text as before. The questions about searches have flags, a pattern and a haystack after a word, and
-those about lists have a template too; ../README.md lists their words and answers. For the list of
-runs JUDGE is started with the arguments of each run.
+The other four options write new cases to standard output and change no file: `--fresh SEED NUMBER`
+writes NUMBER cases of the whole grammar, from the given seed, in the form of the lists. About half
+of them are matches. It serves to compare a program with upstream on more cases than the lists have.
+`--fresh-searches SEED NUMBER` does the same for searches, `--fresh-lists` for lists, pieces and
+replacements, and `--fresh-pattern-lists` for searches for several patterns. `tests/calls` takes
+what these three write.
+
+JUDGE is a program over the Rust crate regex-lite 0.1.9 with some changes. The head of judge.py says
+which, and what it is asked and answers.
 """
 
 import argparse

@@ -1,4 +1,16 @@
-"""The lists as data: how a field is written, a line of answers, and what was picked by hand."""
+r"""The lists as data: how a field is written, a line of answers, and what was picked by hand.
+
+Each line of a list is a case, with its fields separated by tabs. In the first three lists these are
+the pattern, the haystack, the exit status, and for status 2 the text of the refusal. Status 0
+is a match, 1 is no match, 2 is a refusal. In a field a backslash begins an escape: `\t`, `\n`, `\r`
+and `\\` are a tab, a line feed, a carriage return and a backslash, and `\u{H}` is the character
+with the hexadecimal number H. Characters of the Unicode categories C, M and Z, other than the
+space, are written that way. All others are written directly, in UTF-8.
+
+No two cases of a list are the same, and a generated pattern that is refused has one case. Some
+patterns of `whole-grammar.tsv` and of `runs.tsv` exceed the limit on nesting, and one of `runs.tsv`
+upstream's limit on size; no others do. None has a NUL, since an argument can't hold one.
+"""
 
 import re
 import unicodedata

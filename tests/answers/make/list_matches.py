@@ -1,6 +1,21 @@
 """The list of all matches of several patterns, one after another. Each is what the judge finds for
 several patterns from where the last match ended, as pattern_lists.py asks it. An empty match that
-ends where the last one did is passed over, and the search begins again one character later."""
+ends where the last one did is passed over, and the search begins again one character later.
+
+`list-matches.tsv` has 694 cases of 507 lists of patterns. A line has three fields and one for each
+pattern: the words `list matches`, the haystack, the answer, and the patterns. The answer has a line
+for each match: the number of its pattern, a colon, and the spans of its groups. The judge is asked
+for each match as above, from the end of the last one on; an empty match that ends there is skipped,
+and the search goes on from the next character. 48 cases have no match, 92 one and 554 more,
+up to 52. In 447 more than one pattern is found, in 260 some match is empty, and in 382 there are
+groups besides the whole match. 317 haystacks have characters of two to four bytes, and 133 of four.
+
+71 come from the lists and haystacks that were picked by hand for pattern-lists.tsv, and 23 from
+those in `picked/list-matches.tsv`: tokens, groups, empty matches of one pattern next to those of
+another. 600 were generated like those of pattern-lists.tsv, with the seed 8: the judge was asked
+about 8,000 cases, and 40 without a match, 140 with matches of one pattern and 420 with matches of
+several were kept, of which 60 and 180 have an empty match.
+"""
 
 import itertools
 from collections.abc import Sequence

@@ -1,5 +1,14 @@
 """The list of long haystacks, many groups and many matches. Its lines are those of searches and of
-lists, with runs of one character written by their length."""
+lists, with runs of one character written by their length.
+
+`long.tsv` has 441 cases, 135 with the fields of `searches.tsv` and 306 with those of `lists.tsv`.
+Runs of a character are written as in `settings.tsv`. All were picked by hand: haystacks of 5,000,
+70,000 and 200,000 characters with spans and groups near their ends, exactly as many pairs of a
+place and a position as are searched depth first, half of that and one more of each, 8 and 40 groups
+with names, up to 12 pieces with the limits 2, 5 and 9, replacements with the limits 0, 4 and 9,
+matches after 300 empty ones, and groups with looks that see the character after a match, or that
+hold only if the haystack ends after it.
+"""
 
 from . import lists, searches
 from .data import expanded, packed, rows_of

@@ -1,6 +1,61 @@
 """The list of searches for several patterns at once: which of them is found, where, and with which
 groups. The judge searches for each pattern by itself; of what it finds the least start is taken,
-and if several patterns have it, the lowest of these."""
+and if several patterns have it, the lowest of these.
+
+`pattern-lists.tsv` has 4,378 cases of 1,613 lists of patterns. A line has six fields and one for
+each pattern:
+
+1. the word `list`
+2. the haystack
+3. the start, as in `searches.tsv`
+4. the number of the pattern that is found, counted from 0, or `-` if none is
+5. the spans of its groups, or `-`
+6. the name of each of its groups, or `-` for one without a name; and just `-` if none is found
+7. and so on: the patterns, in their order
+
+The patterns have the default settings, and contain flags of their own. None is refused. The judge
+is asked separately where each pattern matches from the start on. Of these matches those with the
+least start are taken, and of them the one of the lowest pattern.
+
+| Cases | |
+|---|---|
+| several patterns match from the least start, and another's match ends first | 774 |
+| another's match ends first, and begins later | 612 |
+| several patterns match from the least start, and no other's match ends first | 1,040 |
+| a pattern other than the lowest that matches is found, since it begins earlier | 828 |
+| other matches | 390 |
+| no match | 513 |
+| a start above the length | 221 |
+
+4,363 cases have 2 to 9 patterns, 10 have one and 5 none. In 2,153 a pattern other than the first is
+found. 852 matches are empty. 1,779 answers have a group besides the whole match, 1,095 one with a
+name. 2,164 cases have a haystack with characters of two to four bytes, and 864 one with characters
+of four.
+
+378 cases are of 71 lists that were picked by hand, in groups: the least start, the lowest pattern,
+matches that end first, the same pattern again, empty matches, no match, groups and their names,
+looks, flags, tokens and counts. Each haystack is searched from each boundary and from the number
+after its length.
+
+4,000 were generated, with the seed 6. The judge was asked about 36,000 cases of lists of 2 to 9
+patterns. The patterns of a list are made from the same few characters: trees of the six families of
+searches, mostly with flags of their own, and others that compete with one of these for its texts: a
+part of a text that it matches, the same pattern with greedy operators for lazy ones, with one more
+character before or after it, or repeated, and patterns that match nearly everywhere or only the
+empty text. In three of four lists few patterns match the empty text. A haystack has texts that some
+of the patterns often match, mostly with something around them, or random characters. The first
+cases of each shape were kept:
+
+| Shape | With the start 0 | With a start above 0 |
+|---|---|---|
+| another's match ends first, and begins at the same position | 375 | 375 |
+| another's match ends first, and begins later | 350 | 250 |
+| others begin at the same position | 550 | 450 |
+| a pattern other than the lowest that matches | 400 | 400 |
+| other matches | 150 | 150 |
+| no match | 150 | 250 |
+| a start above the length | 0 | 150 |
+"""
 
 import itertools
 from collections.abc import Iterator, Sequence

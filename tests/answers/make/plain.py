@@ -1,4 +1,41 @@
-"""Patterns of the plain grammar: characters, branches, plain groups and three operators."""
+r"""Patterns of the plain grammar: characters, branches, plain groups and three operators.
+
+`plain-grammar.tsv`:
+
+- A pattern is one or more branches with `|` between them. A branch may be empty.
+- A branch is a sequence of items and operators.
+- An item is `(?:`, again branches, and `)`; or any character except `\`, `.`, `^`, `$`, `(`, `)`,
+  `[`, `|`, `?`, `*`, `+` and `{`, which stands for itself.
+- The operators are `?`, `*` and `+`. A `?` directly after one of them makes it lazy.
+
+It has three faults: a `)` without a group, a group without its `)`, and an operator without an item
+before it in its branch. Of several faults the leftmost is reported. A group without its `)` is
+detected at the pattern's end, so it comes last.
+
+The first part was picked by hand. It is in `picked/plain-grammar.tsv`, in groups: characters for
+themselves, letters of the other case, characters of several bytes, branches, groups, each operator,
+operators after groups, nested repetitions, lazy forms, stacked operators, patterns on which a
+careless search takes very long, each of the three faults, and several faults together.
+
+The rest was generated, with the seed 1. About half of the patterns are trees of the grammar, with
+groups nested a few deep, up to four operators in a row, and mostly between two characters, so that
+they don't match everywhere. About a third are such patterns with one to three changes: a piece
+removed, inserted, replaced, swapped, cut or doubled. The others are a few pieces in random order.
+The characters come from a small alphabet that is drawn for each pattern; some alphabets have
+characters that share their first bytes. Each pattern has two haystacks: a text that it often
+matches, with something around it, and the same with one to three changes.
+
+Patterns that use other rules were dropped at once. The judge was asked about 12,000 of the
+remaining patterns. Those that were also picked by hand were dropped too. Of the rest the first
+cases of each kind were kept:
+
+| Kind | Cases |
+|---|---|
+| match, and the pattern matches the empty haystack too | 250 |
+| any other match | 950 |
+| no match | 950 |
+| refused, for each of the three texts | 220 |
+"""
 
 import re
 from collections.abc import Iterator

@@ -1,4 +1,49 @@
 """The list of searches: where patterns match, with which groups, and where the shortest match ends.
+
+`searches.tsv` has 9,624 cases of 2,834 patterns. A line has eight fields:
+
+1. the flags that the builder turns on, letters of `imsRUx`, or `-`
+2. the pattern
+3. the haystack
+4. the start, an offset: 0, a boundary between two characters, the length, or a number above it
+5. the spans of all groups from group 0 on, such as `0..3 1..2 -`, where `-` is a group that took no
+   part; or just `-` if there is no match
+6. the smallest offset at which a match from the start on can end, or `-`
+7. how many groups take part in every match at least, as `static_captures_len` returns it, or `-`
+8. the name of each group, or `-` for one without a name, as `capture_names` returns them
+
+Patterns are of the whole grammar, and none is refused. The cases of a pattern are adjacent, so it
+is built once.
+
+Of all cases 6,702 have a match, 5,372 a start above 0 and 522 of these one above the length. 3,499
+have a haystack with characters of two to four bytes, and 1,491 one with characters of four. 6,570
+have a pattern with a group that captures, 4,360 one with two or more. 2,476 matches end after the
+shortest one.
+
+2,084 cases are of 292 patterns with haystacks that were picked by hand, in groups: branches, greedy
+and lazy repetitions, counted ones, repetitions of what may be empty, what a group holds from pass
+to pass, groups that take no part, which start comes first, looks, flags, empty matches, realistic
+patterns, and flags that the builder and the pattern turn on and off. Each haystack is searched from
+each boundary and from the number after its length.
+
+The rest was generated, with the seed 3. The judge was asked about 16,000 patterns of six families,
+half of them under flags of the builder. Most are built from few characters, so that branches and
+passes compete for them, and half of those with groups are some groups in a row. Each has two
+haystacks: one that the pattern often matches, mostly with something around it or a second such text
+after it, and one of random characters. The starts are 0 and two others; one in twenty haystacks has
+one above its length too. The judge was asked the same again with greedy operators for lazy ones and
+vice versa: if another match is found, or the shortest match ends before the preferred one, the
+preference decides. The first cases of each kind were kept, besides 150 with a start above the
+length:
+
+| Family | Matches by preference | Other matches | No match | With a start above 0 |
+|---|---|---|---|---|
+| branches: branches next to each other, in groups | 880 | 300 | 280 | 630 |
+| passes: nested repetitions, mostly of what may be empty | 1,100 | 210 | 240 | 700 |
+| counts: counted operators | 740 | 220 | 280 | 570 |
+| looks: looks at words and ends of lines | 310 | 480 | 380 | 690 |
+| classes: classes, many of them under i | 340 | 220 | 240 | 380 |
+| all: trees of all rules | 580 | 290 | 300 | 540 |
 """
 
 import itertools

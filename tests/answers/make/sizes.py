@@ -1,4 +1,30 @@
-"""Patterns with their sizes."""
+r"""Patterns with their sizes.
+
+A pattern's size is the least `size_limit` under which it is accepted. `settings.tsv` has 1,002
+patterns at their sizes: each is accepted within its size and refused within one less. The sizes
+were found by bisection, all in the same 24 rounds: a limit in the middle of the remaining range is
+accepted or refused. No size is above the default limit, 10485760.
+
+645 patterns were picked by hand. They are in `picked/sizes.tsv`, in groups: leaves, classes by
+their number of ranges, letters in either case, groups, names, groups that a `{0}` drops,
+alternations, repetitions of what may be empty and of what may not, stacked operators and nested
+counts, verbose mode, realistic patterns, and counts up to the greatest that the default limit
+admits. 264 of them are each of 22 operators after each of 12 items.
+
+357 were generated with the seed 2, by the makers of the two larger lists, from families whose
+patterns are accepted. None is longer than 72 characters as written here.
+
+Upstream's sizes come from its own records on a 64-bit machine: 32 bytes for each state, 16 for each
+group, 4 for each target of a split, 8 for each range, and for a named group 4 and its name. For
+two kinds of patterns the size here is not that of unchanged upstream:
+
+- Classes in which one range ends with U+D7FF and another begins with U+E000, such as
+  `[\x{D7FF}\x{E000}]`. The two characters are neighbours, so these are one range. Upstream keeps
+  them apart, and in the complement it counts a range in the wrong order between them, so its size
+  is greater by 8 for each copy. No pattern of the list is of this kind.
+- Classes under the flag i that upstream folds wrongly, as described above, and comments after a
+  dash. 12 patterns of the list are of this kind, with the sizes of the fixed crate.
+"""
 
 import re
 from collections.abc import Iterator

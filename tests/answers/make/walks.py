@@ -1,5 +1,14 @@
 """Patterns with haystacks, on which a test of the engine compares its two walks.
-They come from the list of searches. The test needs no answers."""
+They come from the list of searches. The test needs no answers.
+
+A search takes one of two walks, and a test of `regex_lite_engine` checks that both return the same.
+Its cases are in `tests/search/tests/cases.rt.txt` there: 560 patterns of `searches.tsv` with all
+their haystacks, which are those of 2,000 cases of the list. `walks.py` chooses them evenly among
+the patterns for which no flags are turned on. It leaves out those whose line would be longer than
+100 characters or would have a `%` or a `;` in a pattern or a haystack, since these separate the
+fields. The test searches each haystack from each boundary between characters. It needs no answers,
+since it compares one walk with the other; `tests/calls` compares with the answers.
+"""
 
 from collections.abc import Collection, Iterable
 
