@@ -76,6 +76,14 @@ def exported(file: Path, *options: str) -> set[str]:
     return {words[2] for words in lines if len(words) == 3}
 
 
+def has_header(tests: Tests, source: Path) -> bool:
+    """Whether the library's folder has this header, as it is in the source."""
+    copy = tests.built / source.name
+    is_so = copy.is_file() and copy.read_bytes() == source.read_bytes()
+    tests.note(f'{source.name} beside the library', is_so, 'build the library anew by bin/library')
+    return is_so
+
+
 def exports(tests: Tests) -> None:
     """The archive and the shared object export what the header declares, and nothing else."""
     header = (tests.built / 'regex_lite.h').read_text(encoding='utf-8')
@@ -166,6 +174,8 @@ def found(tests: Tests) -> None:
 
 def run_all(tests: Tests) -> None:
     """Runs all of these tests."""
+    for name in ('regex_lite.h', 'regex_lite_null.h'):
+        has_header(tests, TOP / 'bindings' / 'c' / name)
     exports(tests)
     parts(tests)
     two(tests)

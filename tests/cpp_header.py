@@ -9,7 +9,7 @@ from concurrent.futures import ThreadPoolExecutor
 from pathlib import Path
 from typing import NamedTuple
 
-from c_library import TOP, Tests, Word
+from c_library import TOP, Tests, Word, has_header
 from shown import examples, wanted
 
 FOLDER = TOP / 'bindings' / 'cpp'
@@ -67,13 +67,13 @@ def programs(variant: Variant) -> list[Program]:
 def has_sanitizers(tests: Tests, variant: Variant) -> bool:
     """Whether the compiler has the sanitizers of a variant, if that has some. Reports what is left
     out where it hasn't."""
-    source, program = tests.scratch / 'nothing.cpp', tests.scratch / 'nothing'
-    source.write_text('int main() { return 0; }\n', encoding='utf-8')
+    source, program = tests.scratch / 'nothing.c', tests.scratch / 'nothing'
+    source.write_text('int main(void) { return 0; }\n', encoding='utf-8')
     built = subprocess.run([variant.compiler, *variant.options, source, '-o', program],
                            check=False, capture_output=True)
     if built.returncode == 0 and subprocess.run([program], check=False).returncode == 0:
         return True
-    print(f'left out, as they can\'t be built or run: tests of C++ by {variant}')
+    print(f'left out, as they can\'t be built or run: tests by {variant}')
     return False
 
 
@@ -138,18 +138,9 @@ def page(tests: Tests) -> None:
                   env={**os.environ, 'PKG_CONFIG_PATH': folder, 'LD_LIBRARY_PATH': folder})
 
 
-def is_there(tests: Tests) -> bool:
-    """Whether the library's folder has the header of this source."""
-    name = 'regex_lite.hpp'
-    own, copy = FOLDER / name, tests.built / name
-    is_so = copy.is_file() and copy.read_bytes() == own.read_bytes()
-    tests.note(f'{name} beside the library', is_so, 'build the library anew by bin/library')
-    return is_so
-
-
 def run_all(tests: Tests) -> None:
     """Runs all of these tests."""
-    if not is_there(tests):
+    if not has_header(tests, FOLDER / 'regex_lite.hpp'):
         return
     found: list[Program] = []
     for variant in VARIANTS:

@@ -32,7 +32,7 @@ INSTALLED = {
     'libregex-lite0': {f'{LIB}/libregex_lite.so.0', f'{LIB}/libregex_lite.so.{VERSION}'},
     'libregex-lite-dev': {f'{LIB}/libregex_lite.so', f'{LIB}/libregex_lite.a',
                           f'{LIB}/pkgconfig/regex_lite.pc', 'usr/include/regex_lite.h',
-                          'usr/include/regex_lite.hpp',
+                          'usr/include/regex_lite_null.h', 'usr/include/regex_lite.hpp',
                           'usr/share/man/man3/regex_lite.3.gz',
                           'usr/share/man/man3/regex_lite_list.3.gz'},
     'rxl': {'usr/bin/rxl', 'usr/share/man/man1/rxl.1.gz'},

@@ -12,8 +12,10 @@
  * nothing, an index out of range, a buffer that is too small. It can't detect the following, so the
  * caller has to ensure it:
  *
- * 1. No pointer is null, even if its length is 0. A length is that of the memory at its pointer,
- *    and below 2^63.
+ * 1. A pointer that is passed with a length may be null if the length is 0. No other pointer is
+ *    null. A length is that of the memory at its pointer, and below 2^63. What the library exports
+ *    takes no null at all: regex_lite_null.h lets C and C++ pass it, so a binding to another
+ *    language has to replace it.
  * 2. What a call writes to overlaps nothing else that is passed to the call.
  * 3. A handle is initialised with REGEX_LITE_NOTHING, modified by these calls alone and never
  *    copied. Options are initialised with REGEX_LITE_DEFAULTS, and their flags are true or false.
@@ -536,5 +538,8 @@ regex_lite_answer regex_lite_list_matches(regex_lite_list *handle, const uint8_t
 #ifdef __cplusplus
 }
 #endif
+
+/* It lets a pointer be null if its length is 0. */
+#include "regex_lite_null.h"
 
 #endif

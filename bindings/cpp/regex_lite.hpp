@@ -321,9 +321,9 @@ inline Expected<bool> answered(std::uint32_t answer) {
     return Error(static_cast<ErrorKind>(answer));
 }
 
-/// Returns the bytes of a text, of which a call takes no null pointer.
+/// Returns the bytes of a text. The pointer is null for a view of nothing, which a call may take.
 inline const std::uint8_t *bytes(std::string_view text) noexcept {
-    return reinterpret_cast<const std::uint8_t *>(text.data() == nullptr ? "" : text.data());
+    return reinterpret_cast<const std::uint8_t *>(text.data());
 }
 
 /// Returns the bytes of a string to write to.
@@ -813,7 +813,6 @@ class Each {
             joined_ += views_.back();
             lens_.push_back(views_.back().size());
         }
-        if (views_.empty()) return true;
         spans_.resize(lens_.size());
         std::uint32_t answer =
             own.call(regex_lite_find_each, bytes(joined_), joined_.size(), lens_.data(),
@@ -1553,13 +1552,13 @@ class RegexList : public Searches<detail::Many> {
     }
     Expected<std::vector<bool>> try_matches_at(std::string_view text, std::size_t start) const {
         return detail::attempt([&]() -> Expected<std::vector<bool>> {
-            std::vector<std::uint8_t> matched(size() + 1); // so that the pointer isn't null
+            std::vector<std::uint8_t> matched(size());
             std::size_t count = 0;
             const Expected<bool> is_there = detail::answered(
                 own_->call(regex_lite_list_matches, detail::bytes(text), text.size(), start,
                            matched.data(), matched.size(), &count));
             if (!is_there.has_value()) return is_there.error();
-            return std::vector<bool>(matched.begin(), std::prev(matched.end()));
+            return std::vector<bool>(matched.begin(), matched.end());
         });
     }
 
@@ -1646,7 +1645,6 @@ class RegexList : public Searches<detail::Many> {
             joined += pattern->text;
             each.push_back({pattern->text.size(), detail::raw(pattern->options)});
         }
-        each.push_back({}); // so that the pointer isn't null
         auto own = std::make_shared<detail::Owner<detail::Many>>();
         detail::Message message;
         regex_lite_list_refusal refused{};

@@ -2,19 +2,13 @@
 
 from __future__ import annotations
 
+from page.code.dialect import Dialect, named_text
 from page.code.quoting import rust_literal
-from page.code.settings import cut_note, settings_of
+from page.code.settings import settings_of
 from page.code.templates import Groups
 from page.questions import Question
 
-_SHOW = '''\
-        for (i, group) in caps.iter().enumerate() {
-            if let Some(found) = group {
-                let _ = println!(rt; "{i}: {}..{} {}", found.start(), found.end(), found.as_str());
-            }
-        }
-    }
-'''
+_RATTLE = Dialect('let _ = println!(rt; ', 'rt.alloc(), ', '?')
 _FORM = '''\
 //! Prints the matches in a text.
 #![tactic(auto)]
@@ -35,26 +29,16 @@ fn main(rt: HostRuntime) {{
 
 def code_for(question: Question, _: Groups, is_cut: bool) -> str:
     """Code that prints the matches, by offsets in bytes, and the replaced text."""
-    note = cut_note('//', is_cut, '    ')
-    text = f"{note}    let text = {rust_literal(question['text'])};\n"
+    text = named_text(question, is_cut)
     if len(question['patterns']) > 1:
         return _code_for_list(question, text)
     new = rust_literal(question['replacement'])
-    built = _built(question)
+    built = _RATTLE.built(question)
     body = (f'    let regex = {built}?;\n{text}    for item in regex.captures_iter(text)? {{\n'
-            f'        let caps = item?;\n{_SHOW}    let new = regex.replace_all(text, {new})?;\n'
+            f'        let caps = item?;\n{_RATTLE.show()}'
+            f'    let new = regex.replace_all(text, {new})?;\n'
             '    let _ = println!(rt; "{new}");\n')
     return _FORM.format(name=built.partition('::')[0], body=body)
-
-
-def _built(question: Question) -> str:
-    """How the pattern is built."""
-    pattern = rust_literal(question['patterns'][0])
-    settings = settings_of(question)
-    if not settings:
-        return f'Regex::new(rt.alloc(), {pattern})'
-    setters = ''.join(f'        .{name}({value})\n' for name, value in settings.items())
-    return f'RegexBuilder::new(rt.alloc(), {pattern})?\n{setters}        .build()'
 
 
 def _code_for_list(question: Question, text: str) -> str:
@@ -71,5 +55,5 @@ def _code_for_list(question: Question, text: str) -> str:
         built = f'    let list = RegexList::new(rt.alloc(), &[\n{listed}    ])?;\n'
     body = (f'{built}{text}    for item in list.captures_iter(text)? {{\n'
             '        let (number, caps) = item?;\n'
-            f'        let _ = println!(rt; "pattern {{number}}");\n{_SHOW}')
+            f'        let _ = println!(rt; "pattern {{number}}");\n{_RATTLE.show()}')
     return _FORM.format(name='RegexListBuilder' if settings else 'RegexList', body=body)

@@ -205,6 +205,16 @@ void building() {
     WANT(throws(rxl::ErrorKind::not_text, [] { RegexList({"\xff"}); }));
 }
 
+// A list of no pattern, and one of an empty pattern, in a text whose pointer is null.
+void nothing() {
+    const std::string_view text;
+    const RegexList none((std::vector<std::string>()));
+    WANT(none.empty() && !none.is_match(text) && !none.find("a") && none.matches(text).empty());
+    const RegexList one{std::string_view()};
+    WANT(one.size() == 1 && is(one.find(text), 0, 0, 0) && one.matches(text)[0]);
+    WANT(one.captures(text)->size() == 1 && is_at(one.find_of(0, text), 0, 0));
+}
+
 } // namespace
 
 void test_lists() {
@@ -219,4 +229,5 @@ void test_lists() {
     no_such_pattern();
     costs();
     building();
+    nothing();
 }

@@ -14,8 +14,28 @@ void searches() {
     WANT(!regex.find_at("mr samwise", 4));
     WANT(is_at(regex.find_at("sam sam", 1), 4, 7));
     WANT(regex.is_match_at("sam sam", 4) && !regex.is_match_at("sam sam", 5));
-    WANT(!regex.find("") && !regex.find(std::string_view()) && Regex("").is_match({}));
-    WANT(is_at(Regex("").find(std::string_view()), 0, 0));
+    WANT(!regex.find(""));
+}
+
+// A view of nothing, whose pointer is null, is an empty pattern, text or template.
+void nothing() {
+    const std::string_view none;
+    WANT(none.data() == nullptr);
+    const Regex empty(none);
+    WANT(empty.pattern().empty() && is_at(empty.find(none), 0, 0) && empty.is_full_match(none));
+    WANT(!Regex("sam").find(none) && is_at(empty.find("a"), 0, 0));
+    const Regex word("(a)*");
+    WANT(word.shortest_match(none) == 0 && word.captures(none)->size() == 2);
+    WANT(word.captures(none)->whole().view().empty() && !word.captures(none)->get(1));
+    int matches = 0, pieces = 0;
+    for (const auto &match : word.captures_iter(none)) matches += match.whole().empty();
+    for (const auto piece : word.split(none)) pieces += piece.empty();
+    WANT(matches == 1 && pieces == 2);
+    WANT(word.replace_all(none, none).empty() && word.replace_all(none, "b") == "b");
+    WANT(word.replace_all("ca", none) == "c");
+    const std::vector<std::string_view> texts = {none, none};
+    WANT(word.find_each(texts).size() == 2 && is_at(word.find_each(texts)[1], 0, 0));
+    WANT(rxl::escape(none).empty() && rxl::is_text(none));
 }
 
 void looks() {
@@ -173,6 +193,7 @@ void others() {
 
 void test_searches() {
     searches();
+    nothing();
     looks();
     texts();
     shortest();
