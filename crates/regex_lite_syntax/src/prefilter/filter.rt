@@ -26,7 +26,7 @@ pub struct Filter {
     words: Option<Box<Words>>,
     /// Whether the tree is nothing but one of its words.
     are_all: bool,
-    /// Words of which one stands in each match, if some are known and none with which matches begin.
+    /// Words of which one stands in each match, if some are known with which it doesn't begin.
     needed: Option<Box<Needed>>,
 }
 
@@ -56,6 +56,7 @@ impl Filter {
         // Where matches begin at the haystack's start, words would be looked for up to its end.
         if first.any && !first.at_start && may_have_words(hir) {
             if let Some((words, are_all)) = words_of(alloc, hir) {
+                let needed = needed_past(alloc, hir, &words, are_all);
                 return Filter {
                     heads: Heads {
                         first,
@@ -64,7 +65,7 @@ impl Filter {
                     prefilter: None,
                     words: Some(words),
                     are_all,
-                    needed: None,
+                    needed,
                 };
             }
         }
@@ -75,7 +76,7 @@ impl Filter {
             prefilter,
             words: None,
             are_all: false,
-            needed: needed_by(alloc, hir),
+            needed: needed_by(alloc, hir, 0),
         }
     }
 
@@ -129,13 +130,25 @@ impl Filter {
     }
 }
 
-/// Words of which each match of the tree needs one, if some are known and there is memory.
-// Not inlined, as the next one isn't.
-#[inline(never)]
-fn needed_by(alloc: Global, hir: &Hir) -> Option<Box<Needed>>
+/// Words of which each match of the tree needs one, if it begins with one of these, of which the
+/// tree may be all, and the needed ones are known and there is memory.
+fn needed_past(alloc: Global, hir: &Hir, words: &Words, are_all: bool) -> Option<Box<Needed>>
     ensures { IfSome result (λ needed. IsNeededBy (tree_of hir.now) needed.value) }
 {
-    Box::new(alloc, Needed::of(hir)?).ok()
+    if are_all {
+        return None;
+    }
+    needed_by(alloc, hir, words.reach())
+}
+
+/// Words of which each match of the tree needs one, if some are known and there is memory. So many
+/// letters at least the words have with which it begins.
+// Not inlined, as the next one isn't.
+#[inline(never)]
+fn needed_by(alloc: Global, hir: &Hir, begun: usize) -> Option<Box<Needed>>
+    ensures { IfSome result (λ needed. IsNeededBy (tree_of hir.now) needed.value) }
+{
+    Box::new(alloc, Needed::of(hir, begun)?).ok()
 }
 
 /// The words of the tree, if it has some and there is memory.

@@ -10,6 +10,7 @@ ghost use Rattle.regex_lite_syntax.specs.Prefilter.Words.{AnyStandsAt, AreLong, 
 ghost use Rattle.regex_lite_syntax.specs.Prefilter.Words.{IsLead};
 ghost use Rattle.regex_lite_syntax.specs.Prefilter.Words.{IsNextWord, NoneStands, word_at};
 
+mod branch_words;
 mod few_words;
 mod frequency;
 mod gain;
@@ -157,6 +158,14 @@ impl Words {
         match &self.finder {
             WordSearch::Pair(_) => true,
             WordSearch::Leaps(leaps) => leaps.stands_at(&self.list, bytes, at),
+        }
+    }
+
+    /// How many letters each word has at least, as far as a search leaps.
+    pub(super) fn reach(&self) -> usize {
+        match &self.finder {
+            WordSearch::Pair(_) => self.list.word(0).len(),
+            WordSearch::Leaps(leaps) => leaps.reach(),
         }
     }
 

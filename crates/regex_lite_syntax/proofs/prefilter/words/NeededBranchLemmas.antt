@@ -110,14 +110,14 @@ branch_found all left tree before own after needs own_too before_too each needed
 pub reached_behind : (walk : NeededWalk) (words : List (List Letter)) (lead all : Starts)
     (bytes rest : List ℕ) → HasFound bytes rest walk → IsAmong walk.read all → IsAmong lead all
     → Reaches (as_needed words lead) rest 0 → Reaches (as_needed words all) bytes 0
-reached_behind walk words lead all bytes rest found read led (at, (le, (number, inside, stands), own)) = (
+reached_behind walk words lead all bytes rest found read led (at, (le, (n, small, stands), own)) = (
   past + at,
   (
     omega arith,
     (
-      number,
-      inside,
-      subst (StartsWith (word_at words number))
+      n,
+      small,
+      subst (StartsWith (word_at words n))
           (ap (drop at) (sym here) ∙ drop-drop at past bytes) stands,
     ),
     λ k low lt. elim (cases_lt k past) [

@@ -14,7 +14,7 @@ const RULED_OUT: usize = 8;
 const FEW: usize = 2;
 
 /// Words of so many letters at most are short.
-const SHORT: usize = 3;
+pub(super) const SHORT: usize = 3;
 
 /// The bytes that words have at one place.
 #[derive(Drop)]

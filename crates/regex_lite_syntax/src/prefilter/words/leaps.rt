@@ -69,6 +69,11 @@ impl Leaps {
         })
     }
 
+    /// How many letters each word has at least, as far as a search leaps.
+    pub(super) fn reach(&self) -> usize {
+        self.reach
+    }
+
     /// The first offset from this one on at which a word stands, and the first word that stands
     /// there.
     ///

@@ -12,6 +12,7 @@ ghost use Rattle.regex_lite_syntax.specs.Prefilter.Starts.{ReadsAmong, begins_wi
 use crate::class::Class;
 use crate::hir::Hir;
 use crate::prefilter::starts::Starts;
+use crate::prefilter::words::branch_words::may_have_words;
 use crate::prefilter::words::few_words::{FewWords, MOST};
 use crate::prefilter::words::letter::Letter;
 use crate::prefilter::words::pair::rank_of;
@@ -64,13 +65,14 @@ struct BranchWords {
 
 impl NeededWalk {
     /// Words of which each match of the tree has one, and the characters that may stand before it.
-    /// None if none are known that are rare enough.
-    pub(super) fn of(hir: &Hir) -> Option<(FewWords, Starts)>
+    /// None if none are known that are rare enough. None are looked for in as many of its first
+    /// parts.
+    pub(super) fn of(hir: &Hir, front: usize) -> Option<(FewWords, Starts)>
         ensures needed { IfSome result
             (λ told. IsNeededBy (tree_of hir.now) (as_needed told.0 told.1)) }
     {
         let mut walk = NeededWalk::new(BRANCHES);
-        walk.go_over(hir);
+        walk.go_over(hir, front);
         if !walk.is_rare() {
             return None;
         }
@@ -97,9 +99,10 @@ impl NeededWalk {
         }
     }
 
-    /// Goes over this tree alone, whatever it has gone over before.
+    /// Goes over this tree alone, whatever it has gone over before, and takes no word from as many
+    /// of its first parts.
     #[cycle(visit)]
-    fn go_over(&mut self, hir: &Hir)
+    fn go_over(&mut self, hir: &Hir, front: usize)
         ensures { IsNeededBy (tree_of hir.now) (as_needed self.new.best self.new.best_lead) }
     {
         self.row.clear();
@@ -109,7 +112,10 @@ impl NeededWalk {
         self.left = LOOKED_AT;
         self.read.set_to(&Starts::nowhere());
         self.row_lead.set_to(&Starts::nowhere());
-        self.visit(hir);
+        match hir {
+            Hir::Concat(parts) => self.visit_parts(parts, front),
+            _ => self.visit(hir),
+        }
         self.end_row();
     }
 
@@ -141,7 +147,7 @@ impl NeededWalk {
                 }
             }
             Hir::Capture { body, .. } => self.visit(body),
-            Hir::Concat(parts) => self.visit_parts(parts),
+            Hir::Concat(parts) => self.visit_parts(parts, 0),
             Hir::Alternation(branches) => {
                 self.choose_among(branches);
                 self.leave(hir);
@@ -149,17 +155,21 @@ impl NeededWalk {
         }
     }
 
-    /// Goes over these parts in a row.
+    /// Goes over these parts in a row, and takes no word from as many of the first.
     #[cycle(visit)]
-    fn visit_parts(&mut self, parts: &[Hir])
+    fn visit_parts(&mut self, parts: &[Hir], front: usize)
         ensures { FindsPast (concat (trees (map tree_of parts.now))) self.old self.new }
     {
-        for part in parts {
+        for (number, part) in parts.iter().enumerate() {
             if self.left == 0 {
                 self.leave_rest();
                 return;
             }
-            self.visit(part);
+            if number < front {
+                self.leave(part);
+            } else {
+                self.visit(part);
+            }
         }
     }
 
@@ -225,7 +235,7 @@ impl NeededWalk {
         let mut walk = NeededWalk::new(*left);
         for branch in branches {
             walk.branches = walk.branches.saturating_sub(1);
-            walk.go_over(branch);
+            walk.go_over(branch, 0);
             *left = walk.branches;
             if !walk.is_rare() || walk.best_rank >= most || !found.words.add_all(&walk.best) {
                 return None;
@@ -314,40 +324,5 @@ impl NeededWalk {
         self.row_lead.set_to(&self.read);
         self.row.clear();
         self.row_rank = u8::MAX;
-    }
-}
-
-/// Whether each of these branches may have a word. Asked first, since many have none, such as those
-/// of numbers.
-fn may_have_words(branches: &[Hir]) -> bool {
-    for branch in branches {
-        let may_have = match branch {
-            Hir::Concat(parts) => any_may_have_word(parts),
-            _ => may_have_word(branch),
-        };
-        if !may_have {
-            return false;
-        }
-    }
-    true
-}
-
-/// Whether one of these parts may have a word.
-fn any_may_have_word(parts: &[Hir]) -> bool {
-    for part in parts {
-        if may_have_word(part) {
-            return true;
-        }
-    }
-    false
-}
-
-/// Whether the tree may have a word. It isn't looked into.
-fn may_have_word(hir: &Hir) -> bool {
-    match hir {
-        Hir::Empty | Hir::Look(_) => false,
-        Hir::Class(set) => letter_of(set).is_some(),
-        Hir::Repetition { least, .. } => *least > 0,
-        _ => true,
     }
 }

@@ -173,7 +173,27 @@ impl Pair {
         }
     }
 
-    /// The first of these offsets at which the word stands, asked about one after another.
+    /// The first of these offsets, by short blocks, of one at which the word may stand, or of those
+    /// that are left at the end.
+    #[inline(always)]
+    fn pass_short(self, word: &[Letter], bytes: &[u8], from: usize, end: usize) -> usize
+        requires order { from ≤ end }
+        requires room { end + length word.now ≤ length bytes.now + 1 }
+        requires first { self.first < length word.now }
+        requires second { self.second < length word.now }
+        ensures low { from ≤ result }
+        ensures high { result ≤ end }
+        ensures none { NoneStands (word.now ∷ []) bytes.now from result }
+    {
+        let mut at = from;
+        'short: while end - at > SHORT_BLOCK && !self.may_stand::<SHORT_BLOCK>(word, bytes, at) {
+            at += SHORT_BLOCK;
+        }
+        at
+    }
+
+    /// The first of these offsets at which the word stands. They are asked about by short blocks up
+    /// to the first at which it may, and then one after another.
     // Not inlined, since it would be unrolled for each of a block's offsets.
     #[inline(never)]
     fn find_before(self, word: &[Letter], bytes: &[u8], from: usize, end: usize) -> Option<usize>
@@ -187,9 +207,9 @@ impl Pair {
         ensures before { IfSome result (λ at. at < end) }
     {
         let (a, b) = (word[self.first], word[self.second]);
+        let mut at = self.pass_short(word, bytes, from, end);
         // Where the word was last found not to stand.
-        let mut wrong = from;
-        let mut at = from;
+        let mut wrong = at;
         'offsets: while at < end {
             let may_stand = a.is(bytes[at + self.first]) && b.is(bytes[at + self.second]);
             if may_stand && (wrong < at || word[wrong - at].is(bytes[wrong])) {

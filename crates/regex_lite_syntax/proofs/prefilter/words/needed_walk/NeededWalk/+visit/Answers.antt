@@ -1,11 +1,13 @@
 use Rattle.regex_lite_syntax.proofs.Common.{◌≡◌, ◌+◌, ◌∙◌, Bool, false, true, false≢true, refl}
 use Rattle.regex_lite_syntax.proofs.Common.{ap, arith, drop, drop_all, repetition, subst, sym}
-use Rattle.regex_lite_syntax.proofs.Common.{tree_of, [], ◌∷◌, begins_with}
+use Rattle.regex_lite_syntax.proofs.Common.{concat, tree_of, [], ◌∷◌, begins_with}
 use Rattle.std.proofs.Common.{encode_utf8_all}
 use Rattle.std.specs.Prelude.{not}
-use Rattle.regex_lite_syntax.specs.Prefilter.NeededWalk.{as_needed, Chooses, FindsPast}
+use Rattle.regex_lite_syntax.specs.Prefilter.Needed.{IsNeededBy}
+use Rattle.regex_lite_syntax.specs.Prefilter.NeededWalk.{as_needed, Chooses, EndsRow, FindsPast}
+use Rattle.regex_lite_syntax.specs.declared.prefilter.words.needed_walk.NeededWalk.{NeededWalk}
 use Rattle.regex_lite_syntax.proofs.LeafLemmas.{tree_is-Alternation, tree_is-Char}
-use Rattle.regex_lite_syntax.proofs.LeafLemmas.{tree_is-Repetition}
+use Rattle.regex_lite_syntax.proofs.LeafLemmas.{tree_is-Concat, tree_is-Repetition}
 use Rattle.regex_lite_syntax.proofs.TreeLemmas.{trees_more, trees_of}
 use Rattle.regex_lite_syntax.proofs.prefilter.starts.ReadLemmas.{reads_passes}
 use Rattle.regex_lite_syntax.proofs.prefilter.words.NeededBranchLemmas.{among_first, among_second}
@@ -21,12 +23,18 @@ use Rattle.regex_lite_syntax.proofs.prefilter.words.NeededWalkLemmas.{finds_pass
 use Rattle.regex_lite_syntax.proofs.prefilter.words.NeededWalkLemmas.{part_passed, parts_left}
 use Rattle.regex_lite_syntax.proofs.prefilter.words.SpellingLemmas.{same_limits}
 use Rattle.regex_lite_syntax.proofs.prefilter.words.needed_walk.NeededWalk.+visit.Goals as goal
+use Rattle.regex_lite_syntax.proofs.prefilter.words.needed_walk.NeededWalk.+visit.Goals.{
+  go_over-in-Concat,
+  go_over-in_default,
+  visit_parts-then-number-front,
+  visit_parts-else-number-front,
+}
 
 pub visit_parts-returns-then-self-eq0 : goal.visit_parts-returns-then-self-eq0
 visit_parts-returns-then-self-eq0 t c =
     let hirs = c.args.parts.now in
-    parts_left (trees_of hirs) (trees_of (drop c.loop-part.part-index hirs)) c.args.self.now
-    c.loop-part.self c.leave_rest.new.self c.loop-part.invariant c.leave_rest.ensures.all
+    parts_left (trees_of hirs) (trees_of (drop c.loop-number.number hirs)) c.args.self.now
+    c.loop-number.self c.leave_rest.new.self c.loop-number.invariant c.leave_rest.ensures.all
     c.leave_rest.ensures.left
 
 pub visit-returns-in-Char : goal.visit-returns-in-Char
@@ -93,25 +101,35 @@ visit-returns-else-least-gt0 t c =
     (reads_passes r.least r.most r.greedy (tree_of body.result.now) walk.read
     c.leave.ensures.reads) c.leave.ensures.left)
 
-pub visit_parts-loop-part-preserved : goal.visit_parts-loop-part-preserved
-visit_parts-loop-part-preserved t c =
+pub visit_parts-loop-number-preserved : goal.visit_parts-loop-number-preserved
+visit_parts-loop-number-preserved t c =
     let hirs = c.args.parts.now in
-    let k = c.loop-part.part-index in
-    let part = c.part-item.result in
-    let one = trees_more hirs k part c.loop-part-test.true c.part-item.is in
+    let k = c.loop-number.number in
+    let part = c.index-parts-number.result in
+    let walk = c.loop-number.self in
+    let one = trees_more hirs k part c.loop-number-test.true c.index-parts-number.is in
+    let past : FindsPast (tree_of part) walk c.if-number-front.self =
+    elim c.if-number-front.branch [
+      | visit_parts-then-number-front w ↦
+          subst (FindsPast (tree_of part) walk) (sym w.self-is)
+          (finds_any (tree_of part) walk w.leave.new.self w.leave.ensures.reads
+          w.leave.ensures.left)
+      | visit_parts-else-number-front w ↦
+          subst (FindsPast (tree_of part) walk) (sym w.self-is) w.visit.ensures
+    ] in
     part_passed (trees_of hirs) (trees_of (drop (k + 1) hirs)) (tree_of part) c.args.self.now
-    c.loop-part.self c.visit.new.self
-    (subst (λ left. FindsParts (trees_of hirs) left c.args.self.now c.loop-part.self) one
-    c.loop-part.invariant)
-    c.visit.ensures
+    walk c.if-number-front.self
+    (subst (λ left. FindsParts (trees_of hirs) left c.args.self.now walk) one
+    c.loop-number.invariant)
+    past
 
 pub visit_parts-returns : goal.visit_parts-returns
 visit_parts-returns t c =
     let hirs = c.args.parts.now in
-    all_parts_passed (trees_of hirs) c.args.self.now c.loop-part.self
-    (subst (λ left. FindsParts (trees_of hirs) left c.args.self.now c.loop-part.self)
-    (ap trees_of (drop_all c.loop-part.part-index hirs (omega (arith, c.loop-part-test.false))))
-    c.loop-part.invariant)
+    all_parts_passed (trees_of hirs) c.args.self.now c.loop-number.self
+    (subst (λ left. FindsParts (trees_of hirs) left c.args.self.now c.loop-number.self)
+    (ap trees_of (drop_all c.loop-number.number hirs (omega (arith, c.loop-number-test.false))))
+    c.loop-number.invariant)
 
 pub choose_among-returns-then-self : goal.choose_among-returns-then-self
 choose_among-returns-then-self t c =
@@ -135,10 +153,24 @@ choose_among-returns-then-self t c =
     }
 
 pub go_over-returns : goal.go_over-returns
-go_over-returns t c =
-    needed_by_walk (tree_of c.args.hir.now) _ c.visit.new.self c.end_row.new.self
-    (c.set_to_one.ensures ∙ ap (λ word. word ∷ []) c.clear.ensures) c.clear.ensures
-    c.visit.ensures c.end_row.ensures
+go_over-returns t c = elim c.match-hir.branch [
+  | go_over-in-Concat w ↦
+      let parts = w.deref.result.now in
+      subst (λ tree. IsNeededBy tree (as_needed after.best after.best_lead))
+      (sym (tree_is-Concat w.in-Concat.parts w.in-Concat.is w.deref.ensures.value))
+      (needed_by_walk (concat (trees_of parts)) _ w.visit_parts.new.self after no_best
+      c.clear.ensures w.visit_parts.ensures
+      (subst (λ now. EndsRow now after) w.self-is c.end_row.ensures))
+  | go_over-in_default w ↦
+      needed_by_walk (tree_of c.args.hir.now) _ w.visit.new.self after no_best c.clear.ensures
+      w.visit.ensures (subst (λ now. EndsRow now after) w.self-is c.end_row.ensures)
+]
+  where
+    after : NeededWalk
+    after = c.end_row.new.self
+
+    no_best : c.set_to_one.new.self ≡ [] ∷ []
+    no_best = c.set_to_one.ensures ∙ ap (λ word. word ∷ []) c.clear.ensures
 
 pub words_of-loop-branch-init : goal.words_of-loop-branch-init
 words_of-loop-branch-init t c = λ needed more each. each

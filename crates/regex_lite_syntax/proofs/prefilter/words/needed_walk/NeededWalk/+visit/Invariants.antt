@@ -4,9 +4,9 @@ use Rattle.regex_lite_syntax.specs.Prefilter.NeededWalk.{as_needed}
 use Rattle.regex_lite_syntax.proofs.prefilter.words.NeededBranchLemmas.{EachIfLeft}
 use Rattle.regex_lite_syntax.proofs.prefilter.words.needed_walk.NeededWalk.+visit.Given as goal
 
-abbrev pub invariant-visit_parts-loop-part : goal.invariant-visit_parts-loop-part
-invariant-visit_parts-loop-part l =
-    FindsParts (trees (map tree_of l.parts)) (trees (map tree_of (drop l.part-index l.parts)))
+abbrev pub invariant-visit_parts-loop-number : goal.invariant-visit_parts-loop-number
+invariant-visit_parts-loop-number l =
+    FindsParts (trees (map tree_of l.parts)) (trees (map tree_of (drop l.number l.parts)))
     l.fn.self l.self
 
 abbrev pub invariant-visit_passes-passes : goal.invariant-visit_passes-passes

@@ -10,8 +10,9 @@ returns-then-bytes-from-clause-next c = λ at low high.
 
 pub returns-then-end-from-ge-BLOCK-clause-next : goal.returns-then-end-from-ge-BLOCK-clause-next
 returns-then-end-from-ge-BLOCK-clause-next c =
+    let found = c.find_in_blocks in
     next_to_limit c.args.word.now c.args.bytes.now c.args.from c.args.limit c.min-end.result
-    c.find_in_blocks.result (omega arith) (omega arith) c.min-end.ensures c.find_in_blocks.ensures.next
+    found.result (omega arith) (omega arith) c.min-end.ensures found.ensures.next
 
 pub returns-else-end-from-ge-BLOCK-clause-next : goal.returns-else-end-from-ge-BLOCK-clause-next
 returns-else-end-from-ge-BLOCK-clause-next c =
