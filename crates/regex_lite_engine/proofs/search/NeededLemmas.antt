@@ -2,7 +2,7 @@
 use Rattle.regex_lite_engine.proofs.Common.{◌≡◌, ℕ, ◌+◌, ◌-◌, ◌<◌, ◌≤◌, List, [], ◌∷◌, drop, IsUtf8}
 use Rattle.regex_lite_engine.proofs.Common.{chars, encodes-chars, length, slice_index, sym, ap, ◌∙◌}
 use Rattle.regex_lite_engine.proofs.Common.{offset, subst, arith, cases_lt, inl, inr, true, Some}
-use Rattle.regex_lite_engine.proofs.Common.{None, Option, NeverBegins}
+use Rattle.regex_lite_engine.proofs.Common.{None, Option}
 use Rattle.std.proofs.Common.{MatchOption, encode_utf8_all}
 use Rattle.std.proofs.Math.ListN.{drop_of_length-le}
 use Rattle.std.proofs.lemmas.List.{drop-drop, get_or-drop}
@@ -80,7 +80,7 @@ module _ (facts : StartFacts) (needed : NeededWords) (known : facts.needed ≡ S
   pub passed_on : (low at from to : ℕ)
       → AllBetween (NeverStarts facts (chars bs)) (chars bs) low at
       → ((k : ℕ) → at ≤ k → k < from → ¬ Reaches needed bs k)
-      → AllBetween (NeverBegins facts.heads (chars bs)) (chars bs) from to
+      → AllBetween (NeverStarts facts (chars bs)) (chars bs) from to
       → AllBetween (NeverStarts facts (chars bs)) (chars bs) low to
   passed_on low at from to before never begins i inside above below =
       elim (cases_lt (offset (chars bs) i) at) [
@@ -88,7 +88,7 @@ module _ (facts : StartFacts) (needed : NeededWords) (known : facts.needed ≡ S
         | inr ge ↦
             elim (cases_lt (offset (chars bs) i) from) [
               | inl lt ↦ unreached i (never (offset (chars bs) i) ge lt)
-              | inr ge ↦ inl (begins i inside ge below)
+              | inr ge ↦ begins i inside ge below
             ]
       ]
 

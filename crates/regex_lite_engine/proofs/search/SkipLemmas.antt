@@ -8,7 +8,7 @@ use Rattle.regex_lite_engine.proofs.Common.{Heads, Starts, Here, IsOffset}
 use Rattle.regex_lite_engine.proofs.Common.{IfSome, drop, encodes-chars}
 use Rattle.std.proofs.Common.{MatchOption, encode_utf8_all}
 use Rattle.regex_lite_syntax.specs.Prefilter.StartFacts.{NoneStandsIn}
-use Rattle.regex_lite_syntax.specs.Prefilter.Words.{AnyStandsAt, NoneStands}
+use Rattle.regex_lite_syntax.specs.Prefilter.Words.{AnyStandsAt}
 use Rattle.regex_lite_syntax.specs.declared.prefilter.words.letter.Letter.{Letter}
 use Rattle.regex_lite_engine.specs.Search.Starts.{SkipsTo}
 use Rattle.regex_lite_syntax.specs.Prefilter.Heads.{IsCutOff}
@@ -109,14 +109,6 @@ none_stands_in words bs i utf8 none stands =
   where
     rest : drop (offset (chars bs) i) bs ≡ encode_utf8_all (drop i (chars bs))
     rest = ap (drop (offset (chars bs) i)) (sym (encodes-chars bs utf8)) ∙ rest_at (chars bs) i
-
--- nor does any where a search passes over positions, since none does at their offsets
-pub passes_words : (words : List (List Letter)) (bs : List ℕ) {p at q : ℕ} {y : Here} → IsUtf8 bs
-    → IsOffset (chars bs) p at → IsHere (chars bs) q y → at ≤ y.at → NoneStands words bs at y.at
-    → PassesTo (NoneStandsIn words (chars bs)) (chars bs) p y
-passes_words words bs utf8 is js le none =
-    passes_where is js le (λ i within from below. none_stands_in words bs i utf8
-    (none (offset (chars bs) i) from below))
 
 -- a bound up to a position holds up to a later one
 pub bound_later : (a p q s m : ℕ) → p ≤ q → a ≤ m * (p - s) → a ≤ m * (q - s)

@@ -54,16 +54,13 @@ pub(super) fn first_start(filter: &Filter, haystack: &str, from: usize) -> usize
     ensures passes { (p : ℕ) → IsOffset (chars haystack.now) p from
         → SkipsTo (NeverStarts filter.now (chars haystack.now)) haystack.now p result }
 {
-    if let Some(words) = filter.words() {
-        return words.next_offset(haystack, from);
-    }
     match filter.needed() {
-        None => first_head(filter, haystack, from),
+        None => first_known(filter, haystack, from),
         Some(needed) => first_by_needed(filter, needed, haystack, from),
     }
 }
 
-/// The same by the first characters and by a word that each match needs.
+/// The same by a word that each match needs as well.
 // Not inlined, so that a pattern without one costs no more than the test for it.
 #[inline(never)]
 fn first_by_needed(filter: &Filter, needed: &Needed, haystack: &str, from: usize) -> usize
@@ -82,7 +79,7 @@ fn first_by_needed(filter: &Filter, needed: &Needed, haystack: &str, from: usize
         if reach.from == at && at > from {
             return at;
         }
-        let start = first_head(filter, haystack, reach.from);
+        let start = first_known(filter, haystack, reach.from);
         if start <= reach.word {
             return start;
         }
@@ -106,6 +103,23 @@ fn next_reach(needed: &Needed, bytes: &[u8], from: usize) -> Option<Reach>
         return Some(Reach { from, word: from });
     }
     needed.next_reach(bytes, from)
+}
+
+/// The first offset from this one on at which a match can begin, judging by what it begins with,
+/// or the end.
+#[inline(always)]
+fn first_known(filter: &Filter, haystack: &str, from: usize) -> usize
+    requires { from ≤ length haystack.now }
+    ensures boundary { IsCharBoundary haystack.now result }
+    ensures low { from ≤ result }
+    ensures passed { (i : ℕ) → i < length (chars haystack.now)
+        → from ≤ offset (chars haystack.now) i → offset (chars haystack.now) i < result
+        → NeverStarts filter.now (chars haystack.now) i }
+{
+    match filter.words() {
+        None => first_head(filter, haystack, from),
+        Some(words) => words.next_offset(haystack, from),
+    }
 }
 
 /// The first offset from this one on at which a match can begin, judging by the first characters,

@@ -34,27 +34,27 @@ returns-then-start-reach-clause-passes c = λ p is here at stands.
     let found = c.starts.invariant in
     let same = c.as_bytes-bytes.ensures.value in
     let next = c.in-Some.ensures in
-    let head = c.first_head-start.ensures in
-    passes_where is stands (omega (arith, at, found.low, next.0, head.low))
+    let known = c.first_known-start.ensures in
+    passes_where is stands (omega (arith, at, found.low, next.0, known.low))
     (λ i within above below. passed_on c.args.filter.now c.args.needed.now c.requires.needed
     c.args.haystack.now c.utf8.haystack c.args.from c.starts.at c.in-Some.reach.from
-    c.first_head-start.result found.passed
+    c.first_known-start.result found.passed
     (λ k from to. subst (λ z. ¬ Reaches c.args.needed.now z k) same (next.3 k from to))
-    head.passed i within above (omega (arith, below, at)))
+    known.passed i within above (omega (arith, below, at)))
 
 pub starts-preserved : goal.starts-preserved
 starts-preserved c =
     let found = c.starts.invariant in
     let same = c.as_bytes-bytes.ensures.value in
     let next = c.in-Some.ensures in
-    let head = c.first_head-start.ensures in
+    let known = c.first_known-start.ensures in
     record {
-      low = omega (arith, found.low, next.0, head.low);
-      high = head.boundary.0;
-      boundary = head.boundary;
+      low = omega (arith, found.low, next.0, known.low);
+      high = known.boundary.0;
+      boundary = known.boundary;
       passed = passed_on c.args.filter.now c.args.needed.now c.requires.needed
           c.args.haystack.now c.utf8.haystack c.args.from c.starts.at c.in-Some.reach.from
-          c.first_head-start.result found.passed
+          c.first_known-start.result found.passed
           (λ k from to. subst (λ z. ¬ Reaches c.args.needed.now z k) same (next.3 k from to))
-          head.passed;
+          known.passed;
     }
