@@ -58,7 +58,7 @@ impl Needed {
     /// Where words are known with which matches begin, so many letters long at least, none of these
     /// letters is taken for a needed word, and one is looked for only if they are few and it has
     /// more: then it mostly stands less often. `find` of `T1\d:.*WARN` by line of a log takes .55
-    /// of what it takes by `T1` alone, and of `\] [a-z]+ was refused` .35.
+    /// of what it takes by `T1` alone, and of `\] [a-z]+ was refused` .34.
     pub(crate) fn of(hir: &Hir, begun: usize) -> Option<Needed>
         ensures { IfSome result (IsNeededBy (tree_of hir.now)) }
     {
