@@ -8,7 +8,6 @@ use Rattle.regex_lite_syntax.specs.Tree.Regular.{IsRegular}
 use Rattle.regex_lite_engine.specs.Graph.Renumbered.{IsGraphOf, HasGroupsOf}
 use Rattle.regex_lite_engine.specs.Graph.Size.{Fits}
 use Rattle.regex_lite_engine.specs.Graph.StoredList.{StoredGroups}
-use Rattle.regex_lite_meta.specs.Searching.{Searching}
 use Rattle.regex_lite.specs.Expression.{AreNames, Expression, OfTree}
 use Rattle.regex_lite.specs.Groups.{Groups, spans_of}
 use Rattle.regex_lite.specs.declared.string.compiled.Compiled.{Compiled}
@@ -25,10 +24,6 @@ pub record IsBuilt (compiled : Compiled) : Type 0 where
   pub groups : HasGroupsOf tree compiled.graph
   -- and so does what it says of characters that matches read
   pub reads : compiled.graph.reads ≡ not (nullable tree)
-
--- what is searched is the graph of the pattern's tree
-abbrev pub SearchesFor : Expression → Searching → Type 0
-SearchesFor re searcher = OfTree re (λ tree. IsRegular tree × IsGraphOf tree searcher.graph)
 
 -- what is stored of the groups of a regex
 abbrev pub stored_groups : Compiled → StoredGroups

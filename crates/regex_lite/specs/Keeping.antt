@@ -3,18 +3,16 @@ use Rattle.std.specs.Prelude.{◌≡◌, ◌*◌, List, Option, Some, None, leng
 use Rattle.regex_lite_syntax.specs.Tree.Properties.{captures_len}
 use Rattle.regex_lite_engine.specs.Graph.SideBySide.{AreRegularPatterns}
 use Rattle.regex_lite_engine.specs.Graph.StoredList.{IsGraphOfList, StoredList}
-use Rattle.regex_lite_meta.specs.Searching.{Searching}
-use Rattle.regex_lite.specs.Compiled.{SearchesFor}
 use Rattle.regex_lite.specs.Expression.{Expression, OfTree}
 use Rattle.regex_lite.specs.RegexList.{OfTrees}
-use Rattle.regex_lite.specs.Scanning.{AreSlotsForAllGroups, ListSearching}
+use Rattle.regex_lite.specs.Scanning.{AreSlotsForAllGroups, ListSearching, RegexSearching}
 
 -- one that finds groups keeps two slots for each. There is none where the whole match is the only
 -- group
-abbrev pub SearchesForGroups : Expression → Option Searching → Type 0
+abbrev pub SearchesForGroups : Expression → Option RegexSearching → Type 0
 SearchesForGroups re None = OfTree re (λ tree. captures_len tree ≡ 1)
 SearchesForGroups re (Some searcher) =
-    SearchesFor re searcher × OfTree re (λ tree. length searcher.slots ≡ 2 * captures_len tree)
+    (searcher.regex ≡ re) × OfTree re (λ tree. length searcher.slots ≡ 2 * captures_len tree)
 
 -- Where some pattern of a list has groups, what finds these has slots for all of them. Where none
 -- has, what finds matches is enough

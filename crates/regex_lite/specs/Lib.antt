@@ -63,3 +63,4 @@ pub mod NextMatch
 pub mod Rewriting
 -- What those that share what was built have. No public contract rests on it.
 pub mod Owner
+pub mod Holding

@@ -10,6 +10,8 @@ pub(super) mod escape;
 mod expand;
 mod fault;
 mod group_search;
+mod group_searcher;
+mod held;
 mod iter;
 mod list;
 mod locations;

@@ -1,16 +1,32 @@
--- A graph that is searched again and again, as contracts see it.
+-- What is searched again and again, as contracts see it.
 use Rattle.std.specs.Prelude.{ℕ, List, Option, Some}
 use Rattle.regex_lite_syntax.specs.Tree.{Tree}
-use Rattle.regex_lite_engine.specs.Graph.Stored.{StoredGraph}
+use Rattle.regex_lite_engine.specs.Graph.Stored.{StoredGraph, table_of}
 use Rattle.regex_lite_engine.specs.Graph.StoredList.{StoredList}
 use Rattle.regex_lite_engine.specs.Search.Outcomes.{IsSpanOutcome}
+use Rattle.regex_lite_engine.specs.Search.Rows.{Row}
+use Rattle.regex_lite_meta.specs.Memories.{SearchesForOne}
+use Rattle.regex_lite_meta.specs.Slots.{FindsSlotsIn}
+use Rattle.regex_lite_meta.specs.declared.searcher.GraphSearcher.{GraphSearcher}
+use Rattle.regex_lite_meta.specs.declared.slot_searcher.SlotSearcher.{SlotSearcher}
 
-pub record Searching : Type 0 where
-  pub graph : StoredGraph
-  -- the slots of the last match that was found
-  pub slots : List (Option ℕ)
+-- the memory was made for this graph, and searches of it go on there
+abbrev pub SearchesGraph : StoredGraph → GraphSearcher → Type 0
+SearchesGraph graph searcher = SearchesForOne (table_of graph) graph.start searcher.inner
 
--- the same for the graph of several patterns
+-- the slots of the last match that was found there
+abbrev pub row_of_graph : GraphSearcher → Row
+row_of_graph searcher = searcher.inner.memory.cache.best.row
+
+-- the memory was made for this graph, and the slots of its matches are searched for there
+abbrev pub FindsSlotsOf : StoredGraph → SlotSearcher → Type 0
+FindsSlotsOf graph searcher = FindsSlotsIn (table_of graph) searcher.memory
+
+-- the slots that were found last
+abbrev pub found_slots : SlotSearcher → Row
+found_slots searcher = searcher.memory.cache.best.row
+
+-- the graph of several patterns that is searched again and again
 pub record ListSearching : Type 0 where
   pub graph : StoredList
   -- the slots of the last match that was found, whatever its pattern

@@ -8,74 +8,61 @@ ghost use Rattle.regex_lite_engine.specs.Search.Answer.{HasMatchFrom};
 ghost use Rattle.regex_lite_engine.specs.Search.Offsets.{search_start};
 ghost use Rattle.regex_lite_engine.specs.Search.AnswerAt.{HasMatchAt};
 ghost use Rattle.regex_lite_engine.specs.Search.Outcomes.{IsSpanOutcome, IsSpanOutcomeAt};
+ghost use Rattle.regex_lite_meta.specs.Searching.{SearchesGraph, row_of_graph};
 
 use crate::pattern_searcher::PatternSearcher;
 use regex_lite_engine::Graph;
 use regex_lite_engine::pikevm::best::span_of;
 use std::alloc::{AllocError, Global};
-use std::marker::Model;
 
-/// A graph, and the memory in which it is searched, search after search.
+/// The memory in which one graph is searched, search after search.
+///
+/// It doesn't hold the graph, so that what owns the graph can hold it too: each call takes the
+/// graph for which it was made.
 #[derive(Drop)]
-pub struct GraphSearcher<'g> {
-    graph: &'g Graph,
+pub struct GraphSearcher {
     inner: PatternSearcher,
 }
 
-impl<'g> Model for GraphSearcher<'g> {
-    ghost use Rattle.regex_lite_meta.specs.Memories.{SearchesForOne};
-    ghost use Rattle.regex_lite_meta.specs.Searching.{Searching};
-    ghost use Rattle.regex_lite_engine.specs.Graph.Stored.{table_of};
-
-    ghost Value = { Searching };
-
-    ghost view = { λ searcher. record {
-      graph = searcher.graph.now;
-      slots = searcher.inner.memory.cache.best.row;
-    } };
-
-    ghost invariant = { λ searcher.
-        SearchesForOne (table_of searcher.graph.now) searcher.graph.now.start searcher.inner };
-}
-
-impl<'g> GraphSearcher<'g> {
-    /// A searcher of this graph, whose matches have `slots` slots, for haystacks of about `bytes`
-    /// bytes. All the memory that its searches need is asked for here. In long haystacks its
-    /// searches remember their turns, unless the memory for that is refused: the results are the
-    /// same.
+impl GraphSearcher {
+    /// Memory for searches of this graph, whose matches have `slots` slots, for haystacks of about
+    /// `bytes` bytes. All that they need is asked for here. In long haystacks they remember their
+    /// turns, unless the memory for that is refused: the results are the same.
     ///
     /// # Errors
     ///
     /// If memory runs out without which it can't search.
     pub fn new(
         alloc: Global,
-        graph: &'g Graph,
+        graph: &Graph,
         slots: usize,
         bytes: usize,
-    ) -> Result<GraphSearcher<'g>, AllocError>
-        ensures graph { IfOk result (λ searcher. searcher.graph ≡ graph.now) }
-        ensures slots { IfOk result (λ searcher. length searcher.slots ≡ slots) }
+    ) -> Result<GraphSearcher, AllocError>
+        ensures searches { IfOk result (SearchesGraph graph.now) }
+        ensures slots { IfOk result (λ searcher. length (row_of_graph searcher) ≡ slots) }
     {
         let pattern = graph.pattern();
         let inner = PatternSearcher::new(alloc, &pattern, slots, bytes)?;
-        Ok(GraphSearcher { graph, inner })
+        Ok(GraphSearcher { inner })
     }
 
     /// Where the most preferred match starts and ends, from the least start at or after this
     /// offset. It needs no memory, and [`GraphSearcher::slots`] has the slots of the match.
     ///
-    /// Condition: the start is above the haystack's length or on a character boundary.
-    pub fn search(&mut self, haystack: &str, start: usize) -> Option<(usize, usize)>
-        requires { (length haystack.now < start) ⊎ IsCharBoundary haystack.now start }
-        ensures found { (tree : Tree) → IsRegular tree → IsGraphOf tree self.old.graph
-            → IsSpanOutcome tree haystack.now start self.new.slots result }
-        ensures graph { self.new.graph ≡ self.old.graph }
-        ensures slots { length self.new.slots ≡ length self.old.slots }
+    /// Conditions: the searcher was made for this graph. The start is above the haystack's length
+    /// or on a character boundary.
+    pub fn search(&mut self, graph: &Graph, haystack: &str, start: usize) -> Option<(usize, usize)>
+        requires searches { SearchesGraph graph.now self.old }
+        requires start { (length haystack.now < start) ⊎ IsCharBoundary haystack.now start }
+        ensures found { (tree : Tree) → IsRegular tree → IsGraphOf tree graph.now
+            → IsSpanOutcome tree haystack.now start (row_of_graph self.new) result }
+        ensures searches { SearchesGraph graph.now self.new }
+        ensures slots { length (row_of_graph self.new) ≡ length (row_of_graph self.old) }
     {
         if start > haystack.len() {
             return None;
         }
-        let mut pattern = self.graph.pattern();
+        let mut pattern = graph.pattern();
         self.inner.find(&mut pattern, haystack, start)
     }
 
@@ -83,19 +70,21 @@ impl<'g> GraphSearcher<'g> {
     /// first match that it comes to, and needs no memory. What [`GraphSearcher::slots`] has then
     /// belongs to no match.
     ///
-    /// Condition: the start is above the haystack's length or on a character boundary.
-    pub fn search_any(&mut self, haystack: &str, start: usize) -> bool
-        requires { (length haystack.now < start) ⊎ IsCharBoundary haystack.now start }
-        ensures found { (tree : Tree) → IsRegular tree → IsGraphOf tree self.old.graph
+    /// Conditions: the searcher was made for this graph. The start is above the haystack's length
+    /// or on a character boundary.
+    pub fn search_any(&mut self, graph: &Graph, haystack: &str, start: usize) -> bool
+        requires searches { SearchesGraph graph.now self.old }
+        requires start { (length haystack.now < start) ⊎ IsCharBoundary haystack.now start }
+        ensures found { (tree : Tree) → IsRegular tree → IsGraphOf tree graph.now
             → (IsTrue result
             ↔ HasMatchFrom tree (chars haystack.now) (search_start haystack.now start)) }
-        ensures graph { self.new.graph ≡ self.old.graph }
-        ensures slots { length self.new.slots ≡ length self.old.slots }
+        ensures searches { SearchesGraph graph.now self.new }
+        ensures slots { length (row_of_graph self.new) ≡ length (row_of_graph self.old) }
     {
         if start > haystack.len() {
             return false;
         }
-        let mut pattern = self.graph.pattern();
+        let mut pattern = graph.pattern();
         self.inner.find_any(&mut pattern, haystack, start)
     }
 
@@ -103,22 +92,25 @@ impl<'g> GraphSearcher<'g> {
     /// those that end where the haystack does. It needs no memory, and [`GraphSearcher::slots`] has
     /// the slots of the match.
     ///
-    /// Condition: the start is above the haystack's length or on a character boundary.
+    /// Conditions: the searcher was made for this graph. The start is above the haystack's length
+    /// or on a character boundary.
     pub fn search_anchored<const WHOLE: bool>(
         &mut self,
+        graph: &Graph,
         haystack: &str,
         start: usize,
     ) -> Option<(usize, usize)>
-        requires { (length haystack.now < start) ⊎ IsCharBoundary haystack.now start }
-        ensures found { (tree : Tree) → IsRegular tree → IsGraphOf tree self.old.graph
-            → IsSpanOutcomeAt WHOLE tree haystack.now start self.new.slots result }
-        ensures graph { self.new.graph ≡ self.old.graph }
-        ensures slots { length self.new.slots ≡ length self.old.slots }
+        requires searches { SearchesGraph graph.now self.old }
+        requires start { (length haystack.now < start) ⊎ IsCharBoundary haystack.now start }
+        ensures found { (tree : Tree) → IsRegular tree → IsGraphOf tree graph.now
+            → IsSpanOutcomeAt WHOLE tree haystack.now start (row_of_graph self.new) result }
+        ensures searches { SearchesGraph graph.now self.new }
+        ensures slots { length (row_of_graph self.new) ≡ length (row_of_graph self.old) }
     {
         if start > haystack.len() {
             return None;
         }
-        let mut pattern = self.graph.pattern();
+        let mut pattern = graph.pattern();
         span_of(
             self.inner
                 .find_anchored::<false, WHOLE>(&mut pattern, haystack, start),
@@ -129,19 +121,26 @@ impl<'g> GraphSearcher<'g> {
     /// search is over at the first such match that it comes to, and needs no memory. What
     /// [`GraphSearcher::slots`] has then belongs to no match.
     ///
-    /// Condition: the start is above the haystack's length or on a character boundary.
-    pub fn search_any_anchored<const WHOLE: bool>(&mut self, haystack: &str, start: usize) -> bool
-        requires { (length haystack.now < start) ⊎ IsCharBoundary haystack.now start }
-        ensures found { (tree : Tree) → IsRegular tree → IsGraphOf tree self.old.graph
+    /// Conditions: the searcher was made for this graph. The start is above the haystack's length
+    /// or on a character boundary.
+    pub fn search_any_anchored<const WHOLE: bool>(
+        &mut self,
+        graph: &Graph,
+        haystack: &str,
+        start: usize,
+    ) -> bool
+        requires searches { SearchesGraph graph.now self.old }
+        requires start { (length haystack.now < start) ⊎ IsCharBoundary haystack.now start }
+        ensures found { (tree : Tree) → IsRegular tree → IsGraphOf tree graph.now
             → (IsTrue result
             ↔ HasMatchAt WHOLE tree (chars haystack.now) (search_start haystack.now start)) }
-        ensures graph { self.new.graph ≡ self.old.graph }
-        ensures slots { length self.new.slots ≡ length self.old.slots }
+        ensures searches { SearchesGraph graph.now self.new }
+        ensures slots { length (row_of_graph self.new) ≡ length (row_of_graph self.old) }
     {
         if start > haystack.len() {
             return false;
         }
-        let mut pattern = self.graph.pattern();
+        let mut pattern = graph.pattern();
         self.inner
             .find_anchored::<true, WHOLE>(&mut pattern, haystack, start)
             .is_some()
@@ -150,7 +149,7 @@ impl<'g> GraphSearcher<'g> {
     /// The slots of the last match that was found, none of them marked before the first. Slots 2k
     /// and 2k + 1 are the start and the end of group k.
     pub fn slots(&self) -> &[Option<usize>]
-        ensures { result.now ≡ self.now.slots }
+        ensures { result.now ≡ row_of_graph self.now }
     {
         self.inner.row()
     }

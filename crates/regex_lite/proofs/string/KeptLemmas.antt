@@ -6,13 +6,11 @@ use Rattle.regex_lite.proofs.Common.{search_start, HasSlots, IsSpanOutcome, Expr
 use Rattle.regex_lite.proofs.Common.{OfTree, spans_of, IsAnswerOf, span_of_match, spans_from}
 use Rattle.regex_lite.proofs.Common.{IsMatchOf, TellsMatch, TellsLocations, all_slots, Match}
 use Rattle.std.proofs.Common.{◌/◌}
-use Rattle.regex_lite_meta.specs.Searching.{FindsSpan, Searching}
-use Rattle.regex_lite_engine.specs.Graph.Stored.{StoredGraph}
+use Rattle.regex_lite_meta.specs.Searching.{FindsSpan}
 use Rattle.regex_lite_syntax.proofs.OptionLemmas.{same_some}
-use Rattle.regex_lite_syntax.specs.Tree.Regular.{IsRegular}
 use Rattle.regex_lite.specs.Answers.{TellsOfAnswer}
 use Rattle.regex_lite.specs.Keeping.{SearchesForGroups}
-use Rattle.regex_lite.specs.Scanning.{IsMatchWithSlots}
+use Rattle.regex_lite.specs.Scanning.{IsMatchWithSlots, RegexSearching}
 use Rattle.regex_lite.specs.Searches.{CanRead}
 use Rattle.regex_lite.proofs.string.CapturedLemmas.{held_all}
 use Rattle.regex_lite.proofs.string.FoundLemmas.{first_told, length_spans, slots_told}
@@ -31,16 +29,17 @@ match_answered re bytes start slots (Some told) (found, (tree, given, is), with_
     (tree, given, (found, is, with_slots.is_match))
 
 -- after a search a searcher still finds groups
-pub still_searches : (re : Expression) (old new : Searching) → SearchesForGroups re (Some old)
-    → new.graph ≡ old.graph → length new.slots ≡ length old.slots → SearchesForGroups re (Some new)
-still_searches re old new ((tree, given, (regular, is)), (own, given_too, two)) graph slots =
-    ((tree, given, (regular, subst (IsGraphOf tree) (sym graph) is)), (own, given_too, slots ∙ two))
+pub still_searches : (re : Expression) (old new : RegexSearching) → SearchesForGroups re (Some old)
+    → new.regex ≡ old.regex → length new.slots ≡ length old.slots
+    → SearchesForGroups re (Some new)
+still_searches re old new (of_regex, (tree, given, two)) regex slots =
+    (regex ∙ of_regex, (tree, given, slots ∙ two))
 
 -- one that finds groups has room for the locations
-pub room_for : (re : Expression) (searcher : Searching) → SearchesForGroups re (Some searcher)
+pub room_for : (re : Expression) (searcher : RegexSearching) → SearchesForGroups re (Some searcher)
     → (locations : List (Option (ℕ × ℕ))) → CanRead re locations
     → length locations ≤ length searcher.slots / 2
-room_for re searcher (searches, (own, given, two)) locations (other, given_too, few) =
+room_for re searcher (_, (own, given, two)) locations (other, given_too, few) =
     let same = ap captures_len (one_tree re.flags (chars re.pattern) other own given_too given) in
     omega (arith, few, same, two)
 
@@ -75,23 +74,23 @@ module _ (re : Expression) (bytes : List ℕ) (utf8 : IsUtf8 bytes) (start : ℕ
       (span_of_match m) (λ k slot at. absurd cc) is_match.span
 
   -- a search from there finds it
-  pub finds_span : (graph : StoredGraph)
-      (given : OfTree re (λ tree. IsRegular tree × IsGraphOf tree graph))
-      → FindsSpan given.0 bytes start (span_of_match m)
-  finds_span graph given =
-      subst (λ (t : Tree). FindsSpan t bytes start (span_of_match m))
-      (sym (one_tree re.flags (chars re.pattern) given.0 tree given.1 own.1)) (
-        all_slots [] (span_of_match m),
-        (
-          found,
-          own.2.1,
-          record {
-            start = ap (λ (span : ℕ × ℕ). span.0) is_match.span;
-            end = ap (λ (span : ℕ × ℕ). span.1) is_match.span;
-            slots = slots_of_whole;
-          },
-        ),
-      )
+  pub finds_span : OfTree re (λ tree. FindsSpan tree bytes start (span_of_match m))
+  finds_span = (
+    tree,
+    own.1,
+    (
+      all_slots [] (span_of_match m),
+      (
+        found,
+        own.2.1,
+        record {
+          start = ap (λ (span : ℕ × ℕ). span.0) is_match.span;
+          end = ap (λ (span : ℕ × ℕ). span.1) is_match.span;
+          slots = slots_of_whole;
+        },
+      ),
+    ),
+  )
 
   -- these slots hold its groups, two for each
   module _ (slots : List (Option ℕ)) (held : HasSlots (chars bytes) slots found.marks)

@@ -14,9 +14,7 @@ use Rattle.regex_lite_engine.specs.Search.Answer.{IsOfWay}
 use Rattle.regex_lite_engine.proofs.laws.answer.AnswerAtLemmas.{way_of_found}
 use Rattle.regex_lite.specs.ToldWays.{IsToldOfWay, TellsOfWay}
 use Rattle.regex_lite_engine.specs.Graph.Stored.{StoredGraph}
-use Rattle.regex_lite_meta.specs.Searching.{Searching}
 use Rattle.regex_lite_syntax.proofs.OptionLemmas.{not_there, same_some}
-use Rattle.regex_lite.specs.Compiled.{SearchesFor}
 use Rattle.regex_lite.specs.Scanning.{AreSlotsForGroups, TellsSpan}
 use Rattle.regex_lite.proofs.string.CapturedLemmas.{AreAllSlots, all_told, built_shares, captured}
 use Rattle.regex_lite.proofs.string.FoundLemmas.{first_told, found_lies, group_0, length_spans}
@@ -30,13 +28,6 @@ abbrev pub TellsOutcome : StoredGraph → (Outcomes : Tree → Option Outcome �
     → Option Outcome → Type 0
 TellsOutcome graph Outcomes told =
     (tree : Tree) → IsRegular tree → IsGraphOf tree graph → Outcomes tree told
-
--- and what one returns that finds a span, with its slots
-abbrev pub TellsSpanOfGraph : StoredGraph → (bytes : List ℕ) → (start : ℕ)
-    → (slots : List (Option ℕ)) → Option (ℕ × ℕ) → Type 0
-TellsSpanOfGraph graph bytes start slots told =
-    (tree : Tree) → IsRegular tree → IsGraphOf tree graph
-    → IsSpanOutcome tree bytes start slots told
 
 -- what holds for a regex's graph holds for its tree
 pub outcome_of : (re : Expression) (compiled : Compiled) (built : IsBuilt compiled)
@@ -52,13 +43,16 @@ outcome_of re compiled built graph Outcomes told outcome given same tells is = (
       (tells built.tree built.regular (subst (IsGraphOf built.tree) (sym same) built.graph)),
 )
 
--- and so does what a searcher returns
-pub span_of : (re : Expression) (searcher : Searching) (bytes : List ℕ) (start : ℕ)
-    (slots : List (Option ℕ)) (told : Option (ℕ × ℕ)) → SearchesFor re searcher
-    → TellsSpanOfGraph searcher.graph bytes start slots told
-    → OfTree re (λ tree. IsSpanOutcome tree bytes start slots told)
-span_of re searcher bytes start slots told (tree, given, (regular, is_graph)) tells =
-    (tree, given, tells tree regular is_graph)
+-- and so does what is told of the graph that a searcher holds
+pub of_held : (compiled : Compiled) → IsBuilt compiled → (graph : StoredGraph)
+    → graph ≡ compiled.graph → (property : Tree → Type 0)
+    → ((tree : Tree) → IsRegular tree → IsGraphOf tree graph → property tree)
+    → OfTree compiled.pattern property
+of_held compiled built graph same property tells = (
+  built.tree,
+  built.given,
+  tells built.tree built.regular (subst (IsGraphOf built.tree) (sym same) built.graph),
+)
 
 module _ (bytes : List ℕ) (utf8 : IsUtf8 bytes) (start : ℕ) (re : Expression) (span : ℕ × ℕ)
     (slots : List (Option ℕ))

@@ -36,3 +36,10 @@ pub(super) struct Compiled {
     pub(super) pattern: Pattern,
     pub(super) graph: Graph,
 }
+
+/// Writes the pattern as the only field of `Regex`.
+impl fmt::Debug for Compiled {
+    fn fmt<W: fmt::Write>(&self, f: &mut fmt::Formatter<W>) -> fmt::Result {
+        f.debug_tuple("Regex").field(&self.pattern).finish()
+    }
+}

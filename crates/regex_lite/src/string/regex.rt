@@ -132,6 +132,6 @@ impl fmt::Display for Regex {
 /// Writes the pattern as the only field of `Regex`.
 impl fmt::Debug for Regex {
     fn fmt<W: fmt::Write>(&self, f: &mut fmt::Formatter<W>) -> fmt::Result {
-        f.debug_tuple("Regex").field(&self.as_str()).finish()
+        self.compiled.fmt(f)
     }
 }

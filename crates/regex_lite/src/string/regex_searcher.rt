@@ -1,23 +1,19 @@
 //! A searcher that callers keep, for one haystack after another.
-ghost use Rattle.std.specs.Prelude.{◌≡◌, ◌↔◌, ◌≤◌, ◌/◌, ℕ, None, Some};
-ghost use Rattle.std.specs.Prelude.{IfOk, IfErr, IsTrue, length, take};
+ghost use Rattle.std.specs.Prelude.{◌≡◌, ◌↔◌, ◌*◌, ℕ, None, Some, IfOk, IfErr, IsTrue, length};
 ghost use Rattle.regex_lite_syntax.specs.Errors.{out_of_memory};
-ghost use Rattle.regex_lite_syntax.specs.Tree.{Tree};
-ghost use Rattle.regex_lite_syntax.specs.Tree.Regular.{IsRegular};
-ghost use Rattle.regex_lite_engine.specs.Graph.Renumbered.{IsGraphOf};
-ghost use Rattle.regex_lite_engine.specs.Search.Outcomes.{IsSpanOutcome};
-ghost use Rattle.regex_lite_meta.specs.Searching.{FindsSpan};
-ghost use Rattle.regex_lite.specs.Groups.{spans_of};
+ghost use Rattle.regex_lite_syntax.specs.Tree.Properties.{captures_len};
+ghost use Rattle.regex_lite.specs.Expression.{OfTree};
 ghost use Rattle.regex_lite.specs.Keeping.{SearchesForGroups};
 ghost use Rattle.regex_lite.specs.Searches.{CanRead, CanStartAt, MatchesFrom};
 ghost use Rattle.regex_lite.specs.Searches.{TellsLocations, TellsMatch};
 
+use crate::string::group_searcher::GroupSearcher;
+use crate::string::held::HeldRegex;
 use crate::string::iter::scan::match_at;
 use crate::string::locations::CaptureLocations;
 use crate::string::matches::Match;
 use crate::string::regex::Regex;
 use crate::string::searcher::Searcher;
-use regex_lite_meta::SlotSearcher;
 use regex_lite_syntax::Error;
 use std::fmt;
 use std::marker::Model;
@@ -27,7 +23,8 @@ pub(crate) const ENDLESS: usize = usize::MAX;
 
 /// A regex, and the memory for its searches: for many haystacks, one after another.
 ///
-/// [`Regex::searcher`] makes it. Each call returns what the call of the same name returns for the
+/// [`Regex::searcher`] makes one that borrows the regex, and [`Regex::into_searcher`] one that owns
+/// it. Each call returns what the call of the same name returns for the
 /// regex, whatever was searched before. But no call needs memory, so none is refused, and what the
 /// searches of one haystack learn of the pattern speeds up those of the next.
 ///
@@ -43,7 +40,7 @@ pub(crate) const ENDLESS: usize = usize::MAX;
 pub struct RegexSearcher<'r> {
     pub(super) matches: Searcher<'r>,
     /// Finds the slots of all groups, where there are more than the whole match.
-    groups: Option<SlotSearcher<'r>>,
+    groups: Option<GroupSearcher<'r>>,
 }
 
 impl<'r> Model for RegexSearcher<'r> {
@@ -71,27 +68,67 @@ impl Regex {
         ensures regex { IfOk result (λ searcher. searcher ≡ self.now) }
         ensures refused { IfErr result (λ error. error ≡ out_of_memory) }
     {
-        let matches = Searcher::new(self, 0, ENDLESS)?;
-        let groups = self.memory_for_groups()?;
-        Ok(RegexSearcher { matches, groups })
+        RegexSearcher::of(HeldRegex::lent(self), self.slots())
     }
 
-    /// Memory for searches that find the groups of a match, where there are more than the whole
-    /// match.
-    fn memory_for_groups(&self) -> Result<Option<SlotSearcher<'_>>, Error>
-        ensures groups { IfOk result (SearchesForGroups self.now) }
+    /// A searcher that owns this regex: it borrows from nobody, so it can be stored, or returned,
+    /// where its regex can't be kept beside it.
+    ///
+    /// It is otherwise that of [`Regex::searcher`]. A clone of the regex costs little, for callers
+    /// that need both.
+    ///
+    /// ```
+    /// fn warnings(alloc: Global) -> Result<RegexSearcher<'static>, Error> {
+    ///     Regex::new(alloc, "warn|error")?.into_searcher()
+    /// }
+    ///
+    /// let mut searcher = warnings(alloc)?;
+    /// searcher.is_match("2 warnings"); // true
+    /// ```
+    ///
+    /// The test `examples::owned_searcher` in tests/unit runs this example.
+    ///
+    /// # Errors
+    ///
+    /// `Memory` if memory runs out. The regex is then dropped.
+    pub fn into_searcher(self) -> Result<RegexSearcher<'static>, Error>
+        ensures regex { IfOk result (λ searcher. searcher ≡ self) }
         ensures refused { IfErr result (λ error. error ≡ out_of_memory) }
     {
         let slots = self.slots();
-        if slots == 2 {
-            return Ok(None);
-        }
-        let searcher = SlotSearcher::new(self.alloc, &self.compiled.graph, slots)?;
-        Ok(Some(searcher))
+        RegexSearcher::of(HeldRegex::own(self), slots)
     }
 }
 
+/// What finds the groups of this regex's matches, which have `slots` slots, where there are more
+/// than the whole match.
+fn searcher_of_groups<'r>(
+    regex: &HeldRegex<'r>,
+    slots: usize,
+) -> Result<Option<GroupSearcher<'r>>, Error>
+    requires { OfTree regex.now.pattern (λ tree. slots ≡ 2 * captures_len tree) }
+    ensures groups { IfOk result (SearchesForGroups regex.now.pattern) }
+    ensures refused { IfErr result (λ error. error ≡ out_of_memory) }
+{
+    if slots == 2 {
+        return Ok(None);
+    }
+    let searcher = GroupSearcher::new(regex.clone()?, slots)?;
+    Ok(Some(searcher))
+}
+
 impl<'r> RegexSearcher<'r> {
+    /// A searcher of a regex that it holds, whose matches have `slots` slots.
+    fn of(regex: HeldRegex<'r>, slots: usize) -> Result<RegexSearcher<'r>, Error>
+        requires { OfTree regex.pattern (λ tree. slots ≡ 2 * captures_len tree) }
+        ensures regex { IfOk result (λ searcher. searcher ≡ regex.entry.pattern) }
+        ensures refused { IfErr result (λ error. error ≡ out_of_memory) }
+    {
+        let groups = searcher_of_groups(&regex, slots)?;
+        let matches = Searcher::of(regex, 0, ENDLESS)?;
+        Ok(RegexSearcher { matches, groups })
+    }
+
     /// [`Regex::is_match`], which is never refused here.
     pub fn is_match(&mut self, haystack: &str) -> bool
         ensures found { IsTrue result ↔ MatchesFrom self.old haystack.now 0 }
@@ -197,39 +234,15 @@ impl<'r> RegexSearcher<'r> {
             locs.write(&[Some(found.start()), Some(found.end())]);
             return;
         };
-        read_slots(groups, haystack, (found.start(), found.end()), locs);
+        groups.read(haystack, (found.start(), found.end()), locs);
     }
-}
-
-/// Finds the slots of the match with this span, and writes its groups to the locations.
-///
-/// Condition: a search from some offset finds a match with this span.
-fn read_slots(
-    searcher: &mut SlotSearcher<'_>,
-    haystack: &str,
-    span: (usize, usize),
-    locs: &mut CaptureLocations,
-)
-    requires known { (tree : Tree) × IsRegular tree × IsGraphOf tree searcher.old.graph
-        × ((start : ℕ) × FindsSpan tree haystack.now start span) }
-    requires room { length locs.old ≤ length searcher.old.slots / 2 }
-    ensures found { (tree : Tree) → IsRegular tree → IsGraphOf tree searcher.old.graph
-        → (start : ℕ) → FindsSpan tree haystack.now start span
-        → IsSpanOutcome tree haystack.now start searcher.new.slots (Some span) }
-    ensures spans { locs.new ≡ take (length locs.old) (spans_of searcher.new.slots) }
-    ensures len { length locs.new ≡ length locs.old }
-    ensures graph { searcher.new.graph ≡ searcher.old.graph }
-    ensures slots { length searcher.new.slots ≡ length searcher.old.slots }
-{
-    searcher.find(haystack, span);
-    locs.write(searcher.slots());
 }
 
 /// Writes the regex as the only field of `RegexSearcher`.
 impl<'r> fmt::Debug for RegexSearcher<'r> {
     fn fmt<W: fmt::Write>(&self, f: &mut fmt::Formatter<W>) -> fmt::Result {
         f.debug_tuple("RegexSearcher")
-            .field(&self.matches.regex())
+            .field(&self.matches.compiled())
             .finish()
     }
 }

@@ -9,6 +9,8 @@ ghost use Rattle.regex_lite.specs.Expression.{OfTree};
 ghost use Rattle.regex_lite.specs.Searches.{CanStartAt, IsMatchOf, MatchesFrom};
 
 use crate::string::captures::Captures;
+use crate::string::compiled::Compiled;
+use crate::string::held::HeldRegex;
 use crate::string::iter::finds::Finds;
 use crate::string::matches::Match;
 use crate::string::regex::Regex;
@@ -21,22 +23,22 @@ use std::marker::Model;
 /// A regex, and the memory in which it is searched for, search after search.
 #[derive(Drop)]
 pub(crate) struct Searcher<'r> {
-    regex: &'r Regex,
-    inner: regex_lite_meta::GraphSearcher<'r>,
+    regex: HeldRegex<'r>,
+    inner: regex_lite_meta::GraphSearcher,
 }
 
 impl<'r> Model for Searcher<'r> {
-    ghost use Rattle.regex_lite.specs.Compiled.{SearchesFor};
     ghost use Rattle.regex_lite.specs.Scanning.{RegexSearching};
+    ghost use Rattle.regex_lite_meta.specs.Searching.{SearchesGraph, row_of_graph};
 
     ghost Value = { RegexSearching };
 
     ghost view = { λ searcher. record {
-      regex = searcher.regex.now;
-      slots = searcher.inner.slots;
+      regex = searcher.regex.pattern;
+      slots = row_of_graph searcher.inner;
     } };
 
-    ghost invariant = { λ searcher. SearchesFor searcher.regex.now searcher.inner };
+    ghost invariant = { λ searcher. SearchesGraph searcher.regex.graph searcher.inner };
 }
 
 impl<'r> Searcher<'r> {
@@ -47,16 +49,25 @@ impl<'r> Searcher<'r> {
         ensures slots { IfOk result (λ searcher. length searcher.slots ≡ slots) }
         ensures refused { IfErr result (λ error. error ≡ out_of_memory) }
     {
-        let graph = &regex.compiled.graph;
-        let inner = regex_lite_meta::GraphSearcher::new(regex.alloc, graph, slots, bytes)?;
+        Searcher::of(HeldRegex::lent(regex), slots, bytes)
+    }
+
+    /// The same for a regex that the searcher holds.
+    // Inlined, so that a searcher, which is large, is copied less often where it is made.
+    #[inline(always)]
+    pub fn of(regex: HeldRegex<'r>, slots: usize, bytes: usize) -> Result<Searcher<'r>, Error>
+        ensures regex { IfOk result (λ searcher. searcher.regex ≡ regex.entry.pattern) }
+        ensures slots { IfOk result (λ searcher. length searcher.slots ≡ slots) }
+        ensures refused { IfErr result (λ error. error ≡ out_of_memory) }
+    {
+        let graph = regex.graph();
+        let inner = regex_lite_meta::GraphSearcher::new(regex.alloc(), graph, slots, bytes)?;
         Ok(Searcher { regex, inner })
     }
 
-    /// The regex.
-    pub fn regex(&self) -> &'r Regex
-        ensures { result.now ≡ self.now.regex }
-    {
-        self.regex
+    /// What was built of the regex.
+    pub fn compiled(&self) -> &Compiled {
+        self.regex.compiled()
     }
 
     /// Whether the pattern matches.
@@ -65,7 +76,7 @@ impl<'r> Searcher<'r> {
         ensures regex { self.new.regex ≡ self.old.regex }
         ensures slots { length self.new.slots ≡ length self.old.slots }
     {
-        self.inner.search_any(haystack, 0)
+        self.inner.search_any(self.regex.graph(), haystack, 0)
     }
 
     /// Whether a match starts at this offset, with WHOLE one that ends where the haystack does.
@@ -76,7 +87,9 @@ impl<'r> Searcher<'r> {
         ensures regex { self.new.regex ≡ self.old.regex }
         ensures slots { length self.new.slots ≡ length self.old.slots }
     {
-        self.inner.search_any_anchored::<WHOLE>(haystack, start)
+        let graph = self.regex.graph();
+        self.inner
+            .search_any_anchored::<WHOLE>(graph, haystack, start)
     }
 
     /// The match that starts at this offset, with WHOLE the one that the pattern prefers of those
@@ -92,7 +105,8 @@ impl<'r> Searcher<'r> {
         ensures regex { self.new.regex ≡ self.old.regex }
         ensures slots { length self.new.slots ≡ length self.old.slots }
     {
-        let (from, to) = self.inner.search_anchored::<WHOLE>(haystack, start)?;
+        let graph = self.regex.graph();
+        let (from, to) = self.inner.search_anchored::<WHOLE>(graph, haystack, start)?;
         Some(Match::new(haystack, from, to))
     }
 
@@ -105,9 +119,8 @@ impl<'r> Searcher<'r> {
         if let Some(caps) = spare {
             return Ok(caps.into_parts());
         }
-        let regex = self.regex;
-        let slots = Vec::with_capacity(regex.alloc, self.inner.slots().len())?;
-        let source = Source::of_regex(regex.compiled.clone()?);
+        let slots = Vec::with_capacity(self.regex.alloc(), self.inner.slots().len())?;
+        let source = self.regex.source()?;
         Ok((slots, source))
     }
 }
@@ -144,7 +157,7 @@ impl<'r> Finds for Searcher<'r> {
 
     /// [`Regex::find_at`], which is never refused here.
     fn find_at(&mut self, haystack: &str, start: usize) -> Option<((), (usize, usize))> {
-        let span = self.inner.search(haystack, start)?;
+        let span = self.inner.search(self.regex.graph(), haystack, start)?;
         Some(((), span))
     }
 
@@ -167,6 +180,6 @@ impl<'r> Finds for Searcher<'r> {
 /// Writes the regex.
 impl<'r> fmt::Debug for Searcher<'r> {
     fn fmt<W: fmt::Write>(&self, f: &mut fmt::Formatter<W>) -> fmt::Result {
-        write!(f, "{:?}", self.regex)
+        write!(f, "{:?}", self.compiled())
     }
 }

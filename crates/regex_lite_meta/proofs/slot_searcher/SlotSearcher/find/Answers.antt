@@ -1,4 +1,4 @@
-use Rattle.regex_lite_meta.proofs.Common.{ℕ, List, [], Some, None, Option, chars, sym, subst}
+use Rattle.regex_lite_meta.proofs.Common.{ℕ, List, [], Some, None, Option, chars, subst}
 use Rattle.regex_lite_meta.proofs.Common.{table_of, Found, best_at, Row}
 use Rattle.regex_lite_syntax.proofs.OptionLemmas.{not_there, same_some}
 use Rattle.regex_lite_syntax.specs.Tree.{Tree}
@@ -11,7 +11,7 @@ use Rattle.regex_lite_engine.specs.Search.Outcomes.{IsSpanOutcome}
 use Rattle.regex_lite_engine.proofs.laws.answer.AnswerLemmas.{one_answer}
 use Rattle.regex_lite_engine.proofs.laws.search.NumberedAnswerLemmas.{answer_of_numbers}
 use Rattle.regex_lite_engine.proofs.laws.search.NumberedAnswerLemmas.{found_in_numbers}
-use Rattle.regex_lite_meta.specs.Searching.{FindsSpan, Searching}
+use Rattle.regex_lite_meta.specs.Searching.{FindsSpan}
 use Rattle.regex_lite_meta.proofs.slot_searcher.SlotSearcher.find.Goals as goal
 
 module _ (graph : StoredGraph) (bytes : List ℕ) (span : ℕ × ℕ) (tree : Tree)
@@ -54,24 +54,23 @@ module _ (graph : StoredGraph) (bytes : List ℕ) (span : ℕ × ℕ) (tree : Tr
 
 pub find_known-requires-clause-known : goal.find_known-requires-clause-known
 find_known-requires-clause-known c =
-    let (tree, regular, is, (start, finds)) = c.requires in
+    let (tree, regular, is, (start, finds)) = c.requires.known in
     let own = c.pattern-pattern.ensures in (
       search_start c.args.haystack.now start,
       rw (own.table, own.entry)
-          (over_numbers c.self.inside.graph.now c.args.haystack.now c.args.span tree regular
-          (subst (λ (z : Searching). IsGraphOf tree z.graph) (sym c.self.view_is) is) start finds),
+          (over_numbers c.args.graph.now c.args.haystack.now c.args.span tree regular
+          is start finds),
     )
 
 pub find_known-requires-clause-finds : goal.find_known-requires-clause-finds
-find_known-requires-clause-finds c = rw c.pattern-pattern.ensures.table c.self.invariant
+find_known-requires-clause-finds c = rw c.pattern-pattern.ensures.table c.requires.finds
 
 pub returns-clause-found : goal.returns-clause-found
 returns-clause-found c = λ tree regular is start finds.
-    let graph = c.self.inside.graph.now in
+    let graph = c.args.graph.now in
     let bytes = c.args.haystack.now in
     let own = c.pattern-pattern.ensures in
-    let of_graph = subst (λ (z : Searching). IsGraphOf tree z.graph) (sym c.self.view_is) is in
-    over_tree graph bytes c.args.span tree regular of_graph start finds
+    over_tree graph bytes c.args.span tree regular is start finds
     c.find_known.result c.find_known.new.self.cache.best.row
     ((rw (own.table, own.entry) at c.find_known.ensures.found) (search_start bytes start)
-    (over_numbers graph bytes c.args.span tree regular of_graph start finds))
+    (over_numbers graph bytes c.args.span tree regular is start finds))

@@ -30,27 +30,27 @@ returns-in_default-clause-locations c = λ start told.
     ∙ ap (λ (span : ℕ × ℕ). take (length a.locs.now) (Some span ∷ []))
     (same_pair c.start.ensures c.end.ensures))
 
-pub read_slots-requires-clause-known : goal.read_slots-requires-clause-known
-read_slots-requires-clause-known c =
+pub read-requires-clause-known : goal.read-requires-clause-known
+read-requires-clause-known c =
     let a = c.args in
     let told = c.requires.found in
     let own =
     subst (λ (re : Expression). SearchesForGroups re (Some c.in-Some.groups)) c.self.view_is
-    (subst (SearchesForGroups c.self.inside.matches.regex) c.in-Some.is c.self.invariant) in (
-      own.0.0,
-      own.0.2.0,
-      own.0.2.1,
+    (subst (SearchesForGroups c.self.inside.matches.regex) c.in-Some.is c.self.invariant) in
+    let finds = finds_span a.self.now a.haystack.now c.utf8.haystack told.0 a.found.now told.1 in
+    subst (λ (re : Expression). OfTree re (λ tree. (start : ℕ) × FindsSpan tree a.haystack.now start
+    (c.start-2.result, c.end-2.result))) (sym own.0) (
+      finds.0,
+      finds.1,
       (
         told.0,
-        subst (FindsSpan own.0.0 a.haystack.now told.0)
-            (sym (same_pair c.start-2.ensures c.end-2.ensures))
-            (finds_span a.self.now a.haystack.now c.utf8.haystack told.0 a.found.now told.1
-            c.in-Some.groups.graph own.0),
+        subst (FindsSpan finds.0 a.haystack.now told.0)
+            (sym (same_pair c.start-2.ensures c.end-2.ensures)) finds.2,
       ),
     )
 
-pub read_slots-requires-clause-room : goal.read_slots-requires-clause-room
-read_slots-requires-clause-room c =
+pub read-requires-clause-room : goal.read-requires-clause-room
+read-requires-clause-room c =
     let own =
     subst (λ (re : Expression). SearchesForGroups re (Some c.in-Some.groups)) c.self.view_is
     (subst (SearchesForGroups c.self.inside.matches.regex) c.in-Some.is c.self.invariant) in
@@ -60,8 +60,8 @@ pub invariant_of-self-2 : goal.invariant_of-self-2
 invariant_of-self-2 c =
     let re = c.self.inside.matches.regex in
     let own = subst (SearchesForGroups re) c.in-Some.is c.self.invariant in
-    still_searches re c.in-Some.groups c.read_slots.new.searcher own c.read_slots.ensures.graph
-    c.read_slots.ensures.slots
+    still_searches re c.in-Some.groups c.read.new.self own c.read.ensures.regex
+    c.read.ensures.slots
 
 pub returns-clause-locations : goal.returns-clause-locations
 returns-clause-locations c = λ start told.
@@ -69,17 +69,23 @@ returns-clause-locations c = λ start told.
     let re = a.self.now in
     let bytes = a.haystack.now in
     let m = a.found.now in
-    let slots = c.read_slots.new.searcher.slots in
+    let slots = c.read.new.self.slots in
     let span : ℕ × ℕ = (c.start-2.result, c.end-2.result) in
     let own =
     subst (λ (re : Expression). SearchesForGroups re (Some c.in-Some.groups)) c.self.view_is
     (subst (SearchesForGroups c.self.inside.matches.regex) c.in-Some.is c.self.invariant) in
-    let finds = subst (FindsSpan own.0.0 bytes start)
-    (sym (same_pair c.start-2.ensures c.end-2.ensures))
-    (finds_span re bytes c.utf8.haystack start m told c.in-Some.groups.graph own.0) in
-    let outcome : OfTree re (λ tree. IsSpanOutcome tree bytes start slots (Some span))
-    = (own.0.0, own.0.1, c.read_slots.ensures.found own.0.0 own.0.2.0 own.0.2.1 start finds) in
+    let finds = finds_span re bytes c.utf8.haystack start m told in
+    let there = subst (λ (r : Expression). OfTree r (λ tree. FindsSpan tree bytes start span))
+    (sym own.0) (
+      finds.0,
+      finds.1,
+      subst (FindsSpan finds.0 bytes start) (sym (same_pair c.start-2.ensures c.end-2.ensures))
+          finds.2,
+    ) in
+    let outcome = subst (λ (r : Expression). OfTree r
+    (λ tree. IsSpanOutcome tree bytes start slots (Some span))) own.0
+    (c.read.ensures.found start there) in
     let held = slots_found re bytes c.utf8.haystack start m told slots span outcome in
     locations_read re bytes c.utf8.haystack start m told slots held
-    (own.1.0, own.1.1, c.read_slots.ensures.slots ∙ own.1.2) (length a.locs.now)
-    c.read_slots.new.locs c.read_slots.ensures.spans
+    (own.1.0, own.1.1, c.read.ensures.slots ∙ own.1.2) (length a.locs.now)
+    c.read.new.locs c.read.ensures.spans

@@ -1,5 +1,6 @@
 use Rattle.regex_lite.proofs.Common.{◌≡◌, sym, ap, ◌∙◌, subst, rules, AreGroupsFound, span_of_match}
 use Rattle.regex_lite.proofs.Common.{RegexSearching, all_slots}
+use Rattle.regex_lite_meta.specs.Searching.{row_of_graph}
 use Rattle.regex_lite.proofs.string.ScanLemmas.{groups_kept, span_of_last}
 use Rattle.regex_lite.proofs.string.searcher.SearcherFinds.captures.Goals as goal
 
@@ -8,7 +9,7 @@ new-requires c =
     let a = c.args in
     let span = span_of_match a.last.now.1 in
     let slots = c.in_ok-slots-2.slots.items in
-    let held : slots ≡ all_slots c.self.inside.inner.slots span = search rules in
+    let held : slots ≡ all_slots (row_of_graph c.self.inside.inner) span = search rules in
     let filled = held ∙ ap (λ (own : RegexSearching). all_slots own.slots span) c.self.view_is in
     (groups_kept a.haystack.now c.utf8.haystack a.self.now.regex a.self.now.slots slots
     c.requires.room c.in_ok-slots.source c.in_ok-slots.ensures.ok c.requires.last.0 a.last.now
@@ -19,7 +20,7 @@ returns-clause-groups c = λ found last.
     let a = c.args in
     let span = span_of_match a.last.now.1 in
     let slots = c.in_ok-slots-2.slots.items in
-    let held : slots ≡ all_slots c.self.inside.inner.slots span = search rules in
+    let held : slots ≡ all_slots (row_of_graph c.self.inside.inner) span = search rules in
     let filled = held ∙ ap (λ (own : RegexSearching). all_slots own.slots span) c.self.view_is in
     subst (AreGroupsFound a.self.now.regex a.haystack.now found) (sym c.new.ensures)
     (groups_kept a.haystack.now c.utf8.haystack a.self.now.regex a.self.now.slots slots
