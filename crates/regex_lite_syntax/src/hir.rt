@@ -8,6 +8,7 @@ ghost use Rattle.regex_lite_syntax.specs.Tree.Views.{text_of_name, tree_of};
 pub(crate) mod as_hir;
 pub(crate) mod look;
 mod names;
+pub(crate) mod outline;
 pub(crate) mod properties;
 
 use crate::class::Class;

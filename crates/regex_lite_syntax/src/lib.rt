@@ -21,6 +21,7 @@ pub use flags::Flags;
 pub use hir::Hir;
 pub use hir::as_hir::AsHir;
 pub use hir::look::Look;
+pub use hir::outline::{Part, PartKind};
 pub use hir::properties::Properties;
 pub use parse::Config;
 pub use parse::fault::{FaultPlace, fault_at};
