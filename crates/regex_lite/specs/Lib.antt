@@ -8,6 +8,7 @@ pub mod Headline
 pub mod Settings
 pub mod Expression
 pub mod FaultOffsets
+pub mod Outlines
 pub mod Groups
 pub mod MatchViews
 pub mod Searches
@@ -46,6 +47,7 @@ pub use Rattle.regex_lite_syntax.specs.Limits
 pub use Rattle.regex_lite_syntax.specs.FaultPlaces
 pub use Rattle.regex_lite_syntax.specs.Tree
 pub use Rattle.regex_lite_syntax.specs.Tree.Matches
+pub use Rattle.regex_lite_syntax.specs.Tree.Outline
 pub use Rattle.regex_lite_syntax.specs.Tree.Properties
 pub use Rattle.regex_lite_engine.specs.Graph.PlaceCounts
 pub use Rattle.regex_lite_engine.specs.Graph.Size

@@ -35,7 +35,7 @@ mod string;
 
 pub use owner::Unboxed;
 pub use regex_lite_engine::Steps;
-pub use regex_lite_syntax::{Error, ErrorKind};
+pub use regex_lite_syntax::{ClassRange, Error, ErrorKind, Look, Part, PartKind};
 pub use string::escape::escape;
 pub use string::{
     CaptureLocations, CaptureMatches, CaptureNames, Captures, CapturesIn, FaultSpan,

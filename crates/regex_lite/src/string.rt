@@ -16,6 +16,7 @@ mod iter;
 mod list;
 mod locations;
 mod matches;
+mod outline;
 mod properties;
 mod regex;
 mod regex_searcher;

@@ -5,6 +5,7 @@ ghost use Rattle.regex_lite_syntax.specs.Tree.Regular.{IsRegular};
 ghost use Rattle.regex_lite_syntax.specs.Tree.Views.{tree_of};
 ghost use Rattle.regex_lite.specs.Settings.{default_settings};
 ghost use Rattle.regex_lite.specs.Expression.{Builds, IsDue, IsReadAs, expression_of};
+ghost use Rattle.regex_lite.specs.Outlines.{IsDueOnReading};
 ghost use Rattle.regex_lite.specs.RegexList.{IsAcceptedAs};
 
 use crate::owner::Shared;
@@ -247,10 +248,10 @@ impl RegexBuilder {
     }
 
     /// The tree of the pattern.
-    fn hir(&self) -> Result<Hir, Error>
+    pub(super) fn hir(&self) -> Result<Hir, Error>
         ensures read { IfOk result (λ hir. IsReadAs self.now (tree_of hir)) }
         ensures regular { IfOk result (λ hir. IsRegular (tree_of hir)) }
-        ensures refused { IfErr result (λ error. IsDue self.now error) }
+        ensures refused { IfErr result (λ error. IsDueOnReading self.now error) }
     {
         let config = Config {
             flags: self.flags,

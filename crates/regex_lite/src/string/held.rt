@@ -10,7 +10,7 @@ use regex_lite_engine::Graph;
 use std::alloc::{AllocError, Global};
 use std::marker::Model;
 
-/// Whose what was built is.
+/// Who owns what was built.
 enum Held<'r> {
     Lent(&'r Shared<Compiled>),
     Own(Shared<Compiled>),
@@ -23,7 +23,8 @@ pub(super) struct HeldRegex<'r> {
     compiled: Held<'r>,
 }
 
-/// Written out, so that where a searcher is dropped the proof has one call and not two paths.
+/// This is written out, so that the proof has one call, and not two paths, where a searcher is
+/// dropped.
 impl<'r> Drop for Held<'r> {
     fn drop(self) {
         match self {

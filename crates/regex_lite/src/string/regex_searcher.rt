@@ -24,9 +24,9 @@ pub(crate) const ENDLESS: usize = usize::MAX;
 /// A regex, and the memory for its searches: for many haystacks, one after another.
 ///
 /// [`Regex::searcher`] makes one that borrows the regex, and [`Regex::into_searcher`] one that owns
-/// it. Each call returns what the call of the same name returns for the
-/// regex, whatever was searched before. But no call needs memory, so none is refused, and what the
-/// searches of one haystack learn of the pattern speeds up those of the next.
+/// it. Each call returns what the call of the same name returns for the regex, whatever was searched
+/// before. But no call needs memory, so none is refused, and what the searches of one haystack learn
+/// of the pattern speeds up those of the next.
 ///
 /// ```
 /// let regex = Regex::new(alloc, "warn|error")?;

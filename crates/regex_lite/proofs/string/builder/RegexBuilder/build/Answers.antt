@@ -1,4 +1,4 @@
-use Rattle.regex_lite.proofs.Common.{refl, inr, err_from_is_err_and, kind_of, tree_of}
+use Rattle.regex_lite.proofs.Common.{refl, inl, inr, err_from_is_err_and, kind_of, tree_of}
 use Rattle.regex_lite_engine.specs.Graph.Size.{IsDueToTree}
 use Rattle.regex_lite.proofs.string.AcceptanceLemmas.{builds_refused}
 use Rattle.regex_lite.proofs.string.builder.RegexBuilder.build.Goals as goal
@@ -7,7 +7,7 @@ pub returns-in_err-hir : goal.returns-in_err-hir
 returns-in_err-hir c =
     let left = err_from_is_err_and c.from_residual.result c.from_residual.ensures.1 in
     rw (left.1, left.2) (builds_refused c.args.self.now c.in_err-hir.field-0.0
-    c.in_err-hir.ensures.refused)
+    (inl c.in_err-hir.ensures.refused))
 
 pub returns-in_err-graph : goal.returns-in_err-graph
 returns-in_err-graph c =
