@@ -97,6 +97,59 @@ typedef struct regex_lite_fault {
     bool is_cut_short; /* whether some accepted pattern begins with this one */
 } regex_lite_fault;
 
+/* What a part of a pattern is. */
+typedef enum regex_lite_part_kind {
+    REGEX_LITE_PART_EMPTY = 0,      /* the empty text */
+    REGEX_LITE_PART_CHAR = 1,       /* the character `first` */
+    REGEX_LITE_PART_CLASS = 2,      /* a character of the ranges right after it, in order */
+    REGEX_LITE_PART_RANGE = 3,      /* of a class: the characters from `first` to `last` */
+    REGEX_LITE_PART_LOOK = 4,       /* a test of the position: `look` */
+    REGEX_LITE_PART_REPETITION = 5, /* the part after it, at least `least` times, and at most `most`
+                                     * times where `has_most`; `greedy` says whether more are
+                                     * preferred to fewer */
+    REGEX_LITE_PART_CAPTURE = 6,    /* the part after it, as the group `index` */
+    REGEX_LITE_PART_CONCAT = 7,     /* the parts one level below it, one after another */
+    REGEX_LITE_PART_ALTERNATION = 8 /* one of these, the earlier preferred */
+} regex_lite_part_kind;
+
+/* A test of a position of the text. */
+typedef enum regex_lite_look {
+    REGEX_LITE_LOOK_NONE = 0,             /* the part is no look */
+    REGEX_LITE_LOOK_START = 1,            /* the start of the text */
+    REGEX_LITE_LOOK_END = 2,              /* its end */
+    REGEX_LITE_LOOK_START_LF = 3,         /* the start of a line, where lines end with \n */
+    REGEX_LITE_LOOK_END_LF = 4,           /* the end of one */
+    REGEX_LITE_LOOK_START_CRLF = 5,       /* the start of one that ends with \r, \n or \r\n */
+    REGEX_LITE_LOOK_END_CRLF = 6,         /* the end of one */
+    REGEX_LITE_LOOK_WORD = 7,             /* where a word starts or ends: \b */
+    REGEX_LITE_LOOK_WORD_NEGATE = 8,      /* where none does: \B */
+    REGEX_LITE_LOOK_WORD_START = 9,       /* where a word starts */
+    REGEX_LITE_LOOK_WORD_END = 10,        /* where a word ends */
+    REGEX_LITE_LOOK_WORD_START_HALF = 11, /* no word character before */
+    REGEX_LITE_LOOK_WORD_END_HALF = 12    /* no word character after */
+} regex_lite_look;
+
+/* A part of a pattern. Each part comes right before those that it has, which are one level below
+ * it. What a part of its kind doesn't have is 0, or false. */
+typedef struct regex_lite_part {
+    size_t depth;              /* how many parts have it, one in another */
+    regex_lite_part_kind kind; /* what it is */
+    uint32_t first;            /* the first character, as its number */
+    uint32_t last;             /* the last character, or the only one */
+    regex_lite_look look;      /* which look */
+    uint32_t index;            /* of a group */
+    uint32_t least;            /* how many passes at least */
+    uint32_t most;             /* how many at most */
+    bool has_most;             /* whether there is a limit */
+    bool greedy;               /* whether more passes are preferred to fewer */
+} regex_lite_part;
+
+/* What is told of the parts of a pattern besides these. */
+typedef struct regex_lite_outlined {
+    size_t count;       /* how many parts there are; 0 of a pattern that is refused */
+    size_t message_len; /* how long the message is */
+} regex_lite_outlined;
+
 /* How far a walk over all matches of a text has come. */
 typedef struct regex_lite_walk {
     bool is_begun;
@@ -213,6 +266,20 @@ regex_lite_answer regex_lite_new(regex_lite *handle, const uint8_t *pattern, siz
  * numbered may be REGEX_LITE_GROUPS. */
 regex_lite_answer regex_lite_fault_at(const uint8_t *pattern, size_t pattern_len,
                                       const regex_lite_options *options, regex_lite_fault *fault);
+
+/* Writes the parts of a pattern in its order, and how many they are to outlined->count:
+ * REGEX_LITE_YES. With room for fewer it only writes how many they are: REGEX_LITE_NO_ROOM.
+ *
+ * They are the parts of the tree that the syntax gives the pattern under these options, and of
+ * which regex_lite_new builds a regex: (?i)a is a class of two ranges, a{1} is a, and what only
+ * groups, as (?: does, is no part. A group's name is what regex_lite_group_name writes.
+ *
+ * A pattern is refused as by regex_lite_new, with the same answers and the same message, but never
+ * for what it becomes written out: the size limit doesn't count, nor how many places there are. */
+regex_lite_answer regex_lite_outline(const uint8_t *pattern, size_t pattern_len,
+                                     const regex_lite_options *options, regex_lite_part *parts,
+                                     size_t room, uint8_t *message, size_t message_room,
+                                     regex_lite_outlined *outlined);
 
 /* Frees what the handle holds, if anything. */
 void regex_lite_free(regex_lite *handle);

@@ -54,6 +54,22 @@ static int call_fault_at(void) {
     return 1;
 }
 
+/* Asks for the parts of a pattern, and returns how many answers are what they shouldn't be. */
+static int call_outline(void) {
+    regex_lite_options options = REGEX_LITE_DEFAULTS;
+    regex_lite_part written[6];
+    regex_lite_outlined told = {7, 7};
+    uint8_t message[100];
+    regex_lite_answer answer = regex_lite_outline(TEXT("(?<a>b)[a-c]*"), &options, written, 6,
+                                                  message, sizeof message, &told);
+    if (answer == REGEX_LITE_YES ? told.count == 6 && written[5].last == 'c'
+                                 : answer == REGEX_LITE_OUT_OF_MEMORY && told.count == 0 &&
+                                       told.message_len == strlen("out of memory"))
+        return 0;
+    printf("the parts of a pattern: %u, %lu\n", (unsigned)answer, (unsigned long)told.count);
+    return 1;
+}
+
 /* Builds a pattern that is refused, and returns how many answers are what they shouldn't be. The
  * text of a refusal takes no memory, so it is always written. */
 static int call_refused(void) {
@@ -169,7 +185,7 @@ static int call_all(void) {
     n = regex_lite_escape(TEXT("a.b"), room, sizeof room, &n);
     if (n != REGEX_LITE_YES && n != REGEX_LITE_OUT_OF_MEMORY) wrong++;
     regex_lite_free(&regex);
-    return wrong + call_fault_at() + call_refused() + call_parts();
+    return wrong + call_fault_at() + call_outline() + call_refused() + call_parts();
 }
 
 /* Makes all calls for several patterns, and returns how many returned what they shouldn't. */

@@ -11,11 +11,16 @@ use Rattle.regex_lite_c.specs.declared.answer.TheConstants.{YES, NOT_TEXT, OUT_O
 abbrev pub IsMessage : (text old new : List ℕ) → (len : ℕ) → Type 0
 IsMessage text old new len = (answer : ℕ) × IsWritten text old new len answer
 
+-- a pattern is refused by this number, with the text of a refusal of which this is true
+abbrev pub IsRefusedFor : (Refusal → Type 0) → (answer : ℕ) → (old new : List ℕ) → (len : ℕ)
+    → Type 0
+IsRefusedFor IsTrueOf answer old new len =
+    (error : Refusal) × IsTrueOf error × (answer ≡ number_of (kind_of error))
+    × IsMessage (text_of error) old new len
+
 -- the pattern is refused by this number, with the text of this refusal, which is due
 abbrev pub IsRefusedBy : Settings → (answer : ℕ) → (old new : List ℕ) → (len : ℕ) → Type 0
-IsRefusedBy settings answer old new len =
-    (error : Refusal) × IsDue settings error × (answer ≡ number_of (kind_of error))
-    × IsMessage (text_of error) old new len
+IsRefusedBy settings = IsRefusedFor (IsDue settings)
 
 -- what is returned where a regex is to be built under these settings, whose pattern may be any
 -- bytes, and what is held then; and the room for a message before and after

@@ -7,6 +7,7 @@ pub mod Building
 pub mod Faults
 pub mod ListBuilding
 pub mod Spans
+pub mod Outlines
 pub mod ListSpans
 pub mod Kinds
 pub mod Anchored

@@ -21,6 +21,7 @@ mod group_walk;
 mod groups;
 mod handle;
 mod list;
+mod outline;
 mod place;
 mod properties;
 mod replace;
