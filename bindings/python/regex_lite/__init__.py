@@ -12,6 +12,7 @@ from ._flags import (ASCII, DOTALL, IGNORECASE, LOCALE, MULTILINE, NOFLAG, UNICO
                      L, M, RegexFlag, S, U, X)
 from ._lists import RegexList
 from ._matches import Match
+from ._parts import Look, Part, PartKind, outline
 from ._patterns import Pattern
 from ._scanners import Scanner
 
@@ -19,6 +20,7 @@ PatternError = error  # as `re` has it from Python 3.13 on
 
 __version__ = '0.1.9'
 __all__ = ['A', 'ASCII', 'DOTALL', 'DepartureWarning', 'I', 'IGNORECASE', 'L', 'LOCALE', 'M',
-           'MULTILINE', 'Match', 'NOFLAG', 'Pattern', 'PatternError', 'RegexFlag', 'RegexList', 'S',
-           'Scanner', 'U', 'UNICODE', 'VERBOSE', 'X', 'compile', 'error', 'escape', 'findall',
-           'finditer', 'fullmatch', 'match', 'purge', 'search', 'split', 'sub', 'subn']
+           'Look', 'MULTILINE', 'Match', 'NOFLAG', 'Part', 'PartKind', 'Pattern', 'PatternError',
+           'RegexFlag', 'RegexList', 'S', 'Scanner', 'U', 'UNICODE', 'VERBOSE', 'X', 'compile',
+           'error', 'escape', 'findall', 'finditer', 'fullmatch', 'match', 'outline', 'purge',
+           'search', 'split', 'sub', 'subn']

@@ -32,6 +32,12 @@ class Fault(ctypes.Structure):
     _fields_ = [('start', c_size_t), ('end', c_size_t), ('is_cut_short', c_bool)]
 
 
+class Outlined(ctypes.Structure):
+    """How many parts a pattern has, and how long the message is where it is refused."""
+
+    _fields_ = [('count', c_size_t), ('message_len', c_size_t)]
+
+
 class Walk(ctypes.Structure):
     """How far a walk over the matches of a text has come."""
 
