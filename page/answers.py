@@ -8,11 +8,13 @@ from typing import Dict, List, NamedTuple, Optional, Sequence, Tuple, TypedDict
 
 from page.code import code_for, is_short
 from page.code.templates import groups_of
+from page.explanations import Row, explained
 from page.questions import FLAGS, Question, question_of
 from page.replies import Reply, refusal
 from page.searches import OneSearch, Search, search_for
 from regex_lite import error
 from regex_lite._library import Options, Regex, Span, encoded, spans_of
+from regex_lite._parts import Outline
 
 MOST_MATCHES = 1000  # that are shown
 MOST_GROUPS = 100  # of a match that are shown, besides the match itself
@@ -52,6 +54,8 @@ class Answer(TypedDict, total=False):
     places: int
     arrows: int
     code: Dict[str, str]
+    explained: List[Row]
+    unexplained: int
 
 
 def reply_to(sent: bytes) -> Reply:
@@ -78,6 +82,9 @@ def answer_to(question: Question) -> Answer:
     except UnicodeEncodeError:
         return Answer(refusal='half of a character (a lone surrogate) stands in a field')
     answer = _found(search, text, len(question['patterns']))
+    explanation = explained([Outline(pattern, options) for pattern in question['patterns']],
+                            lambda number, index: search.regex_of(number).name(index))
+    answer['explained'], answer['unexplained'] = explanation
     if isinstance(search, OneSearch):
         answer.update(_replaced(search.regex, text, template, answer['count']))
     if is_short(question):

@@ -1,6 +1,7 @@
 // Asks what the patterns find whenever a field changes, and draws what comes back.
 
 import { copy, drawCode } from './code.js';
+import { drawExplained } from './explained.js';
 import { LIMITS, fill, foundNotes, patternFields, question, watchFields } from './fields.js';
 import { fragmentOf, questionOf } from './link.js';
 import { drawMarks } from './marks.js';
@@ -62,6 +63,7 @@ function show(asked, answer) {
   say('matches-note', groupsNote(answer));
   drawMarks(asked.text, answer, patterns > 1);
   drawTable(asked.text, answer, patterns > 1);
+  drawExplained(answer);
   drawCode(answer);
 }
 

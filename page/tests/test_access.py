@@ -13,8 +13,8 @@ NAMED = [
     ('checkbox', 'R CRLF'), ('checkbox', 'U swap greed'), ('checkbox', 'x ignore white space'),
     ('textbox', 'nesting'), ('textbox', 'size'), ('textbox', 'Text'),
     ('button', 'To row 1 of the table'), ('region', 'Replaced text'), ('region', 'Matches'),
-    ('button', 'Match 1: show it in the text'), ('radio', 'Rattle'), ('region', 'Code'),
-    ('button', 'Copy code'), ('DisclosureTriangle', 'What a pattern and a replacement may hold')]
+    ('button', 'Match 1: show it in the text'), ('region', 'In words'), ('radio', 'Rattle'),
+    ('region', 'Code'), ('button', 'Copy code'), ('DisclosureTriangle', 'What a pattern and a replacement may hold')]
 LIST = '#pattern=%5Ba-z%5D&pattern=%5B0-9%5D(x)%3F&text=ab12x'
 # Each element with a text of its own that is seen: its colour, and the colours behind it.
 COLOURS = """[...document.querySelectorAll('body *')].filter((element) => {
@@ -34,7 +34,7 @@ MARKS = """[...document.querySelectorAll('#marks span')].map((mark) => [
     getComputedStyle(document.getElementById('text')).color,
     [getComputedStyle(mark).backgroundColor], mark.outerHTML])"""
 PLACES = """[document.documentElement.scrollHeight, ...[...document.querySelectorAll(
-    'h2, h3, label, legend, textarea, input, button, pre, .scroll, summary')].filter(
+    'h2, h3, label, legend, textarea, input, button, pre, .scroll, #explained, summary')].filter(
     (part) => !part.hidden && !part.closest('tbody')).map((part) => [
         part.id || part.className || part.innerText,
         Math.round(part.getBoundingClientRect().top + scrollY)])]"""

@@ -40,7 +40,7 @@ class Busy(InBrowser):
         self.assertEqual(self.opacity('summary'), 1)
         self.be_hostile()
         self.wait(self.is_busy, 4, 'no search is shown to run')
-        for name in ('summary', 'marks', 'replaced-part', 'matches-part'):
+        for name in ('summary', 'marks', 'replaced-part', 'matches-part', 'explained-part'):
             self.assertLess(self.opacity(name), 0.5)
         self.wait(lambda: 'more than 5 seconds' in self.text('refusal'), 20, 'there is no answer')
         self.assertFalse(self.is_busy())
