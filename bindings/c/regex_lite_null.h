@@ -40,6 +40,7 @@ REGEX_LITE_SOME(regex_lite_some_lens, const size_t *, size_t)
 REGEX_LITE_SOME(regex_lite_some_patterns, const regex_lite_list_pattern *, regex_lite_list_pattern)
 REGEX_LITE_SOME(regex_lite_some_bytes, uint8_t *, uint8_t)
 REGEX_LITE_SOME(regex_lite_some_spans, regex_lite_span *, regex_lite_span)
+REGEX_LITE_SOME(regex_lite_some_parts, regex_lite_part *, regex_lite_part)
 REGEX_LITE_SOME(regex_lite_some_list_spans, regex_lite_list_span *, regex_lite_list_span)
 REGEX_LITE_SOME(regex_lite_some_list_groups, regex_lite_list_groups *, regex_lite_list_groups)
 
@@ -71,6 +72,16 @@ regex_lite_fault_at_(const uint8_t *pattern, size_t pattern_len, const regex_lit
                                fault);
 }
 #define regex_lite_fault_at regex_lite_fault_at_
+
+REGEX_LITE_INLINE regex_lite_answer
+regex_lite_outline_(const uint8_t *pattern, size_t pattern_len, const regex_lite_options *options,
+                    regex_lite_part *parts, size_t room, uint8_t *message, size_t message_room,
+                    regex_lite_outlined *outlined) {
+    return regex_lite_outline(regex_lite_some_text(pattern, pattern_len), pattern_len, options,
+                              regex_lite_some_parts(parts, room), room,
+                              regex_lite_some_bytes(message, message_room), message_room, outlined);
+}
+#define regex_lite_outline regex_lite_outline_
 
 REGEX_LITE_INLINE regex_lite_answer
 regex_lite_pattern_(regex_lite *handle, uint8_t *room, size_t room_len, size_t *len) {
