@@ -34,7 +34,8 @@ INSTALLED = {
                           f'{LIB}/pkgconfig/regex_lite.pc', 'usr/include/regex_lite.h',
                           'usr/include/regex_lite_null.h', 'usr/include/regex_lite.hpp',
                           'usr/share/man/man3/regex_lite.3.gz',
-                          'usr/share/man/man3/regex_lite_list.3.gz'},
+                          'usr/share/man/man3/regex_lite_list.3.gz',
+                          'usr/share/man/man3/regex_lite_searcher.3.gz'},
     'rxl': {'usr/bin/rxl', 'usr/share/man/man1/rxl.1.gz'},
 }
 DOCUMENTS = ('copyright', 'changelog.gz', 'changelog.Debian.gz')  # of each of them

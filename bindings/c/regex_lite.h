@@ -29,12 +29,17 @@
  * freed twice. Under a mutex, any thread may make any call with a handle, including those that
  * build and free: the thread that builds a regex need not be the one that uses or frees it.
  * Different handles may be used by different threads at the same time without a mutex. For
- * searches in parallel, build one regex for each thread.
+ * searches in parallel, build one regex for each thread. A searcher has its regex for itself, so
+ * that the same holds for it.
  *
  * LONG TEXTS. Each call with a text reads the whole text once to check that it is UTF-8, wherever
  * the search starts. So a loop that passes the end of each match as the next start takes time that
  * grows with the square of the text's length. Use regex_lite_find_all, regex_lite_captures_all or
- * their counterparts for lists instead, with room for many matches per call.
+ * their counterparts for lists instead, with room for many matches per call; or a searcher, which
+ * reads a text once for all searches in it: see A SEARCHER below.
+ *
+ * MANY TEXTS. A call that searches may request memory, and frees it before it returns. A searcher
+ * keeps its memory and what its searches have learned of the pattern, for text after text.
  */
 #ifndef REGEX_LITE_H
 #define REGEX_LITE_H
@@ -64,7 +69,13 @@ typedef struct regex_lite_list {
     void *place;
 } regex_lite_list;
 
-/* A handle of either kind that holds nothing. */
+/* A handle for a searcher: what holds a regex, the memory for its searches and a text; or nothing.
+ * What is said of a handle above holds for it too. */
+typedef struct regex_lite_searcher {
+    void *place;
+} regex_lite_searcher;
+
+/* A handle of any kind that holds nothing. */
 #define REGEX_LITE_NOTHING {0}
 
 /* The settings under which a pattern is built. */
@@ -446,6 +457,72 @@ regex_lite_answer regex_lite_replace(regex_lite *handle, const uint8_t *text, si
  * REGEX_LITE_NO_ROOM with the length alone. */
 regex_lite_answer regex_lite_escape(const uint8_t *text, size_t len, uint8_t *room, size_t room_len,
                                     size_t *pattern_len);
+
+/* A SEARCHER searches for one regex, in one text after another. It has a text of its own, which is
+ * read as UTF-8 once, so that a loop over the matches of a long text reads it once in all. And it
+ * keeps its memory, so that no search requests any: once its room for texts is large enough, a loop
+ * that reads a line and searches it requests none. */
+
+/* Makes a searcher of the regex that the second handle holds: REGEX_LITE_YES. The searcher has the
+ * regex from then on, and the second handle holds nothing; ask it for the names of groups before.
+ * The text is empty until one is read.
+ *
+ * Otherwise the first handle holds nothing, and the second holds what it did: the answer is
+ * REGEX_LITE_NOTHING_HELD where that is nothing, or REGEX_LITE_OUT_OF_MEMORY. What the first handle
+ * held before is freed. */
+regex_lite_answer regex_lite_searcher_new(regex_lite_searcher *handle, regex_lite *regex);
+
+/* Frees what the handle holds, if anything: the regex, the memory and the text. */
+void regex_lite_searcher_free(regex_lite_searcher *handle);
+
+/* Reads the bytes as the text that the calls below search, and copies them: REGEX_LITE_YES. The
+ * bytes may then change, or be freed. With REGEX_LITE_NOT_TEXT, REGEX_LITE_OUT_OF_MEMORY and
+ * REGEX_LITE_NOTHING_HELD nothing changes: the text is the one before. */
+regex_lite_answer regex_lite_searcher_read(regex_lite_searcher *handle, const uint8_t *text,
+                                           size_t len);
+
+/* Whether the pattern matches somewhere in the text: REGEX_LITE_YES or REGEX_LITE_NO. No call from
+ * here on runs out of memory. */
+regex_lite_answer regex_lite_searcher_is_match(regex_lite_searcher *handle);
+
+/* Writes the match that starts first from this offset of the text on, of those the one that the
+ * pattern prefers: REGEX_LITE_YES, or REGEX_LITE_NO. Looks see the whole text. It takes the time of
+ * the search alone, so it may be called in a loop from the end of each match. After an empty match
+ * such a loop has to go on one character further, as regex_lite_find_all does by itself. */
+regex_lite_answer regex_lite_searcher_find(regex_lite_searcher *handle, size_t start,
+                                           regex_lite_span *span);
+
+/* Writes the groups of the match that regex_lite_searcher_find writes, from the whole match on, and
+ * how many they are: REGEX_LITE_YES, or REGEX_LITE_NO. With room for fewer it only writes how many
+ * they are: REGEX_LITE_NO_ROOM. */
+regex_lite_answer regex_lite_searcher_captures(regex_lite_searcher *handle, size_t start,
+                                               regex_lite_span *spans, size_t room,
+                                               size_t *count);
+
+/* Whether a match of the pattern starts at this very offset of the text: REGEX_LITE_YES or
+ * REGEX_LITE_NO. Looks see the whole text. */
+regex_lite_answer regex_lite_searcher_is_match_anchored(regex_lite_searcher *handle,
+                                                        size_t start);
+
+/* Writes the match that starts at this very offset, of several the one that the pattern prefers:
+ * REGEX_LITE_YES, or REGEX_LITE_NO. It goes no further than matches that start there can. */
+regex_lite_answer regex_lite_searcher_find_anchored(regex_lite_searcher *handle, size_t start,
+                                                    regex_lite_span *span);
+
+/* Writes the groups of the match that regex_lite_searcher_find_anchored writes, and how many they
+ * are. The answers, and what is written with too little room, are those of
+ * regex_lite_searcher_captures. */
+regex_lite_answer regex_lite_searcher_captures_anchored(regex_lite_searcher *handle, size_t start,
+                                                        regex_lite_span *spans, size_t room,
+                                                        size_t *count);
+
+/* Whether the pattern matches the whole text: REGEX_LITE_YES or REGEX_LITE_NO. */
+regex_lite_answer regex_lite_searcher_is_full_match(regex_lite_searcher *handle);
+
+/* Writes the match of the whole text, also where the pattern prefers a shorter one:
+ * REGEX_LITE_YES, or REGEX_LITE_NO. */
+regex_lite_answer regex_lite_searcher_full_match(regex_lite_searcher *handle,
+                                                 regex_lite_span *span);
 
 /* SEVERAL PATTERNS AT ONCE. They are numbered from 0 on, in their order, and a search goes over the
  * text once for all of them. Of the matches that start first it finds that of the pattern with the

@@ -236,6 +236,28 @@ regex_lite_escape_(const uint8_t *text, size_t len, uint8_t *room, size_t room_l
 #define regex_lite_escape regex_lite_escape_
 
 REGEX_LITE_INLINE regex_lite_answer
+regex_lite_searcher_read_(regex_lite_searcher *handle, const uint8_t *text, size_t len) {
+    return regex_lite_searcher_read(handle, regex_lite_some_text(text, len), len);
+}
+#define regex_lite_searcher_read regex_lite_searcher_read_
+
+REGEX_LITE_INLINE regex_lite_answer
+regex_lite_searcher_captures_(regex_lite_searcher *handle, size_t start, regex_lite_span *spans,
+                              size_t room, size_t *count) {
+    return regex_lite_searcher_captures(handle, start, regex_lite_some_spans(spans, room), room,
+                                        count);
+}
+#define regex_lite_searcher_captures regex_lite_searcher_captures_
+
+REGEX_LITE_INLINE regex_lite_answer
+regex_lite_searcher_captures_anchored_(regex_lite_searcher *handle, size_t start,
+                                       regex_lite_span *spans, size_t room, size_t *count) {
+    return regex_lite_searcher_captures_anchored(handle, start, regex_lite_some_spans(spans, room),
+                                                 room, count);
+}
+#define regex_lite_searcher_captures_anchored regex_lite_searcher_captures_anchored_
+
+REGEX_LITE_INLINE regex_lite_answer
 regex_lite_list_new_(regex_lite_list *handle, const uint8_t *bytes, size_t len,
                      const regex_lite_list_pattern *patterns, size_t count, uint8_t *message,
                      size_t message_room, regex_lite_list_refusal *refusal) {

@@ -653,6 +653,21 @@ struct One : Single {
     }
 };
 
+/// A regex with the memory for its searches and a text, as what the handle of a searcher holds.
+struct Kept : One {
+    using Raw = regex_lite_searcher;
+    static constexpr auto release = regex_lite_searcher_free;
+};
+
+/// Returns a function that has a searcher read a text, and then calls this one for it.
+template <class Call> auto reading(Call function) {
+    return [function](regex_lite_searcher *raw, const std::uint8_t *text, std::size_t len,
+                      auto... rest) {
+        const regex_lite_answer answer = regex_lite_searcher_read(raw, text, len);
+        return answer == REGEX_LITE_YES ? function(raw, rest...) : answer;
+    };
+}
+
 /// A list of patterns, as what a handle holds, with the calls for it.
 struct Many {
     using Raw = regex_lite_list;
@@ -1663,9 +1678,11 @@ class RegexList : public Searches<detail::Many> {
     }
 };
 
-/// Searches text after text with one regex, in memory that it keeps. It has a regex of its own and
-/// no lock, so it is for one thread at a time; each thread makes its own from a shared Regex, and
-/// these search at once.
+/// Searches text after text with one regex, in memory that it keeps: each call copies its text, and
+/// once there is room for the longest, it requests no memory.
+///
+/// It has a regex of its own and no lock, so it is for one thread at a time; each thread makes its
+/// own from a shared Regex, and these search at once.
 class Searcher {
   public:
     /// Builds the regex of the same pattern and settings.
@@ -1673,10 +1690,18 @@ class Searcher {
     Searcher(Searcher &&) noexcept = default;
     Searcher &operator=(Searcher &&) noexcept = default;
     static Expected<Searcher> try_build(const Regex &regex) {
-        const detail::Pattern &known = regex.known();
-        auto own = detail::own<detail::NoMutex>(known.text, known.options);
-        if (!own.has_value()) return own.error();
-        return Searcher(*std::move(own));
+        return detail::attempt([&]() -> Expected<Searcher> {
+            const detail::Pattern &known = regex.known();
+            const auto built = detail::own<detail::NoMutex>(known.text, known.options);
+            if (!built.has_value()) return built.error();
+            auto own = std::make_shared<detail::Owner<detail::Kept, detail::NoMutex>>();
+            const Expected<bool> is_moved = (*built)->call([&](regex_lite *raw) {
+                return detail::answered(own->call(regex_lite_searcher_new, raw));
+            });
+            if (!is_moved.has_value()) return is_moved.error();
+            own->patterns = (*built)->patterns;
+            return Searcher(std::move(own));
+        });
     }
 
     /// Returns whether there is a match, as Regex::is_match does.
@@ -1686,7 +1711,12 @@ class Searcher {
     }
     Expected<bool> try_is_match(std::string_view text) { return try_is_match_at(text, 0); }
     Expected<bool> try_is_match_at(std::string_view text, std::size_t start) {
-        return detail::matched(*own_, regex_lite_is_match, text, start);
+        const auto is_match = [](regex_lite_searcher *raw, std::size_t from) {
+            regex_lite_span span{};
+            return from == 0 ? regex_lite_searcher_is_match(raw)
+                             : regex_lite_searcher_find(raw, from, &span);
+        };
+        return detail::matched(*own_, detail::reading(is_match), text, start);
     }
 
     /// Returns the first match, as Regex::find does.
@@ -1696,7 +1726,8 @@ class Searcher {
     }
     Expected<std::optional<Match>> try_find(Text text) { return try_find_at(text, 0); }
     Expected<std::optional<Match>> try_find_at(Text text, std::size_t start) {
-        return detail::found<detail::One>(*own_, regex_lite_find, text.view(), start);
+        const auto find = detail::reading(regex_lite_searcher_find);
+        return detail::found<detail::One>(*own_, find, text.view(), start);
     }
 
     /// Returns the groups of the first match, or a null pointer if there is no match. They are lent
@@ -1707,15 +1738,16 @@ class Searcher {
     }
     Expected<const Captures *> try_captures(Text text) { return try_captures_at(text, 0); }
     Expected<const Captures *> try_captures_at(Text text, std::size_t start) {
+        const auto captures = detail::reading(regex_lite_searcher_captures);
         const Expected<bool> is_there =
-            detail::captured(*own_, groups_, regex_lite_captures, text.view(), start);
+            detail::captured(*own_, groups_, captures, text.view(), start);
         if (!is_there.has_value()) return is_there.error();
         return *is_there ? &groups_ : nullptr;
     }
 
     /// Returns the first match in each of some texts: a range of what a Text can be made of. They
-    /// are lent until the next call. The texts are copied first, and what the search of one learns
-    /// of the pattern speeds up that of the next.
+    /// are lent until the next call. What the search of one learns of the pattern speeds up that of
+    /// the next.
     template <class Texts, std::enable_if_t<detail::are_lasting<Texts>, int> = 0>
     const std::vector<std::optional<Match>> &find_each(Texts &&texts) {
         return *try_find_each(texts).value();
@@ -1723,9 +1755,13 @@ class Searcher {
     template <class Texts, std::enable_if_t<detail::are_lasting<Texts>, int> = 0>
     Expected<const std::vector<std::optional<Match>> *> try_find_each(Texts &&texts) {
         return detail::attempt([&]() -> Expected<const std::vector<std::optional<Match>> *> {
-            const Expected<bool> is_done = each_.search(*own_, texts);
-            if (!is_done.has_value()) return is_done.error();
-            return &each_.found;
+            each_.clear();
+            for (auto &&text : texts) {
+                const auto found = try_find(std::forward<decltype(text)>(text));
+                if (!found.has_value()) return found.error();
+                each_.push_back(*found);
+            }
+            return &each_;
         });
     }
     template <class Texts, std::enable_if_t<!detail::are_lasting<Texts>, int> = 0>
@@ -1734,13 +1770,13 @@ class Searcher {
     void try_find_each(Texts &&) = delete;
 
   private:
-    using Own = std::shared_ptr<detail::Owner<detail::One, detail::NoMutex>>;
+    using Own = std::shared_ptr<detail::Owner<detail::Kept, detail::NoMutex>>;
 
     explicit Searcher(Own own) noexcept : own_(std::move(own)) {}
 
     Own own_;
     Captures groups_;
-    detail::Each each_;
+    std::vector<std::optional<Match>> each_;
 };
 
 /// Returns the pattern that means this text and nothing else, under the default settings.

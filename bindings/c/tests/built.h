@@ -4,14 +4,15 @@
 
 #include "want.h"
 
-static regex_lite_answer build(regex_lite *regex, const char *pattern) {
+static inline regex_lite_answer build(regex_lite *regex, const char *pattern) {
     uint8_t message[100];
     size_t len;
     return regex_lite_new(regex, TEXT(pattern), &defaults, message, sizeof message, &len);
 }
 
 /* Builds the list of two patterns. */
-static regex_lite_answer build_two(regex_lite_list *list, const char *first, const char *second) {
+static inline regex_lite_answer build_two(regex_lite_list *list, const char *first,
+                                          const char *second) {
     regex_lite_list_pattern each[2] = {{0, REGEX_LITE_DEFAULTS}, {0, REGEX_LITE_DEFAULTS}};
     regex_lite_list_refusal refusal;
     uint8_t bytes[100], message[100];

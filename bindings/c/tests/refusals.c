@@ -17,6 +17,7 @@ static long allowed; /* how many requests are still granted; below 0 all are */
 static long blocks;  /* how many blocks are in use */
 static long refused;
 static long parts; /* how often groups were written before memory ran out */
+static long kept_regexes, kept_texts; /* how often a searcher was refused its regex, or a text */
 
 static bool is_granted(void) {
     if (allowed == 0) {
@@ -244,6 +245,50 @@ static int call_lists(void) {
     return wrong;
 }
 
+/* Whether the searcher has read these two texts, or the answers say that memory ran out. The first
+ * match is that of the text that was read last; the searcher's text is empty at first. */
+static bool is_read(regex_lite_searcher *searcher) {
+    regex_lite_answer first = regex_lite_searcher_read(searcher, TEXT("Sam"));
+    regex_lite_answer second = regex_lite_searcher_read(searcher, TEXT("Mister Samwise, Sam"));
+    size_t start = second == REGEX_LITE_YES ? 16 : 0, count = 7;
+    bool is_empty = first != REGEX_LITE_YES && second != REGEX_LITE_YES;
+    regex_lite_answer wanted = is_empty ? REGEX_LITE_NO : REGEX_LITE_YES;
+    regex_lite_span spans[2];
+    if (second != REGEX_LITE_YES) kept_texts++;
+    return (first == REGEX_LITE_YES || first == REGEX_LITE_OUT_OF_MEMORY) &&
+           (second == REGEX_LITE_YES || second == REGEX_LITE_OUT_OF_MEMORY) &&
+           regex_lite_searcher_is_match(searcher) == wanted &&
+           regex_lite_searcher_captures(searcher, 0, spans, 2, &count) == wanted &&
+           (is_empty || (count == 2 && spans[1].start == start && spans[1].end == start + 3));
+}
+
+/* Makes a searcher and has it read, and returns how many answers are what they shouldn't be. Where
+ * memory runs out, the regex stays in its handle. */
+static int call_searcher(void) {
+    regex_lite regex = REGEX_LITE_NOTHING;
+    regex_lite_searcher searcher = REGEX_LITE_NOTHING;
+    regex_lite_options options = REGEX_LITE_DEFAULTS;
+    uint8_t message[100];
+    size_t n;
+    regex_lite_answer answer = regex_lite_new(&regex, TEXT("\\b([Ss]am)\\b"), &options, message,
+                                              sizeof message, &n);
+    bool is_so = answer == REGEX_LITE_YES || answer == REGEX_LITE_OUT_OF_MEMORY;
+    if (answer == REGEX_LITE_YES) {
+        answer = regex_lite_searcher_new(&searcher, &regex);
+        if (answer == REGEX_LITE_YES) {
+            is_so = regex_lite_groups(&regex) == 0 && is_read(&searcher);
+        } else {
+            is_so = answer == REGEX_LITE_OUT_OF_MEMORY && regex_lite_groups(&regex) == 2 &&
+                    regex_lite_searcher_is_match(&searcher) == REGEX_LITE_NOTHING_HELD;
+            kept_regexes++;
+        }
+    }
+    regex_lite_searcher_free(&searcher);
+    regex_lite_free(&regex);
+    if (!is_so) printf("a searcher: %u\n", (unsigned)answer);
+    return !is_so;
+}
+
 int main(void) {
     long before = blocks, at;
     for (at = 0;; at++) {
@@ -251,7 +296,7 @@ int main(void) {
         bool is_done;
         refused = 0;
         allowed = at;
-        wrong = call_all() + call_lists();
+        wrong = call_all() + call_lists() + call_searcher();
         is_done = refused == 0;
         allowed = -1;
         if (wrong != 0 || blocks != before) {
@@ -261,5 +306,5 @@ int main(void) {
         if (is_done) break;
     }
     printf("refusals: each of %ld requests was refused, and nothing leaked\n", at);
-    return at < 10 || parts == 0;
+    return at < 10 || parts == 0 || kept_regexes == 0 || kept_texts == 0;
 }

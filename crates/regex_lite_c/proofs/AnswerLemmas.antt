@@ -1,7 +1,7 @@
 -- What a call returns of a text that can be searched.
 use Rattle.regex_lite_c.proofs.Common.{◌≡◌, ℕ, ◌<◌, ◌≤◌, ◌⊎◌, List, IsUtf8}
 use Rattle.regex_lite_c.proofs.Common.{IsCharBoundary, length, inl, inr, arith, cases_lt, NO_ROOM}
-use Rattle.regex_lite_c.proofs.Common.{OUT_OF_MEMORY, YES, Groups, AreWritten, Span}
+use Rattle.regex_lite_c.proofs.Common.{refl, NO, OUT_OF_MEMORY, YES, Groups, AreWritten, Span}
 use Rattle.std.proofs.Common.{◌≢◌}
 use Rattle.regex_lite_c.specs.Answers.{IsOfFound, RefusesText}
 use Rattle.regex_lite_c.specs.GroupAnswers.{IsGroupsAnswerOf}
@@ -70,3 +70,18 @@ groups_found AreFirst are_none bytes start old new old_told told answer groups u
       refused = nothing_refused bytes start answer utf8 boundary own.0;
       one_of = one_of_more answer own.0;
     }
+
+-- and where none are found
+pub no_groups_found : {T : Type 0} (AreFirst : T → Groups → Type 0) (are_none : Type 0)
+    (bytes : List ℕ) (start : ℕ) (spans : List Span) (told : T) → IsUtf8 bytes
+    → IsCharBoundary bytes start → are_none
+    → IsGroupsAnswerOf AreFirst are_none bytes start spans spans told told NO
+no_groups_found AreFirst are_none bytes start spans told utf8 boundary given = record {
+  found = λ is_yes. absurd (omega (arith, is_yes));
+  no_room = λ full. absurd (omega (arith, full));
+  none = λ _. given;
+  same = λ _. refl;
+  same_told = λ _ _. refl;
+  refused = nothing_refused bytes start NO utf8 boundary (inl (omega arith));
+  one_of = inl (omega arith);
+}

@@ -9,6 +9,8 @@ use Rattle.std.specs.contracts.impls.GlobalAllocator.TheImpl.{ghosts}
 use Rattle.regex_lite.specs.Expression.{Expression}
 use Rattle.regex_lite.specs.contracts.string.list.RegexList as patterns
 use Rattle.regex_lite.specs.contracts.string.regex.Regex as regex
+use Rattle.regex_lite_c.specs.Searchers.{TextSearch}
+use Rattle.regex_lite_c.specs.contracts.searcher.TextSearcher as searcher
 
 -- the box of a value, which some `Global` can free, and so each, as all are equal
 abbrev pub boxed_at : (row : RattleType) → Ptr → row.Denot → Fml
@@ -29,6 +31,10 @@ holds_of row (block_ptr b o) (Some value) = boxed_at row (block_ptr b o) value
 abbrev pub holds : Ptr → Option Expression → Fml
 holds ptr value = holds_of regex.the_row ptr value
 
--- and for a list of patterns
+-- for a list of patterns
 abbrev pub holds_list : Ptr → Option (List Expression) → Fml
 holds_list ptr value = holds_of patterns.the_row ptr value
+
+-- and for a searcher with its text
+abbrev pub holds_searcher : Ptr → Option TextSearch → Fml
+holds_searcher ptr value = holds_of searcher.the_row ptr value

@@ -1,4 +1,5 @@
 -- What a caller in C holds, what it is told by numbers and spans, and what is written to its room.
+pub mod Searchers
 pub mod Handles
 pub mod Options
 pub mod Answers
@@ -22,3 +23,4 @@ pub mod GroupAnswers
 pub mod GroupWalks
 pub mod Cuts
 pub mod Each
+pub mod SearcherAnswers

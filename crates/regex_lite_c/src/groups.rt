@@ -1,14 +1,15 @@
 //! The groups of a match, in spans of the caller.
-ghost use Rattle.std.specs.Prelude.{◌≡◌, ◌+◌, ◌<◌, ◌≤◌, IfSome, None, length};
+ghost use Rattle.std.specs.Prelude.{◌≡◌, ◌+◌, ◌<◌, ◌≤◌, ℕ, List, Option, IfSome, None, length};
+ghost use Rattle.regex_lite.specs.Groups.{span_at};
 ghost use Rattle.regex_lite_c.specs.GroupAnswers.{IsGroupsAnswer, IsGroupsAnswerOf};
-ghost use Rattle.regex_lite_c.specs.Spans.{AreWritten, AreWrittenAt};
+ghost use Rattle.regex_lite_c.specs.Spans.{AreWritten, AreWrittenAt, span_of};
 
 use crate::answer::{NO, NO_ROOM, NOTHING_HELD, OUT_OF_MEMORY, YES};
 use crate::handle::{Handle, Holds};
 use crate::sought::Search;
 use crate::text::text_from;
 use crate::types::Span;
-use regex_lite::Captures;
+use regex_lite::{CaptureLocations, Captures};
 use std::alloc::Global;
 
 /// The groups of the match that starts first from this offset on: 1 with their spans written, from
@@ -63,26 +64,66 @@ pub(crate) fn captures<P: Search>(
     }
 }
 
+/// The groups of a match, as they are written.
+pub(crate) trait GroupSpans {
+    ghost spans: { Self → List (Option (ℕ × ℕ)) };
+
+    /// How many there are.
+    fn count(&self) -> usize
+        ensures { result ≡ length (spans self.now) };
+
+    /// What is written of the group with this index.
+    fn span_at(&self, index: usize) -> Span
+        ensures { result ≡ span_of (span_at (spans self.now) index) };
+}
+
+impl<'h> GroupSpans for Captures<'h> {
+    ghost spans = { λ caps. caps.spans };
+
+    fn count(&self) -> usize {
+        self.len()
+    }
+
+    fn span_at(&self, index: usize) -> Span {
+        Span::of_group(self.get(index))
+    }
+}
+
+impl GroupSpans for CaptureLocations {
+    ghost spans = { λ locations. locations };
+
+    fn count(&self) -> usize {
+        self.len()
+    }
+
+    fn span_at(&self, index: usize) -> Span {
+        match self.get(index) {
+            Some((start, end)) => Span::between(start, end),
+            None => Span::none(),
+        }
+    }
+}
+
 /// Writes these groups, or nothing where there is too little room.
-fn write_groups(caps: &Captures<'_>, spans: &mut [Span]) -> u32
-    ensures written { length caps.now.spans ≤ length spans.old
-        → (result ≡ YES) × AreWritten caps.now.spans spans.old spans.new }
-    ensures no_room { length spans.old < length caps.now.spans
+pub(crate) fn write_groups<G: GroupSpans>(groups: &G, spans: &mut [Span]) -> u32
+    ensures written { length (G.spans groups.now) ≤ length spans.old
+        → (result ≡ YES) × AreWritten (G.spans groups.now) spans.old spans.new }
+    ensures no_room { length spans.old < length (G.spans groups.now)
         → (result ≡ NO_ROOM) × (spans.new ≡ spans.old) }
 {
-    if spans.len() < caps.len() {
+    if spans.len() < groups.count() {
         return NO_ROOM;
     }
-    put_groups(caps, spans, 0);
+    put_groups(groups, spans, 0);
     YES
 }
 
 /// Writes these groups from this index on.
-pub(crate) fn put_groups(caps: &Captures<'_>, spans: &mut [Span], at: usize)
-    requires { at + length caps.now.spans ≤ length spans.old }
-    ensures { AreWrittenAt at caps.now.spans spans.old spans.new }
+pub(crate) fn put_groups<G: GroupSpans>(groups: &G, spans: &mut [Span], at: usize)
+    requires { at + length (G.spans groups.now) ≤ length spans.old }
+    ensures { AreWrittenAt at (G.spans groups.now) spans.old spans.new }
 {
-    for k in 0..caps.len() {
-        spans[at + k] = Span::of_group(caps.get(k));
+    for k in 0..groups.count() {
+        spans[at + k] = groups.span_at(k);
     }
 }

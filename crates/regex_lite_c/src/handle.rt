@@ -1,12 +1,15 @@
-//! What C holds: the place of a regex or of a list of patterns on the heap, or null.
+//! What C holds: the place of a regex, of a list of patterns or of a searcher on the heap, or null.
 ghost use Rattle.std.specs.Prelude.{◌≡◌, List, Option, None, Some, MatchOption};
 ghost use Rattle.std.specs.Coded.{coded_option};
 ghost use Rattle.std.specs.Fn.{FnOnceReturnsAt};
 ghost use Rattle.regex_lite.specs.Expression.{Expression};
 ghost use Rattle.regex_lite.specs.contracts.string.list.RegexList as patterns;
 ghost use Rattle.regex_lite.specs.contracts.string.regex.Regex as regex;
+ghost use Rattle.regex_lite_c.specs.Searchers.{TextSearch};
+ghost use Rattle.regex_lite_c.specs.contracts.searcher.TextSearcher as searcher;
 
 use crate::place::HeapPlace;
+use crate::searcher::TextSearcher;
 use regex_lite::{Regex, RegexList, Unboxed};
 use std::alloc::Global;
 use std::marker::Model;
@@ -45,7 +48,24 @@ impl Model for ListHandle {
     ghost also_owns = { λ handle. holds_list handle.ptr handle.value };
 }
 
-/// A handle of either kind. A type that crosses to C has no type parameter, so there are two.
+/// The place of a searcher with its text, or null where there is none.
+///
+/// Its bytes are those of one pointer. A caller who copies them has two owners of one searcher,
+/// which nothing here can detect.
+#[repr(C)]
+#[derive(Drop)]
+pub struct SearcherHandle {
+    ptr: *mut u8,
+    pub ghost value: { Option TextSearch } by { coded_option searcher.the_row.coded },
+}
+
+impl Model for SearcherHandle {
+    ghost use Rattle.regex_lite_c.specs.Handles.{holds_searcher};
+
+    ghost also_owns = { λ handle. holds_searcher handle.ptr handle.value };
+}
+
+/// A handle of any kind. A type that crosses to C has no type parameter, so there are three.
 pub(crate) trait Holds: Drop {
     /// What is held.
     type Value: Drop;
@@ -146,6 +166,28 @@ impl Holds for ListHandle {
     {
         let ListHandle { ptr } = self;
         let ptr = ptr as *mut RegexList;
+        HeapPlace { ptr }
+    }
+}
+
+impl Holds for SearcherHandle {
+    type Value = TextSearcher;
+
+    ghost held = { λ handle. handle.value };
+
+    fn from_place(place: HeapPlace<TextSearcher>) -> SearcherHandle
+        ensures { result.value ≡ place.value }
+    {
+        let HeapPlace { ptr } = place;
+        let ptr = ptr as *mut u8;
+        SearcherHandle { ptr }
+    }
+
+    fn into_place(self) -> HeapPlace<TextSearcher>
+        ensures { result.value ≡ self.value }
+    {
+        let SearcherHandle { ptr } = self;
+        let ptr = ptr as *mut TextSearcher;
         HeapPlace { ptr }
     }
 }

@@ -27,6 +27,7 @@ mod properties;
 mod replace;
 mod room;
 mod search;
+mod searcher;
 mod sought;
 mod split;
 mod text;

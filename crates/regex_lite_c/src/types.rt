@@ -1,5 +1,5 @@
 //! What a caller passes besides texts.
-ghost use Rattle.std.specs.Prelude.{◌≡◌, ◌-◌, ◌^◌, Some, min, option_map};
+ghost use Rattle.std.specs.Prelude.{◌≡◌, ◌-◌, ◌^◌, Some, None, min, option_map};
 ghost use Rattle.regex_lite.specs.MatchViews.{span_of_match};
 ghost use Rattle.regex_lite_c.specs.Costs.{IsCostOf};
 ghost use Rattle.regex_lite_c.specs.Faults.{IsFaultOf};
@@ -71,11 +71,18 @@ impl Span {
     {
         match group {
             Some(found) => Span::of(&found),
-            None => Span {
-                is_there: false,
-                start: 0,
-                end: 0,
-            },
+            None => Span::none(),
+        }
+    }
+
+    /// That of a group that took no part.
+    pub(crate) fn none() -> Span
+        ensures { result ≡ span_of None }
+    {
+        Span {
+            is_there: false,
+            start: 0,
+            end: 0,
         }
     }
 }

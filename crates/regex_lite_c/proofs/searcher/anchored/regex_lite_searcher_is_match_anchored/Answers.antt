@@ -1,0 +1,7 @@
+use Rattle.regex_lite_c.proofs.Common.{sym}
+use Rattle.regex_lite_c.proofs.searcher.anchored.regex_lite_searcher_is_match_anchored.Goals as goal
+
+pub returns-clause-answer : goal.returns-clause-answer
+returns-clause-answer c =
+    rw c.in-Some.ensures.taken
+    (rw (sym c.deref_mut.ensures.value) c.is_match_anchored-answer.ensures.answer)

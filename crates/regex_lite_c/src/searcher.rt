@@ -1,0 +1,67 @@
+//! A searcher that has a text of its own, which is read as UTF-8 once.
+ghost use Rattle.std.specs.Prelude.{◌≡◌, [], IfErr, IfOk, MatchResult};
+ghost use Rattle.std.specs.String.{string_bytes};
+ghost use Rattle.regex_lite_syntax.specs.Errors.{out_of_memory};
+
+mod anchored;
+mod build;
+mod search;
+
+use regex_lite::{CaptureLocations, Error, Regex, RegexSearcher};
+use std::alloc::{AllocError, Global};
+use std::marker::Model;
+
+/// A regex, the memory for its searches, and the text that is searched.
+#[derive(Drop)]
+pub(crate) struct TextSearcher {
+    searcher: RegexSearcher<'static>,
+    text: String,
+    /// Where the groups of the last match are that was asked for them.
+    groups: CaptureLocations,
+}
+
+impl Model for TextSearcher {
+    ghost use Rattle.std.specs.String.{string_bytes};
+    ghost use Rattle.regex_lite_c.specs.Searchers.{HasEachGroup, TextSearch};
+
+    ghost Value = { TextSearch };
+
+    ghost view = { λ own. record { re = own.searcher; text = string_bytes own.text } };
+
+    ghost invariant = { λ own. HasEachGroup own.searcher own.groups };
+}
+
+impl TextSearcher {
+    /// A searcher for this regex, with an empty text.
+    fn new(alloc: Global, regex: &Regex) -> Result<TextSearcher, Error>
+        ensures ok { IfOk result (λ own. own ≡ record { re = regex.now; text = [] }) }
+        ensures refused { IfErr result (λ error. error ≡ out_of_memory) }
+    {
+        let groups = regex.capture_locations()?;
+        let searcher = regex.clone()?.into_searcher()?;
+        Ok(TextSearcher {
+            searcher,
+            text: String::new(alloc),
+            groups,
+        })
+    }
+
+    /// Takes this text in place of the one before, which stays where memory runs out.
+    fn read(&mut self, text: &str) -> Result<(), AllocError>
+        ensures read { IfOk result (λ _. self.new ≡ record self.old { text = text.now }) }
+        ensures same { IfErr result (λ _. self.new ≡ self.old) }
+    {
+        read(&mut self.text, text)
+    }
+}
+
+/// Puts a text in place of the one before, which stays where memory runs out.
+fn read(own: &mut String, text: &str) -> Result<(), AllocError>
+    ensures { MatchResult result (λ _. string_bytes own.new ≡ text.now)
+        (λ _. string_bytes own.new ≡ string_bytes own.old) }
+{
+    own.reserve(text.len().saturating_sub(own.len()))?;
+    own.clear();
+    // There is room for it now, so this is not refused.
+    own.push_str(text)
+}
