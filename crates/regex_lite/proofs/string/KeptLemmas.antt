@@ -1,7 +1,7 @@
 -- What a searcher that callers keep returns of a match, and of its groups.
 use Rattle.regex_lite.proofs.Common.{◌≡◌, ℕ, ◌*◌, ◌≤◌, List, [], length, take, Some, None, IsUtf8}
 use Rattle.regex_lite.proofs.Common.{Option, option_map, chars, sym, refl, ap, ◌∙◌, subst, arith}
-use Rattle.regex_lite.proofs.Common.{Tree, captures_len, IsGraphOf, Found, offset}
+use Rattle.regex_lite.proofs.Common.{Tree, captures_len, Found, offset}
 use Rattle.regex_lite.proofs.Common.{search_start, HasSlots, IsSpanOutcome, Expression}
 use Rattle.regex_lite.proofs.Common.{OfTree, spans_of, IsAnswerOf, span_of_match, spans_from}
 use Rattle.regex_lite.proofs.Common.{IsMatchOf, TellsMatch, TellsLocations, all_slots, Match}

@@ -6,7 +6,6 @@ use Rattle.regex_lite_meta.specs.Searching.{FindsSpan}
 use Rattle.regex_lite_meta.specs.Searching.{FindsSlotsOf, found_slots}
 use Rattle.regex_lite.proofs.OneTreeLemmas.{one_tree}
 use Rattle.regex_lite.proofs.string.SlotLemmas.{half, resized_few}
-use Rattle.regex_lite.proofs.string.ToldLemmas.{of_held}
 use Rattle.regex_lite.proofs.string.group_searcher.GroupSearcher.read.Goals as goal
 
 pub find-requires-clause-finds : goal.find-requires-clause-finds
