@@ -1,5 +1,5 @@
 -- What is returned and written where a pattern is to be told part by part.
-use Rattle.std.specs.Prelude.{◌≡◌, ◌≢◌, ◌⊎◌, ◌↔◌, ◌<◌, ℕ, List, Some, None, IsUtf8}
+use Rattle.std.specs.Prelude.{◌≡◌, ◌≢◌, ◌⊎◌, ◌↔◌, ◌<◌, ℕ, List, IsUtf8}
 use Rattle.std.specs.Prelude.{false, is_some, length, unwrap_or}
 use Rattle.regex_lite_syntax.specs.declared.hir.look.Look.{Look}
 use Rattle.regex_lite_syntax.specs.declared.hir.look.Look.TheVariants as look

@@ -1,6 +1,6 @@
 -- Matches that an anchored search returns, and one for a whole match.
 use Rattle.std.proofs.Common.{Bool}
-use Rattle.regex_lite_c.proofs.Common.{◌≡◌, ℕ, List, Some, chars, Expression, span_of, Span}
+use Rattle.regex_lite_c.proofs.Common.{◌≡◌, ℕ, List, Some, Expression, span_of, Span}
 use Rattle.regex_lite.specs.Anchored.{IsToldOfNumbered, TellsAnswerAt, TellsAnswerAtOfList}
 use Rattle.regex_lite.specs.Anchored.{TellsMatchAt, TellsMatchAtOfList, TellsWholeMatch}
 use Rattle.regex_lite.specs.Anchored.{TellsWholeMatchOfList}

@@ -1,6 +1,6 @@
 -- What a searcher with a text returns of its text.
 use Rattle.regex_lite_c.proofs.Common.{◌≡◌, ℕ, ◌≤◌, List, IsUtf8, IsCharBoundary, length, chars}
-use Rattle.regex_lite_c.proofs.Common.{Option, Some, sym, refl, ap, ◌∙◌, inl, inr, arith, subst, Expression}
+use Rattle.regex_lite_c.proofs.Common.{Option, Some, sym, refl, ap, ◌∙◌, inl, arith, subst, Expression}
 use Rattle.regex_lite_c.proofs.Common.{NO, YES}
 use Rattle.regex_lite_c.proofs.Common.{None, span_of, Span, true, false}
 use Rattle.std.proofs.Common.{◌≢◌, ◌↔◌, Bool, IsTrue, MatchOption, cond}

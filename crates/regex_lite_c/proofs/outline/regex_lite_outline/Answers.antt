@@ -19,8 +19,8 @@ returns-in-Ok-parts_of c =
     (are, c.write_parts.ensures.count) refl c.write_parts.ensures.written
     c.write_parts.ensures.no_room
 
-pub returns : goal.returns
-returns c =
+pub returns-in-Err : goal.returns-in-Err
+returns-in-Err c =
     let same = c.in-Ok.ensures.cases.0 in
     let options = c.args.options.now in
     let error = c.in-Err.error in
@@ -43,7 +43,7 @@ returns c =
           (subst (λ p. IsReadable (settings_of p options)) (sym same) readable));
       none_told = λ _ _. refl;
       no_message = λ few. absurd (elim (few is_text) [
-        | inl yes ↦ omega (arith, yes, number, large)
+        | inl written ↦ omega (arith, written, number, large)
         | inr full ↦ omega (arith, full, number, large)
       ]);
     }

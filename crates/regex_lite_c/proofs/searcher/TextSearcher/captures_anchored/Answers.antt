@@ -1,4 +1,4 @@
-use Rattle.regex_lite_c.proofs.Common.{[], None, Groups, sym, subst, ◌∙◌}
+use Rattle.regex_lite_c.proofs.Common.{[], None, Groups, ◌∙◌}
 use Rattle.std.specs.String.{string_bytes}
 use Rattle.regex_lite_c.specs.GroupAnswers.{IsGroupsAnswerOf}
 use Rattle.regex_lite_c.specs.SearcherAnswers.{AreSpansAt, TellsSpansAt}
