@@ -1,10 +1,51 @@
-//! Where matches of trees can begin, as far as the trees alone tell.
+//! Prefilters: where matches can begin, derived from the tree alone.
 //!
-//! [`Starts`] are the possible first characters, and [`Heads`] also the second ones. A [`Filter`]
-//! has them with a [`Prefilter`], if few bytes begin a match: it compares a block of the haystack
-//! with all of them at once. Where each match begins with one of some [`Words`], these are looked
-//! for instead. [`ListHeads`] is an index of several trees: which of them may match
-//! from a position.
+//! # What it is
+//!
+//! At most offsets of a haystack no match begins, and a few bytes often show it. A prefilter finds
+//! the next offset at which a match can begin. It may name too many and leaves none out, which is
+//! what is proved of it, so an engine has to try each candidate. Its facts come from a few walks
+//! over the tree when a pattern is compiled.
+//!
+//! # What is known of a pattern
+//!
+//! A [`Filter`] has the best of these that the tree gives:
+//!
+//! - [`Words`]: literals with one of which each match begins. A single one is found by its two
+//!   rarest letters, which blocks of 32 offsets are compared with (`pair`). Several are found by
+//!   skips over pairs of bytes, as in the algorithm of Wu and Manber: the pair that ends a window
+//!   as long as the shortest word tells how far it may move, and a hash of the first letters leads
+//!   to the words to compare (`leaps`). A letter may stand for both of its cases. A pattern that is
+//!   nothing but its words needs no engine.
+//! - [`Heads`]: the first set, and a second set if it has at most 16 ASCII characters. If few bytes
+//!   begin a match, a [`Prefilter`] compares a block of 32 with all of them. It has no branch for a
+//!   byte, so that the compiler uses vectors.
+//! - [`Needed`]: up to four literals of which each match has one, with the set of characters that
+//!   may stand before it. From the next such literal a walk back over these characters leads to the
+//!   first possible start. This is used beside heads or short words, and rules out the rest of a
+//!   haystack that has no such literal.
+//!
+//! [`ListHeads`] is an index of several trees: a row of bits for each first and each second
+//! character, with a bit for each pattern, and a mask of third characters. [`ListWords`] has the
+//! words of a list of which each pattern is nothing but words.
+//!
+//! # Trade-offs and limits
+//!
+//! Which facts are used is estimated when a pattern is compiled, by the ranks of bytes in common
+//! texts (`frequency`, `gain`). Searches take no samples, so a filter that proves unselective is
+//! not switched off. Only what tells which patterns of a list match has a budget
+//! (`leaps::marking`). Words that begin with few or rare bytes, such as `cat|dog`, are left to the
+//! search for these bytes. An alternation gives a word for each branch, and no word goes on behind
+//! it, nor behind an operator without a fixed number of passes, nor into a class that is no letter
+//! in both cases. So words are not multiplied, and there are 10,000 at most. A needed literal has 8
+//! letters at most. Looks are taken to hold, but a pattern that begins with `\A` starts at offset 0
+//! alone. Words lie on the heap, and where that memory is refused, none are known.
+//!
+//! # Where it is used
+//!
+//! `search/skip.rt` of `regex_lite_engine` skips offsets by it, for both engines and for the lazy
+//! DFA, and `strategy` in `regex_lite_meta` chooses by how matches begin. Read `filter` next, then
+//! `starts`, `heads` and `words`.
 ghost use Rattle.std.specs.Prelude.{◌≡◌, ◌≤◌, ◌<◌, ◌+◌, ◌*◌, ℕ, IfSome};
 ghost use Rattle.std.specs.Prelude.{IsTrue, false, true, length, slice_index};
 ghost use Rattle.regex_lite_syntax.specs.declared.prefilter.Prefilter.TheVariants.{
