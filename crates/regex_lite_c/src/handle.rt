@@ -1,4 +1,10 @@
 //! What C holds: the place of a regex, of a list of patterns or of a searcher on the heap, or null.
+//!
+//! A regex itself can't cross to C, since its clones share it. So a caller has one opaque pointer.
+//! Each call takes the value out of its handle, asks it and puts it back, which is two stores, and
+//! no contract speaks of a pointer. What crosses to C can't have a type parameter, nor can a field
+//! of it, so each kind has a handle of its own. All of them hand their pointer to a `HeapPlace`,
+//! which has one.
 ghost use Rattle.std.specs.Prelude.{◌≡◌, List, Option, None, Some, MatchOption};
 ghost use Rattle.std.specs.Coded.{coded_option};
 ghost use Rattle.std.specs.Fn.{FnOnceReturnsAt};

@@ -1,4 +1,8 @@
 //! A searcher that has a text of its own, which is read as UTF-8 once.
+//!
+//! It takes the regex out of its handle. Sharing it would tie two handles to one thread, since the
+//! count of a regex's owners isn't atomic. Its text is a copy: a pointer to the caller's text would
+//! outlive the call that was given it, and what stands there could be changed or freed.
 ghost use Rattle.std.specs.Prelude.{◌≡◌, [], IfErr, IfOk, MatchResult};
 ghost use Rattle.std.specs.String.{string_bytes};
 ghost use Rattle.regex_lite_syntax.specs.Errors.{out_of_memory};

@@ -1,4 +1,10 @@
-//! The graph of a pattern: numbered places with ordered arrows.
+//! The graph of a pattern: numbered places with ordered arrows. It is the compiled NFA, whose
+//! states are the places and whose transitions are the arrows.
+//!
+//! A regex keeps its graph and not its tree. Sets of characters and the names of groups are shared
+//! with the tree by reference counting, and not by an index into a table: a copy takes no memory
+//! and no look-up, and a place can return its whole set. A choice of branches has a list of its
+//! own.
 ghost use Rattle.std.specs.Prelude.{◌≡◌, ◌^◌, ◌<◌, length, not, IfOk, IfErr};
 ghost use Rattle.regex_lite_syntax.specs.Errors.{kind_of};
 ghost use Rattle.regex_lite_syntax.specs.Tree.Properties.{nullable};

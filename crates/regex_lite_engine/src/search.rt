@@ -1,5 +1,15 @@
 //! What all searches share: a position with the characters beside it, what is searched for, the
 //! positions that are passed over, and the outcome.
+//!
+//! Whether a match may begin is asked in several ways, from the widest to the narrowest.
+//! `first_start` of a pattern returns the first offset from one on at which a match may begin, and
+//! `skip` the next position after this one, or none if a match may begin here. Both go by the
+//! filter of the pattern: `first_by_needed` by a literal that each match needs, `first_known` by
+//! the words or the first characters. For first characters `next_offset` looks for the next byte,
+//! by `next_block` where a prefilter compares blocks, and by `next_stop` elsewhere. Of a single
+//! position, `may_begin` judges by the characters beside it, `may_go_on` by the second character,
+//! `can_begin` by both, and `may_start` by the characters beside it and the words. `pass_over`
+//! returns the position itself or the next one.
 pub mod all_of_list;
 mod first_start;
 pub mod here;

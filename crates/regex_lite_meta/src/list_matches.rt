@@ -1,5 +1,16 @@
 //! Which of several patterns match: by their words, if they are nothing but these, by one pass for
 //! all, or each is searched for by itself, in memory that is kept for the next.
+//!
+//! Short lists go pattern by pattern, and so does the counted call, since all patterns together may
+//! cost no more than one search for the list. What a pattern tries is counted against its own part
+//! of the table. In a haystack that is long enough a search gets a lazy DFA of its own pattern
+//! after some steps.
+//!
+//! One pass over the haystack by the list's index tries each pattern where it may start, and
+//! remembers up to where no match of it starts. It has a credit, which it earns by what the filters
+//! of the open patterns would take, and spends on each stop and each try that finds nothing. Once
+//! that is spent, each open pattern is searched for by itself from there. Patterns for which a DFA
+//! pays are left to their own searches at once.
 ghost use Rattle.std.specs.Prelude.{◌≡◌, ◌<◌, ◌⊎◌, List, ℕ, IfErr, IfOk};
 ghost use Rattle.std.specs.Prelude.{IsCharBoundary, chars, false, length};
 ghost use Rattle.std.specs.Prelude.{IsTrue, slice_index_or};

@@ -1,4 +1,8 @@
 //! Searches by themselves, each by the way that `strategy` chooses.
+//!
+//! The bounds on the counts of a search are part of its contract. A search for the span of a match
+//! and another one for its slots may try more than the bound of one search together, so the counted
+//! search of a list with slots is one search by the PikeVM.
 ghost use Rattle.std.specs.Prelude.{◌≡◌, ◌<◌, ◌≤◌, ◌⊎◌, ◌↔◌, List, IfOk, IfSome, IsCharBoundary};
 ghost use Rattle.std.specs.Prelude.{IsTrue, chars, length, option_map};
 ghost use Rattle.regex_lite_syntax.specs.Tree.{Tree};

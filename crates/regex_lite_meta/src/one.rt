@@ -1,4 +1,9 @@
 //! Searches by themselves for one pattern, of a regex or alone in a list.
+//!
+//! Whether there is a match is asked apart from its least end. For a pattern that is nothing but
+//! its words any of them answers the first, but of words of several lengths another one may end
+//! first: in `abcdef`, `cd` ends before `abcdef`. So the least end goes by the word only where
+//! there is a single one.
 ghost use Rattle.std.specs.Prelude.{IfOk, IsCharBoundary};
 ghost use Rattle.regex_lite_engine.specs.Graph.Stored.{places_of};
 ghost use Rattle.regex_lite_engine.specs.Search.Filters.{facts_of};

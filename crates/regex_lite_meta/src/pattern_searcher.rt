@@ -1,4 +1,7 @@
 //! Searches for one pattern, of a regex or alone in a list, one after another in the same memory.
+//!
+//! `find_any` looks for a start before it begins a search, since no match begins in most lines of a
+//! log. It is over at the first match that it comes to.
 ghost use Rattle.std.specs.Prelude.{◌≡◌, ◌∷◌, ◌↔◌, [], IfOk, IfSome, IsCharBoundary, IsTrue, chars};
 ghost use Rattle.std.specs.Prelude.{length};
 ghost use Rattle.regex_lite_meta.specs.LazyDfa.Remembering.{RemembersFor};

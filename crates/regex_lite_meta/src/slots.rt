@@ -1,5 +1,13 @@
 //! Searches for the slots of matches: depth first where the span is known and little is left to
-//! search, and otherwise by ordered sets.
+//! search, and otherwise by the PikeVM.
+//!
+//! A match whose span is known is searched for in the haystack up to the character after its end. A
+//! look sees no more than the characters beside its position, so up to that end each path leads
+//! where it does in the whole haystack. If the search finds a match with that end, its path and
+//! that of the known match are paths in both texts, and each is the most preferred in one of them:
+//! so they are the same. But a look may hold where the search ends and not in the haystack, as in
+//! `(a)(b$)?` on `abc`. If a longer match is found there, if there are too many pairs, or if the
+//! memory was refused, the PikeVM searches from the match's start.
 ghost use Rattle.std.specs.Prelude.{◌≡◌, ◌+◌, ◌<◌, [], ℕ, IfOk, IfSome};
 ghost use Rattle.std.specs.Prelude.{IsCharBoundary, IsTrue, Some, chars, length, take};
 ghost use Rattle.regex_lite_meta.specs.Slots.{FindsShortSlots, FindsSlotsIn};

@@ -1,4 +1,11 @@
 //! A regex that a searcher holds: borrowed from a caller, or its own.
+//!
+//! The searchers of `regex_lite_meta` don't hold their graph, and each of their calls is given it
+//! under the condition that they were made for it: a struct can't borrow from itself, so a searcher
+//! with a borrowed graph could not own its regex. What holds both keeps that condition as its
+//! invariant, and no caller owes it. A searcher that always held a clone would need no such choice.
+//! But then each list of matches would count one more owner, and the lifetime in its type would
+//! stand for nothing.
 ghost use Rattle.std.specs.Prelude.{◌≡◌, IfOk};
 ghost use Rattle.regex_lite.specs.Compiled.{IsBuilt, SharesGroups};
 

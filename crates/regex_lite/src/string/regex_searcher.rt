@@ -1,4 +1,12 @@
 //! A searcher that callers keep, for one haystack after another.
+//!
+//! It has two memories: one without slots and, if the regex has groups, one with slots for them. A
+//! filter asks for matches far more often than for groups. Without slots a search copies no rows
+//! and can go by a lazy DFA. `captures_read` finds the match in the first memory, and then its
+//! groups in the second from where it begins, so that nothing before a match is gone over with
+//! slots. One memory for both would make each search for a match pay for groups. Memory that no
+//! search comes to is only reserved. No haystack is too short for the DFA here, since there may
+//! always be another one.
 ghost use Rattle.std.specs.Prelude.{◌≡◌, ◌↔◌, ◌*◌, ℕ, None, Some, IfOk, IfErr, IsTrue, length};
 ghost use Rattle.regex_lite_syntax.specs.Errors.{out_of_memory};
 ghost use Rattle.regex_lite_syntax.specs.Tree.Properties.{captures_len};

@@ -1,5 +1,9 @@
 //! Trees written out as a table of places. The last part of each is written first, so that the
 //! number of what follows is known.
+//!
+//! The definitions name a place by its address, a list of numbers that leads into the tree. Here
+//! places are numbered in the order in which they are written, which `specs/Nfa/Layout.antt`
+//! defines. Only the choice of a loop is written twice: its target is not known at first.
 ghost use Rattle.std.specs.Prelude.{◌≡◌, ◌<◌, ◌≤◌, ◌+◌, ◌*◌, ◌^◌, [], ◌∷◌, ◌++◌, All};
 ghost use Rattle.std.specs.Prelude.{length, map, drop, slice_index_or, IfOk};
 ghost use Rattle.regex_lite_syntax.specs.Tree.{trees};

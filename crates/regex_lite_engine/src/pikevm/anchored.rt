@@ -1,4 +1,16 @@
 //! An anchored search, position by position: all its ways begin at one start.
+//!
+//! It costs what its longest path costs, wherever the next match is, and its memory depends on the
+//! pattern alone. Where the first character rules a match out, no memory is requested. A lazy DFA
+//! that starts patterns everywhere would go on to the next match, so that calls in a row without a
+//! match would take the square of the text.
+//!
+//! WHOLE is a constant, and so a search without it has no test for it. With it a path that
+//! completes a match before the haystack's end ends there without one, so that less preferred paths
+//! go on. The depth-first search stops at the first match, and a cached transition completes a
+//! match wherever it ends, so each would need the same condition. Nor is `\A(?:..)\z` written
+//! around the pattern: a regex would hold two graphs, and not every accepted pattern is accepted
+//! inside it.
 ghost use Rattle.std.specs.Prelude.{◌≡◌, ◌+◌, ◌<◌, ℕ, IfOk, IfSome, IsCharBoundary, None};
 ghost use Rattle.std.specs.Prelude.{chars, length};
 ghost use Rattle.regex_lite_engine.specs.Graph.Renumbered.{arrows_of};

@@ -1,4 +1,9 @@
 //! Where a match of one of several patterns can begin, in little memory.
+//!
+//! Which patterns match is found for one after another, and the index of a list has no prefilter.
+//! So each pattern has a filter of its own. A pattern that begins with two ASCII characters, or
+//! with them after the boundary of a word, says as much by these two, so that a word takes 16
+//! bytes. In a list of few patterns that aren't all words each has all that its tree tells.
 ghost use Rattle.std.specs.Prelude.{◌≡◌, IfOk};
 ghost use Rattle.regex_lite_syntax.specs.Tree.Views.{tree_of};
 ghost use Rattle.regex_lite_syntax.specs.Prefilter.StartFacts.{AreFactsOfTree};

@@ -1,5 +1,9 @@
-//! Positions at which there is nothing to go on from, and no match: a search goes on by turns, if
-//! they are known, or else passes over those at which no match can begin.
+//! The start state, where there is neither a thread nor a match: a search follows cached
+//! transitions there, or skips positions at which no match can begin.
+//!
+//! Without a prefilter up to four bytes at which no match can begin are stepped over, so that their
+//! transitions are cached. After eight transitions in a row from a start state to itself the search
+//! skips, also by a prefilter: asking that at once costs more where matches are near.
 ghost use Rattle.std.specs.Prelude.{◌≡◌, ◌<◌, ◌≤◌, [], ℕ, List, IfSome, MatchOption, None, Some};
 ghost use Rattle.std.specs.Prelude.{chars, false, length, slice_get, true};
 ghost use Rattle.regex_lite_meta.specs.LazyDfa.Automaton.{IsEmptyState, Remembers, State};

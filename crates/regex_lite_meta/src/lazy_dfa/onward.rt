@@ -1,4 +1,11 @@
 //! Scans that go on by remembered turns, by offsets alone.
+//!
+//! The loop knows an offset and the row of a state, and finds the state by a division when it ends.
+//! Transitions for ASCII characters that are not special are a loop within the loop, so that the
+//! address of the targets stays in a register. Other characters remember the interval of the last
+//! one, since the letters of a script mostly lie in one. A class for each byte would save
+//! instructions for ASCII and cost more than that for Cyrillic texts. What changes only with a
+//! match or at the start state stays in memory, in `Standing`.
 ghost use Rattle.std.specs.Prelude.{◌≡◌, ◌+◌, ◌<◌, ◌≤◌, ℕ, IfSome, IsCharBoundary, None, Some};
 ghost use Rattle.std.specs.Prelude.{chars, false, true, length, slice_get};
 ghost use Rattle.regex_lite_meta.specs.LazyDfa.Automaton.{Remembers, State, first_left};

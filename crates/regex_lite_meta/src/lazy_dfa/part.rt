@@ -1,4 +1,10 @@
 //! The places among which searches for some patterns stay, whatever else is in their table.
+//!
+//! The classes and the reach of an automaton are those of its patterns' own part alone. Patterns
+//! lie side by side in the table of a list, so the least row of places that no arrow leaves is that
+//! part, and to read the parts of all patterns takes time linear in the list. A transition is then
+//! the same wherever the places of the part see the same. The classes of a whole list would be
+//! more, and transitions would repeat less often.
 ghost use Rattle.std.specs.Prelude.{◌≡◌, ◌+◌, ◌≤◌, ◌<◌, ℕ, All, IfSome, length, slice_get, Some};
 ghost use Rattle.regex_lite_meta.specs.LazyDfa.Parts.{IsInPart, IsPartOf, LeadWithin, Widens};
 ghost use Rattle.regex_lite_engine.specs.Graph.Stored.{LeadInside, LeadsBelow, LeadsInto, place_of};

@@ -1,9 +1,12 @@
 //! Which of several patterns may start at a position, by the characters that come next.
 //!
-//! A row of bits belongs to each first character, and to each second one, with a bit for each
+//! Entering each of a thousand patterns at each position would cost a search most of its time. A
+//! row of bits belongs to each first character, and to each second one, with a bit for each
 //! pattern. The patterns that may start at a position are in the rows of both characters there. At
 //! most positions there is none, which a set of second characters for each first one shows at once.
-//! The third character rules out most of those that are left.
+//! The third character rules out most of those that are left, by a mask of 32 bits for each pattern
+//! (`thirds`): rows for it would take four times the memory. The index takes 37 bytes for each
+//! pattern, and 2 KB.
 ghost use Rattle.std.specs.Prelude.{◌≡◌, ◌==◌, ◌&&◌, ◌||◌, ◌<◌, ◌*◌, ◌++◌};
 ghost use Rattle.std.specs.Prelude.{[], ◌∷◌, ℕ, List, IfOk, length, map};
 ghost use Rattle.regex_lite_syntax.specs.declared.prefilter.heads.Heads.{Heads};

@@ -1,4 +1,8 @@
 //! Words of which one stands wherever a match begins, and searches for the next of them.
+//!
+//! Whether a pattern is nothing but its words is asked first, and the walk for prefixes follows
+//! only if it is something else. One byte alone is a word only where it is the whole pattern, such
+//! as a separator: it rules out little of what a longer pattern may begin with.
 ghost use Rattle.std.specs.Prelude.{◌≡◌, ◌↔◌, ◌<◌, ◌≤◌, ◌^◌, ℕ, IfOk, IfSome};
 ghost use Rattle.std.specs.Prelude.{IsCharBoundary, IsTrue, false, length};
 ghost use Rattle.regex_lite_syntax.specs.Tree.Views.{tree_of};

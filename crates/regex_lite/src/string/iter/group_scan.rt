@@ -1,4 +1,8 @@
 //! Goes over a haystack from match to match, with the groups of each.
+//!
+//! A search for the next match returns its span alone, and its slots stay in the memory of the
+//! searcher. Groups are made of them only for a match that is wanted. So a match that is skipped is
+//! never copied, and the end of a list takes no memory.
 ghost use Rattle.std.specs.Prelude.{◌≡◌, ◌<◌, None, IfSome, IsCharBoundary, length, unwrap_or};
 ghost use Rattle.regex_lite.specs.Ahead.{most_ahead};
 ghost use Rattle.regex_lite.specs.Items.{GivesNextGroups};

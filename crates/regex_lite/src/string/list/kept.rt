@@ -1,4 +1,10 @@
 //! A searcher for several patterns that callers keep, for one haystack after another.
+//!
+//! It has a memory without slots and, if some pattern has groups, one with slots, like the searcher
+//! of a regex. Groups are read in the second alone, which may find a match by a lazy DFA of its own
+//! before its slots. The searches that tell which patterns match have a third memory, a PikeVM
+//! without slots. They keep no DFA of a pattern, which could take 60 KB: a list may have thousands
+//! of patterns. In a long haystack they request one where that pays, and drop it after the pattern.
 ghost use Rattle.std.specs.Prelude.{◌≡◌, ◌↔◌, None, IfOk, IfErr, IsTrue, length};
 ghost use Rattle.regex_lite_syntax.specs.Errors.{out_of_memory};
 ghost use Rattle.regex_lite.specs.Keeping.{FindsAllGroups};

@@ -1,4 +1,8 @@
 //! The words of several patterns, which are searched for at once.
+//!
+//! The words stand in the order of the patterns, each beside the number of its pattern. The first
+//! word that stands at the first offset where any does is of the lowest pattern that matches there,
+//! so it is the list's answer, and a search needs neither memory nor the graph.
 ghost use Rattle.std.specs.Prelude.{◌≡◌, ◌≤◌, ◌<◌, ◌++◌, IfOk, IfSome, IsTrue, length, map};
 ghost use Rattle.std.specs.Prelude.{false, replicate};
 ghost use Rattle.regex_lite_syntax.specs.Prefilter.NumberedWords.{AreWordsOfTrees};

@@ -1,4 +1,10 @@
 //! Words of which each match of a pattern has one, and what stands before it.
+//!
+//! A search asks for the next word at its start and where no thread is left, but not behind a
+//! character that may stand before a word: it has come from there, and asked before. So no text is
+//! looked at once for each of its positions. A short word with which matches begin and a longer
+//! needed one are both used, and the needed one is asked first, since the search ends where there
+//! is none.
 ghost use Rattle.std.specs.Prelude.{◌≡◌, ◌≤◌, ◌<◌, ◌-◌, ℕ, IfSome, false, length, slice_index};
 ghost use Rattle.std.specs.Prelude.{true};
 ghost use Rattle.regex_lite_syntax.specs.Tree.Views.{tree_of};
