@@ -3,7 +3,8 @@
 //!
 //! The definitions name a place by its address, a list of numbers that leads into the tree. Here
 //! places are numbered in the order in which they are written, which `specs/Nfa/Layout.antt`
-//! defines. Only the choice of a loop is written twice: its target is not known at first.
+//! defines. Only the choice of a loop is written twice: its target is not known at first. All
+//! places are counted before, so their table is allocated once, with its exact length.
 ghost use Rattle.std.specs.Prelude.{◌≡◌, ◌<◌, ◌≤◌, ◌+◌, ◌*◌, ◌^◌, [], ◌∷◌, ◌++◌, All};
 ghost use Rattle.std.specs.Prelude.{length, map, drop, slice_index_or, IfOk};
 ghost use Rattle.regex_lite_syntax.specs.Tree.{trees};

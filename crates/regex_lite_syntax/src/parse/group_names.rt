@@ -1,4 +1,7 @@
 //! The names of the capturing groups that have been read.
+//!
+//! They are kept in an ordered set. So n names cost n log n, and no hostile pattern can make them
+//! cost more, as it could with hashing.
 ghost use Rattle.std.specs.Prelude.{◌≡◌, ◌∷◌, ◌++◌, [], Contains, IfOk, MatchBool};
 ghost use Rattle.regex_lite_syntax.specs.Tree.Views.{text_of_name};
 

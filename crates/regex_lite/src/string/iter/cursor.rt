@@ -1,4 +1,5 @@
-//! Where an iterator stands in a haystack.
+//! Where an iterator stands in a haystack. It is a type of its own, since a scan is set back to one
+//! when the groups of a match are refused.
 ghost use Rattle.std.specs.Prelude.{◌≡◌, ◌↔◌, IsTrue, Some, None, IsCharBoundary, false, unwrap_or};
 
 use crate::string::matches::Match;

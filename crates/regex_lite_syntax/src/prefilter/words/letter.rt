@@ -1,4 +1,7 @@
 //! The letters of a word.
+//!
+//! A letter is a byte or another, and not a byte and a mask. Both tests take as long, and this one
+//! needs no law of bits.
 ghost use Rattle.std.specs.Prelude.{◌≡◌, ◌%◌, ◌↔◌, IsTrue};
 
 /// A byte of a word. Where the word may be in any case, it is a letter in one of two cases, and
