@@ -1,1 +1,1 @@
-"""A page on which to try patterns, served on this machine alone."""
+"""A page on which to try patterns, served only on this machine."""

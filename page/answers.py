@@ -1,4 +1,4 @@
-"""What the page shows of patterns and a text, from the library's calls."""
+"""What the page shows for patterns and a text, from the library's calls."""
 
 from __future__ import annotations
 
@@ -21,19 +21,19 @@ MOST_GROUPS = 100  # of a match that are shown, besides the match itself
 MOST_CELLS = 5_000  # groups of all matches that are shown
 MOST_SPANS = 200_000  # groups of all matches that are asked for
 MOST_REPLACED = 50_000  # characters of the replaced text that are shown
-LONGEST_REPLACED = 16 << 20  # bytes that the replaced text may have for it to be made
+LONGEST_REPLACED = 16 << 20  # the greatest length of the replaced text in bytes
 
 
 class Answer(TypedDict, total=False):
-    """What is shown: why a pattern is refused, which one, and where it is at fault, or all the
+    """What is shown: the error of a pattern, its number, and the place of its fault, or all the
     rest. A place in a pattern, and the spans of the groups of each match, are given in bytes, and
-    in units of UTF-16, as strings of the page have them. A pattern that is not finished has no
-    place where its fault ends. `numbers` has the number of the pattern of each match, `groups` the
-    greatest number of groups of a match, and `names` the names of the groups of each pattern of
-    which a match is shown. `count` counts all matches, `counts` those of each pattern, and
-    `matched` has the patterns that match somewhere. `names`, `numbers`, `spans` and `matches` have
-    the first ones alone where they are too many. Nothing is replaced for several patterns, and
-    there is no code where it would be too long."""
+    in units of UTF-16, as strings of the page have them. The fault of an incomplete pattern has no
+    end. `numbers` has the number of the pattern of each match, `groups` the greatest number of
+    groups of a match, and `names` the names of the groups of each pattern of which a match is
+    shown. `count` is the number of all matches, `counts` has the number for each pattern, and
+    `matched` the patterns that match somewhere. `names`, `numbers`, `spans` and `matches` have only
+    the first ones if there are too many. Nothing is replaced for several patterns, and there is no
+    code if it would be too long."""
 
     refusal: str
     number: int
@@ -59,7 +59,7 @@ class Answer(TypedDict, total=False):
 
 
 def reply_to(sent: bytes) -> Reply:
-    """What is sent back of what the page has sent."""
+    """The reply to what the page has sent."""
     try:
         try:
             question = question_of(json.loads(sent.decode()))
@@ -71,7 +71,7 @@ def reply_to(sent: bytes) -> Reply:
 
 
 def answer_to(question: Question) -> Answer:
-    """What is shown of a question."""
+    """The answer to a question."""
     options = Options(*(flag in question['flags'] for flag in FLAGS), question['nest_limit'],
                       question['size_limit'])
     try:
@@ -93,9 +93,9 @@ def answer_to(question: Question) -> Answer:
 
 
 def _refused(fault: error, patterns: Sequence[str]) -> Answer:
-    """Why a pattern is refused, and where it is at fault, if it has a place for that."""
+    """The error of a pattern, and the place of its fault, if it has one."""
     answer = Answer(refusal=fault.msg)
-    if fault.pattern in patterns:  # It isn't where the patterns are too large together.
+    if fault.pattern in patterns:  # It isn't if the patterns are too large together.
         answer['number'] = patterns.index(fault.pattern)
     if fault.pos is not None:
         answer['fault'] = _place(fault.pattern[:fault.pos])
@@ -174,7 +174,7 @@ def _replaced(regex: Regex, text: bytes, template: bytes, count: int) -> Answer:
 
 
 def _units_before(text: bytes) -> Sequence[int]:
-    """How many units of UTF-16 stand before each offset in bytes. A character above U+FFFF, which
+    """The number of units of UTF-16 before each offset in bytes. A character above U+FFFF, which
     begins with a byte from 0xF0 on, has two."""
     if text.isascii():
         return range(len(text) + 1)

@@ -1,4 +1,4 @@
-"""What patterns mean, in words: a row for each part, indented below the part that has it."""
+"""Explanations of patterns in words: a row for each part, indented below the part around it."""
 
 from __future__ import annotations
 
@@ -65,8 +65,8 @@ class Explanation:
         self._open.append(_Open(part.depth, level, part.kind))
 
     def _head(self, part: Part) -> str:
-        """What is said of a part that has others: nothing of those that come one after another, nor
-        of alternatives, whose rows say so."""
+        """The words for a part that has others: none for a concatenation or for alternatives, whose
+        rows say so."""
         if part.kind is PartKind.REPETITION:
             return f'{times_of(part)}:'
         if part.kind is PartKind.CAPTURE and part.group is not None:
@@ -137,7 +137,7 @@ class Explanation:
 
 
 class Explained(NamedTuple):
-    """The first rows of the explanation of some patterns, and how many parts have none."""
+    """The first rows of the explanation of some patterns, and the number of parts without a row."""
 
     rows: List[Row]
     left: int
@@ -145,8 +145,8 @@ class Explained(NamedTuple):
 
 def explained(outlines: Sequence[Outline],
               name_of: Callable[[int, int], Optional[str]]) -> Explained:
-    """What patterns mean. `name_of` says what the name of a group is, by the number of its pattern
-    and its index."""
+    """The explanation of patterns. `name_of` returns the name of a group, by the number of its
+    pattern and its index."""
     rows: List[Row] = []
     left = 0
     for number, outline in enumerate(outlines):

@@ -19,12 +19,12 @@ if TYPE_CHECKING:
 
 MOST_BYTES = 2 << 20  # of a request
 LONGEST_LENGTH = len(str(MOST_BYTES))
-MOST_SKIPPED = 64 << 20  # bytes that are read of a refused request, so that its sender sees why
+MOST_SKIPPED = 64 << 20  # bytes that are read of a rejected request, so that its sender sees why
 SKIPPING = 2  # seconds for that
 SECONDS = 30  # that a sender may wait within a request
 KINDS = {'.html': 'text/html', '.css': 'text/css', '.js': 'text/javascript'}
 CALL = '/search'
-# Nothing but these files is loaded, no other page may frame this one, and nothing is kept.
+# Only these files are loaded, no other page may frame this one, and nothing is cached.
 HEADERS = {'Content-Security-Policy': "default-src 'none'; script-src 'self'; style-src 'self'; "
                                       "connect-src 'self'; base-uri 'none'; form-action 'none'; "
                                       "frame-ancestors 'none'",
@@ -45,7 +45,7 @@ FILES = _files()
 
 
 class Refused(Exception):
-    """A request that is refused, with the status and the reason."""
+    """A request that is rejected, with the status and the reason."""
 
     def __init__(self, status: HTTPStatus, reason: str) -> None:
         super().__init__(reason)
@@ -103,7 +103,7 @@ class Handler(BaseHTTPRequestHandler):
             self._close_with(reply)
 
     def _allowed(self) -> str:
-        """The methods that are there for the path."""
+        """The methods that the path has."""
         return 'POST' if self.path == CALL else 'GET, HEAD' if self.path in FILES else ''
 
     def _refused_path(self) -> Refused:
@@ -112,7 +112,7 @@ class Handler(BaseHTTPRequestHandler):
         return Refused(HTTPStatus.NOT_FOUND, 'there is nothing at this path')
 
     def _check_sender(self) -> None:
-        """Refuses requests that were meant for another host, and those of other hosts' pages."""
+        """Rejects requests that were meant for another host, and those of other hosts' pages."""
         hosts: List[str] = self.headers.get_all('Host', [])
         if len(hosts) != 1 or hosts[0] not in self.server.hosts:
             raise Refused(HTTPStatus.FORBIDDEN, 'the request is for another host')
@@ -138,21 +138,21 @@ class Handler(BaseHTTPRequestHandler):
 
     def send_error(self, code: int, message: Optional[str] = None,
                    explain: Optional[str] = None) -> None:
-        """Refuses what the base class cannot read, or has no method for."""
+        """Rejects what the base class can't parse or has no method for."""
         status = HTTPStatus(code)
         if status is HTTPStatus.NOT_IMPLEMENTED:
             status = self._refused_path().status
         self._close_with(refusal(status, status.phrase))
 
     def _close_with(self, reply: Reply) -> None:
-        """Sends this, and takes no more requests over this connection."""
+        """Sends this reply, and accepts no more requests over this connection."""
         self.close_connection = True
         self._send(reply.status, 'application/json', reply.body)
         self._skip()
 
     def _skip(self) -> None:
-        """Reads what is left of a request. A connection that is closed with something unread is
-        reset, and its client may not see what was sent."""
+        """Reads the rest of a request. A connection that is closed with unread data is reset, and
+        its client may not see the reply."""
         with suppress(OSError):
             self.connection.shutdown(SHUT_WR)
             self.connection.settimeout(SKIPPING)
@@ -175,4 +175,4 @@ class Handler(BaseHTTPRequestHandler):
             self.wfile.write(body)
 
     def log_message(self, format: str, *args: object) -> None:
-        """Patterns and texts are nobody else's business."""
+        """Patterns and texts are private, so they aren't logged."""

@@ -1,11 +1,11 @@
-"""Which of the questions that wait is answered next, and for how long a search may run.
+"""The scheduler of searches: which waiting question is next, and for how long its search may run.
 
-A search that no other waits beside may take all the time that there is, if fewer than LONG others
-do. Any other gets a short turn first, now the one that was asked last and now the one that was
-asked first; if it isn't done by then, it begins anew as soon as there is a place for a long one,
-and of these the one that was asked last goes first. So a good question is answered soon, however
-many hostile ones are asked before it and after it. A search whose asker has closed its connection,
-or will send nothing more over it, is ended at once.
+A search may run up to the full limit if no other waits and fewer than LONG others run so long.
+Otherwise it gets a short time slice first, the newest and the oldest waiting question in
+alternation. If it isn't done by then, it starts again as soon as there is a place for a long
+search, the newest first. So a harmless question is answered soon, however many hostile ones come
+before and after it. A search is ended at once when its client closes the connection, or will send
+nothing more over it.
 """
 
 from __future__ import annotations
@@ -24,9 +24,9 @@ from typing import Deque, List, Optional
 from page.replies import Reply, refusal
 from page.workers import Workers
 
-SHORT = 4  # searches that run for a turn, at once
-LONG = 2  # searches besides that may take more
-TURN = 0.03  # seconds of a processor in a first turn
+SHORT = 4  # searches that run for a time slice, at once
+LONG = 2  # further searches that may take more
+TURN = 0.03  # seconds of CPU time in a first time slice
 MOST_SECONDS = 5  # that a search may take
 MOST_WAITING = 60  # seconds that a question may wait
 
@@ -36,11 +36,11 @@ TOO_MANY = refusal(503, 'too many searches are waiting')
 
 
 class Gone(Exception):
-    """The asker has closed its connection."""
+    """The client has closed its connection."""
 
 
 class Search:
-    """A question, and what becomes of it."""
+    """A question, and the state of its search."""
 
     def __init__(self, question: bytes, asker: socket.socket) -> None:
         self.question = question
@@ -53,7 +53,7 @@ class Search:
 
 
 class Pool:
-    """All searches. A thread of its own takes, begins and ends them, and nothing else does."""
+    """All searches. A thread of its own accepts, starts and ends them, and nothing else does."""
 
     def __init__(self) -> None:
         self._workers = Workers()
@@ -68,8 +68,8 @@ class Pool:
         Thread(target=self._run, daemon=True).start()
 
     def answer(self, question: bytes, asker: socket.socket) -> Reply:
-        """The reply to a question that came over this connection. It is `Gone` if the connection is
-        closed first."""
+        """The reply to a question that came over this connection. Raises `Gone` if the connection
+        is closed first."""
         search = Search(question, asker)
         self._asked.put(search)
         self._waker.send(b'.')
@@ -94,7 +94,8 @@ class Pool:
             self._selector.register(search.asker, EVENT_READ, partial(self._look_at, search))
 
     def _look_at(self, search: Search) -> None:
-        """Ends a search whose asker is gone. One that has sent more is no longer looked at."""
+        """Ends a search whose client is gone. A connection over which more was sent is no longer
+        watched."""
         if search.reply.done():
             return
         try:
@@ -108,7 +109,7 @@ class Pool:
             search.reply.set_exception(Gone())
 
     def _receive(self, search: Search) -> None:
-        """Takes the reply of a worker. There is none at the end of a first turn."""
+        """Receives the reply of a worker. There is none at the end of a first time slice."""
         if search.reply.done() or search.worker is None:
             return
         try:
@@ -127,7 +128,7 @@ class Pool:
         search.reply.set_result(reply)
 
     def _leave(self, search: Search) -> None:
-        """Forgets a search, wherever it is."""
+        """Removes a search, wherever it is."""
         if search.worker is not None:
             self._end(search)
         elif search in self._first:
@@ -158,7 +159,7 @@ class Pool:
         self._running.remove(search)
 
     def _count(self, is_long: bool) -> int:
-        """How many searches run that are long, or that are not."""
+        """The number of long searches that run, or of those that aren't long."""
         return sum(search.is_long is is_long for search in self._running)
 
     def _end_some(self, now: float) -> None:
@@ -171,7 +172,7 @@ class Pool:
                 self._finish(search, TOO_MANY)
 
     def _begin_some(self) -> None:
-        """Begins as many searches as there are places for."""
+        """Starts as many searches as there are places for."""
         while self._first and self._count(is_long=False) < SHORT:
             self._is_last_next = not self._is_last_next
             search = self._first.pop() if self._is_last_next else self._first.popleft()
@@ -183,7 +184,7 @@ class Pool:
             self._begin(search, is_long=True)
 
     def _seconds_left(self) -> Optional[float]:
-        """In how many seconds something ends, if nothing comes until then."""
+        """The number of seconds until something ends, if no event comes before."""
         ends = [search.begun + MOST_SECONDS for search in self._running]
         ends += [search.asked + MOST_WAITING for search in [*self._first, *self._again]]
         return max(min(ends) - monotonic(), 0) if ends else None

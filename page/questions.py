@@ -1,4 +1,4 @@
-"""What the page asks."""
+"""Questions: the requests of the page."""
 
 from __future__ import annotations
 
@@ -6,7 +6,7 @@ from typing import List, TypedDict
 
 FLAGS = 'imsRUx'
 MOST_PATTERNS = 100
-NEST_LIMIT, SIZE_LIMIT = 50, 10485760  # unless others are asked for
+NEST_LIMIT, SIZE_LIMIT = 50, 10485760  # the default limits
 MOST_NEST = (1 << 32) - 1
 MOST_SIZE = (1 << 53) - 1  # the greatest number up to which the page tells all numbers apart
 
@@ -23,7 +23,7 @@ class Question(TypedDict):
 
 
 def question_of(value: object) -> Question:
-    """The question that a page has sent. Raises ValueError if it is not a question."""
+    """The question that a page has sent. Raises ValueError if it is malformed."""
     if not isinstance(value, dict) or value.keys() != Question.__annotations__.keys():
         raise ValueError('the request has other fields than those of the page')
     patterns, flags = value['patterns'], value['flags']

@@ -1,4 +1,4 @@
-"""What the server sends back of a question."""
+"""Replies of the server to questions."""
 
 import json
 from typing import NamedTuple
@@ -12,5 +12,5 @@ class Reply(NamedTuple):
 
 
 def refusal(status: int, reason: str) -> Reply:
-    """The reply that says why there is no answer."""
+    """The reply with the reason why there is no answer."""
     return Reply(status, json.dumps({'refusal': reason}).encode())

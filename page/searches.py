@@ -12,7 +12,7 @@ from regex_lite._list_library import RawList
 
 
 class OneSearch:
-    """A search for one pattern. Raises `error` where the pattern is refused."""
+    """A search for one pattern. Raises `error` if the pattern is rejected."""
 
     def __init__(self, pattern: str, options: Options) -> None:
         self.regex = Regex(pattern, options)
@@ -25,7 +25,7 @@ class OneSearch:
                 yield 0, row
 
     def counts(self, text: bytes) -> List[int]:
-        """How many matches each pattern has."""
+        """The number of matches of each pattern."""
         return [self.regex.count(text, Walk())]
 
     def matched(self, text: bytes) -> List[int]:
@@ -43,7 +43,7 @@ class OneSearch:
 
 class ListSearch:
     """A search for several patterns at once. Raises `error` for the first pattern that is
-    refused."""
+    rejected."""
 
     def __init__(self, patterns: Sequence[str], options: Options) -> None:
         self._patterns, self._options = patterns, options
@@ -56,12 +56,13 @@ class ListSearch:
         return self._list.rows(text, 0)
 
     def counts(self, text: bytes) -> List[int]:
-        """How many of the matches each pattern has."""
+        """The number of matches of each pattern."""
         counted = Counter(map(itemgetter(0), self._list.spans(text, 0)))
         return [counted[number] for number in range(len(self._patterns))]
 
     def matched(self, text: bytes) -> List[int]:
-        """The numbers of the patterns that match somewhere, be it within a match of another."""
+        """The numbers of the patterns that match somewhere, even if only within a match of
+        another."""
         return self._list.matches(text, 0)
 
     def tried(self, text: bytes) -> int:
@@ -79,7 +80,7 @@ Search = Union[OneSearch, ListSearch]
 
 
 def search_for(patterns: Sequence[str], options: Options) -> Search:
-    """The search for these patterns. Raises `error` where one is refused."""
+    """The search for these patterns. Raises `error` if one is rejected."""
     if len(patterns) == 1:
         return OneSearch(patterns[0], options)
     return ListSearch(patterns, options)

@@ -1,4 +1,4 @@
-"""The server of the page: on 127.0.0.1 alone, and for this page alone."""
+"""The server of the page: only on 127.0.0.1, and only for this page."""
 
 from __future__ import annotations
 
@@ -13,7 +13,7 @@ from page.handler import Handler
 from page.pool import Pool
 
 ADDRESS = '127.0.0.1'
-HTTP_PORT = 80  # which browsers leave out
+HTTP_PORT = 80  # the default port, which browsers omit
 MOST_CONNECTIONS = 256
 
 
@@ -24,8 +24,8 @@ def hosts_at(port: int) -> List[str]:
 
 
 class Server(ThreadingHTTPServer):
-    """The server, with the searches. Each connection has a thread. Where there are too many of
-    them, the one is closed that has kept the server waiting for longest."""
+    """The server, with the searches. Each connection has a thread. If there are too many of them,
+    the one that has kept the server waiting longest is closed."""
 
     daemon_threads = True
     request_queue_size = MOST_CONNECTIONS
@@ -67,7 +67,7 @@ class Server(ThreadingHTTPServer):
         super().shutdown_request(request)
 
     def handle_error(self, request: Any, client_address: Any) -> None:
-        """Reports what went wrong, unless it is that a client has gone."""
+        """Reports an error, unless it is that a client has gone."""
         if not isinstance(sys.exc_info()[1], OSError):
             super().handle_error(request, client_address)
 

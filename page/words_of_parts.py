@@ -1,4 +1,4 @@
-"""What single parts of a pattern mean, in words."""
+"""Explanations of single parts of a pattern, in words."""
 
 from __future__ import annotations
 
@@ -45,8 +45,8 @@ def character(c: str) -> str:
 
 
 def is_seen(c: str) -> bool:
-    """Whether a character can be shown as it is: no mark that joins another one, nor anything that
-    changes the order of what stands beside it."""
+    """Whether a character can be shown as it is: neither a combining mark, nor anything that
+    changes the order of its neighbours."""
     return unicodedata.category(c)[0] in 'LNPS'
 
 
@@ -108,7 +108,7 @@ def _end(c: str) -> str:
 
 
 def times_of(part: Part) -> str:
-    """How often a part is repeated."""
+    """The number of times that a part is repeated."""
     least, most = part.least or 0, part.most
     if most is None:
         words = ('any number of times', 'at least once')[least] if least < 2 \

@@ -30,7 +30,7 @@ def main() -> None:
     server = socket.socket(fileno=sys.stdin.fileno())
     signal.signal(signal.SIGINT, signal.SIG_IGN)  # Control-C ends the server, and so this process.
     signal.signal(signal.SIGCHLD, signal.SIG_IGN)  # Workers that have ended are forgotten.
-    for ending in (signal.SIGIO, signal.SIGPROF):  # Who has begun this may ignore them.
+    for ending in (signal.SIGIO, signal.SIGPROF):  # The parent may ignore them.
         signal.signal(ending, signal.SIG_DFL)
     resource.setrlimit(resource.RLIMIT_AS, (MOST_MEMORY, MOST_MEMORY))
     try:
@@ -50,10 +50,10 @@ def main() -> None:
 
 def _fork(asker: int, search: Callable[[], Reply], seconds: float) -> None:
     """Forks a worker that sends what a search returns over this socket."""
-    with suppress(OSError):  # Where no process can be forked, the socket is closed all the same.
+    with suppress(OSError):  # If no process can be forked, the socket is closed as well.
         if os.fork() == 0:
             os.close(sys.stdin.fileno())
-            with suppress(EOFError, OSError):  # Nobody waits for the reply.
+            with suppress(EOFError, OSError):  # The client is gone.
                 _answer(Connection(asker), search, seconds)
             os._exit(0)
     os.close(asker)
@@ -69,10 +69,10 @@ def _answer(asker: Connection, search: Callable[[], Reply], seconds: float) -> N
 
 
 def _end_with(asker: Connection) -> None:
-    """Lets the system end this process as soon as the other end of the connection is closed, be it
-    by the server or because the server is gone. It does so by a signal that nobody handles, as no
-    code of Python runs while the library searches. Nothing may be sent to this end, since the same
-    signal would come of that."""
+    """Lets the system end this process as soon as the other end of the connection is closed, by the
+    server or because the server is gone. It does so by a signal without a handler, since no Python
+    code runs while the library searches. Nothing may be sent to this end, since that would cause
+    the same signal."""
     fcntl(asker, F_SETOWN, os.getpid())
     fcntl(asker, F_SETFL, fcntl(asker, F_GETFL) | os.O_ASYNC)
     if asker.poll():

@@ -1,4 +1,4 @@
-"""Begins workers: processes that answer one question each, so that a search can be ended."""
+"""Starts workers: processes that answer one question each, so that a search can be ended."""
 
 from __future__ import annotations
 
@@ -12,15 +12,15 @@ from page.worker import HEAD, READY
 
 
 class Workers:
-    """The process from which workers are forked, which is begun anew if it has ended."""
+    """The process from which workers are forked, which is restarted if it has ended."""
 
     def __init__(self) -> None:
         self._begin()
 
     def answer(self, question: bytes, seconds: float) -> Connection:
         """The connection over which a new worker sends its reply to a question. The worker ends
-        without one when the connection is closed, or when it has taken these seconds of a
-        processor. It is an OSError if there can be no worker."""
+        without one when the connection is closed, or when it has used these seconds of CPU time.
+        Raises OSError if there can be no worker."""
         ours, theirs = Pipe()
         with theirs:
             try:

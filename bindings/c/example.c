@@ -1,4 +1,4 @@
-/* Prints the words of its first argument that begin with sam, and where they stand. */
+/* Prints the words of its first argument that begin with sam, and their offsets. */
 #include <regex_lite.h>
 #include <stdio.h>
 #include <string.h>

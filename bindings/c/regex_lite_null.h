@@ -1,18 +1,18 @@
-/* What lets a pointer be null if its length is 0. regex_lite.h includes this file.
+/* Lets a pointer be null if its length is 0. regex_lite.h includes this file.
  *
  * The calls of the library take arrays by reference, and no reference is null, not even one to an
- * array without elements. So each call that takes a pointer with a length has a function here that
- * passes on all that it is given, but puts the place of an object in place of a pointer whose
- * length is 0. Nothing is read from that object or written to it. A pointer with any other length
- * stays as it is, so that a null pointer with such a length isn't hidden.
+ * empty array. So each call that takes a pointer with a length has a function here that passes its
+ * arguments on, but replaces a pointer whose length is 0 by a pointer to an object. That object is
+ * neither read nor written. A pointer with any other length is unchanged, so that a null pointer
+ * with such a length isn't hidden.
  *
- * The name of the call stands for the function, also where a pointer to it is taken. Its arguments
- * are those of a function: each is evaluated once, and may be a macro that stands for several. What
- * is proved of the call holds for the function as far as it passes on what it is given, which is
+ * The name of the call stands for the function, even if a pointer to it is taken. Its arguments are
+ * those of a function: each is evaluated once, and may be a macro that expands to several. What is
+ * proved about the call holds for the function as far as it passes its arguments on, which is
  * tested.
  *
  * `#undef regex_lite_find`, after all headers, gives the call itself, with a name that the linker
- * knows, for a program that defines it or asks whether it is there. No pointer that it takes may be
+ * knows, for a program that defines it or checks whether it exists. No pointer that it takes may be
  * null. */
 #ifndef REGEX_LITE_NULL_H
 #define REGEX_LITE_NULL_H
@@ -27,7 +27,7 @@
 #define REGEX_LITE_INLINE static __inline
 #endif
 
-/* Defines a function that returns a pointer to elements of a type, or the place of another object
+/* Defines a function that returns a pointer to elements of a type, or a pointer to another object
  * of this type if the length is 0. */
 #define REGEX_LITE_SOME(name, pointer, type)                    \
     REGEX_LITE_INLINE pointer name(pointer array, size_t len) { \

@@ -4,22 +4,22 @@
  *     for (const rxl::Captures &caps : date.captures_iter("2026-11, 2027-02"))
  *         std::cout << caps["month"] << '/' << caps["year"] << '\n';
  *
- * A rxl::Regex is a pattern, a rxl::RegexList several that are searched for at once, and a
- * rxl::Searcher a pattern for one thread, with memory that it keeps. Texts are UTF-8, and offsets
- * count bytes. A match begins and ends between characters.
+ * A rxl::Regex is a compiled pattern, a rxl::RegexList several that are searched for in one pass,
+ * and a rxl::Searcher a pattern for one thread, with memory that it keeps. Texts are UTF-8, and
+ * offsets count bytes. A match begins and ends on character boundaries.
  *
- * ERRORS. A call throws rxl::Error, or std::bad_alloc where memory is refused. Beside it is a call
- * whose name begins with try_, which throws neither and returns a rxl::Expected. Where there are no
- * exceptions, as by -fno-exceptions, a call of the first kind ends the process instead.
+ * ERRORS. A call throws rxl::Error, or std::bad_alloc if memory runs out. Its counterpart with a
+ * name that begins with try_ throws neither and returns a rxl::Expected. Without exceptions, as
+ * with -fno-exceptions, a call of the first kind ends the process instead.
  *
- * LIFETIMES. A match refers to the text, and to nothing else, so the text has to live as long as
- * what was found in it. A temporary std::string is refused by each call whose result would refer to
- * it. Iterators, and the groups of a match, keep what they need of the regex.
+ * LIFETIMES. A match refers to the text, and to nothing else, so the text has to outlive it. Each
+ * call whose result would refer to a temporary std::string rejects it at compile time. Iterators,
+ * and the groups of a match, keep what they need of the regex alive.
  *
- * THREADS. Several threads may search with one Regex or RegexList. One of them does at a time, and
- * the others wait, but no lock is held while code of the caller runs. A copy shares what was built,
- * so it is cheap; clone() builds it anew, for another thread that is to search at the same time. A
- * Searcher has no lock, and each thread has its own.
+ * THREADS. Several threads may search with one Regex or RegexList: one at a time, while the others
+ * wait, but no lock is held while the caller's code runs. A copy shares the compiled pattern, so it
+ * is cheap; clone() compiles the pattern again, for another thread that is to search at the same
+ * time. A Searcher has no lock, and each thread has its own.
  */
 #ifndef REGEX_LITE_HPP
 #define REGEX_LITE_HPP
@@ -50,19 +50,18 @@
 
 namespace rxl {
 
-/// Where in a pattern its syntax is wrong, in bytes: from `start` to `end`. If `is_cut_short`, some
-/// accepted pattern begins with this one, as where a group is open.
+/// The place of a pattern's first fault, in bytes: from `start` to `end`. If `is_cut_short`, some
+/// accepted pattern begins with this one, as when a group is open.
 using Fault = regex_lite_fault;
 
-/// What a search cost, in places of the pattern: how often it `tried`, `entered` and `looked` at
-/// one.
+/// The cost of a search: how many states of the NFA (places) it `tried`, `entered` and `looked` up.
 using Cost = regex_lite_cost;
 
-/// Why a call is refused.
+/// The kind of an error.
 enum class ErrorKind : std::uint32_t {
     not_text = REGEX_LITE_NOT_TEXT,           ///< the pattern or the text is not valid UTF-8
     bad_offset = REGEX_LITE_BAD_OFFSET,       ///< beyond the text's end, or inside a character
-    out_of_memory = REGEX_LITE_OUT_OF_MEMORY, ///< a request for memory was refused
+    out_of_memory = REGEX_LITE_OUT_OF_MEMORY, ///< memory ran out
     no_group = REGEX_LITE_NO_GROUP,           ///< the pattern has no such group
     no_pattern = REGEX_LITE_NO_PATTERN,       ///< the list has no pattern with this number
     syntax = REGEX_LITE_SYNTAX,               ///< the pattern has bad syntax
@@ -73,14 +72,14 @@ enum class ErrorKind : std::uint32_t {
     slots = REGEX_LITE_SLOTS,                 ///< it has more ends of groups than can be numbered
 };
 
-/// Why a call is refused, with a message. Copying it takes no memory.
+/// Why a call failed: an error with a message. Copying it needs no memory.
 class Error : public std::exception {
   public:
     /// Makes the error with the library's text for this kind.
     explicit Error(ErrorKind kind) noexcept : Error(kind, {}, std::nullopt, std::nullopt) {}
 
     /// Makes an error. An empty message stands for the library's text. The number is that of the
-    /// refused pattern of a list.
+    /// rejected pattern of a list.
     Error(ErrorKind kind, std::string_view message, std::optional<Fault> fault,
           std::optional<std::size_t> number) noexcept
         : kind_(kind), fault_(fault), number_(number) {
@@ -95,17 +94,17 @@ class Error : public std::exception {
         }
     }
 
-    /// Returns why.
+    /// Returns the kind of the error.
     ErrorKind kind() const noexcept { return kind_; }
 
     /// Returns the message, in English.
     const char *what() const noexcept override { return message_.data(); }
 
-    /// Returns where the pattern's syntax is wrong. There is nothing for other kinds of errors, and
-    /// where memory ran out while the place was sought.
+    /// Returns the place of the pattern's first fault. There is none for other kinds of errors, or
+    /// if memory ran out while it was searched for.
     const std::optional<Fault> &fault() const noexcept { return fault_; }
 
-    /// Returns the number of the pattern that is refused, if one of a list is.
+    /// Returns the number of the rejected pattern, if it is one of a list.
     const std::optional<std::size_t> &number() const noexcept { return number_; }
 
   private:
@@ -124,7 +123,7 @@ class Error : public std::exception {
 
 namespace detail {
 
-/// Throws the error, or ends the process where there are no exceptions.
+/// Throws the error, or ends the process if there are no exceptions.
 [[noreturn]] inline void raise(const Error &error) {
 #if defined(__cpp_exceptions)
     if (error.kind() == ErrorKind::out_of_memory) throw std::bad_alloc();
@@ -137,8 +136,8 @@ namespace detail {
 
 } // namespace detail
 
-/// A value, or why there is none. It doesn't convert to bool, which would be taken for the value
-/// where that is a bool, or may be nothing.
+/// A value or an error. It doesn't convert to bool, which would be mistaken for the value if that
+/// is a bool or an optional.
 template <class T> class [[nodiscard]] Expected {
     template <class U>
     static constexpr bool is_value =
@@ -146,11 +145,11 @@ template <class T> class [[nodiscard]] Expected {
         !std::is_same_v<std::decay_t<U>, Error>;
 
   public:
-    /// Makes one with this value.
+    /// Makes an Expected with this value.
     template <class U, std::enable_if_t<is_value<U>, int> = 0>
     Expected(U &&value) : state_(std::in_place_index<0>, std::forward<U>(value)) {}
 
-    /// Makes one without a value.
+    /// Makes an Expected with this error.
     Expected(const Error &error) : state_(std::in_place_index<1>, error) {}
 
     /// Returns whether there is a value.
@@ -189,10 +188,10 @@ struct Options {
     bool case_insensitive = false;     ///< ASCII letters match in either case: i
     bool multi_line = false;           ///< ^ and $ match at every line: m
     bool dot_matches_new_line = false; ///< . matches every character: s
-    bool crlf = false;                 ///< a carriage return ends a line too: R
+    bool crlf = false;                 ///< a carriage return ends a line as well: R
     bool swap_greed = false;           ///< greedy and lazy operators are swapped: U
-    bool ignore_whitespace = false;    ///< white space and comments are left out of the pattern: x
-    std::uint32_t nest_limit = 50;     ///< how deep the pattern may nest
+    bool ignore_whitespace = false;    ///< white space and comments are ignored: x
+    std::uint32_t nest_limit = 50;     ///< how deeply the pattern may nest
     std::size_t size_limit = 10 << 20; ///< how large it may become, in bytes, approximately
 };
 
@@ -202,15 +201,15 @@ template <class T> struct IsString : std::false_type {};
 template <class Traits, class Allocator>
 struct IsString<std::basic_string<char, Traits, Allocator>> : std::true_type {};
 
-/// Whether an argument of this deduced type is a string that is gone after the call.
+/// Whether an argument of this deduced type is a string that doesn't outlive the call.
 template <class T>
 inline constexpr bool is_temporary_string =
     !std::is_reference_v<T> && IsString<std::remove_cv_t<T>>::value;
 
 } // namespace detail
 
-/// A text that a result refers to: what converts to std::string_view. No temporary std::string
-/// does, since it would be gone before the result is used.
+/// A text that a result refers to: anything that converts to std::string_view, except a temporary
+/// std::string, which would be gone before the result is used.
 class Text {
   public:
     template <class T, std::enable_if_t<std::is_convertible_v<T, std::string_view> &&
@@ -238,7 +237,7 @@ struct ListPattern {
     Options options;
 };
 
-/// A text that replaces matches as it stands: a $ in it is a $.
+/// A literal replacement: a $ in it is a $.
 struct NoExpand {
     std::string_view text;
 };
@@ -249,27 +248,27 @@ class Match {
     /// Makes the empty match of an empty text.
     Match() noexcept = default;
 
-    /// Makes the part of a text from one offset to another, which are in order and within the text.
+    /// Makes the part of a text from one offset to another; they are in order and within the text.
     Match(std::string_view text, std::size_t start, std::size_t end) noexcept
         : text_(text.data()), start_(start), end_(end) {}
 
-    /// Returns the offset of its first byte.
+    /// Returns the offset of the first byte.
     std::size_t start() const noexcept { return start_; }
 
-    /// Returns the offset after its last byte.
+    /// Returns the offset after the last byte.
     std::size_t end() const noexcept { return end_; }
 
-    /// Returns how many bytes it has.
+    /// Returns the number of bytes.
     std::size_t size() const noexcept { return end_ - start_; }
 
-    /// Returns whether it has no bytes.
+    /// Returns whether the match is empty.
     bool empty() const noexcept { return start_ == end_; }
 
     /// Returns the part of the text that matched.
     std::string_view view() const noexcept { return {text_ + start_, size()}; }
     operator std::string_view() const noexcept { return view(); }
 
-    /// Whether two have the same offsets and the same bytes.
+    /// Whether two matches have the same offsets and the same bytes.
     friend bool operator==(const Match &a, const Match &b) noexcept {
         return a.start_ == b.start_ && a.view() == b.view();
     }
@@ -290,7 +289,7 @@ template <class T> class Numbered : public T {
     /// Returns the number of the pattern, from 0 on.
     std::size_t number() const noexcept { return number_; }
 
-    /// Whether two are of the same pattern, and else equal.
+    /// Whether two are equal and of the same pattern.
     friend bool operator==(const Numbered &a, const Numbered &b) noexcept {
         return a.number_ == b.number_ && static_cast<const T &>(a) == static_cast<const T &>(b);
     }
@@ -302,7 +301,7 @@ template <class T> class Numbered : public T {
 
 namespace detail {
 
-/// Returns what `run` returns, or an error where a container is refused memory.
+/// Returns what `run` returns, or an error if a container can't allocate memory.
 template <class Run> auto attempt(Run run) -> decltype(run()) {
 #if defined(__cpp_exceptions)
     try {
@@ -315,13 +314,14 @@ template <class Run> auto attempt(Run run) -> decltype(run()) {
 #endif
 }
 
-/// Returns whether an answer of the library is yes, or why the call is refused.
+/// Returns whether an answer of the library is yes, or why the call failed.
 inline Expected<bool> answered(std::uint32_t answer) {
     if (answer == REGEX_LITE_YES || answer == REGEX_LITE_NO) return answer == REGEX_LITE_YES;
     return Error(static_cast<ErrorKind>(answer));
 }
 
-/// Returns the bytes of a text. The pointer is null for a view of nothing, which a call may take.
+/// Returns the bytes of a text. The pointer is null for a default-constructed view, which a call
+/// may take.
 inline const std::uint8_t *bytes(std::string_view text) noexcept {
     return reinterpret_cast<const std::uint8_t *>(text.data());
 }
@@ -336,8 +336,8 @@ inline regex_lite_options raw(const Options &own) noexcept {
             own.swap_greed, own.ignore_whitespace, own.nest_limit, own.size_limit};
 }
 
-/// Returns the text that `call` writes to the room that it is lent, if there is one. `call` takes
-/// the bytes, how many there are, and where to write how long the text is.
+/// Returns the text that `call` writes to the buffer that it is lent, if there is one. `call` takes
+/// the bytes, their number, and where to write the length of the text.
 template <class Call> Expected<std::optional<std::string>> written(std::size_t first, Call call) {
     return attempt([&]() -> Expected<std::optional<std::string>> {
         std::string room(first, '\0');
@@ -355,7 +355,7 @@ template <class Call> Expected<std::optional<std::string>> written(std::size_t f
     });
 }
 
-/// What takes the place of a lock where one thread alone has a handle.
+/// A lock that does nothing, for a handle that only one thread has.
 struct NoMutex {
     void lock() noexcept {}
     void unlock() noexcept {}
@@ -380,10 +380,10 @@ template <class Held, class Mutex> class Handle {
     typename Held::Raw raw_{nullptr};
 };
 
-/// How long the message of a refusal can be, in bytes.
+/// The greatest length of an error message, in bytes.
 using Message = std::array<std::uint8_t, 100>;
 
-/// Returns where the syntax of a pattern is wrong, if it is and memory isn't refused.
+/// Returns the place of the first fault of a pattern, if there is one and memory suffices.
 inline std::optional<Fault> fault_in(std::string_view pattern, const Options &options) {
     const regex_lite_options own = raw(options);
     Fault fault{};
@@ -391,7 +391,7 @@ inline std::optional<Fault> fault_in(std::string_view pattern, const Options &op
     return answer == REGEX_LITE_YES ? std::optional(fault) : std::nullopt;
 }
 
-/// Makes the error for a pattern that is refused, which has this number if it is one of a list.
+/// Makes the error for a pattern that is rejected. It has this number if it is one of a list.
 inline Error refusal(std::uint32_t answer, std::string_view message, std::string_view pattern,
                      const Options &options, std::optional<std::size_t> number = {}) {
     const bool is_syntax = answer == REGEX_LITE_SYNTAX;
@@ -403,13 +403,13 @@ inline std::string_view view(const Message &message, std::size_t len) noexcept {
     return {reinterpret_cast<const char *>(message.data()), std::min(len, message.size())};
 }
 
-/// What a handle for one pattern holds.
+/// A handle for one pattern.
 struct Single {
     using Raw = regex_lite;
     static constexpr auto release = regex_lite_free;
 };
 
-/// Builds the regex of a pattern. Returns why it is refused, if it is.
+/// Builds the regex of a pattern, or returns the error if it is rejected.
 template <class Held, class Mutex>
 std::optional<Error> build(Handle<Held, Mutex> &handle, std::string_view pattern,
                            const Options &options) {
@@ -422,13 +422,13 @@ std::optional<Error> build(Handle<Held, Mutex> &handle, std::string_view pattern
     return refusal(answer, view(message, len), pattern, options);
 }
 
-/// The groups of a pattern, the whole match among them.
+/// The groups of a pattern, including the whole match.
 struct Groups {
     std::vector<std::string> names;   ///< by index: empty for a group that has none
     std::vector<std::size_t> by_name; ///< the indices of those with names, in the names' order
-    std::size_t at_least = 0;         ///< how many take part in every match; 0 if not known
+    std::size_t at_least = 0;         ///< the least number that take part; 0 if not known
 
-    /// Reads them from the handle of a regex.
+    /// Reads the groups from the handle of a regex.
     template <class Held, class Mutex> explicit Groups(Handle<Held, Mutex> &handle) {
         constexpr std::size_t first = 15; // a string of this size takes no memory of its own
         names.resize(handle.call(regex_lite_groups));
@@ -467,7 +467,7 @@ class Pattern {
     const std::string text;
     const Options options;
 
-    /// Returns its groups. If they aren't known yet, the regex is built for them.
+    /// Returns the groups. If they aren't known yet, the regex is built to find them.
     const Groups &groups() const {
         if (const Groups *known = groups_.load(std::memory_order_acquire)) return *known;
         Handle<Single, NoMutex> handle;
@@ -475,11 +475,11 @@ class Pattern {
         return read(handle);
     }
 
-    /// Returns its groups, which are read from the handle of its regex.
+    /// Returns the groups, which are read from the handle of the pattern's regex.
     template <class Held, class Mutex> const Groups &read(Handle<Held, Mutex> &handle) const {
         auto own = std::make_unique<const Groups>(handle);
         const Groups *known = nullptr;
-        // Of several threads that have read them, the first keeps what it has read.
+        // If several threads read them, the first one's result is kept.
         if (groups_.compare_exchange_strong(known, own.get(), std::memory_order_acq_rel))
             return *own.release();
         return *known;
@@ -523,8 +523,8 @@ class Captures {
         return index ? get(*index) : std::nullopt;
     }
 
-    /// Returns the text of the group with this index, or of that with this name: empty if it took
-    /// no part. If the pattern has no such group, an Error of the kind no_group is thrown.
+    /// Returns the text of the group with this index or this name, which is empty if the group took
+    /// no part. If the pattern has no such group, it throws an Error of the kind no_group.
     std::string_view operator[](std::size_t index) const {
         if (index >= size()) detail::raise(Error(ErrorKind::no_group));
         return get(index).value_or(Match());
@@ -538,10 +538,10 @@ class Captures {
         return get(*index).value_or(Match());
     }
 
-    /// Returns how many groups the pattern has, including the whole match.
+    /// Returns the number of groups of the pattern, including the whole match.
     std::size_t size() const noexcept { return spans_.size(); }
 
-    /// All groups by index, from the whole match on, each a std::optional<Match>.
+    /// All groups by index, beginning with the whole match, each a std::optional<Match>.
     iterator begin() const noexcept;
     iterator end() const noexcept;
 
@@ -552,7 +552,7 @@ class Captures {
         return pattern_ ? pattern_->groups().index_of(name) : std::nullopt;
     }
 
-    /// Makes these the groups of another match, in the memory of the last one.
+    /// Replaces these groups by those of another match, and reuses their memory.
     void set(std::string_view text, const regex_lite_span *first, std::size_t count,
              const detail::SharedPattern &pattern) {
         spans_.assign(first, first + count);
@@ -565,7 +565,7 @@ class Captures {
     detail::SharedPattern pattern_;
 };
 
-/// Goes over the groups of a match.
+/// An iterator over the groups of a match.
 class Captures::iterator {
   public:
     using iterator_category = std::input_iterator_tag;
@@ -609,7 +609,7 @@ struct One : Single {
     using Span = regex_lite_span;
     using Match = rxl::Match;
     using Captures = rxl::Captures;
-    using Told = std::size_t; // of groups: how many they are
+    using Told = std::size_t; // of groups: their number
     static constexpr auto places = regex_lite_places;
     static constexpr auto arrows = regex_lite_arrows;
     static constexpr auto is_match = regex_lite_is_match;
@@ -635,12 +635,12 @@ struct One : Single {
         into.set(text, first, told.count, all[told.number]);
     }
 
-    /// How many groups a match has, as far as is known.
+    /// The number of groups of a match, as far as it is known.
     static std::size_t width(const std::vector<SharedPattern> &all) {
         return all[0]->groups().names.size();
     }
 
-    /// Writes the groups of the next matches, how many each has, and how many matches these are.
+    /// Writes the groups of the next matches, their number in each, and the number of matches.
     template <class Own>
     static std::uint32_t captures_all(Own &own, std::string_view text, regex_lite_walk &walk,
                                       std::vector<regex_lite_list_groups> &told,
@@ -653,7 +653,7 @@ struct One : Single {
     }
 };
 
-/// A regex with the memory for its searches and a text, as what the handle of a searcher holds.
+/// A regex, the memory for its searches and a text, which the handle of a searcher holds.
 struct Kept : One {
     using Raw = regex_lite_searcher;
     static constexpr auto release = regex_lite_searcher_free;
@@ -702,11 +702,11 @@ struct Many {
         into = Captures(told.number, std::move(into));
     }
 
-    /// How many groups a match is taken to have until one has more.
+    /// The assumed number of groups of a match, until one has more.
     static std::size_t width(const std::vector<SharedPattern> &) noexcept { return 4; }
 
-    /// Writes what One::captures_all does. With too little room, `count` is how many groups the
-    /// next match has.
+    /// Writes what One::captures_all does. With too little room, `count` is the number of groups of
+    /// the next match.
     template <class Own>
     static std::uint32_t captures_all(Own &own, std::string_view text, regex_lite_walk &walk,
                                       std::vector<regex_lite_list_groups> &told,
@@ -716,12 +716,12 @@ struct Many {
     }
 };
 
-/// A handle with its patterns: one where it holds a regex.
+/// A handle with its patterns: a single one for the handle of a regex.
 template <class Held, class Mutex = std::mutex> struct Owner : Handle<Held, Mutex> {
     std::vector<SharedPattern> patterns;
 };
 
-/// Makes the owner of the regex of a pattern.
+/// Makes the owner of a pattern's regex.
 template <class Mutex>
 Expected<std::shared_ptr<Owner<One, Mutex>>> own(std::string_view pattern,
                                                  const Options &options) {
@@ -735,14 +735,14 @@ Expected<std::shared_ptr<Owner<One, Mutex>>> own(std::string_view pattern,
     });
 }
 
-/// Returns whether there is a match, as the function of the library says. A search has a start,
-/// unless it is one for a whole match.
+/// Returns whether there is a match, by this function of the library. A search has a start, unless
+/// it is one for a whole match.
 template <class Own, class Call, class... Start>
 Expected<bool> matched(Own &own, Call function, std::string_view text, Start... start) {
     return answered(own.call(function, bytes(text), text.size(), start...));
 }
 
-/// Returns the match that the function of the library writes, as one of this kind.
+/// Returns the match that this function of the library writes, as one of this kind.
 template <class Held, class Own, class Call, class... Start>
 Expected<std::optional<typename Held::Match>> found(Own &own, Call function, std::string_view text,
                                                     Start... start) {
@@ -754,16 +754,16 @@ Expected<std::optional<typename Held::Match>> found(Own &own, Call function, std
     return Held::match(text, span);
 }
 
-/// Room for the groups of one match. As long as these are few, it takes no memory.
+/// Room for the groups of one match. If these are few, it needs no memory.
 template <class Told> class GroupRoom {
   public:
-    /// Makes room for this many groups at least.
+    /// Makes room for at least this many groups.
     explicit GroupRoom(std::size_t width) {
         if (width > few_.size()) many_.resize(width);
     }
 
-    /// Asks the function of the library for the groups of a match, and returns whether there is
-    /// one. Where there are more groups than expected, it is asked again.
+    /// Calls this function of the library for the groups of a match, and returns whether there is
+    /// one. If there are more groups than expected, it calls the function again.
     template <class Own, class Call, class... Start>
     Expected<bool> ask(Own &own, Call function, std::string_view text, Start... start) {
         const auto write = [&] {
@@ -780,12 +780,12 @@ template <class Told> class GroupRoom {
         return answered(answer);
     }
 
-    /// Returns where the groups are.
+    /// Returns the spans of the groups.
     const regex_lite_span *first() const noexcept {
         return many_.empty() ? few_.data() : many_.data();
     }
 
-    /// Returns what the function has told of them.
+    /// Returns what the function has written besides the spans.
     const Told &told() const noexcept { return told_; }
 
   private:
@@ -797,7 +797,7 @@ template <class Told> class GroupRoom {
     Told told_{};
 };
 
-/// Sets `into` to the groups that the function of the library writes, and returns whether there is
+/// Sets `into` to the groups that this function of the library writes, and returns whether there is
 /// a match.
 template <class Held, class Mutex, class Call, class... Start>
 Expected<bool> captured(Owner<Held, Mutex> &own, typename Held::Captures &into, Call function,
@@ -832,7 +832,7 @@ class Each {
         std::uint32_t answer =
             own.call(regex_lite_find_each, bytes(joined_), joined_.size(), lens_.data(),
                      lens_.size(), spans_.data(), spans_.size());
-        // The lengths add up, so an offset is bad where a text ends inside a character.
+        // The lengths add up, so a bad offset means that a text ends inside a character.
         if (answer == REGEX_LITE_BAD_OFFSET) answer = REGEX_LITE_NOT_TEXT;
         const Expected<bool> is_done = answered(answer);
         if (!is_done.has_value()) return is_done;
@@ -850,22 +850,21 @@ class Each {
     std::vector<regex_lite_span> spans_;
 };
 
-/// Whether a range of texts leaves them where they are after a call: one that is temporary, and
-/// holds strings, doesn't.
+/// Whether the texts of a range outlive a call: those of a temporary range that owns strings don't.
 template <class Texts>
 inline constexpr bool are_lasting =
     std::is_lvalue_reference_v<Texts> ||
     !IsString<std::decay_t<decltype(*std::begin(std::declval<Texts &>()))>>::value;
 
-/// How many spans the next room is for.
+/// The number of spans of the next batch.
 ///
-/// Each call of the library reads the whole text, so a loop with room of a fixed size would take
-/// quadratic time. Each time there is four times as much room, up to the size of the text. So a
-/// loop takes time in proportion to the text and to its matches, and no more memory than the text
-/// has.
+/// Each call of the library reads the whole text, so a loop with batches of a fixed size would take
+/// quadratic time. Each batch is four times as large as the one before, up to the size of the text.
+/// So a loop takes time in proportion to the text and to its matches, and no more memory than the
+/// text has.
 class Capacity {
   public:
-    /// Makes one for matches of `width` spans each, of which no more than `wanted` are wanted.
+    /// Makes this for matches with `width` spans each, of which at most `wanted` are wanted.
     Capacity(std::string_view text, std::size_t width, std::size_t wanted) noexcept {
         const std::size_t limit = std::numeric_limits<std::size_t>::max() / width;
         most_ = std::max<std::size_t>(4096, text.size() / sizeof(regex_lite_span));
@@ -873,7 +872,7 @@ class Capacity {
         next_ = std::min(most_, 16 * width);
     }
 
-    /// Returns how many spans the next room is for, and makes the one after it larger.
+    /// Returns the number of spans of the next batch, and makes the one after it larger.
     std::size_t grow() noexcept {
         const std::size_t next = next_;
         next_ = next > most_ / 4 ? most_ : next * 4;
@@ -885,12 +884,12 @@ class Capacity {
     std::size_t next_;
 };
 
-/// Returns whether a match was fetched that ends here, so that no other follows.
+/// Returns whether a match was fetched that ends here, so that none follows.
 inline bool ends_at(const regex_lite_walk &walk, std::size_t end) noexcept {
     return walk.is_begun && walk.end == end;
 }
 
-/// The matches of a text, which are fetched some at a time.
+/// The matches in a text, which are fetched in batches.
 template <class Held> class MatchSource {
   public:
     using Item = typename Held::Match;
@@ -926,7 +925,8 @@ template <class Held> class MatchSource {
             const Expected<bool> is_there =
                 answered(own_->call(Held::find_all, bytes(text_), text_.size(), &walk_,
                                     spans_.data(), room, &count_));
-            // The library writes as many matches as there is room for, so fewer are the last.
+            // The library writes as many matches as there is room for, so if there are fewer, these
+            // are the last.
             is_over_ = count_ < room || ends_at(walk_, text_.size());
             return is_there;
         });
@@ -943,7 +943,7 @@ template <class Held> class MatchSource {
     Item item_;
 };
 
-/// The groups of the matches of a text, which are fetched some at a time.
+/// The groups of the matches in a text, which are fetched in batches.
 template <class Held> class GroupSource {
   public:
     using Item = typename Held::Captures;
@@ -991,10 +991,10 @@ template <class Held> class GroupSource {
             spans_.resize(count_);
             answer = Held::captures_all(*own_, text_, walk_, told_, spans_, count_);
         }
-        // Where memory is refused after some matches, these come first.
+        // If memory runs out after some matches, these come first.
         if (answer == REGEX_LITE_OUT_OF_MEMORY && count_ > 0) answer = REGEX_LITE_YES;
         const Expected<bool> is_there = answered(answer);
-        // Where memory is refused, others follow although there are fewer than there is room for.
+        // If memory ran out, others follow although there are fewer than there is room for.
         is_over_ = count_ == 0 || ends_at(walk_, text_.size());
         return is_there;
     }
@@ -1013,8 +1013,8 @@ template <class Held> class GroupSource {
     Item item_;
 };
 
-/// What stands before, between and after the matches of a text: at most some pieces, of which the
-/// last is all that is left.
+/// The pieces before, between and after the matches in a text: at most some of them, the last of
+/// which is the rest of the text.
 class PieceSource {
   public:
     using Item = std::string_view;
@@ -1045,11 +1045,11 @@ class PieceSource {
   private:
     MatchSource<One> matches_;
     std::size_t limit_;
-    std::optional<std::size_t> rest_ = 0; // what follows the last match, until it is returned
+    std::optional<std::size_t> rest_ = 0; // where the last piece starts, until it is returned
     Item item_;
 };
 
-/// The items of a source, where an error is thrown.
+/// The items of a source, which throws an error.
 template <class From> class Thrown {
   public:
     using Source = From;
@@ -1062,7 +1062,7 @@ template <class From> class Thrown {
     Source source_;
 };
 
-/// The items of a source, where an error is the last item.
+/// The items of a source, whose last item may be an error.
 template <class From> class Tried {
   public:
     using Source = From;
@@ -1087,13 +1087,14 @@ template <class From> class Tried {
 
 } // namespace detail
 
-/// What a loop goes over, once, from left to right: `for (const auto &item : range)`. An item is
-/// lent until the next step; a copy of it may be kept.
+/// A range for a single loop, from left to right: `for (const auto &item : range)`. An item is lent
+/// until the next step; a copy of it may be kept.
 template <class Items> class Range {
   public:
     using value_type = typename Items::Item;
 
-    /// Goes over the items of a range, which may not be moved meanwhile. That of the end is blank.
+    /// An iterator over the items of a range, which must not be moved meanwhile. The end iterator
+    /// is blank.
     class iterator {
       public:
         using iterator_category = std::input_iterator_tag;
@@ -1143,7 +1144,7 @@ template <class Items> class Range {
     Items items_;
 };
 
-/// A match, if there is one, and what the search for it cost.
+/// A match, if there is one, and the cost of the search for it.
 template <class T> struct Counted {
     std::optional<T> found;
     Cost cost;
@@ -1151,14 +1152,14 @@ template <class T> struct Counted {
 
 /// The searches that a Regex and a RegexList both have. A call whose name ends in `_at` begins at
 /// an offset. There too the pattern's looks see the whole text: ^ matches at the offset only if
-/// that is 0. Each call reads the whole text once to check that it is UTF-8, so for all matches of
-/// a text take find_iter or captures_iter.
+/// that is 0. Each call reads the whole text once to check that it is UTF-8, so for all matches in
+/// a text use find_iter or captures_iter.
 ///
 /// A call may throw an Error of the kind not_text or bad_offset, or std::bad_alloc. Its try_ form
-/// returns that.
+/// returns that error.
 template <class Held> class Searches {
   public:
-    using Match = typename Held::Match;       ///< of a list with the number of the pattern
+    using Match = typename Held::Match;       ///< for a list, with the number of the pattern
     using Captures = typename Held::Captures; ///< likewise
     using Matches = Range<detail::Thrown<detail::MatchSource<Held>>>;
     using TryMatches = Range<detail::Tried<detail::MatchSource<Held>>>;
@@ -1176,7 +1177,7 @@ template <class Held> class Searches {
     }
 
     /// Returns the match that starts first and, of those that start there, the one that the pattern
-    /// prefers. Of a list it is that of the pattern with the lowest number.
+    /// prefers. For a list it is that of the pattern with the lowest number.
     std::optional<Match> find(Text text) const { return find_at(text, 0); }
     std::optional<Match> find_at(Text text, std::size_t start) const {
         return try_find_at(text, start).value();
@@ -1198,7 +1199,7 @@ template <class Held> class Searches {
         return captured(Held::captures, text, start);
     }
 
-    /// Returns whether a match starts at the offset itself. The search is over as soon as none can.
+    /// Returns whether a match starts at the offset itself. The search stops as soon as none can.
     bool is_match_anchored_at(std::string_view text, std::size_t start) const {
         return try_is_match_anchored_at(text, start).value();
     }
@@ -1222,7 +1223,7 @@ template <class Held> class Searches {
         return captured(Held::captures_anchored, text, start);
     }
 
-    /// Returns whether the pattern matches the whole text, also where it prefers a shorter match.
+    /// Returns whether the pattern matches the whole text, even if it prefers a shorter match.
     bool is_full_match(std::string_view text) const { return try_is_full_match(text).value(); }
     Expected<bool> try_is_full_match(std::string_view text) const {
         return detail::matched(*own_, Held::is_full_match, text);
@@ -1234,8 +1235,7 @@ template <class Held> class Searches {
         return detail::found<Held>(*own_, Held::full_match, text.view());
     }
 
-    /// Returns the groups of the match of the whole text: of the ways to match it, those of the one
-    /// that the pattern prefers.
+    /// Returns the groups of the match of the whole text, as the pattern prefers them.
     std::optional<Captures> full_captures(Text text) const {
         return try_full_captures(text).value();
     }
@@ -1243,8 +1243,8 @@ template <class Held> class Searches {
         return captured(Held::full_captures, text);
     }
 
-    /// Returns what `find` returns, and what the search cost. It tries at most
-    /// (arrows + patterns) * (characters + 1) places.
+    /// Returns what `find` returns, and the cost of the search. It tries at most (arrows +
+    /// patterns) * (characters + 1) places.
     Counted<Match> find_counted(Text text) const { return find_counted_at(text, 0); }
     Counted<Match> find_counted_at(Text text, std::size_t start) const {
         return try_find_counted_at(text, start).value();
@@ -1263,12 +1263,12 @@ template <class Held> class Searches {
         return Counted<Match>{Held::match(own, span), cost};
     }
 
-    /// Returns all matches, from left to right. No two overlap: a search goes on where the last
+    /// Returns all matches, from left to right. No two overlap: a search continues where the last
     /// match ended, and no empty match comes directly after another match.
     ///
     /// They are fetched 16 at a time, and then four times as many as before. A step may throw what
-    /// a search does, after all matches that were found before. In the try_ form each item is an
-    /// Expected, and an error is the last.
+    /// a search throws, after all matches that were found before. In the try_ form each item is an
+    /// Expected, and an error is the last item.
     Matches find_iter(Text text) const { return over<Matches>(text, all); }
     TryMatches try_find_iter(Text text) const { return over<TryMatches>(text, all); }
 
@@ -1278,10 +1278,10 @@ template <class Held> class Searches {
         return over<TryCaptureMatches>(text, all);
     }
 
-    /// Returns how many places the patterns have, written out: the states of their NFAs.
+    /// Returns the number of places of the patterns: the states of their NFAs.
     std::size_t places() const { return own_->call(Held::places); }
 
-    /// Returns how many arrows lead from place to place: the transitions of the NFAs.
+    /// Returns the number of arrows of the patterns: the transitions of their NFAs.
     std::size_t arrows() const { return own_->call(Held::arrows); }
 
   protected:
@@ -1289,7 +1289,7 @@ template <class Held> class Searches {
 
     explicit Searches(Own own) noexcept : own_(std::move(own)) {}
 
-    // A copy in place of a move leaves no object that holds nothing.
+    // Copied instead of moved, so that no object is left empty.
     Searches(const Searches &) noexcept = default;
     Searches &operator=(const Searches &) noexcept = default;
     ~Searches() = default;
@@ -1304,7 +1304,7 @@ template <class Held> class Searches {
         return own;
     }
 
-    /// Returns a range over a text, of which no more than `wanted` items are wanted.
+    /// Returns a range over a text, of which at most `wanted` items are wanted.
     template <class Over> Over over(Text text, std::size_t wanted) const {
         return Over(typename Over::Source(own_, text.view(), wanted));
     }
@@ -1314,14 +1314,14 @@ template <class Held> class Searches {
     Own own_;
 };
 
-/// A pattern that is ready to be searched for. A copy shares it.
+/// A compiled pattern. Copies share it.
 class Regex : public Searches<detail::One> {
   public:
     using Split = Range<detail::Thrown<detail::PieceSource>>;
     using TrySplit = Range<detail::Tried<detail::PieceSource>>;
 
-    /// Builds the regex of a pattern. A pattern that is refused is an Error, of one of the kinds
-    /// from `syntax` on or `not_text`.
+    /// Compiles a pattern. If it is rejected, throws an Error of one of the kinds from `syntax` on,
+    /// or `not_text`.
     explicit Regex(std::string_view pattern, const Options &options = {})
         : Regex(try_build(pattern, options).value()) {}
     static Expected<Regex> try_build(std::string_view pattern, const Options &options = {}) {
@@ -1338,23 +1338,23 @@ class Regex : public Searches<detail::One> {
     std::string_view pattern() const & noexcept { return known().text; }
     std::string_view pattern() const && = delete;
 
-    /// Returns how many groups a match has, including the whole match.
+    /// Returns the number of groups of a match, including the whole match.
     std::size_t captures_len() const { return known().groups().names.size(); }
 
-    /// Returns how many groups take part in every match, at least, including the whole match, if
-    /// that is known.
+    /// Returns the least number of groups that take part in every match, including the whole match,
+    /// if it is known.
     std::optional<std::size_t> static_captures_len() const {
         const std::size_t len = known().groups().at_least;
         return len == 0 ? std::nullopt : std::optional(len);
     }
 
-    /// Returns the names of the groups by index, from the whole match on: empty for a group that
-    /// has none.
+    /// Returns the names of the groups by index, beginning with the whole match: empty for a group
+    /// that has none.
     const std::vector<std::string> &capture_names() const & { return known().groups().names; }
     const std::vector<std::string> &capture_names() const && = delete;
 
-    /// Returns whether the pattern may match the empty text, as far as it tells by itself: its
-    /// looks, such as ^, are taken to hold. Where this is false, no match is empty.
+    /// Returns whether the pattern may match the empty text if its looks, such as ^, are assumed to
+    /// hold. If this is false, no match is empty.
     bool may_be_empty() const { return own_->call(regex_lite_may_be_empty) == REGEX_LITE_YES; }
 
     /// Returns the least offset at which a match ends.
@@ -1376,25 +1376,25 @@ class Regex : public Searches<detail::One> {
         return *is_there ? std::optional(end) : std::nullopt;
     }
 
-    /// Returns what stands before the first match, between two, and after the last one: one piece
-    /// more than there are matches. A piece may be empty.
+    /// Returns the pieces before the first match, between two consecutive matches, and after the
+    /// last one: one more piece than matches. A piece may be empty.
     Split split(Text text) const { return over<Split>(text, all); }
     TrySplit try_split(Text text) const { return over<TrySplit>(text, all); }
 
-    /// Returns at most `limit` pieces, of which the last is all that is left of the text. A limit
-    /// of 0 gives none.
+    /// Returns at most `limit` pieces, the last of which is the rest of the text. With a limit of 0
+    /// there are none.
     Split splitn(Text text, std::size_t limit) const { return over<Split>(text, limit); }
     TrySplit try_splitn(Text text, std::size_t limit) const { return over<TrySplit>(text, limit); }
 
-    /// Returns the text with its first match replaced, with all of them replaced, and with the
-    /// first `limit` of them replaced, or all where the limit is 0. What replaces a match is
+    /// Returns the text with its first match replaced, with all of them replaced, or with the first
+    /// `limit` of them replaced, where a limit of 0 means all. A match is replaced by
     ///
     /// - a template, which converts to std::string_view: $1, $name, ${1} and ${name} give what
-    ///   this group matched, or nothing, and $$ gives a $. Without braces a name is as long as it
-    ///   can be;
-    /// - a text that stands for itself, in a NoExpand; or
+    ///   this group matched, or nothing, and $$ gives a $. Without braces a name is as long as
+    ///   possible;
+    /// - a literal text, in a NoExpand; or
     /// - what a callable returns for `const Captures &`, which converts to std::string_view. It may
-    ///   search with the same regex. What it throws passes through each form, but for
+    ///   search with the same regex. What it throws passes through each form, except for
     ///   std::bad_alloc, which is an error of the try_ forms.
     template <class Replacer> std::string replace(std::string_view text, Replacer &&by) const {
         return replacen(text, 1, std::forward<Replacer>(by));
@@ -1430,9 +1430,8 @@ class Regex : public Searches<detail::One> {
         });
     }
 
-    /// Returns the first match in each of some texts: a range of what a Text can be made of. The
-    /// texts are copied first, and what the search of one learns of the pattern speeds up that of
-    /// the next.
+    /// Returns the first match in each of several texts: a range of anything that a Text can be
+    /// made of. The texts are copied first, and the searches share the transitions that they cache.
     template <class Texts, std::enable_if_t<detail::are_lasting<Texts>, int> = 0>
     std::vector<std::optional<Match>> find_each(Texts &&texts) const {
         return try_find_each(texts).value();
@@ -1460,8 +1459,8 @@ class Regex : public Searches<detail::One> {
     /// Returns the text with its matches replaced by the library.
     Expected<std::string> written_anew(std::string_view text, std::string_view by,
                                        regex_lite_replacing how) const {
-        // The new text is seldom much longer than the old one. Where it is, a second search finds
-        // all matches once more.
+        // The new text is seldom much longer than the old one. If it is, all matches are found a
+        // second time.
         std::string room(text.size() + text.size() / 4 + 64, '\0');
         const auto write = [&] {
             return own_->call(regex_lite_replace, detail::bytes(text), text.size(),
@@ -1500,16 +1499,16 @@ class Regex : public Searches<detail::One> {
     }
 };
 
-/// Several patterns that are ready to be searched for at once, numbered from 0 on. A copy shares
-/// them.
+/// A compiled list of patterns, which are searched for in one pass and numbered from 0 on. Copies
+/// share it.
 ///
-/// A search goes over the text once for all of them. Of the matches that start first it finds that
-/// of the pattern with the lowest number. There may be no pattern, and one may stand in a list
-/// twice.
+/// A search makes one pass over the text for all of them. Of the matches that start first it finds
+/// that of the pattern with the lowest number. The list may be empty, and a pattern may occur in it
+/// more than once.
 class RegexList : public Searches<detail::Many> {
   public:
-    /// Builds the list of these patterns: texts, or ListPatterns with settings of their own. A
-    /// pattern that is refused is an Error with its number.
+    /// Compiles the list of these patterns: texts, or ListPatterns with settings of their own. If a
+    /// pattern is rejected, throws an Error with its number.
     RegexList(std::initializer_list<ListPattern> patterns)
         : RegexList(try_build(patterns).value()) {}
     template <class Patterns, class = std::enable_if_t<!std::is_same_v<Patterns, RegexList>>>
@@ -1534,7 +1533,7 @@ class RegexList : public Searches<detail::Many> {
         return detail::attempt([&] { return built(own_->patterns); });
     }
 
-    /// Returns how many patterns there are.
+    /// Returns the number of patterns.
     std::size_t size() const noexcept { return own_->patterns.size(); }
 
     /// Returns whether there is no pattern.
@@ -1547,8 +1546,8 @@ class RegexList : public Searches<detail::Many> {
     }
     std::optional<std::string_view> pattern(std::size_t number) const && = delete;
 
-    /// Builds each pattern by itself, so that the names of its groups are known. Otherwise that is
-    /// done where the groups of a match first need them.
+    /// Compiles each pattern by itself, so that the names of its groups are known. Otherwise that
+    /// is done when the groups of a match first need the names.
     void load_names() const { try_load_names().value(); }
     Expected<std::monostate> try_load_names() const {
         return detail::attempt([&]() -> Expected<std::monostate> {
@@ -1584,8 +1583,9 @@ class RegexList : public Searches<detail::Many> {
         return detail::answered(own_->call(regex_lite_list_may_be_empty, number)).value();
     }
 
-    /// Returns what a search for the pattern with this number alone returns, whatever the other
-    /// patterns match: a caller that prefers some patterns to others asks for them in that order.
+    /// Returns what a search for only the pattern with this number returns, whatever the other
+    /// patterns match: a caller that prefers some patterns to others searches for them in that
+    /// order.
     bool is_match_of(std::size_t number, std::string_view text) const {
         return is_match_of_at(number, text, 0);
     }
@@ -1678,11 +1678,11 @@ class RegexList : public Searches<detail::Many> {
     }
 };
 
-/// Searches text after text with one regex, in memory that it keeps: each call copies its text, and
-/// once there is room for the longest, it requests no memory.
+/// Runs one regex over many texts, with memory that it keeps: each call copies its text, and once
+/// there is room for the longest, it requests no memory.
 ///
 /// It has a regex of its own and no lock, so it is for one thread at a time; each thread makes its
-/// own from a shared Regex, and these search at once.
+/// own from a shared Regex, and these can search at the same time.
 class Searcher {
   public:
     /// Builds the regex of the same pattern and settings.
@@ -1745,9 +1745,9 @@ class Searcher {
         return *is_there ? &groups_ : nullptr;
     }
 
-    /// Returns the first match in each of some texts: a range of what a Text can be made of. They
-    /// are lent until the next call. What the search of one learns of the pattern speeds up that of
-    /// the next.
+    /// Returns the first match in each of several texts: a range of anything that a Text can be
+    /// made of. The matches are lent until the next call. The searches share the transitions that
+    /// they cache.
     template <class Texts, std::enable_if_t<detail::are_lasting<Texts>, int> = 0>
     const std::vector<std::optional<Match>> &find_each(Texts &&texts) {
         return *try_find_each(texts).value();
@@ -1779,7 +1779,7 @@ class Searcher {
     std::vector<std::optional<Match>> each_;
 };
 
-/// Returns the pattern that means this text and nothing else, under the default settings.
+/// Returns the pattern that matches exactly this text, under the default settings.
 inline Expected<std::string> try_escape(std::string_view text) {
     auto pattern = detail::written(
         2 * text.size(), [&](std::uint8_t *room, std::size_t room_len, std::size_t *len) {

@@ -2,8 +2,8 @@
 
 #define FIRST_ROOM 64 /* spans, which a short text may never fill */
 #define GROWTH 4
-/* Each batch costs one reading of the whole text. So that this happens at most some 16 times for
- * each span of an item, a batch has room for a 16th of the bytes of a text, or for this many. */
+/* Each batch reads the whole text once. To make that at most some 16 times for each span of an
+ * item, a batch has room for a 16th of the bytes of a text, or for this many. */
 #define LARGE_ROOM 4096
 #define BYTES_FOR_SPAN 16
 
@@ -67,7 +67,7 @@ const regex_lite_span *next_item(Batches *batches, Refusal *refusal) {
         }
         regex_lite_answer answer = batches->fetch(batches);
         if (answer == REGEX_LITE_NO) return NULL;
-        // Where memory runs out, the matches before that have been written, if there are some.
+        // If memory runs out, the matches before that have been written, if there are any.
         if (answer != REGEX_LITE_YES) {
             *refusal = refused_search(answer, batches->text);
             return NULL;

@@ -1,8 +1,8 @@
-/* New texts: a text with its matches replaced, and a text as a pattern. */
+/* New texts: a text with its matches replaced, and the pattern that matches a text. */
 #include "batches.h"
 #include "functions.h"
 
-/* How many bytes a new text may have while it is made, where SQLite's own limit is lower. */
+/* The greatest length of a new text while it is made, if SQLite's own limit is lower. */
 #define LEAST_ROOM ((sqlite3_uint64)64 << 20)
 
 typedef struct Replacement {
@@ -20,13 +20,13 @@ static bool is_interrupted(sqlite3_context *context) {
     return false;
 }
 
-/* How many bytes the new text may have. */
+/* The greatest length of the new text, in bytes. */
 static sqlite3_uint64 most_len(sqlite3_context *context) {
     int limit = sqlite3_limit(sqlite3_context_db_handle(context), SQLITE_LIMIT_LENGTH, -1);
     return (sqlite3_uint64)limit < LEAST_ROOM ? LEAST_ROOM : (sqlite3_uint64)limit;
 }
 
-/* How often a template may refer to a group. */
+/* The greatest number of references to groups in a template. */
 static sqlite3_uint64 dollars_in(Bytes template) {
     sqlite3_uint64 count = 0;
     for (size_t i = 0; i < template.len; i++) count += template.at[i] == '$';
@@ -34,8 +34,8 @@ static sqlite3_uint64 dollars_in(Bytes template) {
 }
 
 /* Whether the new text has at most this many bytes even if each $ stands for the whole match. The
- * library makes the whole text before it says how long it is, and a short template makes a very
- * long text out of a long one, so this is asked before. */
+ * library makes the whole text before it returns its length, and a short template can make a very
+ * long text out of a long one, so this is checked before. */
 static bool is_bounded(const Replacement *replacement, sqlite3_uint64 most, Refusal *refusal) {
     sqlite3_uint64 dollars = dollars_in(replacement->template), len = replacement->text.len;
     sqlite3_uint64 matches = 0;
@@ -51,8 +51,8 @@ static bool is_bounded(const Replacement *replacement, sqlite3_uint64 most, Refu
     return len <= most;
 }
 
-/* Replaces into new memory with this much room. Returns NULL where that is refused, or where it is
- * too little room, which is no refusal. */
+/* Replaces into new memory with this much room. Returns NULL on an error, or if there is too little
+ * room, which is not an error. */
 static uint8_t *replace_into(Replacement *replacement, size_t room, Refusal *refusal) {
     Bytes text = replacement->text, template = replacement->template;
     uint8_t *new = sqlite3_malloc64(room + 1);
@@ -80,7 +80,7 @@ static void replace(sqlite3_context *context, Replacement *replacement) {
         return;
     }
     size_t len = replacement->text.len;
-    // A text grows little as a rule, and then one pass is enough.
+    // As a rule a text grows little, and then one pass is enough.
     uint8_t *new = NULL;
     if (refusal.code == SQLITE_OK) new = replace_into(replacement, len + len / 4 + 64, &refusal);
     if (new == NULL && refusal.code == SQLITE_OK && is_interrupted(context)) {
@@ -113,7 +113,7 @@ void sql_escape(sqlite3_context *context, int count, sqlite3_value **arguments) 
     Bytes text;
     size_t len = 0;
     if (has_null(count, arguments) || !text_argument(context, arguments[0], &text)) return;
-    // A character becomes two at most, each of one byte.
+    // A character becomes at most two, each of one byte.
     size_t room = 2 * text.len + 1;
     uint8_t *pattern = sqlite3_malloc64(room);
     if (pattern == NULL) {

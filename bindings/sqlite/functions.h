@@ -7,11 +7,11 @@
 /* Whether one of the arguments is null. Then a function returns, since its result is null. */
 bool has_null(int count, sqlite3_value **arguments);
 
-/* Reads an argument as text. Returns false where memory ran out, which is then the result. */
+/* Reads an argument as text. Returns false if memory ran out, which is then the result. */
 bool text_argument(sqlite3_context *context, sqlite3_value *argument, Bytes *text);
 
-/* Reads an argument as a whole number that is at least this. Returns false where it is none, which
- * is then refused; what the number is, such as "start", stands in the refusal. */
+/* Reads an argument as a whole number that is at least this. Returns false if it isn't one, and
+ * makes an error the result, whose text has the name of the number, such as "start". */
 bool number_argument(sqlite3_context *context, sqlite3_value *argument, const char *what,
                      sqlite3_int64 least, sqlite3_int64 *number);
 

@@ -1,4 +1,4 @@
-/* SQLite as a loadable extension sees it. */
+/* SQLite, as a loadable extension sees it. */
 #ifndef HOST_H
 #define HOST_H
 

@@ -4,14 +4,14 @@
 
 #define BUCKETS 1024 /* a power of two */
 #define MOST_MESSAGE 100
-/* What a connection keeps at most, besides the pattern that was asked for last. */
+/* The greatest sizes of a connection's cache, besides the pattern that was used last. */
 #define MOST_PATTERNS 1000
 #define MOST_BYTES ((size_t)1 << 20)
 #define MOST_PLACES 500000 /* at some 32 bytes each */
 
 struct Pattern {
     Pattern *next;          /* in its bucket */
-    Pattern *newer, *older; /* by when they were used last */
+    Pattern *newer, *older; /* by their last use */
     uint64_t hash;
     size_t holders; /* the connection's patterns are one, while it is among them */
     regex_lite regex;
@@ -69,7 +69,7 @@ static void link_age(Patterns *patterns, Pattern *pattern) {
     patterns->newest = pattern;
 }
 
-/* Forgets the pattern that hasn't been used for the longest time. */
+/* Evicts the least recently used pattern. */
 static void drop_oldest(Patterns *patterns) {
     Pattern *pattern = patterns->oldest;
     Pattern **link = &patterns->buckets[pattern->hash % BUCKETS];
@@ -143,7 +143,8 @@ static Pattern *build(const Patterns *patterns, Bytes bytes, Refusal *refusal) {
     return made;
 }
 
-/* Puts a pattern among those of the connection, and forgets the oldest ones that are too many. */
+/* Puts a pattern among those of the connection, and evicts the least recently used ones that are
+ * too many. */
 static void keep(Patterns *patterns, Pattern *made) {
     Pattern **bucket = &patterns->buckets[made->hash % BUCKETS];
     made->next = *bucket;

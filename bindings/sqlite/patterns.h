@@ -11,10 +11,10 @@
 /* A pattern that has been built. */
 typedef struct Pattern Pattern;
 
-/* The patterns that a connection has used last. */
+/* The cache of patterns of a connection. */
 typedef struct Patterns Patterns;
 
-/* No patterns yet, with one owner; NULL where memory ran out. */
+/* An empty cache, with one owner; NULL if memory ran out. */
 Patterns *new_patterns(void);
 
 /* Gives the patterns one more owner. */
@@ -23,14 +23,14 @@ Patterns *share_patterns(Patterns *patterns);
 /* Takes an owner from patterns, which are freed when they have none. */
 void leave_patterns(void *patterns);
 
-/* How large a pattern may become, written out. */
+/* How large a pattern may become when compiled. */
 size_t size_limit(const Patterns *patterns);
 
-/* Sets how large a pattern may become, and forgets all that have been built. */
+/* Sets how large a pattern may become, and clears the cache. */
 void set_size_limit(Patterns *patterns, size_t limit);
 
-/* The pattern with these bytes, which is built if it isn't there; NULL with why it is refused. It
- * stays until another is asked for, or as long as it is held. */
+/* The pattern with these bytes, which is built if it isn't cached; NULL with the reason if it is
+ * rejected. It lives until another is requested, or as long as it is held. */
 Pattern *pattern_with(Patterns *patterns, Bytes bytes, Refusal *refusal);
 
 /* Holds a pattern, until it is let go. */
@@ -38,10 +38,11 @@ Pattern *hold(Pattern *pattern);
 void let_go(void *pattern);
 
 /* The pattern in an argument of a function, whose user data are Patterns. One that is the same for
- * all rows is kept by the statement. Returns NULL where it is refused, which is then the result. */
+ * all rows is kept by the statement. Returns NULL if it is rejected, and makes the error the
+ * result. */
 Pattern *pattern_argument(sqlite3_context *context, sqlite3_value **arguments, int index);
 
-/* What was built, how many groups it has, and its bytes. */
+/* The regex of a pattern, the number of its groups, and its bytes. */
 regex_lite *regex_of(Pattern *pattern);
 size_t groups_of(const Pattern *pattern);
 Bytes bytes_of(const Pattern *pattern);

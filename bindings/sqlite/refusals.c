@@ -17,7 +17,7 @@ Refusal refused_bytes(const char *what, Bytes bytes) {
                    (sqlite3_uint64)valid_len(bytes) + 1);
 }
 
-/* The refusal of a pattern whose syntax is wrong in this place. */
+/* The refusal of a pattern with a fault at this place. */
 static Refusal refused_syntax(Bytes message, Bytes pattern, const regex_lite_fault *fault) {
     Place place = FIRST_PLACE;
     move_to(&place, pattern, fault->start);

@@ -11,9 +11,10 @@ SQLITE_EXTENSION_INIT1
 #define ENTRY_POINT __attribute__((visibility("default")))
 #endif
 
-/* Of the same arguments a function makes the same of result, and does nothing else. */
+/* Deterministic and innocuous: the result depends only on the arguments, and there are no side
+ * effects. */
 #define PURE (SQLITE_UTF8 | SQLITE_DETERMINISTIC | SQLITE_INNOCUOUS)
-/* What changes the connection isn't called from what a database holds, such as a view. */
+/* What changes the connection can't be called from what a database contains, such as a view. */
 #define SETTING (SQLITE_UTF8 | SQLITE_DIRECTONLY)
 
 typedef void (*Run)(sqlite3_context *, int, sqlite3_value **);
@@ -45,7 +46,7 @@ static const struct Module {
     {"regex_lite_split", &split_module},
 };
 
-/* Gives a connection all functions. SQLite takes each out of its owners, also where it fails. */
+/* Gives a connection all functions. SQLite releases the ownership of each, even on a failure. */
 static int add_all(sqlite3 *db, Patterns *patterns) {
     int code = SQLITE_OK;
     for (size_t i = 0; code == SQLITE_OK && i < sizeof functions / sizeof *functions; i++) {

@@ -1,5 +1,5 @@
-/* All matches of a text, and the pieces between them, as rows. Each row is made when it is asked
- * for, so that a query with a LIMIT makes no more than it needs. */
+/* All matches in a text, and the pieces between them, as rows. Each row is made when it is fetched,
+ * so that a query with a LIMIT makes no more than it needs. */
 #include "rows.h"
 
 #include "batches.h"
@@ -8,15 +8,15 @@
 #include <string.h>
 
 /* The columns. IN_TEXT and BY_PATTERN are hidden: they are the arguments. Only matches have groups.
- * There is no rowid: where the alternatives of a condition give several arguments, SQLite drops the
- * rows whose keys it has seen, and a number is only unique for the same arguments. */
+ * There is no rowid: if the alternatives of a condition give several arguments, SQLite drops the
+ * rows whose keys it has seen, but a number is unique only for the same arguments. */
 enum { NUMBER, START, END, TEXT, IN_TEXT, BY_PATTERN, GROUPS };
 #define COLUMNS(others)                                                    \
     "CREATE TABLE rows(number INT NOT NULL, start INT, \"end\" INT, text TEXT," \
     " in_text HIDDEN NOT NULL, by_pattern HIDDEN NOT NULL" others            \
     ", PRIMARY KEY (in_text, by_pattern, number)) WITHOUT ROWID"
 
-/* How the rows of a statement are made. */
+/* How the rows of a statement are computed. */
 typedef enum Plan { WITHOUT_ARGUMENTS, PIECES, MATCHES, MATCHES_WITH_GROUPS } Plan;
 
 typedef struct Table {
@@ -64,7 +64,7 @@ static int disconnect(sqlite3_vtab *table) {
 }
 
 /* Finds the constraint that gives an argument a value, and has SQLite pass that value. Returns
- * false where it gives one that isn't known in this plan. */
+ * false if it gives one that isn't known in this plan. */
 static bool take_argument(sqlite3_index_info *info, int column, int *taken) {
     bool is_unusable = false;
     for (int i = 0; i < info->nConstraint; i++) {
@@ -88,7 +88,7 @@ static int best_index(sqlite3_vtab *base, sqlite3_index_info *info) {
         return SQLITE_CONSTRAINT;
     bool are_given = taken == 2;
     bool has_groups = (info->colUsed & (sqlite3_uint64)1 << GROUPS) != 0;
-    // A plan without the arguments is for saying that they are missing, and any other is better.
+    // A plan without the arguments only reports that they are missing, so any other is better.
     info->idxNum = !are_given   ? WITHOUT_ARGUMENTS
                    : has_groups ? MATCHES_WITH_GROUPS
                                 : (int)table->plan;
@@ -106,7 +106,7 @@ static int open_cursor(sqlite3_vtab *table, sqlite3_vtab_cursor **cursor) {
     return SQLITE_OK;
 }
 
-/* Ends the rows of a cursor, which may begin others. */
+/* Ends the rows of a cursor, which may then begin others. */
 static void end_rows(Cursor *cursor) {
     end_batches(&cursor->batches);
     sqlite3_value_free(cursor->in_text);
@@ -120,7 +120,7 @@ static int close_cursor(sqlite3_vtab_cursor *cursor) {
     return SQLITE_OK;
 }
 
-/* The code of a refusal, whose text becomes that of the table's error. */
+/* The code of a refusal, whose text becomes the error of the table. */
 static int refuse(Cursor *cursor, Refusal refusal) {
     sqlite3_vtab *table = cursor->base.pVtab;
     if (refusal.text != NULL) {
@@ -205,7 +205,7 @@ static int column(sqlite3_vtab_cursor *base, sqlite3_context *context, int numbe
     return SQLITE_OK;
 }
 
-/* Both modules are without an xCreate, so that they are functions alone. */
+/* Neither module has an xCreate, so that they are only functions. */
 #define MODULE(connecting)                                                             \
     {                                                                                  \
         .xConnect = connecting, .xBestIndex = best_index, .xDisconnect = disconnect,   \

@@ -24,7 +24,7 @@ bool number_argument(sqlite3_context *context, sqlite3_value *argument, const ch
     return false;
 }
 
-/* Whether a search has found something. Where it was refused, that becomes the result. */
+/* Whether a search has found something. If it failed, the error becomes the result. */
 static bool is_found(sqlite3_context *context, regex_lite_answer answer, Bytes text) {
     if (answer == REGEX_LITE_YES) return true;
     if (answer != REGEX_LITE_NO) return_refusal(context, refused_search(answer, text));
@@ -71,12 +71,13 @@ void sql_find(sqlite3_context *context, int count, sqlite3_value **arguments) {
     Pattern *pattern = pattern_argument(context, arguments, 1);
     if (pattern == NULL || !text_argument(context, arguments[0], &text)) return;
     if (count == 3 && !number_argument(context, arguments[2], "start", 1, &start)) return;
-    // In bytes that are not UTF-8 no character can be counted, and the search refuses them.
+    // In bytes that are not UTF-8 no character can be counted; the search reports them.
     if (start > 1 && !regex_lite_is_text(text.at, text.len)) start = 1;
     if (offset_of(text, start, &offset)) find_from(context, pattern, text, offset);
 }
 
-/* Reads the number of a group. Returns false where there is no such group, which is refused. */
+/* Reads the number of a group. Returns false if there is no such group, and makes the error the
+ * result. */
 static bool group_by_number(sqlite3_context *context, sqlite3_value *argument, Pattern *pattern,
                             size_t *group) {
     sqlite3_int64 number;
@@ -88,13 +89,14 @@ static bool group_by_number(sqlite3_context *context, sqlite3_value *argument, P
     return false;
 }
 
-/* Reads the name of a group. Returns false where there is no such group, which is refused. */
+/* Reads the name of a group. Returns false if there is no such group, and makes the error the
+ * result. */
 static bool group_by_name(sqlite3_context *context, sqlite3_value *argument, Pattern *pattern,
                           size_t *group) {
     Bytes name;
     if (!text_argument(context, argument, &name)) return false;
     regex_lite_answer answer = regex_lite_group_index(regex_of(pattern), name.at, name.len, group);
-    // No name of a group is anything but UTF-8, so that bytes that aren't are no name either.
+    // Names of groups are UTF-8, so other bytes aren't a name.
     if (answer == REGEX_LITE_NO)
         return_refusal(context, refused("regex_lite: the pattern has no group of this name"));
     return is_found(context, answer, name);
@@ -108,8 +110,8 @@ static bool group_argument(sqlite3_context *context, sqlite3_value *argument, Pa
                      : group_by_name(context, argument, pattern, group);
 }
 
-/* Returns the text of a group in the first match; null where there is no match, and where the group
- * took no part in it. */
+/* Returns the text of a group in the first match; null if there is no match or the group took no
+ * part in it. */
 static void capture(sqlite3_context *context, Pattern *pattern, Bytes text, size_t group) {
     size_t room = groups_of(pattern), count;
     regex_lite_span *spans = sqlite3_malloc64(room * sizeof *spans);

@@ -1,4 +1,4 @@
-/* What is known of the library, and how large patterns may become. */
+/* The version of the library, and how large patterns may become. */
 #include "functions.h"
 
 #define MOST_VERSION 50 /* bytes; ten more than the version of the header are enough */

@@ -23,7 +23,7 @@ sqlite3_int64 characters_in(Bytes bytes) {
     return count;
 }
 
-/* How many bytes the character has that begins with this one, if one does. */
+/* The length of the character that begins with this byte, if one does. */
 static size_t width_by(uint8_t first) {
     if (first < 0xC0) return 1;
     if (first < 0xE0) return 2;

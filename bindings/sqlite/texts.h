@@ -1,4 +1,4 @@
-/* Texts as bytes, and places in them as characters: SQL counts these, and the library bytes. */
+/* Texts as bytes, and positions in them: SQL counts characters, the library bytes. */
 #ifndef TEXTS_H
 #define TEXTS_H
 
@@ -11,7 +11,7 @@ typedef struct Bytes {
     size_t len;
 } Bytes;
 
-/* A place in a text that only moves forward, so that all steps together take linear time. */
+/* A position in a text that only moves forward, so that all steps together take linear time. */
 typedef struct Place {
     size_t offset;           /* in bytes */
     sqlite3_int64 character; /* the number of the character there, from 1 on */
@@ -20,20 +20,20 @@ typedef struct Place {
 /* The start of a text. */
 #define FIRST_PLACE ((Place){0, 1})
 
-/* Writes the bytes of a value that isn't null: a blob as it is, all else as text. They are there as
- * long as the value isn't changed. Returns false where memory ran out. */
+/* Writes the bytes of a value that isn't null: a blob as it is, all else as text. They live as long
+ * as the value isn't changed. Returns false if memory ran out. */
 bool read_bytes(sqlite3_value *value, Bytes *bytes);
 
 /* The bytes from an offset to another. */
 Bytes part_of(Bytes bytes, size_t start, size_t end);
 
-/* How many characters these bytes are. */
+/* The number of characters of these bytes. */
 sqlite3_int64 characters_in(Bytes bytes);
 
-/* How many bytes come before the first that is part of no whole character of UTF-8. */
+/* The number of bytes before the first that isn't part of a whole character of UTF-8. */
 size_t valid_len(Bytes bytes);
 
-/* Moves a place to an offset that isn't before it. */
+/* Moves a position to an offset that isn't before it. */
 void move_to(Place *place, Bytes bytes, size_t offset);
 
 /* Writes the offset at which a character begins, counted from 1 on, or would begin directly behind

@@ -138,5 +138,6 @@ def code_for(question: Question, _: Groups, is_cut: bool) -> str:
 
 
 def _room(patterns: Sequence[str]) -> int:
-    """For how many spans there is room. Each group but the match itself has a parenthesis."""
+    """The number of spans for which there is room. Each group except the match itself has a
+    parenthesis."""
     return max(LEAST_ROOM, *(own.count('(') + 1 for own in patterns))

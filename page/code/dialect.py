@@ -1,4 +1,4 @@
-"""What code of Rust and code of Rattle have in common, and in what they differ."""
+"""What Rust code and Rattle code have in common, and their differences."""
 
 from __future__ import annotations
 
@@ -19,8 +19,8 @@ _SHOW = '''\
 
 
 class Dialect(NamedTuple):
-    """Rust or Rattle: how it begins to print, what it passes to take memory, before a pattern, and
-    what follows a call that makes a builder."""
+    """Rust or Rattle: how it starts to print, what it passes before a pattern to allocate memory,
+    and what follows a call that makes a builder."""
 
     printing: str
     memory: str
@@ -31,7 +31,7 @@ class Dialect(NamedTuple):
         return _SHOW % self.printing
 
     def built(self, question: Question) -> str:
-        """How the only pattern of a question is built."""
+        """The expression that builds the only pattern of a question."""
         arguments = self.memory + rust_literal(question['patterns'][0])
         settings = settings_of(question)
         if not settings:
@@ -41,6 +41,6 @@ class Dialect(NamedTuple):
 
 
 def named_text(question: Question, is_cut: bool) -> str:
-    """The line that gives the text a name, after a note if the text is cut."""
+    """The line that defines the text, after a note if the text is truncated."""
     note = cut_note('//', is_cut, '    ')
     return f"{note}    let text = {rust_literal(question['text'])};\n"

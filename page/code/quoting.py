@@ -1,5 +1,5 @@
 """Texts as literals of the languages in which the page shows code. What can't be printed, and what
-a compiler may refuse or read in another way, is written as an escape."""
+a compiler may reject or read differently, is written as an escape."""
 
 from __future__ import annotations
 
@@ -51,8 +51,8 @@ def c_definition(name: str, text: str) -> str:
 
 
 def _c_characters(text: str) -> str:
-    """What stands for the text between quotes. Two question marks may begin a trigraph, so the
-    second is escaped. An octal escape has three digits, so that none that follows belongs to it."""
+    """The text between quotes. Two question marks may begin a trigraph, so the second is escaped.
+    An octal escape has three digits, so that none that follows belongs to it."""
     return ''.join('\\?' if text[max(i - 1, 0):i + 1] == '??' else _c_character(character)
                    for i, character in enumerate(text))
 

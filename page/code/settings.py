@@ -21,6 +21,6 @@ def settings_of(question: Question) -> Dict[str, str]:
 
 
 def cut_note(mark: str, is_cut: bool, indent: str = '') -> str:
-    """The line of a comment that says that the text is cut, if it is."""
+    """The comment line that says that the text is truncated, if it is."""
     return f'{indent}{mark} The beginning of the text, which is too long for code.\n' \
         if is_cut else ''

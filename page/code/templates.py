@@ -18,8 +18,8 @@ class Groups(NamedTuple):
     names: List[Optional[str]]
 
     def reference(self, name: str) -> str:
-        """What refers to the group of this name or index in a template of Python: nothing if there
-        is no such group."""
+        """The reference to the group with this name or index in a template of Python: empty if
+        there is no such group."""
         index = _INDEX.fullmatch(name)
         if index:
             return f'\\g<{int(index[1])}>' if int(index[1]) < len(self.names) else ''
@@ -32,7 +32,7 @@ def groups_of(regex: Regex) -> Groups:
 
 
 def python_template(template: str, groups: Groups) -> str:
-    """The template of Python that gives what this one of the library gives."""
+    """The template of Python with the same expansion as this one of the library."""
     parts = []
     end = 0
     for found in _DOLLAR.finditer(template):

@@ -1,4 +1,4 @@
-/* The matches or the pieces of a text, one after the other. The library writes many at a time. */
+/* The matches or the pieces of a text, in batches: the library writes many at a time. */
 #ifndef BATCHES_H
 #define BATCHES_H
 
@@ -19,19 +19,19 @@ struct Batches {
     Pattern *pattern;               /* pinned, or NULL */
     Fetch fetch;
     Bytes searched;
-    regex_lite_cut cut; /* how far the text is read */
+    regex_lite_cut cut; /* the position in the text */
     regex_lite_span *spans;
-    size_t room;   /* how many spans there may be */
-    size_t groups; /* how many spans an item has */
-    size_t count;  /* how many items are fetched */
+    size_t room;   /* the capacity in spans */
+    size_t groups; /* the number of spans of an item */
+    size_t count;  /* the number of items that are fetched */
     size_t next;   /* the next of these */
 };
 
 /* The start of these items in a text, which has to last as long as the context. They are in the
- * context, and are over when it is reset. Raises an error where the pattern is refused. */
+ * context, and are over when it is reset. Raises an error if the pattern is rejected. */
 extern Batches *begin_batches(MemoryContext context, Bytes searched, Bytes pattern, Fetch fetch);
 
-/* The spans of the next item, which are lent until the next call; NULL where none is left. */
+/* The spans of the next item, which are lent until the next call; NULL if none is left. */
 extern const regex_lite_span *next_item(Batches *batches);
 
 #endif

@@ -1,4 +1,4 @@
-/* Texts with their matches replaced, and texts as patterns. */
+/* Texts with their matches replaced, and patterns that match a text. */
 #include "batches.h"
 
 #include "utils/memutils.h"
@@ -17,11 +17,11 @@ static void require_fit(size_t len) {
                                   len, (size_t)MOST_LEN)));
 }
 
-/* What is replaced by what, and how. */
+/* The arguments of a replacement. */
 typedef struct Change {
     Bytes searched, pattern, replacement;
-    size_t limit;   /* how many matches at most; 0 stands for all */
-    size_t dollars; /* how many there are in the replacement */
+    size_t limit;   /* the greatest number of matches; 0 means all */
+    size_t dollars; /* the number of references in the replacement */
 } Change;
 
 static size_t dollars_in(Bytes replacement) {
@@ -31,14 +31,14 @@ static size_t dollars_in(Bytes replacement) {
     return count;
 }
 
-/* How long the new text is at most, if so many matches have so many bytes together. It is that long
- * if no $ is in the replacement. For each there may be a group, which lies within its match. */
+/* The greatest length of the new text, if so many matches have so many bytes together. It is exact
+ * if the replacement has no $. For each $ there may be a group, which lies within its match. */
 static size_t most_len(const Change *change, size_t matches, size_t matched) {
     return change->searched.len + matches * change->replacement.len + change->dollars * matched -
            (change->dollars == 0 ? matched : 0);
 }
 
-/* The same from the matches themselves, which it searches for. */
+/* The greatest length of the new text, computed from the matches, which it searches for. */
 static size_t counted_len(const Change *change) {
     MemoryContext context =
         AllocSetContextCreate(CurrentMemoryContext, "regex_lite matches", ALLOCSET_DEFAULT_SIZES);
@@ -55,8 +55,8 @@ static size_t counted_len(const Change *change) {
 }
 
 /* Raises an error where the new text may not fit into one of the server's. The library would make
- * it first, in memory that the server doesn't limit. A bound that needs no search is enough but for
- * large texts. */
+ * it first, in memory that the server doesn't limit. Except for large texts, a bound that needs no
+ * search is enough. */
 static void require_room(const Change *change) {
     size_t most = change->searched.len + 1; // an empty match before each character and at the end
     if (change->limit != 0)
@@ -82,7 +82,7 @@ static text *replace_into(regex_lite *regex, const Change *change, regex_lite_re
     return result;
 }
 
-/* Replaces at most so many matches, or all if that is 0. */
+/* Replaces at most this many matches, or all if that is 0. */
 static Datum replace(FunctionCallInfo fcinfo, int32 limit) {
     text *given = PG_GETARG_TEXT_PP(0);
     Change change = {bytes_of(given), bytes_of(PG_GETARG_TEXT_PP(1)),
@@ -91,7 +91,7 @@ static Datum replace(FunctionCallInfo fcinfo, int32 limit) {
     regex_lite *regex = regex_for(fcinfo, change.pattern);
     require_room(&change);
     regex_lite_replacing replacing = {change.limit, change.dollars == 0, 0, 0};
-    // A text grows little as a rule, and then one pass is enough.
+    // As a rule a text grows little, and then one pass is enough.
     size_t room = Min(change.searched.len + change.searched.len / 4 + 64, MOST_LEN);
     text *result = replace_into(regex, &change, &replacing, room);
     if (result == NULL) {

@@ -8,26 +8,26 @@
 
 #define BUCKETS 1024 /* a power of two */
 #define MOST_MESSAGE 100
-/* What the cache holds at most, besides what is pinned and the pattern that was asked for last. */
+/* The greatest sizes of the cache, besides what is pinned and the pattern that was used last. */
 #define MOST_PATTERNS 1000
 #define MOST_BYTES ((size_t)1 << 20)
 #define MOST_PLACES 500000 /* at some 32 bytes each */
 
 struct Pattern {
     dlist_node bucket; /* among those whose hashes have the same last bits */
-    dlist_node age;    /* among those that nothing pins, the last used first */
+    dlist_node age;    /* among those that nothing pins, the most recently used first */
     uint32 hash;
     uint32 pins;
-    int size_limit; /* under which it was built */
+    int size_limit; /* the size limit under which it was built */
     regex_lite regex;
     size_t places;
     size_t len;
     uint8 bytes[FLEXIBLE_ARRAY_MEMBER];
 };
 
-/* What an expression has used last. */
+/* The memo of an expression: the pattern that it has used last. */
 typedef struct Memo {
-    Pattern *pattern; /* is gone where another number of patterns has been dropped since */
+    Pattern *pattern; /* is gone if the number of dropped patterns has changed since */
     uint64 dropped;
 } Memo;
 
@@ -36,7 +36,7 @@ typedef struct Cache {
     dlist_head buckets[BUCKETS];
     dlist_head ages;
     size_t count, bytes, places; /* of all patterns */
-    uint64 dropped;              /* how many patterns have been */
+    uint64 dropped;              /* the number of dropped patterns */
 } Cache;
 
 static Cache cache;
@@ -81,8 +81,8 @@ static void drop(Pattern *pattern) {
     pfree(pattern);
 }
 
-/* Drops those used the longest ago until the cache is within its bounds. The last used one stays,
- * since it is asked for. */
+/* Drops the least recently used patterns until the cache is within its bounds. The most recently
+ * used one stays, since it is in use. */
 static void shrink(void) {
     while (cache.count > MOST_PATTERNS || cache.bytes > MOST_BYTES || cache.places > MOST_PLACES) {
         if (dlist_is_empty(&cache.ages) || !dlist_has_next(&cache.ages, cache.ages.head.next))
@@ -91,9 +91,9 @@ static void shrink(void) {
     }
 }
 
-/* A pattern that isn't in the cache yet. The server's memory is asked for first: an error there
- * loses nothing of the library's, and after regex_lite_new none can come but its refusal, with
- * which the handle holds nothing. */
+/* A pattern that isn't in the cache yet. The server's memory is requested first: an error there
+ * loses nothing of the library's, and after regex_lite_new the only error is its own, with which
+ * the handle holds nothing. */
 static Pattern *build(uint32 hash, Bytes bytes) {
     Pattern *made =
         MemoryContextAllocHuge(cache.context, sizeof(Pattern) + bytes.len);
@@ -123,7 +123,7 @@ static void keep(Pattern *made) {
     shrink();
 }
 
-/* Notes that a pattern is used now. */
+/* Records that a pattern is used now. */
 static void touch(Pattern *pattern) {
     if (pattern->pins == 0)
         dlist_move_head(&cache.ages, &pattern->age);

@@ -2,7 +2,7 @@
 
 #include "mb/pg_wchar.h"
 
-/* How many bytes of a pattern an error shows at most. */
+/* The greatest number of bytes of a pattern that an error shows. */
 #define MOST_SHOWN 60
 #define MOST_MESSAGE 100 /* bytes, as the library says */
 
@@ -14,7 +14,7 @@ void require_utf8(void) {
                     errdetail("The encoding of this one is %s.", GetDatabaseEncodingName())));
 }
 
-/* The detail that says where in a pattern its fault is, in characters from 1 on. */
+/* The detail with the place of a pattern's fault, in characters from 1 on. */
 static int fault_detail(const regex_lite_fault *fault, Bytes pattern) {
     Place place = FIRST_PLACE;
     move_to(&place, pattern, fault->start);

@@ -1,5 +1,5 @@
-/* All matches of a text, and the pieces between them, as rows. Each row is made when it is asked
- * for, so that a query with a LIMIT makes no more than it needs. */
+/* All matches in a text, and the pieces between them, as rows. Each row is made when it is fetched,
+ * so that a query with a LIMIT makes no more than it needs. */
 #include "batches.h"
 
 #include "access/htup_details.h"
@@ -10,7 +10,7 @@
 PG_FUNCTION_INFO_V1(sql_regex_lite_matches);
 PG_FUNCTION_INFO_V1(sql_regex_lite_split);
 
-/* The rows of a call, and where the last one ended. */
+/* The rows of a call, and the end of the last one. */
 typedef struct Rows {
     Batches *batches;
     Place place;

@@ -53,8 +53,8 @@ Datum sql_regex_lite_find_from(PG_FUNCTION_ARGS) {
     return find_from(fcinfo, regex, searched, offset);
 }
 
-/* The text of a group in the first match; null where there is no match, and where the group took no
- * part in it. */
+/* The text of a group in the first match; null if there is no match or the group took no part in
+ * it. */
 static Datum capture(FunctionCallInfo fcinfo, regex_lite *regex, size_t group) {
     Bytes searched = argument(fcinfo, 0);
     size_t room = regex_lite_groups(regex), count;

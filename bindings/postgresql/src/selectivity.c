@@ -1,7 +1,7 @@
-/* How many rows the planner is to expect where a pattern must not match.
+/* The planner's estimate of the rows in which a pattern must not match.
  *
- * Where it must match, matchingsel of the server tries the operator on the values that it has
- * sampled. That is right for !=~ too, but not what it returns where there is no sample. */
+ * For those in which it must match, matchingsel of the server tries the operator on the values that
+ * it has sampled. That is right for !=~ too, but not what it returns without a sample. */
 #include "postgres.h"
 
 #include "fmgr.h"
@@ -10,7 +10,7 @@
 PG_FUNCTION_INFO_V1(sql_regex_lite_no_match_sel);
 PG_FUNCTION_INFO_V1(sql_regex_lite_no_match_joinsel);
 
-/* What is left of 1 by what matchingsel and matchingjoinsel return without a sample. */
+/* One minus what matchingsel and matchingjoinsel return without a sample. */
 #define UNKNOWN (1.0 - 2 * DEFAULT_EQ_SEL)
 
 Datum sql_regex_lite_no_match_sel(PG_FUNCTION_ARGS) {

@@ -1,7 +1,7 @@
-"""Regular expressions for patterns and texts from strangers, with the names of `re`.
+"""Regular expressions for untrusted patterns and texts, with the names of `re`.
 
-No pattern makes a search explode: its time grows with the text alone. README.md says what departs
-from `re`.
+There is no catastrophic backtracking: for each pattern the time of a search grows linearly with the
+text. README.md lists the differences from `re`.
 """
 
 from ._calls import (compile, escape, findall, finditer, fullmatch, match, purge, search, split,

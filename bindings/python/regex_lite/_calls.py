@@ -1,4 +1,4 @@
-"""The calls of the module, and the patterns that they remember."""
+"""The calls of the module, and their cache of patterns."""
 
 from __future__ import annotations
 
@@ -14,7 +14,7 @@ from ._patterns import Pattern, Replacement
 from ._templates import forget_templates
 
 MOST_CACHED = 512  # patterns
-MOST_OF_CACHED = 4096  # places of a pattern that is remembered, and its characters
+MOST_OF_CACHED = 4096  # places of a cached pattern, and its characters
 _GAPS = str.maketrans({gap: f'\\{gap}' for gap in ' \t\n\r\v\f'})
 
 Source = Union[str, Pattern[str]]
@@ -25,12 +25,12 @@ _cache: Dict[Key, Pattern[str]] = {}
 
 def compile(pattern: Source, flags: int = 0, *, nest_limit: Optional[int] = None,
             size_limit: Optional[int] = None) -> Pattern[str]:
-    """The pattern, ready to be searched for. Without limits it may be the one that an earlier call
-    has returned: the last 512 patterns are remembered, but for very large ones.
+    """The compiled pattern. Without limits it may be the one that an earlier call has returned: the
+    last 512 patterns are cached, except for very large ones.
 
-    `nest_limit` says how deep it may nest, 50 unless given, and `size_limit` how large it may be
-    written out, 10485760 unless given. What `Pattern` raises is raised; TypeError where the pattern
-    is neither a str nor compiled; ValueError for flags or limits with a compiled pattern."""
+    `nest_limit` says how deeply it may nest, 50 by default, and `size_limit` how large it may be
+    when compiled, 10485760 by default. Raises what `Pattern` raises; TypeError if the pattern is
+    neither a str nor compiled; ValueError for flags or limits with a compiled pattern."""
     if nest_limit is None and size_limit is None:
         return _compiled(pattern, flags)
     if isinstance(pattern, Pattern):
@@ -43,14 +43,14 @@ def compile(pattern: Source, flags: int = 0, *, nest_limit: Optional[int] = None
 
 
 def purge() -> None:
-    """Forgets all patterns that the module remembers."""
+    """Clears the cache of patterns."""
     _cache.clear()
     forget_templates()
 
 
 def _compiled(pattern: Source, flags: int) -> Pattern[str]:
-    """The pattern, ready to be searched for, and remembered. Called by what users call, since a
-    warning points at the caller of that."""
+    """The compiled pattern, which is cached. Called by what users call, since a warning points at
+    the caller of that."""
     if flags.__class__ is not int:
         flags = int(operator.index(flags))
     if isinstance(pattern, Pattern):
@@ -60,7 +60,7 @@ def _compiled(pattern: Source, flags: int) -> Pattern[str]:
     key = (pattern.__class__, pattern, flags)
     try:
         known = _cache.get(key)
-    except TypeError:  # what can't be a key is no str
+    except TypeError:  # what isn't hashable isn't a str
         encoded(pattern)
         raise
     if known is not None:
@@ -72,8 +72,8 @@ def _compiled(pattern: Source, flags: int) -> Pattern[str]:
 
 
 def _remember(key: Key, new: Pattern[str]) -> None:
-    """Puts a pattern into the cache, in the place of the oldest one if that is full. Strangers can
-    write patterns that take 10 MB each, so none of these is remembered."""
+    """Puts a pattern into the cache, in place of the oldest one if the cache is full. An untrusted
+    pattern can take 10 MB, so such patterns aren't cached."""
     if max(len(new.pattern), new._regex.places) > MOST_OF_CACHED:
         return
     if len(_cache) >= MOST_CACHED:
@@ -85,12 +85,12 @@ def _remember(key: Key, new: Pattern[str]) -> None:
 
 
 def _pickled(pattern: Pattern[str]) -> Tuple[Callable[..., Pattern[str]], Tuple[object, ...]]:
-    """How `pickle` makes a pattern anew."""
+    """How `pickle` restores a pattern."""
     return _unpickled, (pattern.pattern, int(pattern.flags), *pattern._limits)
 
 
 def _unpickled(pattern: str, flags: int, nest_limit: int, size_limit: int) -> Pattern[str]:
-    """The pattern, which may be the one that is remembered. Nothing is warned of again."""
+    """The pattern, which may be the cached one. No warning is given again."""
     if (nest_limit, size_limit) != (NEST_LIMIT, SIZE_LIMIT):
         return Pattern(pattern, flags, nest_limit=nest_limit, size_limit=size_limit)
     key = (str, pattern, flags)
@@ -147,5 +147,5 @@ def subn(pattern: Source, repl: Replacement, string: str, count: int = 0,
 
 
 def escape(pattern: str) -> str:
-    """The pattern that means this text and nothing else, in verbose mode too."""
+    """The pattern that matches exactly this text, in verbose mode too."""
     return escaped(encoded(pattern)).decode().translate(_GAPS)

@@ -1,4 +1,4 @@
-"""Warnings of syntax that `re` accepts too, and reads in another way."""
+"""Warnings about syntax that `re` accepts too, but understands differently."""
 
 from __future__ import annotations
 
@@ -7,7 +7,7 @@ import sys
 import warnings
 from typing import Dict, List, NamedTuple, Optional, Pattern
 
-# What is said of a part of a pattern, after the part itself and its position.
+# What a warning says about a part of a pattern, after the part itself and its position.
 MEANINGS = {
     'possessive': 'repeats a repetition here, and is possessive in re',
     'word': 'is the start or the end of a word here, and a character in re',
@@ -27,9 +27,9 @@ MEANINGS = {
 _BETWEEN = ('gap', 'white_space', 'comment')
 
 _OPERATOR = r'(?:[*+?]|\{[0-9]+(?:,[0-9]*)?\})'
-# White space that this library takes for white space in verbose mode, and `re` doesn't.
+# White space in verbose mode to this library, but not to `re`.
 _FOREIGN = '[\x85\xa0\u1680\u2000-\u200a\u2028\u2029\u202f\u205f\u3000]'
-# A comment has one end alone, so that no search for what follows a gap tries others.
+# A comment has a single end, so that no search for what follows a gap tries others.
 _COMMENT = r'\#[^\n]*(?:\n|\Z)'
 GAP = rf'(?:[ \t\n\r\v\f]|{_FOREIGN}|{_COMMENT})'
 
@@ -70,11 +70,11 @@ _NAMED = r'(?P<end>\]) | (?P<named_class>\[:\^?[a-z]+:\])'
 _ITEM = _compiled(rf'{_NAMED} | (?:\\.|[^\\])(?:-(?:\\.|[^\\\]-]))?',
                   rf'{_NAMED} | (?P<class_gap>{GAP})'
                   r' | (?:\\.|[^\\])(?:-(?:\\.|[^\\\]\s\#-]))?')
-# An accepted pattern without any of these departs in none of these ways. To look for them takes a
-# small part of the time for building the pattern, and to read it all may take more.
+# An accepted pattern without any of these has none of these differences. Searching for them takes a
+# small part of the time for building the pattern; reading the whole pattern may take more.
 _SIGN = re.compile(r'[*+?}]\+|\\[<>]|\\b\{|\{0|\{[0-9,]*[\s#]|\[:|\[\^?--|\[\^?\]-'
                    r'|\(\?[a-zA-Z]*u')
-# The same for verbose mode, and for a pattern that may go into it.
+# The signs for verbose mode, and for a pattern that may turn it on.
 _VERBOSE_SIGN = re.compile(rf'''{_FOREIGN} | \\\n | \\\\\[ | -\[''', re.VERBOSE)
 _CLASS_WITH_GAP = re.compile(r'''\[(?<!\\\[)(?:\^?\])?
     (?:\\.|[^\]\[\\\s\#])*[\s\#]''', re.VERBOSE | re.DOTALL)
@@ -82,19 +82,19 @@ _VERBOSE_FLAG = re.compile(r'\(\?[a-zA-Z]*x')
 _DIRECTIVE = re.compile(r'\(\?[a-zA-Z]+\)')
 _ZERO = re.compile(r'\{0+(?:,0+)?\}')
 _VERBOSE, _UNICODE = int(re.VERBOSE), int(re.UNICODE)
-# From this version on `re` refuses a directive that isn't at the start.
+# From this version on `re` rejects a directive that isn't at the start.
 _AT_START_ALONE = sys.version_info >= (3, 11)
 
 
 class DepartureWarning(FutureWarning):
-    """A pattern holds syntax that `re` accepts too, and reads in another way.
+    """A pattern has syntax that `re` accepts too, but understands differently.
 
-    It is a FutureWarning, as are those that `re` itself gives of syntax with two readings: it is
-    meant for the users of a program too, and so Python shows it unless a filter says otherwise."""
+    It is a FutureWarning, like those that `re` itself gives about ambiguous syntax: it is meant for
+    the users of a program too, so Python shows it unless a filter says otherwise."""
 
 
 class Departure:
-    """A part of a pattern, its position, and the key of what is said of it in MEANINGS."""
+    """A part of a pattern, its position, and the key of its text in MEANINGS."""
 
     def __init__(self, kind: str, pos: int, text: str) -> None:
         self.kind = kind
@@ -108,15 +108,16 @@ class Departure:
 class _Open(NamedTuple):
     """A group that is open."""
 
-    verbose: bool  # as it is outside the group
+    verbose: bool  # verbose mode outside the group
     left: int  # the greatest index of a group before it that is left in the pattern
-    group: int  # its index, or 0 where it has none
+    group: int  # its index, or 0 if it has none
 
 
 class Reader:
     """Reads an accepted pattern from left to right, as the library does.
 
-    `innermost` has for each group, by its index, the greatest index of one in it, or its own."""
+    `innermost` has for each group, by its index, the greatest index of a group in it, or its
+    own."""
 
     def __init__(self, pattern: str, flags: int) -> None:
         self.pattern = pattern
@@ -125,8 +126,8 @@ class Reader:
         self.verbose = bool(int(flags) & _VERBOSE)  # as it is where the reader stands
         self._open: List[_Open] = []
         self._at_start = True
-        # The number of groups, and the greatest index of one that `{0}` hasn't taken out: as it is,
-        # and as it was before the last item.
+        # The number of groups, and the greatest index of a group that `{0}` hasn't removed: now,
+        # and before the last item.
         self._groups = self._left = self._left_before = 0
         self._zero: Optional[re.Match[str]] = None
 
@@ -147,7 +148,7 @@ class Reader:
         return self.found
 
     def _part(self, part: re.Match[str], kind: str) -> None:
-        """Notes a part outside classes, if it departs."""
+        """Records a part outside classes, if `re` understands it differently."""
         if kind in MEANINGS:
             self._add(kind, part.start(), part.group())
         if 'u' in (part['letters'] or part['flags'] or '').partition('-')[0]:
@@ -164,32 +165,32 @@ class Reader:
             self._item(part)
 
     def _comment(self, part: re.Match[str]) -> None:
-        """Notes a comment whose line feed is escaped."""
+        """Records a comment whose line feed is escaped."""
         line = part.group().rpartition('\n')[0]
         if (len(line) - len(line.rstrip('\\'))) % 2 == 1:
             self._add('line_feed', part.start(), part.group())
 
     def _switch(self, part: re.Match[str]) -> None:
-        """Goes on under other flags."""
+        """Continues under other flags."""
         self.verbose = self._with(part['letters'])
         if not (self._at_start or _AT_START_ALONE):
             self._add('directive', part.start(), part.group())
 
     def _operator(self, part: re.Match[str]) -> None:
-        """Takes the groups of the last item out where it is repeated 0 times."""
+        """Removes the groups of the last item if it is repeated 0 times."""
         self._at_start = False
         if _ZERO.match(part.group()):
             self._left, self._zero = self._left_before, part
 
     def _close(self) -> None:
-        """Goes out of a group, which is the last item then."""
+        """Leaves a group, which is then the last item."""
         if self._open:
             self.verbose, self._left_before, group = self._open.pop()
             if group:
                 self.innermost[group] = self._groups
 
     def _item(self, part: re.Match[str]) -> None:
-        """Goes over something without groups, or into a group."""
+        """Skips a part without groups, or enters a group."""
         self._at_start = False
         self._left_before = self._left
         if part['flags']:
@@ -207,7 +208,7 @@ class Reader:
         return 'x' in on or 'x' not in off and self.verbose
 
     def _class(self, start: int) -> int:
-        """Goes over a class, after its bracket, and returns its end."""
+        """Reads a class, after its bracket, and returns its end."""
         self._at_start = False
         self._left_before = self._left
         head = _HEAD[self.verbose].match(self.pattern, start)
@@ -226,7 +227,7 @@ class Reader:
         return len(self.pattern)
 
     def _head(self, head: re.Match[str]) -> None:
-        """Notes what departs in the beginning of a class."""
+        """Records differences in the beginning of a class."""
         gap = re.search(r'[^\]^-]+', head.group())
         if gap is not None:
             self._add('class_gap', head.start() + gap.start(), gap.group())
@@ -242,7 +243,7 @@ class Reader:
 
 
 def _may_depart(pattern: str, flags: int) -> bool:
-    """Whether there is a sign of a departure."""
+    """Whether there is a sign of a difference."""
     if _SIGN.search(pattern):
         return True
     if int(flags) & _VERBOSE or _VERBOSE_FLAG.search(pattern):
@@ -252,12 +253,13 @@ def _may_depart(pattern: str, flags: int) -> bool:
 
 
 def departures_in(pattern: str, flags: int) -> List[Departure]:
-    """The parts of an accepted pattern that `re` reads in another way."""
+    """The parts of an accepted pattern that `re` understands differently."""
     return Reader(pattern, flags).read() if _may_depart(pattern, flags) else []
 
 
 def warn_of_departures(pattern: str, flags: int, stacklevel: int) -> None:
-    """Warns of each way in which `re` would read an accepted pattern otherwise, once for each.
+    """Warns about each way in which `re` would understand an accepted pattern differently, once for
+    each.
 
     `stacklevel` means what it would mean in a call of `warnings.warn` by the caller."""
     kinds: Dict[str, str] = {}

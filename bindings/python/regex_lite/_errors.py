@@ -1,4 +1,4 @@
-"""What is raised where a pattern or a template is refused."""
+"""The error for a pattern or a template that is rejected."""
 
 from __future__ import annotations
 
@@ -6,16 +6,16 @@ from typing import Any, Optional, Tuple
 
 
 class error(Exception):
-    """A pattern is refused, or a template. `msg` says why, and `pattern` is that pattern or that
+    """A pattern or a template is rejected. `msg` says why, and `pattern` is the pattern or the
     template.
 
-    Where the syntax is wrong, `pos` is where the part of the pattern begins that is at fault, and
-    `lineno` and `colno` are the line and the column of that place, both from 1 on. `end` is the end
-    of the shortest prefix with which no accepted pattern begins; it is None where some accepted
-    pattern begins with this one, and of a template. Where only a limit is passed, all four are
-    None. `number` is that of the library, and None where the library isn't asked, as for templates.
+    If the syntax is wrong, `pos` is the start of the faulty part of the pattern, and `lineno` and
+    `colno` are its line and column, both from 1 on. `end` is the end of the shortest prefix with
+    which no accepted pattern begins; it is None if some accepted pattern begins with this one, and
+    for a template. If only a limit is exceeded, all four are None. `number` is that of the library,
+    or None if the library isn't called, as for templates.
 
-    An error can be copied and pickled, so it also comes out of another process as it is."""
+    An error can be copied and pickled, so it can also be passed from another process."""
 
     __module__ = 'regex_lite'
 
@@ -37,5 +37,5 @@ class error(Exception):
         super().__init__(msg)
 
     def __reduce__(self) -> Tuple[Any, ...]:
-        # An exception is made anew from its `args` otherwise, which are its text alone.
+        # Otherwise an exception is restored from its `args`, which are only its text.
         return type(self), (self.msg, self.pattern, self.pos), self.__dict__

@@ -1,4 +1,4 @@
-"""The texts and the places that `re` has for faults of patterns."""
+"""The texts and the positions of `re` for faults of patterns."""
 
 from __future__ import annotations
 
@@ -8,12 +8,12 @@ from re import error as ReError
 
 from ._errors import error
 
-LONGEST_READ = 10000  # characters of a pattern that `re` is asked about, in some milliseconds
+LONGEST_READ = 10000  # characters of a pattern that `re` parses, in some milliseconds
 
 
 def _parser_of_re() -> Any:
-    """What reads patterns for `re`, if it is there. To compile them would take too long: a class
-    of all characters takes `re` a second."""
+    """The parser of `re`, if it is there. Compiling patterns would take too long: a class of all
+    characters takes `re` a second."""
     for name in ('re._parser', 'sre_parse'):  # the second before Python 3.11
         try:
             return import_module(name)
@@ -26,9 +26,9 @@ _PARSER = _parser_of_re()
 
 
 def as_re_says(fault: error, flags: int) -> error:
-    """The error with the text and the place that `re` has, if it finds a fault in the same part of
-    the pattern: one in another part is of syntax that is accepted here, or isn't there. Else it is
-    the error itself."""
+    """The error with the text and the position of `re`, if `re` finds a fault in the same part of
+    the pattern; otherwise the error itself. A fault in another part is of syntax that is accepted
+    here, or isn't there."""
     theirs = _fault_in(fault.pattern, flags)
     if theirs is None or theirs.pos is None or fault.pos is None:
         return fault
@@ -39,7 +39,7 @@ def as_re_says(fault: error, flags: int) -> error:
 
 
 def _fault_in(pattern: str, flags: int) -> Optional[ReError]:
-    """The fault that `re` finds in a pattern, if it tells of one."""
+    """The fault that `re` finds in a pattern, if any."""
     if _PARSER is None or len(pattern) > LONGEST_READ:
         return None
     try:

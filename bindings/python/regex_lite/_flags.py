@@ -1,4 +1,4 @@
-"""The flags and the limits under which a pattern is read."""
+"""The flags and the limits of a pattern."""
 
 from __future__ import annotations
 
@@ -19,8 +19,8 @@ MULTILINE = M = RegexFlag.MULTILINE
 DOTALL = S = RegexFlag.DOTALL
 UNICODE = U = RegexFlag.UNICODE
 VERBOSE = X = RegexFlag.VERBOSE
-# The same as numbers, of which to take bits costs a fraction of what it costs of flags, by the
-# letters that set them within a pattern, as `(?i)`.
+# The flags as numbers, whose bits cost a fraction of those of flags, by the letters that set them
+# within a pattern, as `(?i)`.
 LETTERS = {'a': int(A), 'i': int(I), 'L': int(L), 'm': int(M), 's': int(S), 'u': int(U),
            'x': int(X)}
 _ALL = sum(LETTERS.values())
@@ -47,7 +47,7 @@ def checked_flags(flags: int) -> int:
 
 
 def _limit(name: str, value: int, most: int) -> int:
-    """The limit, which the library can take."""
+    """The limit, if the library can take it."""
     number = operator.index(value)
     if number < 0:
         raise ValueError(f'{name} is negative: {number}')

@@ -15,11 +15,11 @@ from ._structures import CSpan as CSpan, Fault, Options as Options
 NO, YES, NOTHING_HELD, NOT_TEXT, BAD_OFFSET, NO_ROOM, OUT_OF_MEMORY, NO_GROUP = range(8)
 SYNTAX = 10
 LONGEST_MESSAGE = 100
-FIRST_ROOM, LATER_ROOM = 16, 1 << 16  # spans that are asked for at once
+FIRST_ROOM, LATER_ROOM = 16, 1 << 16  # spans of the largest batch
 FEW, MANY = 1024, 64  # bytes of a text for which there is one span more in the first room
 LONG = 1 << 14  # characters of a string that is encoded once, if it isn't ASCII
 MOST_STEPS = 1 << 20  # of a search at worst, for it to be short: some milliseconds
-# Whether a group took part, where it starts, and where it ends: for each group of a match.
+# Whether a group took part, its start, and its end: for each group of a match.
 Row = Tuple[Any, ...]
 
 _LIBRARY = load()
@@ -28,9 +28,9 @@ ROOM = [c_void_p, c_size_t, POINTER(c_size_t)]
 SPAN, BYTE = struct.Struct('@?NN'), struct.Struct('@c')
 
 
-# A function of the library that searches a text, as it is called for a short search and for a long
-# one. A short one keeps the interpreter's lock, since to let it go may cost more than the search. A
-# long one lets it go, and other threads run meanwhile.
+# A function of the library that searches a text, in its form for short searches and for long ones.
+# A short search keeps the interpreter's lock, since releasing it may cost more than the search. A
+# long one releases it, so that other threads run meanwhile.
 Call = Tuple[Callable[..., int], Callable[..., int]]
 
 
@@ -65,7 +65,7 @@ def _without_offset(function: Callable[..., int]) -> Callable[..., int]:
 
 
 class HasHandle(Protocol):
-    """What has a handle of the library."""
+    """An object with a handle of the library."""
 
     @property
     def here(self) -> Any:
@@ -76,30 +76,29 @@ Kept = TypeVar('Kept', bound=HasHandle)
 
 
 class Shared(Generic[Kept]):
-    """What several threads may use at once. No two calls of the library may use one handle at the
-    same time, so each call takes one that no other uses, and puts it back. Another one is built
-    where all are in use: there are as many as calls have been made at once."""
+    """A pool for several threads. No two calls of the library may use one handle at the same time,
+    so each call takes one that no other uses, and puts it back. If all are in use, another is
+    built: there are as many as calls have been made at once."""
 
     def __init__(self, first: Kept, steps: int) -> None:
-        """The first that is built, and how many steps a search takes at most for each byte of a
-        text."""
+        """The first object of the pool, and the greatest number of steps of a search for each byte
+        of a text."""
         self._idle = [first]
         self._long = MOST_STEPS // steps  # bytes of the shortest text whose search may be long
 
     def _build(self) -> Kept:
-        """One more of what is kept."""
+        """Another object for the pool."""
         raise NotImplementedError
 
     def _take(self) -> Kept:
-        """What no other call uses. To take it and to put it back are single steps to other
-        threads."""
+        """An object that no other call uses. Taking it and putting it back are atomic."""
         try:
             return self._idle.pop()
         except IndexError:
             return self._build()
 
     def _ask(self, called: Call, text: bytes, *arguments: object) -> int:
-        """What a call returns of a text."""
+        """What a call returns for a text."""
         try:
             kept = self._idle.pop()  # as `_take` does, in less time
         except IndexError:
@@ -112,7 +111,7 @@ class Shared(Generic[Kept]):
 
 
 def checked(answer: int) -> bool:
-    """Whether there is something, where the call isn't refused."""
+    """Whether the answer is yes. Raises an error unless it is yes or no."""
     if answer == OUT_OF_MEMORY:
         raise MemoryError
     if answer > YES:
@@ -146,10 +145,10 @@ def bounds_of(rows: memoryview, groups: int = 1, group: int = 0) -> Iterator[Tup
 
 
 def room_sizes(length: int, groups: int, share: int = FEW) -> Iterator[int]:
-    """For how many matches there is room in one call after another, in a text of this length.
+    """The sizes of batches of matches, one after another, in a text of this length.
 
-    Each call reads the whole text, so rooms grow, and are the larger the longer the text is. The
-    first is small, since a caller may stop early; one that goes to the end asks for MANY."""
+    Each call reads the whole text, so batches grow, and are larger for longer texts. The first is
+    small, since a caller may stop early; a caller that needs all matches asks for MANY."""
     spans = FIRST_ROOM + length // share
     while True:
         yield spans // groups or 1
@@ -167,7 +166,7 @@ def encoded(text: str) -> bytes:
 
 
 def _advice(text: object) -> str:
-    """What is said to who passes bytes."""
+    """The error for a caller that passes bytes."""
     if not isinstance(text, (bytes, bytearray, memoryview)):
         return ''
     return (': the library searches characters, not bytes, so decode them first, by '
@@ -192,7 +191,7 @@ _escape = call('escape', c_uint32, *TEXT, *ROOM)
 
 
 def refusal(answer: int, message: bytes, pattern: str, options: Options) -> Exception:
-    """What is raised where a pattern is refused by this number."""
+    """The error for a pattern that is rejected with this number."""
     if answer == OUT_OF_MEMORY:
         return MemoryError()
     pos, end = _fault_in(pattern, options) if answer == SYNTAX else (None, None)
@@ -200,7 +199,7 @@ def refusal(answer: int, message: bytes, pattern: str, options: Options) -> Exce
 
 
 def _fault_in(pattern: str, options: Options) -> Tuple[Optional[int], Optional[int]]:
-    """Where in a pattern its first fault stands, in characters, and where it ends."""
+    """The start and the end of the first fault in a pattern, in characters."""
     raw, fault = encoded(pattern), Fault()
     if not checked(_fault_at(raw, len(raw), options, fault)):
         return None, None
@@ -209,7 +208,7 @@ def _fault_in(pattern: str, options: Options) -> Tuple[Optional[int], Optional[i
 
 
 def escaped(text: bytes) -> bytes:
-    """The pattern that means this text."""
+    """The pattern that matches exactly this text."""
     size, length = 2 * len(text), c_size_t()
     room = Room(BYTE, size)
     checked(_escape(text, len(text), room.start, size, length))

@@ -29,8 +29,8 @@ _replace = search_call('replace')
 _find_all = search_call('find_all')
 _captures_all = search_call('captures_all')
 _split = search_call('split')
-# The calls that write the span of a match and its groups: of one that starts anywhere from the
-# offset on, of one that starts at the offset itself, and of one that is the whole text.
+# The calls that write the span of a match and its groups: unanchored, anchored, and for a whole
+# match.
 ANYWHERE = search_call('find'), search_call('captures')
 ANCHORED = search_call('find_anchored'), search_call('captures_anchored')
 WHOLE = whole_call('full_match'), whole_call('full_captures')
@@ -38,14 +38,14 @@ _START, _UNREAD = c_size_t.from_param(0), byref(c_size_t())  # the second for a 
 
 
 def spans_of(row: Row) -> List[Span]:
-    """The spans of the groups of a match, of which some may be none."""
+    """The spans of the groups of a match, some of which may be missing."""
     fields = iter(row)
     return [(start, end) if is_there else None for is_there, start, end in zip(*[fields] * 3)]
 
 
 class Worker:
     """What one call at a time uses: a handle, which is freed with this object, and memory for the
-    groups of one match. `here` and `there` are passed to calls for the two."""
+    groups of a match. `here` and `there` are passed to calls for the two."""
 
     __slots__ = ('handle', 'here', 'length', 'spans', 'there')
     spans: Array[CSpan]
@@ -74,7 +74,7 @@ class Regex(Shared[Worker]):
         self._width, self._row = c_size_t.from_param(self.groups), Struct('@' + '?NN' * self.groups)
 
     def _build(self) -> Worker:
-        """A handle with the regex of the pattern, unless that is refused."""
+        """A handle with the regex of the pattern. Raises an error if it is rejected."""
         worker, raw, length = Worker(), encoded(self._pattern), c_size_t()
         message = create_string_buffer(LONGEST_MESSAGE)
         answer = _new(worker.handle, raw, len(raw), self._options, message, LONGEST_MESSAGE, length)
@@ -85,7 +85,7 @@ class Regex(Shared[Worker]):
         return worker
 
     def name(self, index: int) -> Optional[str]:
-        """The name of a group, where it has one."""
+        """The name of a group, if it has one."""
         worker, length = self._take(), c_size_t()
         room = create_string_buffer(1)
         answer = _group_name(worker.handle, index, room, 0, length)
@@ -96,7 +96,7 @@ class Regex(Shared[Worker]):
         return room.raw.decode() if answer == NO_ROOM else None
 
     def may_be_empty(self) -> bool:
-        """Whether the pattern may match the empty text, with its looks taken to hold."""
+        """Whether the pattern may match the empty text if its looks are assumed to hold."""
         worker = self._take()
         answer = _may_be_empty(worker.handle)
         self._idle.append(worker)
@@ -133,9 +133,9 @@ class Regex(Shared[Worker]):
                 for is_there, start, end in SPAN.iter_unpack(spans.first(count))]
 
     def rows(self, text: bytes, most: int = 0, start: int = 0) -> Iterator[memoryview]:
-        """The groups of the first matches from there on, of all where `most` is 0, and of none
-        where it is negative, in bytes of UTF-8: the rows of some matches at a time. `matches_in`
-        and `column_in` read them."""
+        """The groups of the first matches from there on, of all if `most` is 0, and of none if it
+        is negative, in bytes of UTF-8: in batches of rows. `matches_in` and `column_in` read
+        them."""
         if most < 0:
             return
         walk, left = Walk(), most or sys.maxsize
@@ -160,12 +160,12 @@ class Regex(Shared[Worker]):
         return self._row.iter_unpack(rows)
 
     def column_in(self, rows: memoryview, group: int) -> Iterator[Tuple[int, int]]:
-        """Where a group of each match starts and ends: both are 0 where it took no part."""
+        """The start and the end of a group of each match: both are 0 if it took no part."""
         return bounds_of(rows, self.groups, group)
 
     def pieces(self, text: bytes, most: int) -> Iterator[Iterator[Tuple[int, int]]]:
-        """Where the pieces of a text start and end, some of them at a time: the first matches cut
-        it, all where `most` is 0."""
+        """The starts and ends of the pieces of a text, in batches: the text is split at the first
+        matches, at all if `most` is 0."""
         cut, left, count = Cut(), most or sys.maxsize, c_size_t()
         for size in room_sizes(len(text), 1, MANY):
             room = min(size, left)
@@ -180,7 +180,7 @@ class Regex(Shared[Worker]):
                 return
 
     def count(self, text: bytes, walk: Walk) -> int:
-        """How many matches are left, which are walked over."""
+        """The number of matches left, which are consumed."""
         total = 0
         for size in room_sizes(len(text), 1):
             count, _ = self._walk_on(text, walk, size, 1)
@@ -190,7 +190,7 @@ class Regex(Shared[Worker]):
         return total
 
     def tried(self, text: bytes) -> int:
-        """How many places a search for the first match tries."""
+        """The number of places that a search for the first match tries."""
         span, cost = CSpan(), Cost()
         checked(self._ask(_find_counted, text, _START, byref(span), byref(cost)))
         return int(cost.tried)
@@ -202,8 +202,8 @@ class Regex(Shared[Worker]):
 
     def replaced(self, text: bytes, new: bytes, limit: int,
                  is_literal: bool) -> Tuple[str, int]:
-        """The text with its first matches replaced, or all if the limit is 0, by another text or
-        by what it gives as a template, where `$1` is a group; and how many were replaced."""
+        """The text with its first matches replaced, or all if the limit is 0, by a literal text or
+        by a template, where `$1` is a group; and the number of matches that were replaced."""
         # A single byte makes the text longer only where it replaces an empty match.
         growth = 1 if len(new) < 2 else 2
         how, size = Replacing(limit, is_literal, 0, 0), growth * len(text) + len(new)
@@ -218,8 +218,8 @@ class Regex(Shared[Worker]):
 
     def _walk_on(self, text: bytes, walk: Walk, room: int,
                  groups: int) -> Tuple[int, memoryview]:
-        """How many matches come next, at most this many, and their groups: all, or the whole match
-        alone."""
+        """The number of the next matches, at most this many, and their groups: all, or only the
+        whole match."""
         size, count = room * groups, c_size_t()
         spans = Room(SPAN, size)
         checked(self._ask(_find_all if groups == 1 else _captures_all, text, byref(walk),

@@ -13,19 +13,19 @@ from ._structures import Cost, Walk
 
 
 class ListHandle(ctypes.Structure):
-    """What holds a list of patterns, or nothing."""
+    """A handle: it holds a list of patterns, or nothing."""
 
     _fields_ = [('place', c_void_p)]
 
 
 class ListPattern(ctypes.Structure):
-    """One of several patterns, whose bytes come one after another."""
+    """One of several patterns, whose bytes are concatenated."""
 
     _fields_ = [('len', c_size_t), ('options', Options)]
 
 
 class ListRefusal(ctypes.Structure):
-    """What is returned of several patterns that are refused."""
+    """Why several patterns are rejected."""
 
     _fields_ = [('number', c_size_t), ('message_len', c_size_t)]
 
@@ -37,7 +37,7 @@ class ListSpan(ctypes.Structure):
 
 
 class ListGroups(ctypes.Structure):
-    """Which pattern a match is of, and how many groups that has."""
+    """The pattern of a match, and the number of its groups."""
 
     _fields_ = [('number', c_size_t), ('count', c_size_t)]
 
@@ -51,8 +51,7 @@ _list_may_be_empty = call('list_may_be_empty', c_uint32, _LIST, c_size_t)
 _list_places = call('list_places', c_size_t, _LIST)
 _list_find_counted = search_call('list_find_counted')
 _list_matches = search_call('list_matches')
-# The calls that write the groups of a match: of one that starts anywhere from the offset on, of one
-# that starts at the offset itself, and of one that is the whole text.
+# The calls that write the groups of a match: unanchored, anchored, and for a whole match.
 ANYWHERE, ANCHORED = search_call('list_captures'), search_call('list_captures_anchored')
 WHOLE = whole_call('list_full_captures')
 _list_find_all = search_call('list_find_all')
@@ -84,7 +83,7 @@ class RawList(Shared[ListHolder]):
         self._room = 4  # groups for which there is room at first
 
     def _build(self) -> ListHolder:
-        """A handle with the list of the patterns, unless one is refused."""
+        """A handle with the list of the patterns. Raises an error if one is rejected."""
         holder, patterns, options = ListHolder(), self._patterns, self._options
         texts = [encoded(pattern) for pattern in patterns]
         each = (ListPattern * len(texts))(*[ListPattern(len(text), options) for text in texts])
@@ -98,7 +97,7 @@ class RawList(Shared[ListHolder]):
         return holder
 
     def may_be_empty(self, number: int) -> bool:
-        """Whether this pattern may match the empty text, with its looks taken to hold."""
+        """Whether this pattern may match the empty text if its looks are assumed to hold."""
         holder = self._take()
         answer = _list_may_be_empty(holder.handle, number)
         self._idle.append(holder)
@@ -159,9 +158,9 @@ class RawList(Shared[ListHolder]):
                 at = end
 
     def _walk_on(self, text: bytes, walk: Walk, size: int) -> Tuple[List[Tuple[int, int]], Row]:
-        """The numbers of the patterns of the next matches, and how many groups each has; and these
-        groups, one after another. They are at most this many groups, if a match has no more, and
-        none at the end."""
+        """The numbers of the patterns of the next matches, and the number of groups of each; and
+        these groups, one after another. They are at most this many groups, unless a single match
+        has more, and none at the end."""
         count, answer = c_size_t(), NO_ROOM
         while answer == NO_ROOM:
             size = max(size, count.value)
@@ -180,7 +179,7 @@ class RawList(Shared[ListHolder]):
         return [number for number, flag in enumerate(flags.raw) if flag]
 
     def tried(self, text: bytes) -> int:
-        """How many places a search for the first match tries."""
+        """The number of places that a search for the first match tries."""
         span, cost = ListSpan(), Cost()
         checked(self._ask(_list_find_counted, text, c_size_t(0), byref(span), byref(cost)))
         return int(cost.tried)

@@ -1,4 +1,4 @@
-"""Several patterns that are searched for at once."""
+"""Lists of patterns that are searched for in one pass."""
 
 from __future__ import annotations
 
@@ -17,15 +17,15 @@ from ._texts import END, part_in
 
 
 class RegexList:
-    """Several patterns that are ready to be searched for at once, numbered from 0 on. A search
-    goes over a string once for all of them. Of the matches that start first it finds that of the
-    pattern with the lowest number. It may be used in any thread.
+    """A compiled list of patterns, numbered from 0 on. A search makes one pass over a string for
+    all of them. Of the matches that start first it finds that of the pattern with the lowest
+    number. A list may be used in any thread.
 
     Searches with a `pos` and an `endpos` see what those of a `Pattern` see."""
 
     def __init__(self, patterns: Iterable[str], flags: int = 0, *, nest_limit: int = NEST_LIMIT,
                  size_limit: int = SIZE_LIMIT) -> None:
-        """Raises what `Pattern` raises, for the first pattern that is refused."""
+        """Raises what `Pattern` raises, for the first pattern that is rejected."""
         options = options_of(flags, nest_limit, size_limit)
         self.patterns = tuple(patterns)
         self.flags = RegexFlag(flags)
@@ -57,8 +57,8 @@ class RegexList:
 
     def fullmatch(self, string: str, pos: int = 0,
                   endpos: int = END) -> Optional[Tuple[int, Match[str]]]:
-        """The match from the one offset to the other, of the pattern with the lowest number that
-        has one, and that number."""
+        """The match from one offset to the other, of the pattern with the lowest number that has
+        one, and that number."""
         if pos <= 0:
             return self._found(string, pos, endpos, self._list, WHOLE)
         return self._found(string, pos, endpos, self._up_to_end(), ANCHORED)
@@ -66,7 +66,7 @@ class RegexList:
     def search_of(self, number: int, string: str, pos: int = 0,
                   endpos: int = END) -> Optional[Match[str]]:
         """What the pattern with this number finds by itself, whatever the others match. Raises
-        IndexError where there is no such pattern."""
+        IndexError if there is no such pattern."""
         return self._pattern(self._index(number)).search(string, pos, endpos)
 
     def finditer(self, string: str, pos: int = 0,
@@ -81,8 +81,8 @@ class RegexList:
 
     def spans(self, string: str, pos: int = 0,
               endpos: int = END) -> Iterator[Tuple[int, Tuple[int, int]]]:
-        """The same matches without their groups: the number of the pattern of each, and its span.
-        It takes a fraction of the time of `finditer`."""
+        """All matches, from left to right, without their groups: the number of the pattern of each,
+        and its span. It takes a fraction of the time of `finditer`."""
         part = part_in(string, pos, endpos)
         if part is None:
             return iter(())
@@ -99,8 +99,8 @@ class RegexList:
         return self._list.matches(raw, start)
 
     def may_be_empty(self, number: int) -> bool:
-        """Whether the pattern with this number may match the empty string, with its looks taken to
-        hold. Raises IndexError where there is no such pattern."""
+        """Whether the pattern with this number may match the empty string if its looks are assumed
+        to hold. Raises IndexError if there is no such pattern."""
         return self._list.may_be_empty(self._index(number))
 
     def __repr__(self) -> str:
@@ -120,7 +120,7 @@ class RegexList:
         return number, match_of(self._pattern(number), string, row, offsets, bounds)
 
     def _up_to_end(self) -> RawList:
-        """The patterns that match where these do, up to the end of the string alone."""
+        """The patterns that match where these do, but only up to the end of the string."""
         if self._to_end is None:
             longer = [up_to_end(pattern, self.flags) for pattern in self.patterns]
             nest_limit = min(self._limits['nest_limit'] + 1, MOST_NEST)
@@ -128,7 +128,7 @@ class RegexList:
         return self._to_end
 
     def _index(self, number: int) -> int:
-        """The number of a pattern, which is counted from the end where it is negative."""
+        """The number of a pattern, which is counted from the end if it is negative."""
         return range(len(self.patterns))[number]
 
     def _pattern(self, number: int) -> Pattern[str]:

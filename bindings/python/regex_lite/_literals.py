@@ -1,4 +1,4 @@
-"""Patterns that mean one text."""
+"""Patterns that match exactly one text."""
 
 from __future__ import annotations
 
@@ -16,8 +16,8 @@ _WRITTEN = re.compile(r'\\(.)|\[(.)\]', re.DOTALL)
 
 
 def literal_of(pattern: str, flags: int) -> Optional[str]:
-    """The text that a pattern means, where it is written without any operator: what `escape` gives
-    is, for every text but the empty one. Such a pattern matches where the text stands, and nowhere
+    """The only text that a pattern matches, if it has no operator; what `escape` returns is such a
+    pattern, for every text but the empty one. It matches where the text occurs, and nowhere
     else."""
     if int(flags) & (LETTERS['i'] | LETTERS['x']) or not _LITERAL.fullmatch(pattern):
         return None
@@ -25,10 +25,10 @@ def literal_of(pattern: str, flags: int) -> Optional[str]:
 
 
 def start_of(string: str, literal: str, start: int, end: int) -> int:
-    """The first offset, if the literal stands there, before the other one; else -1."""
+    """The first offset, if the literal occurs there, before the other one; otherwise -1."""
     return start if string.startswith(literal, start, end) else -1
 
 
 def whole_of(string: str, literal: str, start: int, end: int) -> int:
-    """The first offset, if the literal is all that stands between the two; else -1."""
+    """The first offset, if the literal is the text between the two; otherwise -1."""
     return start if string[start:end] == literal else -1

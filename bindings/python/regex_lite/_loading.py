@@ -1,4 +1,4 @@
-"""How the shared object of the library is found and loaded."""
+"""Finding and loading the shared object of the library."""
 
 from __future__ import annotations
 
@@ -13,14 +13,14 @@ _HINT = (f'build it by `bin/library FOLDER`, and let REGEX_LITE_LIBRARY name FOL
 
 
 class Library(NamedTuple):
-    """The shared object, whose calls keep the interpreter's lock or let it go."""
+    """The shared object, whose calls keep the interpreter's lock or release it."""
 
     keeping: ctypes.PyDLL
     letting_go: ctypes.CDLL
 
 
 def load() -> Library:
-    """The shared object: that which REGEX_LITE_LIBRARY names, or that beside this file. It is an
+    """The shared object that REGEX_LITE_LIBRARY names, or the one next to this file. Raises
     ImportError if there is none, or if it can't be loaded."""
     beside = Path(__file__).with_name(NAME)
     name = os.environ.get('REGEX_LITE_LIBRARY') or str(beside)

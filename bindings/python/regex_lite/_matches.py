@@ -14,20 +14,20 @@ if TYPE_CHECKING:
     from ._patterns import Pattern
 
 Group = Union[int, str]
-# `re` says of its matches and patterns whether they are of str or of bytes: here, always of str.
+# Matches and patterns of `re` are generic over str and bytes: here they are always of str.
 Text = TypeVar('Text', bound=str)
 Default = TypeVar('Default')
 
 
 class Match(Generic[Text]):
-    """A match of a pattern in a string. What a group has that took no part is None, but type
-    checkers take it for a text, as those of `re`: else each use of a group would need a test."""
+    """A match of a pattern in a string. A group that took no part is None, but to type checkers it
+    is a text, as in `re`: otherwise each use of a group would need a test."""
 
     __slots__ = ('_re', '_string', '_row', '_offsets', '_bounds')
     __module__ = 'regex_lite'
     _re: Pattern[Any]
     _string: str
-    _row: Row  # in bytes, or in characters where there are no offsets
+    _row: Row  # in bytes, or in characters if there are no offsets
     _offsets: Optional[Offsets]
     _bounds: Optional[Bounds]
 
@@ -43,23 +43,23 @@ class Match(Generic[Text]):
 
     @property
     def pos(self) -> int:
-        """Where the search began: the `pos` that it was given, within the string."""
+        """The offset at which the search began: the `pos` of the call, within the string."""
         return 0 if self._bounds is None else self._bounds[0]
 
     @property
     def endpos(self) -> int:
-        """Where the string ended for the search: the `endpos` that it was given, within the
+        """The offset at which the string ended for the search: the `endpos` of the call, within the
         string."""
         return len(self._string) if self._bounds is None else self._bounds[1]
 
     @property
     def regs(self) -> Tuple[Tuple[int, int], ...]:
-        """What `span` returns of each group, from the whole match on."""
+        """What `span` returns for each group, beginning with the whole match."""
         return tuple(self.span(i) for i in range(len(self._row) // 3))
 
     @property
     def lastindex(self) -> Optional[int]:
-        """The index of the group that closed last, or None where no group took part."""
+        """The index of the group that closed last, or None if no group took part."""
         row = self._row
         closed = [i for i in range(1, len(row) // 3) if row[3 * i]]
         if not closed:
@@ -69,13 +69,12 @@ class Match(Generic[Text]):
 
     @property
     def lastgroup(self) -> Optional[str]:
-        """The name of the group that closed last; None where it has none, or where no group took
-        part."""
+        """The name of the group that closed last; None if it has none, or if no group took part."""
         last = self.lastindex
         return next((name for name, i in self._re.groupindex.items() if i == last), None)
 
     def span(self, group: Group = 0, /) -> Tuple[int, int]:
-        """Where the group starts and ends; (-1, -1) where it took no part."""
+        """The start and the end of the group; (-1, -1) if it took no part."""
         row, at = self._row, 0 if group == 0 else self._at(group)
         if not row[at]:
             return -1, -1
@@ -84,11 +83,11 @@ class Match(Generic[Text]):
         return self._offsets.span(row[at + 1], row[at + 2])
 
     def start(self, group: Group = 0, /) -> int:
-        """Where the group starts; -1 where it took no part."""
+        """The start of the group; -1 if it took no part."""
         return self.span(group)[0]
 
     def end(self, group: Group = 0, /) -> int:
-        """Where the group ends; -1 where it took no part."""
+        """The end of the group; -1 if it took no part."""
         return self.span(group)[1]
 
     @overload
@@ -128,7 +127,7 @@ class Match(Generic[Text]):
     def groups(self, default: Default) -> Tuple[Union[str, Default], ...]: ...
 
     def groups(self, default: object = None) -> Tuple[object, ...]:
-        """The texts of all groups but the whole match."""
+        """The texts of all groups except the whole match."""
         texts = [self[i] for i in range(1, len(self._row) // 3)]
         return tuple(default if text is None else text for text in texts)
 
@@ -160,7 +159,7 @@ class Match(Generic[Text]):
         raise TypeError("cannot pickle 'regex_lite.Match' object")
 
     def _at(self, group: object) -> int:
-        """Where in the row the fields of a group begin: whether it took part, and its span."""
+        """The index in the row of a group's fields: whether it took part, and its span."""
         try:
             index = operator.index(group)  # type: ignore[arg-type]
         except TypeError:
@@ -173,9 +172,9 @@ class Match(Generic[Text]):
     def _last(self, groups: List[int], end: int) -> int:
         """Which of these groups, all of which end here, closed last.
 
-        A group closes after those in it. Of two others one is empty, and that opened after the
-        other one had closed. Where both are empty, the one that comes later in the pattern is taken
-        for the later one: it is, unless they took part in different passes of a repetition."""
+        A group closes after those in it. Of two others one is empty, and opened after the other had
+        closed. If both are empty, the one that comes later in the pattern is taken to be the later
+        one: it is, unless they took part in different passes of a repetition."""
         last, innermost = groups[0], self._re._innermost() if len(groups) > 1 else []
         for group in groups[1:]:
             if self._row[3 * group + 1] == end and group > innermost[last]:
@@ -185,9 +184,8 @@ class Match(Generic[Text]):
 
 def match_of(pattern: Pattern[Any], string: str, row: Row, offsets: Optional[Offsets],
              bounds: Optional[Bounds] = None) -> Match[str]:
-    """The match that has these groups, in bytes, or in characters where there are no offsets: in an
-    ASCII string both are the same. The bounds are those of the search, unless it saw the whole
-    string."""
+    """The match with these groups, in bytes, or in characters if there are no offsets: in an ASCII
+    string both are the same. The bounds are those of the search, unless it saw the whole string."""
     found: Match[str] = Match()  # which takes half the time of one with an `__init__`
     found._re = pattern
     found._string = string

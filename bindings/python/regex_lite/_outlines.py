@@ -1,4 +1,4 @@
-"""What a pattern tells before it is searched for, as the library reads it."""
+"""Properties of a pattern that its outline shows."""
 
 from __future__ import annotations
 
@@ -30,15 +30,15 @@ def flags_of(pattern: str, flags: int) -> int:
 
 
 def innermost_of(pattern: str, flags: int) -> List[int]:
-    """For each group of an accepted pattern, by its index, the greatest index of one in it, or its
-    own. So a group is in another one if its index lies between."""
+    """For each group of an accepted pattern, by its index, the greatest index of a group in it, or
+    its own. So a group is in another one if its index lies between."""
     reader = Reader(pattern, flags)
     reader.read()
     return reader.innermost
 
 
 def up_to_end(pattern: str, flags: int) -> str:
-    """The pattern that matches where this one does, up to the end of the string alone."""
+    """The pattern that matches where this one does, but only up to the end of the string."""
     reader = Reader(pattern, flags)
     reader.read()
     # A comment at the end of the pattern has to end before the bracket.

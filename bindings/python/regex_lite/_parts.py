@@ -1,4 +1,4 @@
-"""What a pattern means, part by part."""
+"""The outline of a pattern: what it means, part by part."""
 
 from __future__ import annotations
 
@@ -21,7 +21,7 @@ _outline = call('outline', c_uint32, *TEXT, POINTER(Options), c_void_p, c_size_t
 
 
 class PartKind(Enum):
-    """What a part of a pattern is."""
+    """The kind of a part of a pattern."""
 
     EMPTY = 0  # the empty string
     CHAR = 1  # the character `first`
@@ -31,7 +31,7 @@ class PartKind(Enum):
     REPETITION = 5  # the part after it, from `least` to `most` times
     CAPTURE = 6  # the part after it, as the group `group`
     CONCAT = 7  # the parts one level below it, one after another
-    ALTERNATION = 8  # one of these, the earlier preferred
+    ALTERNATION = 8  # one of the parts one level below it, the earlier preferred
 
 
 class Look(Enum):
@@ -44,17 +44,16 @@ class Look(Enum):
     START_CRLF = 5  # of a line, where lines end with a carriage return, a line feed or both
     END_CRLF = 6
     WORD = 7  # a word starts or ends here
-    WORD_NEGATE = 8  # none does
+    WORD_NEGATE = 8  # no word starts or ends here
     WORD_START = 9
     WORD_END = 10
-    WORD_START_HALF = 11  # no word character stands before
-    WORD_END_HALF = 12  # none stands after
+    WORD_START_HALF = 11  # there is no word character before
+    WORD_END_HALF = 12  # there is no word character after
 
 
 class Part(NamedTuple):
-    """A part of a pattern. It comes right before those that it has, which are one level below it:
-    `depth` says how many parts have it, one in another. What a part of its kind doesn't have is
-    None."""
+    """A part of a pattern. Its own parts follow it directly and are one level below it: `depth` is
+    the number of parts around it. A field that parts of its kind don't have is None."""
 
     depth: int
     kind: PartKind
@@ -69,11 +68,11 @@ class Part(NamedTuple):
 
 def outline(pattern: Union[str, Pattern[str]], flags: int = 0, *,
             nest_limit: int = NEST_LIMIT) -> List[Part]:
-    """The parts of the pattern in its order: those of what it is under these flags, so `(?i)a` is a
+    """The parts of the pattern in order: those of its meaning under these flags, so `(?i)a` is a
     class, `a{1}` is `a`, and `(?:a)` too.
 
-    What `compile` raises for a pattern that it refuses is raised, but there is no limit on the
-    size: a pattern of which there are parts may be too large for `compile`."""
+    Raises what `compile` raises for a pattern that it rejects, but there is no limit on the size: a
+    pattern that has an outline may be too large for `compile`."""
     if isinstance(pattern, Pattern):
         if flags:
             raise ValueError('cannot process flags argument with a compiled pattern')
@@ -85,7 +84,8 @@ def outline(pattern: Union[str, Pattern[str]], flags: int = 0, *,
 
 
 class Outline:
-    """The parts of a pattern, of which each is made when it is asked for: there may be millions."""
+    """The parts of a pattern, each of which is created when it is accessed: there may be
+    millions."""
 
     def __init__(self, pattern: str, options: Options) -> None:
         raw, told = encoded(pattern), Outlined()

@@ -1,4 +1,4 @@
-"""Walks over all matches of a string, one with each call."""
+"""Scans over all matches in a string, one match with each call."""
 
 from __future__ import annotations
 
@@ -34,7 +34,8 @@ class PatternScanner:
         return found
 
     def match(self) -> Optional[Match[str]]:
-        """The next match, if it starts where the one before it ended. If not, the walk is over."""
+        """The next match, if it starts where the one before it ended. Otherwise the scan is
+        over."""
         end, found = self._end, self.search()
         if found is None or found.start() == end:
             return found

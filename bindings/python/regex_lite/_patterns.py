@@ -1,4 +1,4 @@
-"""Patterns that are ready to be searched for."""
+"""Compiled patterns."""
 
 from __future__ import annotations
 
@@ -22,11 +22,11 @@ from ._templates import as_library_has_it, parts_of
 from ._texts import END, Offsets, bounds_in, offsets_in, part_in, part_of, texts_at
 
 Replacement = Union[str, Callable[[Match[str]], str]]
-LONGEST_SHOWN = 200  # characters of a pattern in its `repr`, as of one of `re`
+LONGEST_SHOWN = 200  # characters of a pattern in its `repr`, as in `re`
 
 
 def _how_many(count: SupportsIndex) -> int:
-    """How many matches a caller asks for, as an integer that the library can take."""
+    """The number of matches that a caller asks for, as an integer that the library can take."""
     number = operator.index(count)
     if abs(number) > sys.maxsize:
         raise OverflowError(f'the count is too large: {number}')
@@ -34,11 +34,11 @@ def _how_many(count: SupportsIndex) -> int:
 
 
 class Pattern(Generic[Text]):
-    """A pattern that is ready to be searched for, in any thread. Its attributes can't be set. Two
+    """A compiled pattern, which may be used in any thread. Its attributes can't be set. Two
     patterns are equal if they have the same text and the same flags.
 
     Searches with a `pos` and an `endpos` see the string from its start up to the `endpos`, and
-    begin at the `pos`. One before the string, or after it, stands for its start or its end."""
+    begin at the `pos`. An offset before or after the string means its start or its end."""
 
     __slots__ = ('_regex', '_pattern', '_flags', '_limits', '_literal', '_groupindex', '_nesting',
                  '_to_end', '__weakref__')
@@ -46,9 +46,9 @@ class Pattern(Generic[Text]):
 
     def __init__(self, pattern: str, flags: int = 0, *, nest_limit: int = NEST_LIMIT,
                  size_limit: int = SIZE_LIMIT) -> None:
-        """Raises `error` for a pattern that is refused, ValueError for flags that there are not and
-        for a negative limit, and OverflowError for a nest_limit from 2**32 on or a size_limit that
-        is no size_t."""
+        """Raises `error` for a pattern that is rejected, ValueError for unknown flags and for a
+        negative limit, and OverflowError for a nest_limit from 2**32 on or a size_limit that
+        doesn't fit size_t."""
         options = options_of(flags, nest_limit, size_limit)
         try:
             self._regex = Regex(pattern, options)
@@ -71,12 +71,12 @@ class Pattern(Generic[Text]):
 
     @property
     def flags(self) -> RegexFlag:
-        """The flags, with those that the pattern sets where it begins, as `(?i)`."""
+        """The flags, including those that the pattern sets at its start, as `(?i)`."""
         return self._flags
 
     @property
     def groups(self) -> int:
-        """How many groups the pattern has."""
+        """The number of groups of the pattern."""
         return self._regex.groups - 1
 
     @property
@@ -86,7 +86,7 @@ class Pattern(Generic[Text]):
 
     @property
     def may_be_empty(self) -> bool:
-        """Whether the pattern may match the empty string, with its looks taken to hold: where this
+        """Whether the pattern may match the empty string if its looks are assumed to hold: if this
         is False, no match is empty."""
         return self._regex.may_be_empty()
 
@@ -98,7 +98,7 @@ class Pattern(Generic[Text]):
         return self._literal_at(string, pos, endpos, literal, str.find)
 
     def match(self, string: str, pos: int = 0, endpos: int = END) -> Optional[Match[str]]:
-        """The match that starts at this very offset: of several, the one that the pattern
+        """The match that starts at this very offset; of several, the one that the pattern
         prefers."""
         literal = self._literal
         if literal is None or string.__class__ is not str:
@@ -106,8 +106,8 @@ class Pattern(Generic[Text]):
         return self._literal_at(string, pos, endpos, literal, start_of)
 
     def fullmatch(self, string: str, pos: int = 0, endpos: int = END) -> Optional[Match[str]]:
-        """The match from the one offset to the other, also where the pattern prefers a shorter one:
-        of the ways to match all of that, it has the groups of the one that the pattern prefers."""
+        """The match from one offset to the other, even if the pattern prefers a shorter one. Of the
+        ways to match all of that text, it has the groups of the one that the pattern prefers."""
         literal = self._literal
         if literal is not None and string.__class__ is str:
             return self._literal_at(string, pos, endpos, literal, whole_of)
@@ -121,8 +121,8 @@ class Pattern(Generic[Text]):
         return found
 
     def search_each(self, strings: Iterable[str]) -> List[Optional[Tuple[int, int]]]:
-        """The span of the first match in each of the strings. Where they are many and short, it
-        takes about half of the time of `search`."""
+        """The span of the first match in each of the strings. If they are many and short, it takes
+        about half of the time of `search`."""
         every = list(strings)
         raws = [encoded(string) for string in every]
         return [span if span is None or len(string) == len(raw) else Offsets(raw).span(*span)
@@ -142,8 +142,8 @@ class Pattern(Generic[Text]):
                 for row in self._rows(raw, 0, start))
 
     def findall(self, string: str, pos: int = 0, endpos: int = END) -> List[Any]:
-        """The texts of all matches: of the match, of its group, or of its groups where they are
-        several."""
+        """The texts of all matches: of the whole match if there is no group, of its only group, or
+        of all its groups."""
         if pos == 0 and endpos is END:
             return self._texts(string, encoded(string), 0)
         part = part_in(string, pos, endpos)
@@ -166,13 +166,13 @@ class Pattern(Generic[Text]):
         return found
 
     def scanner(self, string: str, pos: int = 0, endpos: int = END) -> PatternScanner:
-        """What goes over all matches, one with each call."""
+        """A scan over all matches, one with each call."""
         return PatternScanner(self, string, pos, endpos)
 
     def split(self, string: str, maxsplit: int = 0) -> List[Union[str, Any]]:
-        """What stands between the matches, each piece but the last with the groups of the match
-        after it. At most `maxsplit` matches split the string, or all where that is 0; none where it
-        is negative."""
+        """The pieces between the matches, each but the last followed by the groups of the match
+        after it. At most `maxsplit` matches split the string, or all if that is 0; none if it is
+        negative."""
         raw, most = encoded(string), _how_many(maxsplit)
         pieces: List[Union[str, Any]] = []
         if self._regex.groups == 1 and most >= 0:
@@ -190,12 +190,12 @@ class Pattern(Generic[Text]):
         return [*pieces, part(end, len(raw))]
 
     def sub(self, repl: Replacement, string: str, count: int = 0) -> str:
-        """The string with its first `count` matches replaced, or all where that is 0; none where it
-        is negative. A template is read once."""
+        """The string with its first `count` matches replaced, or all if that is 0; none if it is
+        negative. A template is parsed once."""
         return self.subn(repl, string, count)[0]
 
     def subn(self, repl: Replacement, string: str, count: int = 0) -> Tuple[str, int]:
-        """The same, and how many matches were replaced."""
+        """What `sub` returns, and the number of matches that were replaced."""
         raw, most = encoded(string), _how_many(count)
         if isinstance(repl, str):
             return self._by_template(repl, raw, most)
@@ -247,7 +247,7 @@ class Pattern(Generic[Text]):
         return match_of(self, string, (True, found, found + len(literal)), None, bounds)
 
     def _up_to_end(self) -> Pattern[str]:
-        """The pattern that matches where this one does, up to the end of the string alone."""
+        """The pattern that matches where this one does, but only up to the end of the string."""
         if self._to_end is None:
             nest_limit, _ = self._limits
             self._to_end = Pattern(up_to_end(self._pattern, self._flags), self._flags,
@@ -255,20 +255,20 @@ class Pattern(Generic[Text]):
         return self._to_end
 
     def _innermost(self) -> List[int]:
-        """For each group, by its index, the greatest index of one in it, or its own."""
+        """For each group, by its index, the greatest index of a group in it, or its own."""
         if self._nesting is None:
             self._nesting = innermost_of(self._pattern, self._flags)
         return self._nesting
 
     def _rows(self, raw: bytes, most: int = 0, start: int = 0) -> Iterator[Row]:
-        """The groups of all matches from there on, of the first ones, or of none: as `most`
+        """The groups of all matches from there on, of the first ones, or of none, as `most`
         says."""
         return chain.from_iterable(map(self._regex.matches_in,
                                        self._regex.rows(raw, most, start)))
 
     def _by_template(self, template: str, raw: bytes, most: int) -> Tuple[str, int]:
-        """The string with its first matches replaced by what a template gives, and how many were
-        replaced."""
+        """The string with its first matches replaced by a template's expansion, and the number of
+        matches that were replaced."""
         parts = parts_of(template, self)
         if most < 0:
             return raw.decode(), 0
@@ -279,8 +279,8 @@ class Pattern(Generic[Text]):
 
     def _by_function(self, function: Callable[[Match[str]], str], string: str, raw: bytes,
                      most: int) -> Tuple[str, int]:
-        """The string with its first matches replaced by what a function returns, and how many were
-        replaced."""
+        """The string with its first matches replaced by what a function returns, and the number of
+        matches that were replaced."""
         if not callable(function):
             raise TypeError(f'a replacement is a str or a function, not {type(function).__name__}')
         part, offsets, end = part_of(string, raw), offsets_in(string, raw), 0

@@ -7,7 +7,7 @@ from ctypes import c_bool, c_size_t, c_uint32, c_uint64, c_void_p
 
 
 class Handle(ctypes.Structure):
-    """What holds a regex, or nothing."""
+    """A handle: it holds a regex, or nothing."""
 
     _fields_ = [('place', c_void_p)]
 
@@ -27,37 +27,38 @@ class CSpan(ctypes.Structure):
 
 
 class Fault(ctypes.Structure):
-    """Where in a pattern its first fault is, in bytes."""
+    """The place of the first fault in a pattern, in bytes."""
 
     _fields_ = [('start', c_size_t), ('end', c_size_t), ('is_cut_short', c_bool)]
 
 
 class Outlined(ctypes.Structure):
-    """How many parts a pattern has, and how long the message is where it is refused."""
+    """The number of parts of a pattern, and the length of the message if it is rejected."""
 
     _fields_ = [('count', c_size_t), ('message_len', c_size_t)]
 
 
 class Walk(ctypes.Structure):
-    """How far a walk over the matches of a text has come."""
+    """The position of a walk over the matches in a text."""
 
     _fields_ = [('is_begun', c_bool), ('end', c_size_t)]
 
 
 class Cut(ctypes.Structure):
-    """How far a text has been split."""
+    """The position up to which a text has been split."""
 
     _fields_ = [('walk', Walk), ('is_over', c_bool)]
 
 
 class Replacing(ctypes.Structure):
-    """How matches are replaced, how long the new text is, and how many were replaced."""
+    """How matches are replaced, the length of the new text, and the number of matches that were
+    replaced."""
 
     _fields_ = [('limit', c_size_t), ('is_literal', c_bool), ('len', c_size_t),
                 ('count', c_size_t)]
 
 
 class Cost(ctypes.Structure):
-    """What a search cost."""
+    """The cost of a search."""
 
     _fields_ = [('tried', c_uint64), ('entered', c_uint64), ('looked', c_uint64)]

@@ -1,4 +1,4 @@
-"""Templates for new texts, as `re` has them: `\\1`, `\\g<1>`, `\\g<name>` and escapes."""
+"""Templates for replacements, as `re` has them: `\\1`, `\\g<1>`, `\\g<name>` and escapes."""
 
 from __future__ import annotations
 
@@ -12,7 +12,7 @@ if TYPE_CHECKING:
     from ._matches import Match
     from ._patterns import Pattern
 
-MOST_READ = 512  # templates that are remembered
+MOST_READ = 512  # cached templates
 MOST_DIGITS = 9  # of an index that some pattern may have
 # A text, or the index of a group.
 Part = Union[str, int]
@@ -27,8 +27,8 @@ _BACKSLASH = re.compile(r'''\\(?:
 
 
 class Reference(NamedTuple):
-    """The index of a group, as it is written and as a number, or its name, and where in the
-    template it stands."""
+    """The index of a group, as it is written and as a number, or its name, and its offset in the
+    template."""
 
     name: str
     number: Optional[int]
@@ -36,8 +36,8 @@ class Reference(NamedTuple):
 
 
 def parts_of(template: str, pattern: Pattern[Any]) -> List[Part]:
-    """The texts and the groups of a template, in order. Raises `error` where the template is wrong,
-    or has an index that no group has, and IndexError for a name that none has."""
+    """The texts and the groups of a template, in order. Raises `error` if the template is wrong or
+    has an index that no group has, and IndexError for a name that no group has."""
     return [part if isinstance(part, str) else _index(part, template, pattern)
             for part in _read(template)]
 
@@ -54,7 +54,7 @@ def as_library_has_it(parts: List[Part]) -> str:
 
 
 def forget_templates() -> None:
-    """Forgets the templates that have been read."""
+    """Clears the cache of templates."""
     _read.cache_clear()
 
 
@@ -94,7 +94,7 @@ def _escaped(found: re.Match[str], template: str) -> str:
 
 
 def _unfinished(template: str, pos: int) -> error:
-    """What is raised where no name follows a `\\g`, which ends there."""
+    """The error for a `\\g` without a name, which ends there."""
     if template[pos:pos + 1] != '<':
         return error('missing <', template, pos)
     if template[pos + 1:pos + 2] in ('', '>'):
@@ -103,7 +103,8 @@ def _unfinished(template: str, pos: int) -> error:
 
 
 def _number(name: str) -> Optional[int]:
-    """The index that is written out, if it is one; too large a number stands for those above it."""
+    """The index that these digits are, if they are one; all numbers that are too large are the
+    same."""
     if not (name.isdecimal() and name.isascii()):
         return None
     digits = name.lstrip('0')[:MOST_DIGITS + 1]

@@ -1,4 +1,4 @@
-"""Strings and their UTF-8: parts of them, and offsets from the one to the other."""
+"""Strings and their UTF-8: parts, and conversions of offsets."""
 
 from __future__ import annotations
 
@@ -8,9 +8,9 @@ from typing import Callable, Iterable, List, Optional, SupportsIndex, Tuple
 
 from ._foreign import encoded
 
-BLOCK = 1024  # bytes between two offsets that are remembered
-# The `endpos` of a search that goes up to the end, wherever that is. It is told by its identity,
-# which takes less than to compare it; another number as large means the same.
+BLOCK = 1024  # bytes between two cached offsets
+# The `endpos` of a search up to the end of the string. It is recognised by its identity, which is
+# faster than comparing it; another number as large means the same.
 END = sys.maxsize
 Bounds = Tuple[int, int]  # the offsets between which a string is searched
 
@@ -18,9 +18,9 @@ Bounds = Tuple[int, int]  # the offsets between which a string is searched
 class Offsets:
     """From offsets in bytes to offsets in characters, for a string beyond ASCII.
 
-    The first offset costs what comes before it. From then on it is known how many characters begin
-    before each block of bytes, and an offset costs a block at most, in whatever order they come.
-    Several threads may use this at once: what two of them write is the same."""
+    The first offset costs the length of the text before it. From then on the number of characters
+    before each block of bytes is known, and an offset costs at most a block, in whatever order they
+    come. Several threads may use this at once: what two of them write is the same."""
 
     __slots__ = ('raw', '_blocks', '_last')
 
@@ -30,7 +30,7 @@ class Offsets:
         self._last = 0, 0
 
     def span(self, start: int, end: int) -> Tuple[int, int]:
-        """The span in characters of one in bytes, which begins and ends between characters."""
+        """The span in characters of a span in bytes, which lies on character boundaries."""
         near, characters = self._last
         if not 0 <= start - near < BLOCK:
             near, characters = self._block(start // BLOCK)
@@ -43,13 +43,13 @@ class Offsets:
         return first, last
 
     def start(self, string: str, characters: int) -> int:
-        """The offset in bytes of an offset in characters. What comes after it is near then."""
+        """The offset in bytes of an offset in characters. Later offsets are near then."""
         offset = len(string[:characters].encode())
         self._last = offset, characters
         return offset
 
     def _block(self, number: int) -> Tuple[int, int]:
-        """Where the first character of a block begins, in bytes and in characters."""
+        """The start of the first character of a block, in bytes and in characters."""
         blocks, raw = self._blocks, self.raw
         for i in range(len(blocks), number + 1):
             before, characters = blocks[i - 1]
@@ -60,15 +60,15 @@ class Offsets:
         return blocks[number]
 
 
-# The part of a string that a search sees, its UTF-8, where the search begins in that, the offsets in
-# the part, and the bounds of the search, unless it sees the whole string. The part begins where the
-# string does, so looks see what comes before the search, and it ends where the search has to.
+# The part of a string that a search sees, its UTF-8, the start of the search in that, the offsets
+# in the part, and the bounds of the search, unless it sees the whole string. The part begins with
+# the string, so that looks see what comes before the search, and ends where the search ends.
 Part = Tuple[str, bytes, int, Optional[Offsets], Optional[Bounds]]
 
 
 def part_in(string: str, pos: SupportsIndex, endpos: SupportsIndex) -> Optional[Part]:
-    """The part of a string that is searched from one offset up to another one, or none where the
-    first is greater. Offsets before the string, or after it, stand for its start or its end."""
+    """The part of a string that is searched from one offset up to another one, or none if the first
+    is greater. Offsets before or after the string mean its start or its end."""
     if pos == 0 and endpos is END:
         raw = encoded(string)
         return string, raw, 0, offsets_in(string, raw), None
@@ -82,20 +82,20 @@ def part_in(string: str, pos: SupportsIndex, endpos: SupportsIndex) -> Optional[
 
 
 def bounds_in(string: str, pos: SupportsIndex, endpos: SupportsIndex) -> Bounds:
-    """The offsets within the string that these stand for."""
+    """These offsets, moved into the string."""
     length = len(string)
     return (min(max(operator.index(pos), 0), length), min(max(operator.index(endpos), 0), length))
 
 
 def offsets_in(string: str, raw: bytes) -> Optional[Offsets]:
-    """The offsets in a string, of which an ASCII one needs none. One of a type of its own has some
-    too, since its parts are texts of the type str."""
+    """The offsets in a string, which an ASCII string doesn't need. A string of a subclass has some
+    too, since its parts are of the type str."""
     return None if len(string) == len(raw) and string.__class__ is str else Offsets(raw)
 
 
 def start_in(string: str, offsets: Optional[Offsets], pos: int) -> int:
-    """The offset in bytes at which a search begins that is to begin at an offset in characters.
-    One before the string, or after it, stands for its start or its end."""
+    """The offset in bytes of the offset in characters at which a search begins. An offset before or
+    after the string means its start or its end."""
     start = min(max(pos, 0), len(string))
     return start if offsets is None else offsets.start(string, start)
 

@@ -1,4 +1,4 @@
-//! Matches that the library writes to a buffer, some at a time.
+//! Matches that the library writes to a buffer, in batches.
 
 use std::mem::size_of;
 use std::vec;
@@ -7,14 +7,14 @@ use crate::error::Error;
 use crate::raw::{resize, GroupCount, Held, Span, Walk};
 use crate::shared::Shared;
 
-/// How many matches the first buffer has room for.
+/// The number of matches for which the first buffer has room.
 const FIRST: usize = 16;
-/// How many times as large as the last buffer the next one is.
+/// The factor by which each buffer is larger than the last.
 const GROWTH: usize = 4;
-/// How many spans a buffer may have room for, however short the text is.
+/// The number of spans for which a buffer may have room, however short the text is.
 const MOST: usize = 4096;
 
-/// How many spans the next buffer has room for.
+/// The number of spans for which the next buffer has room.
 ///
 /// Each call of the library reads the whole text, so a loop with a buffer of a fixed size would
 /// take quadratic time. Each buffer is four times as large as the one before, up to the size of the
@@ -27,7 +27,7 @@ struct Capacity {
 }
 
 impl Capacity {
-    /// Makes one for matches of `width` spans each, of which no more than `wanted` are wanted.
+    /// Makes this for matches with `width` spans each, of which at most `wanted` are wanted.
     fn new(text: &str, width: usize, wanted: usize) -> Capacity {
         let wanted = wanted.saturating_mul(width);
         let most = MOST
@@ -38,7 +38,7 @@ impl Capacity {
         Capacity { next, most }
     }
 
-    /// Returns the capacity of the next buffer, and makes that of the one after it larger.
+    /// Returns the capacity of the next buffer, and makes the one after it larger.
     fn grow(&mut self) -> usize {
         let next = self.next;
         self.next = self.most.min(next.saturating_mul(GROWTH));
@@ -54,7 +54,7 @@ struct Batches<B> {
 }
 
 impl<B: Iterator + Default> Batches<B> {
-    /// Makes batches with these capacities, of which none was fetched.
+    /// Makes batches with these capacities, none of which was fetched.
     fn new(capacity: Capacity) -> Batches<B> {
         Batches {
             batch: B::default(),
@@ -88,14 +88,14 @@ impl<B: Iterator + Default> Batches<B> {
         }
     }
 
-    /// Yields nothing more.
+    /// Stops yielding items.
     fn end(&mut self) {
         self.batch = B::default();
         self.is_over = true;
     }
 }
 
-/// The matches of a text, as the library writes them.
+/// The matches in a text, as the library writes them.
 pub(crate) struct Spans<'r, 'h, H: Held> {
     shared: &'r Shared<H>,
     text: &'h str,
@@ -104,7 +104,7 @@ pub(crate) struct Spans<'r, 'h, H: Held> {
 }
 
 impl<'r, 'h, H: Held> Spans<'r, 'h, H> {
-    /// Goes over all matches of the text, of which no more than `wanted` are wanted.
+    /// Goes over all matches of the text, of which at most `wanted` are wanted.
     pub fn new(shared: &'r Shared<H>, text: &'h str, wanted: usize) -> Spans<'r, 'h, H> {
         Spans {
             shared,
@@ -135,7 +135,8 @@ impl<H: Held> Iterator for Spans<'_, '_, H> {
             resize(&mut spans, capacity)?;
             let count = shared.lock().find_all(text, walk, &mut spans)?;
             spans.truncate(count);
-            // The library writes as many matches as there is room for, so fewer are the last.
+            // The library writes as many matches as there is room for, so if there are fewer, these
+            // are the last.
             Ok((
                 spans.into_iter(),
                 count < capacity || walk.ends_at(text.len()),
@@ -144,7 +145,7 @@ impl<H: Held> Iterator for Spans<'_, '_, H> {
     }
 }
 
-/// The groups of the matches of a text, as the library writes them.
+/// The groups of the matches in a text, as the library writes them.
 pub(crate) struct Groups<'r, 'h, H: Held> {
     shared: &'r Shared<H>,
     text: &'h str,
@@ -154,8 +155,8 @@ pub(crate) struct Groups<'r, 'h, H: Held> {
 }
 
 impl<'r, 'h, H: Held> Groups<'r, 'h, H> {
-    /// Goes over all matches of the text, of which no more than `wanted` are wanted. A match has
-    /// `width` groups, as far as is known, which is above 0.
+    /// Goes over all matches of the text, of which at most `wanted` are wanted. A match has `width`
+    /// groups, as far as is known, which is above 0.
     pub fn new(
         shared: &'r Shared<H>,
         text: &'h str,
@@ -202,7 +203,7 @@ impl<H: Held> Iterator for Groups<'_, '_, H> {
                 spans,
                 taken: 0,
             };
-            // The library writes fewer matches than there is room for if memory is refused after
+            // The library writes fewer matches than there is room for if memory runs out after
             // them, so only a batch without matches is known to be the last.
             Ok((batch, count == 0 || walk.ends_at(text.len())))
         })?;
@@ -214,7 +215,7 @@ impl<H: Held> Iterator for Groups<'_, '_, H> {
     }
 }
 
-/// The groups of some matches, those of a match in a row.
+/// The groups of some matches, one match after another.
 #[derive(Default)]
 struct GroupBatch {
     told: vec::IntoIter<GroupCount>,

@@ -17,7 +17,7 @@ use crate::{template, Match};
 ///
 /// The groups of a match of a [`RegexList`] are known by their indices. The first call that needs
 /// their names, and [`extract`](Captures::extract), build the pattern by itself, once for all its
-/// matches, and panic if memory is refused for that. [`RegexList::load_names`] does it beforehand,
+/// matches, and panic if memory runs out for that. [`RegexList::load_names`] does it beforehand,
 /// and returns an error.
 ///
 /// [`RegexList`]: crate::RegexList
@@ -77,7 +77,7 @@ impl<'h> Captures<'h> {
     /// # Panics
     ///
     /// If `N` isn't one less than [`Regex::static_captures_len`](crate::Regex::static_captures_len)
-    /// says, which counts the whole match, or if that says nothing.
+    /// returns, which counts the whole match, or if that is `None`.
     #[track_caller]
     pub fn extract<const N: usize>(&self) -> (&'h str, [&'h str; N]) {
         let known = unwrap(self.pattern.groups()).static_len();
@@ -94,9 +94,9 @@ impl<'h> Captures<'h> {
     /// Appends the template with its references replaced by the texts of groups.
     ///
     /// `$name` and `${name}` refer to the group with this name, or with this index if it consists
-    /// of digits. Without braces a name is as long as it can be, of ASCII letters, digits and `_`,
-    /// so `$1a` is the group `1a`. `$$` gives a `$`. A group that doesn't exist or took no part
-    /// gives nothing.
+    /// of digits. Without braces a name is the longest run of ASCII letters, digits and `_`, so
+    /// `$1a` is the group `1a`. `$$` gives a `$`. A group that doesn't exist or took no part gives
+    /// the empty text.
     ///
     /// ```
     /// let name = regex_lite_proved::Regex::new(r"(?<first>\w+) (?<last>\w+)")?;
@@ -120,7 +120,8 @@ impl<'h> Captures<'h> {
         }
     }
 
-    /// Returns all groups by index, from the whole match on: `None` for one that took no part.
+    /// Returns all groups by index, beginning with the whole match: `None` for a group that took no
+    /// part.
     pub fn iter<'c>(&'c self) -> SubCaptureMatches<'c, 'h> {
         SubCaptureMatches {
             text: self.text,
@@ -128,7 +129,7 @@ impl<'h> Captures<'h> {
         }
     }
 
-    /// Returns how many groups the pattern has, including the whole match.
+    /// Returns the number of groups of the pattern, including the whole match.
     #[allow(clippy::len_without_is_empty)] // Group 0 is always there.
     pub fn len(&self) -> usize {
         self.spans.len()
@@ -202,7 +203,7 @@ impl fmt::Debug for Shown<'_, '_> {
     }
 }
 
-/// The groups of a match by index: `None` for one that took no part.
+/// The groups of a match by index: `None` for a group that took no part.
 ///
 /// [`Captures::iter`] makes it.
 #[derive(Clone, Debug)]
@@ -227,10 +228,10 @@ impl ExactSizeIterator for SubCaptureMatches<'_, '_> {}
 
 impl FusedIterator for SubCaptureMatches<'_, '_> {}
 
-/// Where the groups of a match are, in memory that is used for one search after another.
+/// The spans of the groups of a match, reusable for many searches.
 ///
 /// [`Regex::capture_locations`](crate::Regex::capture_locations) makes it, and
-/// [`Regex::captures_read`](crate::Regex::captures_read) writes it.
+/// [`Regex::captures_read`](crate::Regex::captures_read) writes to it.
 #[derive(Clone, Debug)]
 pub struct CaptureLocations(Vec<Span>);
 
@@ -254,7 +255,7 @@ impl CaptureLocations {
         Some((span.start, span.end))
     }
 
-    /// Returns how many groups the regex has, including the whole match.
+    /// Returns the number of groups of the regex, including the whole match.
     #[allow(clippy::len_without_is_empty)] // Group 0 is always there.
     pub fn len(&self) -> usize {
         self.0.len()

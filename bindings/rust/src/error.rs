@@ -1,33 +1,33 @@
-//! Why a call is refused.
+//! Errors: why a call failed.
 
 use std::fmt;
 
-/// Why a call is refused.
+/// Errors: why a call failed.
 #[derive(Clone, Debug, PartialEq, Eq)]
 pub enum Error {
-    /// The pattern is refused.
+    /// The pattern is rejected.
     Pattern {
         /// The number of regex_lite.h for the reason.
         number: u32,
         /// What is wrong.
         message: String,
-        /// Where the pattern is at fault. There is none where it only passes a limit, or memory
+        /// The place of the fault. There is none if the pattern only exceeds a limit, or if memory
         /// runs out while the fault is located.
         fault: Option<Fault>,
     },
     /// The offset is above the text's length, or inside a character.
     BadOffset,
-    /// A request for memory was refused.
+    /// Memory ran out.
     OutOfMemory,
 }
 
-/// Where a pattern is at fault, as offsets in bytes.
+/// The place of a pattern's first fault, as offsets in bytes.
 #[derive(Clone, Copy, Debug, PartialEq, Eq)]
 pub struct Fault {
-    /// Where the part of the pattern begins that can't be read.
+    /// The start of the part of the pattern that can't be parsed.
     pub start: usize,
-    /// Where it ends: at the end of the shortest prefix with which no accepted pattern begins.
-    /// There is none where some accepted pattern begins with this one.
+    /// The end of the shortest prefix with which no accepted pattern begins. There is none if some
+    /// accepted pattern begins with this one.
     pub end: Option<usize>,
 }
 
@@ -43,12 +43,12 @@ impl fmt::Display for Error {
 
 impl std::error::Error for Error {}
 
-/// Why a list of patterns is refused.
+/// Why a list of patterns is rejected.
 #[derive(Clone, Debug, PartialEq, Eq)]
 pub struct ListError {
-    /// The number of the first pattern that is refused by itself, if one is.
+    /// The number of the first pattern that is rejected by itself, if one is.
     pub number: Option<usize>,
-    /// Why that pattern is refused, or the whole list.
+    /// Why that pattern is rejected, or the whole list.
     pub error: Error,
 }
 

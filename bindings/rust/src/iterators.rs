@@ -1,4 +1,4 @@
-//! Iterators over the matches of a text, and over what stands between them.
+//! Iterators over the matches in a text, and over the pieces between them.
 
 use std::fmt;
 use std::iter::FusedIterator;
@@ -13,7 +13,7 @@ use crate::{Captures, Match, RegexList};
 /// An iterator over the items of another, none of which may be an error.
 ///
 /// [`Regex::find_iter`](crate::Regex::find_iter) and the calls like it return one. Its `next`
-/// panics where the other one yields an error, which is out of memory.
+/// panics if the other one yields an error, which is that memory ran out.
 #[derive(Debug)]
 pub struct Unwrapped<I>(pub(crate) I);
 
@@ -111,17 +111,17 @@ impl<'h> Iterator for TryListCaptureMatches<'_, 'h> {
     }
 }
 
-/// What stands before, between and after the matches of a text. An error is the last item.
+/// The pieces before, between and after the matches in a text. An error is the last item.
 ///
 /// [`Regex::try_split`](crate::Regex::try_split) makes it.
 pub struct TrySplit<'r, 'h> {
     pub(crate) matches: TryMatches<'r, 'h>,
-    /// What follows the last match, until it is yielded.
+    /// The start of the last piece, until it is yielded.
     pub(crate) rest: Option<usize>,
 }
 
 impl<'r, 'h> TrySplit<'r, 'h> {
-    /// Makes the iterator over the pieces between these matches, of which none was taken.
+    /// Makes the iterator over the pieces between these matches, none of which was taken.
     pub(crate) fn new(matches: TryMatches<'r, 'h>) -> TrySplit<'r, 'h> {
         TrySplit {
             matches,
@@ -129,7 +129,7 @@ impl<'r, 'h> TrySplit<'r, 'h> {
         }
     }
 
-    /// Returns what follows the last match, which is the last piece.
+    /// Returns the last piece, which follows the last match.
     fn take_rest(&mut self) -> Option<&'h str> {
         let from = self.rest.take()?;
         Some(&self.matches.0.text()[from..])
@@ -155,8 +155,8 @@ impl<'h> Iterator for TrySplit<'_, 'h> {
     }
 }
 
-/// The first pieces of a text between matches, and as the last one all that is left. An error is
-/// the last item.
+/// The first pieces of a text between matches, and the rest of the text as the last one. An error
+/// is the last item.
 ///
 /// [`Regex::try_splitn`](crate::Regex::try_splitn) makes it.
 pub struct TrySplitN<'r, 'h> {
@@ -176,7 +176,7 @@ impl<'h> Iterator for TrySplitN<'_, 'h> {
     }
 }
 
-/// Marks iterators as fused, and has `Debug` show the text that they go over.
+/// Marks iterators as fused, and makes `Debug` show the text that they scan.
 macro_rules! iterators {
     ($($name:ident, $text:ident => $get:expr;)*) => {$(
         impl FusedIterator for $name<'_, '_> {}

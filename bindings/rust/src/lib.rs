@@ -1,5 +1,5 @@
-//! Regular expressions for patterns and texts from strangers: a safe crate over the library for C,
-//! whose calls are proved. It has the names and the calls of the crate regex-lite.
+//! Regular expressions for untrusted patterns and texts: a safe crate over the library for C, whose
+//! calls are proved. It has the names and the calls of the crate regex-lite.
 //!
 //! ```
 //! use regex_lite_proved::Regex;
@@ -11,8 +11,8 @@
 //! # Ok::<(), regex_lite_proved::Error>(())
 //! ```
 //!
-//! [`Regex`] is a pattern, and [`RegexList`] several that are searched for at once. [`Regex`] says
-//! what happens where memory is refused, and what several threads may do.
+//! [`Regex`] is a compiled pattern, and [`RegexList`] several that are searched for in one pass.
+//! [`Regex`] says what happens if memory runs out, and what several threads may do.
 
 #![deny(unsafe_code, missing_docs, missing_debug_implementations)]
 
@@ -43,7 +43,7 @@ pub use pattern::CaptureNames;
 pub use regex::Regex;
 pub use replacer::{NoExpand, Replacer, ReplacerRef};
 
-/// Returns the pattern that means this text and nothing else, under the default settings.
+/// Returns the pattern that matches exactly this text, under the default settings.
 ///
 /// ```
 /// assert_eq!(regex_lite_proved::escape("3.5 (or so)"), r"3\.5 \(or so\)");
@@ -51,13 +51,13 @@ pub use replacer::{NoExpand, Replacer, ReplacerRef};
 ///
 /// # Panics
 ///
-/// If memory is refused.
+/// If memory runs out.
 #[track_caller]
 pub fn escape(text: &str) -> String {
     error::unwrap(try_escape(text))
 }
 
-/// Returns the pattern that means this text and nothing else, under the default settings.
+/// Returns the pattern that matches exactly this text, under the default settings.
 ///
 /// # Errors
 ///

@@ -1,4 +1,4 @@
-//! Several patterns that are searched for at once.
+//! Lists of patterns that are searched for in one pass.
 
 mod anchored;
 mod listed;
@@ -15,13 +15,13 @@ use crate::raw::{Handle, List, Span};
 use crate::shared::Shared;
 use crate::{Captures, Options};
 
-/// Several patterns that are ready to be searched for at once, numbered from 0 on.
+/// A compiled list of patterns, numbered from 0 on.
 ///
-/// A search goes over the text once for all of them. Of the matches that start first it finds that
-/// of the pattern with the lowest number. There may be no pattern, and one may stand in a list
-/// twice.
+/// A search makes one pass over the text for all of them. Of the matches that start first it finds
+/// that of the pattern with the lowest number. The list may be empty, and a pattern may occur in it
+/// more than once.
 ///
-/// What [`Regex`](crate::Regex) says of memory, threads and clones holds for a list too.
+/// What [`Regex`](crate::Regex) says about memory, threads and clones holds for a list too.
 ///
 /// ```
 /// use regex_lite_proved::RegexList;
@@ -34,12 +34,13 @@ use crate::{Captures, Options};
 pub struct RegexList {
     shared: Shared<List>,
     patterns: Vec<Arc<Pattern>>,
-    /// How many groups of a match there is room for at first: as many as some match had. With more,
-    /// a search for one match is made twice.
+    /// The number of groups for which there is room at first: as many as some match had. If there
+    /// are more, a search for one match is made twice.
     width: AtomicUsize,
 }
 
-/// How many groups of a match there is room for before any was found, and at most.
+/// The number of groups for which there is room before any match was found, and the greatest such
+/// number.
 const FIRST_WIDTH: usize = 4;
 const MOST_WIDTH: usize = 64;
 
@@ -48,8 +49,8 @@ impl RegexList {
     ///
     /// # Errors
     ///
-    /// The error of the first pattern that is refused, with its number; or one without a number, if
-    /// memory is refused or the patterns are too large together.
+    /// The error of the first pattern that is rejected, with its number; or an error without a
+    /// number, if memory runs out or the patterns are too large together.
     pub fn new<I, S>(patterns: I) -> Result<RegexList, ListError>
     where
         I: IntoIterator<Item = S>,
@@ -86,8 +87,8 @@ impl RegexList {
         })
     }
 
-    /// Builds a list of the same patterns and settings. [`Clone`] does the same, and panics where
-    /// this returns an error.
+    /// Builds a list of the same patterns and settings. [`Clone`] does the same, but panics instead
+    /// of returning an error.
     ///
     /// # Errors
     ///
@@ -96,7 +97,7 @@ impl RegexList {
         RegexList::of(self.patterns.clone()).map_err(|refused| refused.error)
     }
 
-    /// Returns how many patterns there are.
+    /// Returns the number of patterns.
     pub fn len(&self) -> usize {
         self.patterns.len()
     }
@@ -111,19 +112,18 @@ impl RegexList {
         Some(&self.patterns.get(number)?.text)
     }
 
-    /// Returns how many places the patterns have together, written out: the states of their NFAs. A
-    /// search of a text tries at most `(arrows + patterns) * (characters + 1)` places.
+    /// Returns the number of places of the patterns together: the states of their NFAs. A search of
+    /// a text tries at most `(arrows + patterns) * (characters + 1)` places.
     pub fn places(&self) -> usize {
         self.shared.lock().places()
     }
 
-    /// Returns how many arrows lead from place to place: the transitions of the NFAs.
+    /// Returns the number of arrows: the transitions of the NFA.
     pub fn arrows(&self) -> usize {
         self.shared.lock().arrows()
     }
 
-    /// Makes the groups of a match of the pattern with this number, and remembers how many there
-    /// are.
+    /// Makes the groups of a match of the pattern with this number, and records their number.
     pub(crate) fn groups<'h>(
         &self,
         text: &'h str,
@@ -135,8 +135,8 @@ impl RegexList {
         (number, Captures::new(text, spans, &self.patterns[number]))
     }
 
-    /// Builds each pattern by itself, so that the names of its groups are known. Otherwise that is
-    /// done for a pattern where [`Captures`] first need the names.
+    /// Compiles each pattern by itself, so that the names of its groups are known. Otherwise that
+    /// is done for a pattern when [`Captures`] first need the names.
     ///
     /// # Errors
     ///

@@ -1,4 +1,4 @@
-//! Where a pattern matches.
+//! Matches.
 
 use std::fmt;
 use std::ops::Range;
@@ -33,27 +33,27 @@ impl<'h> Match<'h> {
         (span.number, found)
     }
 
-    /// Returns the offset of its first byte.
+    /// Returns the offset of the first byte.
     pub fn start(&self) -> usize {
         self.start
     }
 
-    /// Returns the offset after its last byte.
+    /// Returns the offset after the last byte.
     pub fn end(&self) -> usize {
         self.end
     }
 
-    /// Returns whether it has no bytes.
+    /// Returns whether the match is empty.
     pub fn is_empty(&self) -> bool {
         self.start == self.end
     }
 
-    /// Returns how many bytes it has.
+    /// Returns the number of bytes.
     pub fn len(&self) -> usize {
         self.end - self.start
     }
 
-    /// Returns its two offsets.
+    /// Returns the range from the start to the end.
     pub fn range(&self) -> Range<usize> {
         self.start..self.end
     }

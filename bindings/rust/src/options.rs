@@ -1,4 +1,4 @@
-//! The settings under which a pattern is built, and what a search costs.
+//! The settings under which a pattern is built, and the cost of a search.
 
 use crate::{Error, Regex};
 
@@ -13,13 +13,13 @@ pub struct Options {
     pub multi_line: bool,
     /// `.` matches every character: `s`.
     pub dot_matches_new_line: bool,
-    /// A carriage return ends a line too: `R`.
+    /// A carriage return ends a line as well: `R`.
     pub crlf: bool,
     /// Greedy and lazy operators are swapped: `U`.
     pub swap_greed: bool,
     /// White space and comments in the pattern are ignored: `x`.
     pub ignore_whitespace: bool,
-    /// How deep the pattern may nest: 50 by default.
+    /// How deeply the pattern may nest: 50 by default.
     pub nest_limit: u32,
     /// How large the pattern may become when it is compiled: 10 MiB by default.
     pub size_limit: usize,
@@ -68,7 +68,7 @@ impl RegexBuilder {
     ///
     /// # Errors
     ///
-    /// [`Error::Pattern`] if the pattern is refused, and [`Error::OutOfMemory`].
+    /// [`Error::Pattern`] if the pattern is rejected, and [`Error::OutOfMemory`].
     pub fn build(&self) -> Result<Regex, Error> {
         Regex::with_options(&self.pattern, self.options)
     }
@@ -91,7 +91,7 @@ impl RegexBuilder {
         self
     }
 
-    /// Sets whether a carriage return ends a line too, as under the flag `R`.
+    /// Sets whether a carriage return ends a line as well, as under the flag `R`.
     pub fn crlf(&mut self, yes: bool) -> &mut RegexBuilder {
         self.options.crlf = yes;
         self
@@ -115,22 +115,22 @@ impl RegexBuilder {
         self
     }
 
-    /// Sets how deep the pattern may nest.
+    /// Sets how deeply the pattern may nest.
     pub fn nest_limit(&mut self, limit: u32) -> &mut RegexBuilder {
         self.options.nest_limit = limit;
         self
     }
 }
 
-/// What a search cost, in places of the pattern: the states of its NFA. A number above 2^64 - 1
-/// counts as that.
+/// The cost of a search, in places of the pattern: the states of its NFA. A number above 2^64 - 1
+/// is written as 2^64 - 1.
 #[repr(C)]
 #[derive(Clone, Copy, Debug, Default, PartialEq, Eq)]
 pub struct Cost {
-    /// How often the search came to a place.
+    /// The number of places that the search tried.
     pub tried: u64,
-    /// How often it entered one.
+    /// The number of places that it entered.
     pub entered: u64,
-    /// How often it looked up what stands at one.
+    /// The number of places that it looked up.
     pub looked: u64,
 }

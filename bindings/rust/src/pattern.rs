@@ -1,4 +1,4 @@
-//! Patterns, and what is known of their groups.
+//! Patterns, and what is known about their groups.
 
 use std::fmt;
 use std::iter::FusedIterator;
@@ -17,7 +17,7 @@ pub(crate) struct Pattern {
 }
 
 impl Pattern {
-    /// Makes a pattern of whose groups nothing is known yet.
+    /// Makes a pattern whose groups aren't known yet.
     pub fn new(text: &str, options: Options) -> Pattern {
         Pattern {
             text: text.to_string(),
@@ -34,7 +34,8 @@ impl Pattern {
         Ok((pattern, handle))
     }
 
-    /// Returns its groups. If they aren't known yet, the regex is built for them.
+    /// Returns the groups of the pattern. If they aren't known yet, the regex is built to find
+    /// them.
     pub fn groups(&self) -> Result<&Groups, Error> {
         match self.groups.get() {
             Some(groups) => Ok(groups),
@@ -42,13 +43,13 @@ impl Pattern {
         }
     }
 
-    /// Returns its groups, which are taken from the handle of its regex.
+    /// Returns the groups of the pattern, which are read from the handle of its regex.
     fn groups_by(&self, handle: &mut Handle<One>) -> Result<&Groups, Error> {
         let groups = Groups::of(handle)?;
         Ok(self.groups.get_or_init(|| groups))
     }
 
-    /// Returns its groups, if they are known.
+    /// Returns the groups of the pattern, if they are known.
     pub fn known_groups(&self) -> Option<&Groups> {
         self.groups.get()
     }
@@ -63,7 +64,7 @@ pub(crate) struct Groups {
 }
 
 impl Groups {
-    /// Reads them from the handle of a regex.
+    /// Reads the groups from the handle of a regex.
     fn of(handle: &mut Handle<One>) -> Result<Groups, Error> {
         let names = (0..handle.groups()).map(|index| handle.group_name(index));
         let names: Vec<_> = names.collect::<Result<_, _>>()?;
@@ -78,30 +79,30 @@ impl Groups {
         })
     }
 
-    /// Returns how many there are, including the whole match.
+    /// Returns the number of groups, including the whole match.
     pub fn len(&self) -> usize {
         self.names.len()
     }
 
-    /// Returns how many of them take part in every match, at least, if that is known.
+    /// Returns the least number of groups that take part in every match, if it is known.
     pub fn static_len(&self) -> Option<usize> {
         (self.at_least > 0).then_some(self.at_least)
     }
 
-    /// Returns the index of the one with this name.
+    /// Returns the index of the group with this name.
     pub fn index_of(&self, name: &str) -> Option<usize> {
         let own = |index: &usize| self.names[*index].as_deref().cmp(&Some(name));
         let found = self.by_name.binary_search_by(own).ok()?;
         Some(self.by_name[found])
     }
 
-    /// Their names, by index.
+    /// The names of the groups, by index.
     pub fn names(&self) -> CaptureNames<'_> {
         CaptureNames(self.names.iter())
     }
 }
 
-/// The names of the groups of a regex, by index: `None` for a group that has no name.
+/// The names of the groups of a regex, by index: `None` for a group without a name.
 ///
 /// [`Regex::capture_names`](crate::Regex::capture_names) makes it.
 #[derive(Clone)]

@@ -1,9 +1,9 @@
 //! The library for C, as regex_lite.h declares it, behind safe calls. All unsafe code is here.
 //!
-//! Most of what the header asks of a caller holds by types. A text is a `&str`, so it is UTF-8, and
-//! its length is below 2^63. No reference is null, even to nothing. What a call writes to is
-//! borrowed mutably, so it overlaps nothing else. A handle is borrowed mutably by each call, so no
-//! two calls use one at once, and it can't be copied.
+//! Most of the caller's obligations hold by types. A text is a `&str`, so it is UTF-8, and its
+//! length is below 2^63. No reference is null, even to nothing. What a call writes to is borrowed
+//! mutably, so it overlaps nothing else. A handle is borrowed mutably by each call, so no two calls
+//! use one at once, and it can't be copied.
 
 #![allow(unsafe_code)]
 
@@ -29,10 +29,10 @@ const NO_ROOM: u32 = 5;
 const OUT_OF_MEMORY: u32 = 6;
 const SYNTAX: u32 = 10;
 
-/// How long the message of a refusal can be, in bytes.
+/// The greatest length of an error message, in bytes.
 const MESSAGE: usize = 100;
 
-/// Returns whether the answer is yes, or why the call is refused.
+/// Returns whether the answer is yes, or the error of the call.
 fn is_yes(answer: u32) -> Result<bool, Error> {
     match answer {
         YES => Ok(true),
@@ -40,7 +40,7 @@ fn is_yes(answer: u32) -> Result<bool, Error> {
         BAD_OFFSET => Err(Error::BadOffset),
         OUT_OF_MEMORY => Err(Error::OutOfMemory),
         // The handle holds something, the text is UTF-8, each buffer is long enough, and a list has
-        // the pattern that is asked about.
+        // the pattern that is named.
         other => unreachable!("the library answers {other}"),
     }
 }
@@ -56,8 +56,8 @@ pub fn resize<T: Clone + Default>(buffer: &mut Vec<T>, len: usize) -> Result<(),
 }
 
 /// Returns the text that `call` writes to the buffer that it is lent, if there is one. `call`
-/// returns its answer, and how long the text is. The first buffer has `first` bytes, and if that is
-/// too few the second has as many as are needed.
+/// returns its answer, and the length of the text. The first buffer has `first` bytes, and if these
+/// are too few the second has as many as necessary.
 fn written(
     first: usize,
     mut call: impl FnMut(&mut [u8]) -> (u32, usize),

@@ -1,4 +1,4 @@
-//! A pattern that is searched for.
+//! Regexes.
 
 mod anchored;
 mod groups;
@@ -16,29 +16,28 @@ use crate::raw::{Handle, One};
 use crate::shared::Shared;
 use crate::Options;
 
-/// A pattern that is ready to be searched for.
+/// A compiled pattern.
 ///
-/// Texts are `&str`, and offsets count bytes. A match begins and ends between characters.
+/// Texts are `&str`, and offsets count bytes. A match begins and ends on character boundaries.
 ///
 /// # Memory
 ///
-/// A search takes memory of its own, and this can be refused: for the groups of a large pattern a
-/// search asks for much at once. The calls that have the names of the crate regex-lite return plain
-/// values as there, and panic where memory is refused. Each has a form that returns a [`Result`],
-/// and whose name begins with `try_`. What this crate itself asks for besides its buffers, as for
-/// the new text of a replacement, is like any collection of Rust: the process ends if that is
-/// refused.
+/// A search needs memory of its own, which can run out: for the groups of a large pattern a search
+/// requests much at once. The calls that have the names of the crate regex-lite return plain values
+/// as there, and panic if memory runs out. Each has a form that returns a [`Result`], and whose
+/// name begins with `try_`. What this crate itself allocates besides its buffers, such as the new
+/// text of a replacement, behaves like any collection of Rust: the process ends if memory runs out.
 ///
 /// # Threads
 ///
-/// Several threads may search with one regex. One of them does at a time, and the others wait. To
-/// search in several at once, give each a clone.
+/// Several threads may search with one regex. They search one at a time, while the others wait. To
+/// search in several threads at once, give each a clone.
 ///
 /// # Clones
 ///
-/// A clone is built anew from the pattern, which takes as long as [`Regex::new`], and as much
-/// memory. It panics if memory is refused; [`Regex::try_clone`] returns an error. Where threads
-/// needn't search at once, share a reference or an [`Arc`].
+/// A clone compiles the pattern again, which takes as long as [`Regex::new`], and as much memory.
+/// It panics if memory runs out; [`Regex::try_clone`] returns an error. If threads needn't search
+/// at once, share a reference or an [`Arc`].
 pub struct Regex {
     shared: Shared<One>,
     pattern: Arc<Pattern>,
@@ -60,7 +59,7 @@ impl Regex {
     ///
     /// # Errors
     ///
-    /// [`Error::Pattern`] if the pattern is refused, and [`Error::OutOfMemory`].
+    /// [`Error::Pattern`] if the pattern is rejected, and [`Error::OutOfMemory`].
     pub fn new(pattern: &str) -> Result<Regex, Error> {
         Regex::with_options(pattern, Options::default())
     }
@@ -69,7 +68,7 @@ impl Regex {
     ///
     /// # Errors
     ///
-    /// [`Error::Pattern`] if the pattern is refused, and [`Error::OutOfMemory`].
+    /// [`Error::Pattern`] if the pattern is rejected, and [`Error::OutOfMemory`].
     pub fn with_options(pattern: &str, options: Options) -> Result<Regex, Error> {
         let (pattern, handle) = Pattern::build(pattern, options)?;
         Ok(Regex {
@@ -78,8 +77,8 @@ impl Regex {
         })
     }
 
-    /// Builds a regex of the same pattern and settings. [`Clone`] does the same, and panics where
-    /// this returns an error.
+    /// Builds a regex of the same pattern and settings. [`Clone`] does the same, but panics instead
+    /// of returning an error.
     ///
     /// # Errors
     ///
@@ -97,7 +96,7 @@ impl Regex {
         &self.pattern.text
     }
 
-    /// Returns the names of the groups by index, from the whole match on, which has none.
+    /// Returns the names of the groups by index, beginning with the whole match, which has none.
     ///
     /// ```
     /// let size = regex_lite_proved::Regex::new(r"(?<width>\d+)(x)?")?;
@@ -109,20 +108,20 @@ impl Regex {
         self.own_groups().names()
     }
 
-    /// Returns how many groups a match has, including the whole match.
+    /// Returns the number of groups of a match, including the whole match.
     pub fn captures_len(&self) -> usize {
         self.own_groups().len()
     }
 
-    /// Returns how many groups take part in every match, at least, including the whole match:
-    /// `None` if that isn't known. It is one more than the groups that
+    /// Returns the least number of groups that take part in every match, including the whole match:
+    /// `None` if it isn't known. It is one more than the groups that
     /// [`Captures::extract`](crate::Captures::extract) returns.
     pub fn static_captures_len(&self) -> Option<usize> {
         self.own_groups().static_len()
     }
 
-    /// Returns whether the pattern may match the empty text, as far as it tells by itself: its
-    /// looks, such as `^` and `\b`, are taken to hold. Where this is `false`, no match is empty.
+    /// Returns whether the pattern may match the empty text if its looks, such as `^` and `\b`, are
+    /// assumed to hold. If this is `false`, no match is empty.
     ///
     /// ```
     /// use regex_lite_proved::Regex;
@@ -135,13 +134,13 @@ impl Regex {
         self.shared.lock().may_be_empty()
     }
 
-    /// Returns how many places the pattern has, written out: the states of its NFA. A search of a
-    /// text tries at most `(arrows + 1) * (characters + 1)` places.
+    /// Returns the number of places of the pattern: the states of its NFA. A search of a text tries
+    /// at most `(arrows + 1) * (characters + 1)` places.
     pub fn places(&self) -> usize {
         self.shared.lock().places()
     }
 
-    /// Returns how many arrows lead from place to place: the transitions of the NFA.
+    /// Returns the number of arrows: the transitions of the NFA.
     pub fn arrows(&self) -> usize {
         self.shared.lock().arrows()
     }

@@ -1,4 +1,4 @@
-//! What replaces matches.
+//! Replacers: what matches are replaced by.
 
 use std::borrow::Cow;
 
@@ -10,7 +10,7 @@ use crate::Captures;
 /// Texts are replacers: templates for [`Captures::expand`]. So are closures that take
 /// `&Captures` and return a text, and [`NoExpand`].
 pub trait Replacer {
-    /// Appends what replaces the match with these groups.
+    /// Appends the text that replaces the match with these groups.
     fn replace_append(&mut self, caps: &Captures<'_>, dst: &mut String);
 
     /// Returns the text that replaces each match, if it is the same for all; then no groups are
@@ -53,7 +53,7 @@ where
     }
 }
 
-/// A text that replaces matches as it stands: a `$` in it is a `$`.
+/// A literal replacement: a `$` in it is a `$`.
 ///
 /// ```
 /// use regex_lite_proved::{NoExpand, Regex};

@@ -4,8 +4,8 @@ use std::sync::{Mutex, MutexGuard, PoisonError};
 
 use crate::raw::{Handle, Held};
 
-/// A handle under a lock: each call of the library has it alone, since a call takes what the handle
-/// holds out of it, and puts that back. No lock is held while code of a caller runs.
+/// A handle under a lock: only one call of the library uses it at a time, since a call takes what
+/// the handle holds out of it, and puts it back. No lock is held while the caller's code runs.
 pub(crate) struct Shared<H: Held>(Mutex<Handle<H>>);
 
 impl<H: Held> Shared<H> {
@@ -16,7 +16,7 @@ impl<H: Held> Shared<H> {
 
     /// Returns the handle, for one call of the library.
     pub fn lock(&self) -> MutexGuard<'_, Handle<H>> {
-        // A handle is as good after a panic: a call that has begun comes to its end.
+        // A panic leaves the handle intact: a call that has begun runs to its end.
         self.0.lock().unwrap_or_else(PoisonError::into_inner)
     }
 }

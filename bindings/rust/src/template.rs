@@ -2,7 +2,7 @@
 
 /// A piece of a template.
 pub(crate) enum Piece<'t> {
-    /// Text that stands for itself.
+    /// Literal text.
     Text(&'t str),
     /// A reference to the group with this index.
     Index(usize),
@@ -20,7 +20,7 @@ pub(crate) fn pieces(template: &str) -> impl Iterator<Item = Piece<'_>> {
     })
 }
 
-/// Returns the first piece of a template, and what follows it.
+/// Returns the first piece of a template, and the rest.
 fn first(template: &str) -> Option<(Piece<'_>, &str)> {
     match template.bytes().position(|byte| byte == b'$') {
         None if template.is_empty() => None,
@@ -30,7 +30,7 @@ fn first(template: &str) -> Option<(Piece<'_>, &str)> {
     }
 }
 
-/// Returns the piece that begins with a `$`, and what follows it.
+/// Returns the piece that begins with a `$`, and the rest.
 fn at_dollar(template: &str) -> (Piece<'_>, &str) {
     let (dollar, after) = template.split_at(1);
     if let Some(rest) = after.strip_prefix('$') {
@@ -46,7 +46,7 @@ fn at_dollar(template: &str) -> (Piece<'_>, &str) {
     }
 }
 
-/// Returns how many bytes of a name without braces come first.
+/// Returns the length of the name without braces at the start, in bytes.
 fn name_len(text: &str) -> usize {
     let is_other = |byte: u8| !byte.is_ascii_alphanumeric() && byte != b'_';
     text.bytes().position(is_other).unwrap_or(text.len())

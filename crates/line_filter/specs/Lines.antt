@@ -15,12 +15,12 @@ with_byte byte [] = (byte ∷ []) ∷ []
 with_byte byte (line ∷ lines) =
     if byte == 10 then (byte ∷ []) ∷ line ∷ lines else (byte ∷ line) ∷ lines
 
--- the lines of these bytes, each with its line feed. The last may have none
+-- the lines of these bytes, each with its line feed. the last may have none
 abbrev pub lines_of : List ℕ → List (List ℕ)
 lines_of [] = []
 lines_of (byte ∷ bytes) = with_byte byte (lines_of bytes)
 
--- what stands before the line feed of a line
+-- the text of a line before its line feed
 abbrev pub text_of : (line : List ℕ) → List ℕ
 text_of line = strip_last 10 line
 
@@ -28,12 +28,12 @@ text_of line = strip_last 10 line
 abbrev pub LineMatches : Expression → (line : List ℕ) → Type 0
 LineMatches re line = IsUtf8 (text_of line) × MatchesIn re (text_of line)
 
--- the line is to be written: the pattern matches it, or doesn't, as is asked for
+-- the line is to be written: the pattern matches it, or doesn't, as the selection asks for
 abbrev pub IsSelected : Selection → (Matches : List ℕ → Type 0) → (line : List ℕ) → Type 0
 IsSelected Matching Matches line = Matches line
 IsSelected Others Matches line = ¬ (Matches line)
 
--- of these lines those are kept of which this holds, in their order
+-- the lines of which this holds are kept, in their order
 abbrev pub AreKept : (Holds : List ℕ → Type 0) → (lines kept : List (List ℕ)) → Type 0
 AreKept Holds [] kept = kept ≡ []
 AreKept Holds (line ∷ lines) kept =
@@ -45,8 +45,8 @@ abbrev pub has_some : List (List ℕ) → Bool
 has_some [] = false
 has_some (line ∷ lines) = true
 
--- those of the lines of which this holds were written after what the output held before, and this
--- says whether there is one
+-- the lines of which this holds were written after what the output held before, and `found` says
+-- whether there is one
 pub record AreFiltered (Holds : List ℕ → Type 0) (lines : List (List ℕ))
     (before after : Option (List ℕ)) (found : Bool) : Type 0 where
   pub kept : List (List ℕ)
@@ -54,14 +54,14 @@ pub record AreFiltered (Holds : List ℕ → Type 0) (lines : List (List ℕ))
   pub written : Appends before after (concat kept)
   pub told : found ≡ has_some kept
 
--- so were those of the first lines, up to these that are left
+-- the first lines, up to those that are left, were filtered in this way
 pub record AreFilteredUpTo (Holds : List ℕ → Type 0) (lines left : List (List ℕ))
     (before after : Option (List ℕ)) (found : Bool) : Type 0 where
   pub first : List (List ℕ)
   pub all : lines ≡ first ++ left
   pub filtered : AreFiltered Holds first before after found
 
--- so were those of the first lines, up to some line
+-- the first lines, up to some line, were filtered in this way
 abbrev pub IsBegun : (Holds : List ℕ → Type 0) → (lines : List (List ℕ))
     → (before after : Option (List ℕ)) → Type 0
 IsBegun Holds lines before after =

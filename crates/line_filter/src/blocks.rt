@@ -12,13 +12,14 @@ use std::io;
 use std::io::Read;
 use std::marker::Model;
 
-/// By how many bytes the memory grows: a read takes as many at most, unless lines are longer.
+/// The number of bytes by which the memory grows. A read returns at most that many, unless lines
+/// are longer.
 const BLOCK: usize = 65536;
 
-/// The bytes that were read and are still to be filtered.
+/// The bytes that were read but not yet filtered.
 #[derive(Drop)]
 pub(crate) struct Block {
-    /// The memory of the block, of which the front is in use.
+    /// The memory of the block, the front of which is in use.
     bytes: Vec<u8>,
     filled: usize,
 }
@@ -44,22 +45,22 @@ impl Block {
         }
     }
 
-    /// How many bytes it has.
+    /// The number of bytes in the block.
     pub fn len(&self) -> usize
         ensures { result ≡ length self.now }
     {
         self.filled
     }
 
-    /// Its bytes.
+    /// The bytes of the block.
     pub fn as_slice(&self) -> &[u8]
         ensures { result.now ≡ self.now }
     {
         &self.bytes[..self.filled]
     }
 
-    /// Appends what one read of the input gives, and returns whether the input has ended. After a
-    /// read that was interrupted nothing is appended, and the input may go on.
+    /// Appends what one read of the input returns, and returns whether the input has ended. If the
+    /// read was interrupted, nothing is appended, and the input may continue.
     ///
     /// # Errors
     ///
@@ -82,9 +83,9 @@ impl Block {
         }
     }
 
-    /// Drops its first bytes.
+    /// Drops the first bytes of the block.
     ///
-    /// Condition: it has as many.
+    /// Condition: the block has at least that many bytes.
     pub fn drop_front(&mut self, count: usize)
         requires { count ≤ length self.old }
         ensures { self.new ≡ drop count self.old }
@@ -94,9 +95,9 @@ impl Block {
     }
 }
 
-/// Makes the memory larger where all of it is in use.
+/// Makes the memory larger if all of it is in use.
 ///
-/// Condition: no more is in use than there is.
+/// Condition: at most the whole memory is in use.
 fn make_room(bytes: &mut Vec<u8>, filled: usize) -> Result<(), AllocError>
     requires { filled ≤ length bytes.old.items }
     ensures room { OnOk result (filled < length bytes.new.items) }
@@ -108,8 +109,8 @@ fn make_room(bytes: &mut Vec<u8>, filled: usize) -> Result<(), AllocError>
     Ok(())
 }
 
-/// How many bytes, at the front, are whole lines, whatever follows. Only line feeds at or after
-/// `start` are looked for.
+/// The number of bytes at the front that are whole lines, whatever follows. It searches only for
+/// line feeds at or after `start`.
 pub(crate) fn whole_lines(bytes: &[u8], start: usize) -> usize
     requires { start ≤ length bytes.now }
     ensures inside { result ≤ length bytes.now }
@@ -122,7 +123,7 @@ pub(crate) fn whole_lines(bytes: &[u8], start: usize) -> usize
     }
 }
 
-/// The first line and what follows it, unless there is nothing.
+/// The first line and the bytes after it, or `None` if there are no bytes.
 pub(crate) fn split_line(bytes: &[u8]) -> Option<(&[u8], &[u8])>
     ensures { MatchOption result (bytes.now ≡ []) (λ parts.
         (lines_of bytes.now ≡ parts.0.now ∷ lines_of parts.1.now)

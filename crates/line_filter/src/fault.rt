@@ -8,7 +8,7 @@ use std::{fmt, io};
 pub enum Fault {
     /// The arguments aren't a pattern, with or without the flag.
     Usage,
-    /// The pattern was refused, or memory ran out.
+    /// The pattern was rejected, or memory ran out.
     Refused(Error),
     /// A read of the input failed.
     Unreadable,
@@ -62,7 +62,7 @@ impl From<io::Error> for Fault {
 
     ghost from_gives = { λ _ fault. fault ≡ Unwritten };
 
-    /// What a failed write is reported as.
+    /// The fault for a failed write.
     fn from(_: io::Error) -> Fault {
         Fault::Unwritten
     }

@@ -15,22 +15,22 @@ use std::str;
 /// Which lines are written.
 #[derive(Clone, Copy, Debug)]
 pub enum Selection {
-    /// Those that the pattern matches.
+    /// The lines that the pattern matches.
     Matching,
-    /// Those that it doesn't match.
+    /// The lines that the pattern doesn't match.
     Others,
 }
 
 /// Writes the selected lines of the input, whole and in order, and returns whether there is one.
 ///
-/// A line ends with its line feed; the last may have none. The pattern is searched for in what
-/// stands before the line feed. A line that isn't UTF-8 is one that the pattern doesn't match. A
-/// block of the input and the longest line are held in memory.
+/// A line ends with its line feed; the last may have none. The pattern is searched for in the text
+/// before the line feed. A line that isn't valid UTF-8 counts as one that the pattern doesn't
+/// match. Memory holds a block of the input and the longest line.
 ///
 /// # Errors
 ///
 /// `Unreadable` and `Unwritten` if a read or a write failed, and `Refused` if memory ran out.
-/// Unless a write failed, the selected ones of the lines up to some line have been written.
+/// Unless a write failed, the selected lines up to some line have been written.
 pub fn filter<R: Read, W: Write>(
     alloc: Global,
     searcher: &mut RegexSearcher<'_>,
@@ -62,7 +62,7 @@ pub fn filter<R: Read, W: Write>(
     Err(Fault::Unreadable)
 }
 
-/// Writes the selected ones of these lines, and returns whether there is one.
+/// Writes those of these lines that are selected, and returns whether there is one.
 fn write_lines<W: Write>(
     searcher: &mut RegexSearcher<'_>,
     selection: Selection,

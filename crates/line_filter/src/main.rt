@@ -41,7 +41,7 @@ fn run(rt: &HostRuntime) -> Result<bool, Fault> {
     }
 }
 
-/// Filters standard input by this pattern, and returns whether a line was written.
+/// Filters standard input with this pattern, and returns whether a line was written.
 fn filter_input(rt: &HostRuntime, selection: Selection, pattern: &str) -> Result<bool, Fault> {
     let alloc = rt.alloc();
     let regex = Regex::new(alloc, pattern)?;

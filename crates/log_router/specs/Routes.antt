@@ -1,4 +1,4 @@
--- Which rule a line fits, and the fields that the rule finds there.
+-- The rule that matches in a line, and the fields that it finds there.
 use Rattle.std.specs.Prelude.{◌≡◌, ◌<◌, ℕ, List, Option, Some, None, filter_map, map, option_map}
 use Rattle.std.specs.Prelude.{slice_get}
 use Rattle.regex_lite.specs.Expression.{AreNames, Expression, OfTree}
@@ -8,7 +8,7 @@ use Rattle.regex_lite.specs.Searches.{TellsGroups}
 use Rattle.log_router.specs.declared.route.Field.{Field}
 use Rattle.log_router.specs.declared.route.Routed.{Routed}
 
--- the name of a group, if it has one, with the text of the group, if that took part
+-- the name of a group, if it has one, with the text of the group, if it took part
 abbrev pub field_of : Groups → (name : Option (List ℕ)) → Option (List ℕ × List ℕ)
 field_of groups None = None
 field_of groups (Some name) = option_map (λ text. (name, text)) (named_text groups name)

@@ -1,4 +1,4 @@
-//! Says of each line of standard input which rule it fits first, and with which fields:
+//! Prints for each line of standard input the first rule that matches in it, and its fields:
 //! `log_router RULE..`. A rule is a pattern, and its fields are its named groups.
 #![tactic(auto)]
 

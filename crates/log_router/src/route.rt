@@ -1,4 +1,4 @@
-//! The rule that a line fits, and the fields that the rule finds there.
+//! The rule that matches in a line, and the fields that it finds there.
 ghost use Rattle.std.specs.Prelude.{◌≡◌, IfErr, IfOk, MatchOption, map, option_map};
 ghost use Rattle.regex_lite.specs.Errors.{out_of_memory};
 ghost use Rattle.log_router.specs.Routes.{AreFields, FitsNone, IsRouted, field_of};
@@ -8,7 +8,7 @@ use regex_lite::laws::searches_find_the_first_match;
 use regex_lite::{Captures, Error, Regex};
 use std::alloc::Global;
 
-/// A named group of a rule, and what it matched.
+/// A named group of a rule, and the text that it matched.
 #[derive(Clone, Copy, Debug)]
 pub struct Field<'r, 't> {
     /// The name of the group.
@@ -17,7 +17,7 @@ pub struct Field<'r, 't> {
     pub value: &'t str,
 }
 
-/// The first rule that a line fits, by its index, and its fields.
+/// The first rule that matches in a line, by its index, and its fields.
 #[derive(Debug, Drop)]
 pub struct Routed<'r, 't> {
     /// The index of the rule.
@@ -26,8 +26,8 @@ pub struct Routed<'r, 't> {
     pub fields: Vec<Field<'r, 't>>,
 }
 
-/// The first rule of which a match begins somewhere in the line, with the fields of its first
-/// match: `None` if the line fits no rule. An earlier rule wins wherever in the line it matches.
+/// The first rule that matches anywhere in the line, with the fields of its first match, or `None`
+/// if no rule matches. An earlier rule wins wherever in the line it matches.
 ///
 /// # Errors
 ///
@@ -70,7 +70,7 @@ fn fields_of<'r, 't>(
     Ok(fields)
 }
 
-/// The group of this name: `None` if there is no name or the group took no part.
+/// The field of the group with this name, or `None` if there is no name or the group took no part.
 fn field_of<'r, 't>(name: Option<&'r str>, caps: &Captures<'t>) -> Option<Field<'r, 't>>
     ensures { option_map texts_of_field result
         ≡ field_of caps.now (option_map (λ text. text.now) name.entry) }

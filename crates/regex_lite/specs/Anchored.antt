@@ -1,4 +1,4 @@
--- What anchored searches return, by offsets: their matches start where the search does. A whole
+-- What anchored searches return, as offsets: their matches start where the search starts. A whole
 -- match is one that an anchored search from the haystack's start finds among the matches that end
 -- where the haystack does.
 use Rattle.std.specs.Prelude.{◌≡◌, ℕ, Bool, true, false, List, Option, chars, length}
@@ -24,17 +24,17 @@ TellsAnswerAt whole says re haystack start told =
     OfTree re (λ tree. TellsOfAnswer (IsAnswerAt whole tree (chars haystack)) (says tree)
     (search_start haystack start) told)
 
--- it returns the match
+-- the anchored search returns the match
 abbrev pub TellsMatchAt : Expression → (haystack : List ℕ) → (start : ℕ) → Option Match → Type 0
 TellsMatchAt re haystack start told =
     TellsAnswerAt false (λ tree. IsMatchOf haystack) re haystack start told
 
--- it returns the groups
+-- the anchored search returns the groups
 abbrev pub TellsGroupsAt : Expression → (haystack : List ℕ) → (start : ℕ) → Option Groups → Type 0
 TellsGroupsAt re haystack start told =
     TellsAnswerAt false (λ tree. AreGroupsOf tree haystack) re haystack start told
 
--- it returns the match, and these are the spans of its first groups
+-- the anchored search returns the match, and these are the spans of its first groups
 abbrev pub TellsLocationsAt : Expression → (haystack : List ℕ) → (start : ℕ)
     → List (Option (ℕ × ℕ)) → Option Match → Type 0
 TellsLocationsAt re haystack start spans told =
@@ -47,13 +47,13 @@ abbrev pub TellsWholeMatch : Expression → (haystack : List ℕ) → Option Mat
 TellsWholeMatch re haystack told =
     TellsAnswerAt true (λ tree. IsMatchOf haystack) re haystack 0 told
 
--- it returns the groups
+-- the search for a whole match returns the groups
 abbrev pub TellsWholeGroups : Expression → (haystack : List ℕ) → Option Groups → Type 0
 TellsWholeGroups re haystack told =
     TellsAnswerAt true (λ tree. AreGroupsOf tree haystack) re haystack 0 told
 
--- what is returned of the answer of several patterns is its number, and a value of which `says`
--- holds for the tree with this number and what was found of it
+-- what is returned of an answer for several patterns: the number of its pattern, and a value of
+-- which `says` holds for the tree with this number and what was found
 pub record IsToldOfNumbered {A : Type 0} (says : Tree → Found → A → Type 0) (trees : List Tree)
     (answer : ℕ × Found) (told : ℕ × A) : Type 0 where
   pub number : told.0 ≡ answer.0
@@ -63,8 +63,7 @@ pub record IsToldOfNumbered {A : Type 0} (says : Tree → Found → A → Type 0
 
 -- what an anchored search for the patterns at this offset returns, with `whole` for matches that
 -- end where the haystack does: `None` if no such match of any starts there, and otherwise the
--- lowest number of a pattern that has one, and a value of which `says` holds for what is found of
--- it
+-- lowest number of a pattern that has one, and a value of which `says` holds for what is found
 abbrev pub TellsAnswerAtOfList : {A : Type 0} → (whole : Bool)
     → (says : Tree → Found → A → Type 0) → List Expression → (haystack : List ℕ) → (start : ℕ)
     → Option (ℕ × A) → Type 0
@@ -72,21 +71,21 @@ TellsAnswerAtOfList whole says list haystack start told =
     OfTrees list (λ trees. TellsOfAnswer (IsAnswerAtOfList whole trees (chars haystack))
     (IsToldOfNumbered says trees) (search_start haystack start) told)
 
--- it returns the match, with the number of its pattern
+-- the anchored search returns the match, with the number of its pattern
 abbrev pub TellsMatchAtOfList : List Expression → (haystack : List ℕ) → (start : ℕ)
     → Option (ℕ × Match) → Type 0
 TellsMatchAtOfList list haystack start told =
     TellsAnswerAtOfList false (λ tree. IsMatchOf haystack) list haystack start told
 
--- it returns the groups, with the number of their pattern
+-- the anchored search returns the groups, with the number of their pattern
 abbrev pub TellsGroupsAtOfList : List Expression → (haystack : List ℕ) → (start : ℕ)
     → Option (ℕ × Groups) → Type 0
 TellsGroupsAtOfList list haystack start told =
     TellsAnswerAtOfList false (λ tree. AreGroupsOf tree haystack) list haystack start told
 
--- it returns the match, with the number of its pattern, and these are the spans of that pattern's
--- groups by index: those of its first groups where it has more than there are spans, and none after
--- its last one where it has fewer
+-- the anchored search returns the match, with the number of its pattern, and these are the spans of
+-- that pattern's groups by index: those of its first groups where it has more than there are spans,
+-- and none after its last one where it has fewer
 abbrev pub TellsLocationsAtOfList : List Expression → (haystack : List ℕ) → (start : ℕ)
     → List (Option (ℕ × ℕ)) → Option (ℕ × Match) → Type 0
 TellsLocationsAtOfList list haystack start spans told =
@@ -102,7 +101,8 @@ abbrev pub TellsWholeMatchOfList : List Expression → (haystack : List ℕ) →
 TellsWholeMatchOfList list haystack told =
     TellsAnswerAtOfList true (λ tree. IsMatchOf haystack) list haystack 0 told
 
--- it returns the groups, with the number of their pattern
+-- the search for a whole match of one of the patterns returns the groups, with the number of their
+-- pattern
 abbrev pub TellsWholeGroupsOfList : List Expression → (haystack : List ℕ) → Option (ℕ × Groups)
     → Type 0
 TellsWholeGroupsOfList list haystack told =

@@ -1,5 +1,5 @@
--- Laws of what anchored searches return: by the searches that aren't anchored, and by the offsets
--- at which patterns match.
+-- Laws of what anchored searches return, in terms of unanchored searches and of the offsets at
+-- which patterns match.
 use Rattle.std.specs.Prelude.{◌≡◌, ◌≤◌, ◌↔◌, ℕ, List, IsUtf8, Option, Some, None, chars}
 use Rattle.std.specs.Prelude.{slice_get}
 use Rattle.regex_lite_syntax.specs.Grammar.{HasTree}
@@ -16,7 +16,7 @@ use Rattle.regex_lite.specs.RegexListSearches.{TellsMatchOfList}
 use Rattle.regex_lite.specs.Searches.{CanStartAt, TellsGroups, TellsLocations, TellsMatch}
 
 -- an anchored search for a pattern at this offset returns what the search from there returns,
--- exactly if that starts there
+-- exactly if that match starts there
 pub record IsSearchAt (re : Expression) (haystack : List ℕ) (start : ℕ) : Type 0 where
   pub match : (told : Match) → TellsMatchAt re haystack start (Some told)
       ↔ (TellsMatch re haystack start (Some told) × ((span_of_match told).0 ≡ start))
@@ -32,7 +32,8 @@ AnchoredSearchesAreSearches =
     (re : Expression) (haystack : List ℕ) (start : ℕ) → IsUtf8 haystack
     → CanStartAt haystack start → IsSearchAt re haystack start
 
--- the same of those for several patterns
+-- an anchored search for several patterns at this offset returns what the search from there
+-- returns, exactly if that match starts there
 pub record IsListSearchAt (list : List Expression) (haystack : List ℕ) (start : ℕ)
     : Type 0 where
   pub match : (told : ℕ × Match) → TellsMatchAtOfList list haystack start (Some told)
@@ -56,16 +57,16 @@ pub record IsMatchAt (re : Expression) (haystack : List ℕ) (start : ℕ) (span
   pub matches : MatchesSpan re haystack span
   pub preferred : PrefersSpan re haystack span
 
--- the anchored searches for a pattern at this offset, by the offsets at which it matches
+-- the anchored searches for a pattern at this offset, in terms of the offsets at which it matches
 pub record FindsAt (re : Expression) (haystack : List ℕ) (start : ℕ) : Type 0 where
-  -- what is returned is the match that the pattern prefers there, and that may be returned
+  -- a match may be returned exactly if it is the one that the pattern prefers there
   pub found : (told : Match) → TellsMatchAt re haystack start (Some told)
       ↔ ((haystack_of_match told ≡ haystack)
       × IsMatchAt re haystack start (span_of_match told))
-  -- nothing is returned exactly if no match begins there, of a pattern that has a tree
+  -- nothing is returned exactly if the pattern has a tree and no match begins there
   pub none : TellsMatchAt re haystack start None
       ↔ (HasTree re.flags (chars re.pattern) × (MatchesAt re haystack start → ⊥))
-  -- the same of the search for groups
+  -- the search for groups finds the preferred match, or nothing if none begins there
   pub groups : (told : Groups) → TellsGroupsAt re haystack start (Some told)
       → IsMatchAt re haystack start (whole_span told)
   pub no_groups : TellsGroupsAt re haystack start None
@@ -86,7 +87,8 @@ pub record IsMatchAtOfList (list : List Expression) (haystack : List ℕ) (start
   pub lowest : (k : ℕ) (other : Expression) → slice_get list k ≡ Some other
       → MatchesAt other haystack start → number ≤ k
 
--- the anchored searches for several patterns at this offset, in the same way
+-- the anchored searches for several patterns at this offset, in terms of the offsets at which they
+-- match
 pub record ListFindsAt (list : List Expression) (haystack : List ℕ) (start : ℕ) : Type 0 where
   pub found : (number : ℕ) (told : Match)
       → TellsMatchAtOfList list haystack start (Some (number, told))

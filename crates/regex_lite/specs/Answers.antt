@@ -1,5 +1,4 @@
--- What the answers of searches of a haystack are, and what is returned of them, whatever is
--- searched for.
+-- The answers of searches, and what is returned of them, for one pattern or several.
 use Rattle.std.specs.Prelude.{◌≡◌, ◌≤◌, ℕ, true, List, Option, Some, None, IfSome, length}
 use Rattle.regex_lite_syntax.specs.Text.{Text}
 use Rattle.regex_lite_engine.specs.Search.Answer.{Found}
@@ -14,12 +13,12 @@ pub record IsWithin (haystack : Text) (s : ℕ) (found : Found) : Type 0 where
   pub ordered : found.start ≤ found.end
   pub inside : found.end ≤ length haystack
 
--- what the lists of answers rest on
+-- the properties of answers that the laws of match lists need
 pub record AreLawful {A : Type 0} (found_of : A → Found) (haystack : Text)
     (Answers : (s : ℕ) → Option A → Type 0) : Type 0 where
   pub within : (s : ℕ) (answer : A) → Answers s (Some answer)
       → IsWithin haystack s (found_of answer)
-  -- it is also found from any later position on up to its start
+  -- an answer is also the answer from any later position up to its start
   pub further : (s p : ℕ) (answer : A) → s ≤ p → p ≤ (found_of answer).start
       → Answers s (Some answer) → Answers p (Some answer)
   pub one : (s : ℕ) (answer other : Option A) → Answers s answer → Answers s other → answer ≡ other

@@ -1,4 +1,4 @@
--- What the parts of a regex, and of a searcher, have to do with one another.
+-- The relations between the parts of a regex and of a searcher.
 use Rattle.std.specs.Prelude.{◌≡◌, ℕ, List, Option, chars, map, not, option_map}
 use Rattle.std.specs.Rc.{rc_str_bytes}
 use Rattle.regex_lite_syntax.specs.Tree.{Tree}
@@ -12,7 +12,7 @@ use Rattle.regex_lite.specs.Expression.{AreNames, Expression, OfTree}
 use Rattle.regex_lite.specs.Groups.{Groups, spans_of}
 use Rattle.regex_lite.specs.declared.string.compiled.Compiled.{Compiled}
 
--- a regex is built of a tree that the grammar gives its pattern, and that exceeds no limit
+-- a regex is built from a tree that the grammar gives its pattern and that exceeds no limit
 pub record IsBuilt (compiled : Compiled) : Type 0 where
   pub tree : Tree
   pub given : IsTree compiled.pattern.flags (chars compiled.pattern.pattern) tree
@@ -22,7 +22,7 @@ pub record IsBuilt (compiled : Compiled) : Type 0 where
   pub graph : IsGraphOf tree compiled.graph
   -- what the graph says of groups holds for the tree
   pub groups : HasGroupsOf tree compiled.graph
-  -- and so does what it says of characters that matches read
+  -- what the graph says of whether matches read characters holds for the tree
   pub reads : compiled.graph.reads ≡ not (nullable tree)
 
 -- what is stored of the groups of a regex
@@ -48,12 +48,12 @@ abbrev pub SharesGroups : Expression → StoredGroups → Type 0
 SharesGroups re stored =
     OfTree re (λ tree. NamesGroups tree (names_of stored) stored.static_captures_len)
 
--- these groups have them too, whatever they matched
+-- these groups have the regex's names and number, whatever they matched
 abbrev pub AreOfRegex : Expression → Groups → Type 0
 AreOfRegex re groups =
     OfTree re (λ tree. NamesGroups tree groups.names groups.static_captures_len)
 
--- the groups of a match in this haystack, of which these are the slots
+-- the groups of a match in this haystack with these slots
 abbrev pub groups_of : (haystack : List ℕ) → (slots : List (Option ℕ)) → StoredGroups → Groups
 groups_of haystack slots stored = record {
   haystack = haystack;

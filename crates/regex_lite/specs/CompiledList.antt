@@ -1,5 +1,5 @@
--- What the parts of a list of patterns have to do with one another, and what the groups of a match
--- share with what found it.
+-- The relations between the parts of a list of patterns, and what the groups of a match share with
+-- the list that found it.
 use Rattle.std.specs.Prelude.{◌≡◌, ◌<◌, ◌^◌, ℕ, List, [], None, length, slice_get, unwrap_or}
 use Rattle.regex_lite_syntax.specs.Tree.{Tree}
 use Rattle.regex_lite_engine.specs.Graph.SideBySide.{AreRegularPatterns, places_of_all}
@@ -12,7 +12,7 @@ use Rattle.regex_lite.specs.declared.string.list.compiled.CompiledList.{Compiled
 use Rattle.regex_lite.specs.declared.string.source.Finder.{Finder}
 use Rattle.regex_lite.specs.declared.string.source.Finder.TheVariants.{Regex, Listed}
 
--- a list is built of trees that the grammar gives its patterns, and whose places can be numbered
+-- a list is built from trees that the grammar gives its patterns and whose places can be numbered
 pub record IsBuiltList (compiled : CompiledList) : Type 0 where
   pub trees : List Tree
   pub given : AreTrees compiled.patterns.items trees
@@ -22,12 +22,12 @@ pub record IsBuiltList (compiled : CompiledList) : Type 0 where
   pub graph : IsGraphOfList trees compiled.graph
   -- what the graph says of groups holds for the trees
   pub groups : HasGroupsOfList trees compiled.graph
-  -- and so does what it says of characters that matches read
+  -- what the graph says of whether matches read characters holds for the trees
   pub reads : TellReading trees compiled.graph.reads
-  -- as many slots are kept as the pattern with the most groups needs
+  -- the kept slots suffice for the pattern with the most groups
   pub slots : compiled.kept_slots ≡ kept_slots (most_groups compiled.graph.groups)
 
--- what is stored of the groups of the pattern with this number, which is there
+-- what is stored of the groups of the pattern with this number, which exists
 abbrev pub groups_at : List StoredGroups → (number : ℕ) → StoredGroups
 groups_at all number =
     unwrap_or (slice_get all number) (record { capture_names = []; static_captures_len = None })
@@ -37,7 +37,7 @@ abbrev pub groups_from : Finder → StoredGroups
 groups_from (Regex compiled) = stored_groups compiled
 groups_from (Listed list number) = groups_at list.graph.groups number
 
--- the pattern is there
+-- the pattern exists
 abbrev pub IsThere : Finder → Type 0
 IsThere (Regex compiled) = Unit {0}
 IsThere (Listed list number) = number < length list.graph.groups

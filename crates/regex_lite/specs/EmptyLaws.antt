@@ -4,7 +4,7 @@ use Rattle.regex_lite_syntax.specs.Tree.Properties.{nullable}
 use Rattle.regex_lite.specs.Expression.{Expression, OfTree}
 use Rattle.regex_lite.specs.MatchOffsets.{MatchesSpan}
 
--- a pattern with a tree that isn't nullable matches no empty text: each match ends after its start
+-- a pattern whose tree isn't nullable has no empty match: each match ends after its start
 abbrev pub OnlyNullableMatchesAreEmpty : Type 0
 OnlyNullableMatchesAreEmpty =
     (re : Expression) (haystack : List ℕ) (span : ℕ × ℕ)

@@ -1,4 +1,4 @@
--- A regex as contracts see it, what is built and what is refused, and what a regex returns.
+-- A regex as contracts see it, what is built and what is rejected, and what a regex returns.
 use Rattle.std.specs.Prelude.{◌≡◌, ◌⊎◌, ℕ, List, Option, None, Result, IfOk, IfErr}
 use Rattle.std.specs.Prelude.{chars, map, option_map, length, slice_index_or}
 use Rattle.regex_lite_syntax.specs.declared.flags.Flags.{Flags}
@@ -32,18 +32,18 @@ abbrev pub IsAccepted : Settings → Type 0
 IsAccepted settings = (tree : Tree) × IsReadAs settings tree × Fits settings.size_limit tree
 
 -- what the error says of the pattern under these settings is true, or what it says of the tree that
--- would have to be written out
+-- would have to be compiled
 abbrev pub IsDue : Settings → Error → Type 0
 IsDue settings error =
     IsDueToPattern settings.flags settings.nest_limit (chars settings.pattern) (kind_of error)
     ⊎ ((tree : Tree) × IsReadAs settings tree
     × IsDueToTree settings.size_limit tree (kind_of error))
 
--- what is returned when a regex is to be built under these settings
+-- the result of building a regex under these settings
 pub record Builds (settings : Settings) (result : Result Expression Error) : Type 0 where
   -- the regex has the pattern and the flags
   pub ok : IfOk result (λ regex. regex ≡ expression_of settings)
-  -- and its pattern has a tree and exceeds no limit
+  -- its pattern has a tree and exceeds no limit
   pub accepted : IfOk result (λ _. IsAccepted settings)
   -- what the error says is true
   pub refused : IfErr result (λ error. IsDue settings error)
@@ -54,7 +54,7 @@ pub record Builds (settings : Settings) (result : Result Expression Error) : Typ
 abbrev pub OfTree : Expression → (Tree → Type 0) → Type 0
 OfTree re property = (tree : Tree) × IsTree re.flags (chars re.pattern) tree × property tree
 
--- the name at this index, where there is one. The names are given as their bytes
+-- the name at this index, if there is one; the names are given as their bytes
 abbrev pub name_at : List (Option (List ℕ)) → ℕ → Option Text
 name_at names index = slice_index_or (map (option_map chars) names) index None
 

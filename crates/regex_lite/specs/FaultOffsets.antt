@@ -1,4 +1,4 @@
--- Where in a pattern its first fault stands, as a builder reports it.
+-- The place of the first fault in a pattern, as a builder reports it.
 use Rattle.std.specs.Prelude.{◌≡◌, chars, option_map}
 use Rattle.regex_lite_syntax.specs.Grammar.{HasTree}
 use Rattle.regex_lite_syntax.specs.declared.parse.fault.FaultPlace.{FaultPlace}
@@ -11,8 +11,8 @@ use Rattle.regex_lite.specs.Settings.{Settings}
 abbrev pub HasTreeUnder : Settings → Type 0
 HasTreeUnder settings = HasTree settings.flags (chars settings.pattern)
 
--- under these settings the first fault of the pattern starts at the one offset, in bytes, and ends
--- at the other; it has no end where some accepted pattern begins with this one
+-- under these settings the first fault of the pattern starts at `start` and ends at `end`, in
+-- bytes; it has no end if some accepted pattern begins with this one
 pub record IsFaultSpan (settings : Settings) (span : FaultSpan) : Type 0 where
   pub place : FaultPlace
   pub fault : IsPlaceOfFault settings.flags (chars settings.pattern) place

@@ -1,4 +1,4 @@
--- Laws of groups: the first of them is the match, and what is known of their number and names.
+-- Laws of groups: group 0 is the match, and the groups have known names and a known least number.
 use Rattle.std.specs.Prelude.{◌≡◌, ◌<◌, ◌↔◌, ℕ, List, IsSome, IsUtf8, Option, Some, chars, length}
 use Rattle.std.specs.Prelude.{map, option_map, slice_get}
 use Rattle.regex_lite_engine.specs.Search.Answer.{Found}
@@ -12,7 +12,7 @@ use Rattle.regex_lite.specs.RegexListSearches.{TellsGroupsOfList, TellsMatchOfLi
 use Rattle.regex_lite.specs.Replacements.{AreGroupsOfEach}
 use Rattle.regex_lite.specs.Searches.{TellsGroups, TellsMatch}
 
--- where the search for groups returns these, group 0 is what the search for the match returns
+-- group 0 of the groups that a search returns is the match that the search for the match returns
 abbrev pub MatchIsGroup0 : Type 0
 MatchIsGroup0 =
     (re : Expression) (haystack : List ℕ) (start : ℕ) (groups : Groups)
@@ -21,7 +21,7 @@ MatchIsGroup0 =
     ↔ ((haystack_of_match told ≡ groups.haystack)
     × (group_span groups 0 ≡ Some (span_of_match told)))
 
--- so it is for several patterns, and both return the number of one pattern
+-- for several patterns group 0 is the match too, and both searches return the same number
 abbrev pub ListMatchIsGroup0 : Type 0
 ListMatchIsGroup0 =
     (list : List Expression) (haystack : List ℕ) (start number : ℕ) (groups : Groups)
@@ -30,14 +30,14 @@ ListMatchIsGroup0 =
     ↔ ((other ≡ number) × (haystack_of_match told ≡ groups.haystack)
     × (group_span groups 0 ≡ Some (span_of_match told)))
 
--- the groups of each match ahead have its span
+-- group 0 of each match ahead has the span of the match
 abbrev pub GroupsHaveTheirSpans : Type 0
 GroupsHaveTheirSpans =
     (ahead : Ahead) (found : List Found) (groups : List Groups) → AreAhead ahead found
     → AreGroupsOfEach ahead.sought ahead.haystack found groups
     → map whole_span groups ≡ map (found_span (chars ahead.haystack)) found
 
--- where as many groups are known to take part as there are, each took part
+-- if the number of groups known to take part is the number of groups, each took part
 abbrev pub AllGroupsTakePart : Type 0
 AllGroupsTakePart =
     (groups : Groups) → AreGroups groups

@@ -14,7 +14,7 @@ pub record LiesIn (haystack : List ℕ) (span : ℕ × ℕ) : Type 0 where
   pub starts_cleanly : IsCharBoundary haystack span.0
   pub ends_cleanly : IsCharBoundary haystack span.1
 
--- what stands there
+-- the text of a span
 abbrev pub text_at : List ℕ → (span : ℕ × ℕ) → List ℕ
 text_at haystack span = slice_range haystack span.0 span.1
 
@@ -28,15 +28,15 @@ spans_of (start ∷ end ∷ slots) = option_zip start end ∷ spans_of slots
 abbrev pub resized : (count : ℕ) → List (Option (ℕ × ℕ)) → List (Option (ℕ × ℕ))
 resized count spans = take count (spans ++ replicate count None)
 
--- what a match has: the haystack, and by index the spans of the groups that took part and the
--- names of those that have one; and how many groups at least take part in every match, where known
+-- the groups of a match: the haystack, by index the spans of the groups that took part and the
+-- names of those that have one, and the least number of groups in every match, if known
 pub record Groups : Type 0 where
   pub haystack : List ℕ
   pub spans : List (Option (ℕ × ℕ))
   pub names : List (Option (List ℕ))
   pub static_captures_len : Option ℕ
 
--- the span of the group with this index, if it is there and took part
+-- the span of the group with this index, if there is such a group and it took part
 abbrev pub span_at : List (Option (ℕ × ℕ)) → (index : ℕ) → Option (ℕ × ℕ)
 span_at spans index = option_flatten (slice_get spans index)
 
@@ -51,7 +51,7 @@ whole_span groups = unwrap_or (group_span groups 0) (0, 0)
 abbrev pub group_text : Groups → (index : ℕ) → Option (List ℕ)
 group_text groups index = option_map (text_at groups.haystack) (group_span groups index)
 
--- this is the group's name
+-- the group has this name
 abbrev pub is_named : (name : List ℕ) → Option (List ℕ) → Bool
 is_named name None = false
 is_named name (Some own) = bytes_eq own name
@@ -67,12 +67,12 @@ named_span groups name = option_and_then (group_span groups) (index_of groups.na
 abbrev pub named_text : Groups → (name : List ℕ) → Option (List ℕ)
 named_text groups name = option_map (text_at groups.haystack) (named_span groups name)
 
--- the texts of those that took part, from this index on
+-- the texts of the groups that took part, from this index on
 abbrev pub texts_from : Groups → (index : ℕ) → List (List ℕ)
 texts_from groups index =
     filter_map (option_map (text_at groups.haystack)) (drop index groups.spans)
 
--- what is so of the groups of each match
+-- the invariant of the groups of each match
 pub record AreGroups (groups : Groups) : Type 0 where
   pub inside : (index : ℕ) → IfSome (group_span groups index) (LiesIn groups.haystack)
   pub each : length groups.spans ≡ length groups.names

@@ -1,4 +1,4 @@
--- The items of an iterator over matches, by what it has ahead of it before and after each.
+-- The items of an iterator over matches, in terms of the matches ahead before and after each.
 use Rattle.std.specs.Prelude.{◌≡◌, ℕ, List, Option, Some, MatchOption, Result, MatchResult}
 use Rattle.regex_lite_syntax.specs.declared.error.Error.{Error}
 use Rattle.regex_lite_syntax.specs.Errors.{out_of_memory}
@@ -13,7 +13,7 @@ use Rattle.regex_lite.specs.MatchViews.{span_of_match}
 use Rattle.regex_lite.specs.Scanning.{IsMatchWithSlots, Scanning}
 use Rattle.regex_lite.specs.Searches.{AreGroupsOf, IsMatchOf}
 
--- the next match came; or there was none, and none comes from then on
+-- the next match was returned; or there was none, and none comes from then on
 abbrev pub GivesMatch : (old : Scanning Expression) → Option Match → (new : Scanning Expression)
     → Type 0
 GivesMatch old item new =
@@ -22,7 +22,8 @@ GivesMatch old item new =
     × IsOnward old.ended (span_of_match told) × (new.ended ≡ Some (span_of_match told).1)
     × Passes (ahead_of old) found (ahead_of new))
 
--- the same whatever finds it: it came with the number of its pattern, and its slots are kept
+-- for any finder, of one pattern or several: the next match was returned with the number of its
+-- pattern, and its slots are kept; or there was none, and none comes from then on
 module _ {F S A N : Type 0} (sought : F → S) (slots : F → List (Option ℕ)) (found_of : A → Found)
     (number_of : A → N) (IsAnswerTo : S → Text → (s : ℕ) → Option A → Type 0) where
   abbrev pub Came : (old : Scanning F) → N × Match → (new : Scanning F) → Type 0
@@ -38,8 +39,8 @@ module _ {F S A N : Type 0} (sought : F → S) (slots : F → List (Option ℕ))
       (EndsAhead found_of IsAnswerTo (ahead_by sought old) (ahead_by sought new))
       (λ told. Came old told new)
 
--- the groups of the next match came with the number of its pattern; or there was one and a growth
--- was refused, or there was none, and none comes from then on
+-- the groups of the next match were returned with the number of its pattern; or memory ran out for
+-- them, or there was no match, and none comes from then on
 module _ {F S A N : Type 0} (sought : F → S) (found_of : A → Found) (number_of : A → N)
     (IsAnswerTo : S → Text → (s : ℕ) → Option A → Type 0)
     (AreFound : S → (haystack : List ℕ) → A → Groups → Type 0) where
@@ -65,7 +66,7 @@ abbrev pub AreGroupsFound : Expression → (haystack : List ℕ) → Found → G
 AreGroupsFound re haystack found groups =
     OfTree re (λ tree. AreGroupsOf tree haystack found groups)
 
--- the groups of the next match came; or there was one and a growth was refused, or there was none,
+-- the groups of the next match were returned; or memory ran out for them, or there was no match,
 -- and none comes from then on
 abbrev pub GivesGroups : (old : Scanning Expression) → Option (Result Groups Error)
     → (new : Scanning Expression) → Type 0

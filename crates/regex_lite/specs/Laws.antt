@@ -27,7 +27,7 @@ pub record Agree (found : Bool) (told : Option Match) (groups : Option Groups) (
   -- the match is group 0
   pub whole : option_map span_of_match told ≡ option_and_then (λ own. group_span own 0) groups
 
--- those for one pattern, in one haystack and from one offset on, do
+-- the searches for one pattern, in one haystack and from one offset on, agree
 abbrev pub SearchesAgree : Type 0
 SearchesAgree =
     (re : Expression) (haystack : List ℕ) (start : ℕ) (found : Bool) (told : Option Match)
@@ -42,14 +42,14 @@ pub record LiesInside (haystack : List ℕ) (whole span : ℕ × ℕ) : Type 0 w
   pub ends_inside : span.1 ≤ whole.1
   pub lies_in : LiesIn haystack span
 
--- so does each group that a search returns, where it took part
+-- each group that a search returns and that took part lies inside the match
 abbrev pub GroupsLieInside : Type 0
 GroupsLieInside =
     (re : Expression) (haystack : List ℕ) (start : ℕ) (groups : Groups) → IsUtf8 haystack
     → TellsGroups re haystack start (Some groups)
     → (index : ℕ) → IfSome (group_span groups index) (LiesInside haystack (whole_span groups))
 
--- at least as many of them took part as do in every match
+-- at least as many groups took part as take part in every match
 abbrev pub EnoughGroupsTakePart : Type 0
 EnoughGroupsTakePart =
     (re : Expression) (haystack : List ℕ) (start : ℕ) (groups : Groups) → IsUtf8 haystack
@@ -62,18 +62,18 @@ MatchesAreTheirSpans =
     (one other : Match)
     → Decides (is_same_match one other) (match_with_haystack one ≡ match_with_haystack other)
 
--- an escaped text as a pattern, under the default settings
+-- the default settings with an escaped text as the pattern
 abbrev pub escaped_settings : (text : List ℕ) → Settings
 escaped_settings text = default_settings (escaped_pattern text)
 
--- a refusal of this kind says that the pattern is too large, or that memory ran out
+-- an error of this kind says that the pattern is too large, or that memory ran out
 abbrev pub IsForSize : ErrorKind → Type 0
 IsForSize Size = Unit {0}
 IsForSize Places = Unit {0}
 IsForSize Memory = Unit {0}
 IsForSize _ = ⊥
 
--- no other refusal of an escaped text is due
+-- no other error is due for an escaped text
 abbrev pub EscapedTextsAreRefusedForSize : Type 0
 EscapedTextsAreRefusedForSize =
     (text : List ℕ) (error : Error) → IsUtf8 text → IsDue (escaped_settings text) error

@@ -1,9 +1,9 @@
 -- Where to begin: Headline has the whole promise on one page. Expression says what is built, what
--- is refused and what a regex returns, and Searches what the searches return. RegexList and
--- RegexListSearches say the same of several patterns at once, ListedPattern of one of these, and
--- Anchored what anchored searches return of one pattern and of several. Templates says what a
--- template gives for the groups of a match, and Escapes which pattern is made of a text.
--- MatchOffsets says where in a haystack a pattern matches, whatever is searched for.
+-- is rejected and what a regex returns, and Searches what its searches return. RegexList and
+-- RegexListSearches are their counterparts for several patterns, ListedPattern for one pattern of a
+-- list, and Anchored for anchored searches. Templates says how a template is expanded with the
+-- groups of a match, and Escapes which pattern escaping makes of a text. MatchOffsets says where in
+-- a haystack a pattern matches, independently of any search.
 pub mod Headline
 pub mod Settings
 pub mod Expression
@@ -52,7 +52,7 @@ pub use Rattle.regex_lite_syntax.specs.Tree.Properties
 pub use Rattle.regex_lite_engine.specs.Graph.PlaceCounts
 pub use Rattle.regex_lite_engine.specs.Graph.Size
 pub use Rattle.regex_lite_engine.specs.Search
--- What every regex keeps, and what is returned of answers and after a match.
+-- What every regex keeps, and what searches return.
 pub mod Compiled
 pub mod CompiledList
 pub mod Slots
@@ -63,6 +63,6 @@ pub mod PiecesLeft
 pub mod Keeping
 pub mod NextMatch
 pub mod Rewriting
--- What those that share what was built have. No public contract rests on it.
+-- What the owners of a compiled pattern share. No public contract depends on it.
 pub mod Owner
 pub mod Holding

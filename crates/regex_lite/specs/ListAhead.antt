@@ -1,4 +1,4 @@
--- What an iterator over the matches of several patterns has ahead of it.
+-- The matches ahead of an iterator over the matches of several patterns.
 use Rattle.std.specs.Prelude.{◌≡◌, ℕ, List, Option, Some, None, MatchOption}
 use Rattle.std.specs.Prelude.{Result, MatchResult, chars, slice_get}
 use Rattle.regex_lite_syntax.specs.declared.error.Error.{Error}
@@ -15,20 +15,20 @@ use Rattle.regex_lite.specs.MatchViews.{span_of_match}
 use Rattle.regex_lite.specs.Scanning.{Scanning}
 use Rattle.regex_lite.specs.Searches.{IsMatchOf}
 
--- the matches ahead of a list of patterns, whose answers are the number of a pattern and what was
--- found of it
+-- the matches ahead for a list of patterns; an answer is the number of a pattern and what was found
+-- of it
 abbrev pub ListAhead : Type 0
 ListAhead = AheadOf (List Expression)
 
--- all of them
+-- all matches in the haystack
 abbrev pub whole_list : List Expression → (haystack : List ℕ) → ListAhead
 whole_list list haystack = whole list haystack None
 
--- those after a match that ended at this offset, or all
+-- the matches after one that ended at this offset, or all matches
 abbrev pub list_after : List Expression → (haystack : List ℕ) → (ended : Option ℕ) → ListAhead
 list_after list haystack ended = after list haystack ended
 
--- this is the match that comes next, or there is none
+-- this match comes next, or none comes
 abbrev pub ListComesNext : ListAhead → Option (ℕ × Found) → Type 0
 ListComesNext ahead = IsNextOfList ahead.sought (chars ahead.haystack) ahead.ended
 
@@ -40,17 +40,17 @@ IsListOver ahead = NoneIsAhead (λ (own : ℕ × Found). own.1) IsAnswerOfPatter
 abbrev pub ListPasses : (old : ListAhead) → ℕ × Found → (new : ListAhead) → Type 0
 ListPasses old answer new = PassesAnswer (λ own. own.1) IsAnswerOfPatterns old answer new
 
--- there was none, and from then on there is none
+-- no match was ahead, and none is ahead from then on
 abbrev pub ListEnds : (old new : ListAhead) → Type 0
 ListEnds old new = EndsAhead (λ (own : ℕ × Found). own.1) IsAnswerOfPatterns old new
 
--- What iterators have ahead
+-- The matches ahead of iterators
 
 abbrev pub list_ahead_of : Scanning (List Expression) → ListAhead
 list_ahead_of it = ahead_by (λ own. own) it
 
--- the next match came with the number of its pattern; or there was none, and none comes from then
--- on
+-- the next match was returned with the number of its pattern; or there was none, and none comes
+-- from then on
 abbrev pub GivesListMatch : (old : Scanning (List Expression)) → Option (ℕ × Match)
     → (new : Scanning (List Expression)) → Type 0
 GivesListMatch old item new =
@@ -66,8 +66,8 @@ AreGroupsFoundInList list haystack number found groups =
     (re : Expression) × (slice_get list number ≡ Some re)
     × AreGroupsFound re haystack found groups
 
--- the groups of the next match came with the number of its pattern; or there was one and a growth
--- was refused, or there was none, and none comes from then on
+-- the groups of the next match were returned with the number of its pattern; or memory ran out for
+-- them, or there was no match, and none comes from then on
 abbrev pub GivesListGroups : (old : Scanning (List Expression))
     → Option (Result (ℕ × Groups) Error) → (new : Scanning (List Expression)) → Type 0
 GivesListGroups old item new =

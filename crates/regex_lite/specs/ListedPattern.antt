@@ -1,4 +1,4 @@
--- One pattern of several, which is given by its number.
+-- One pattern of several, given by its number.
 use Rattle.std.specs.Prelude.{◌≡◌, ℕ, List, Some, slice_get}
 use Rattle.regex_lite.specs.Expression.{Expression}
 

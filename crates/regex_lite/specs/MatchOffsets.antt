@@ -1,5 +1,5 @@
--- Where a pattern matches in a haystack, by offsets. All of it rests on the trees' match relation,
--- and on no search.
+-- Where a pattern matches in a haystack, as offsets. The definitions use only the match relation of
+-- trees, and no search.
 use Rattle.std.specs.Prelude.{◌≡◌, ◌≤◌, ℕ, List, Some, chars, length, slice_get}
 use Rattle.regex_lite_syntax.specs.Tree.{Tree}
 use Rattle.regex_lite_syntax.specs.Tree.Matches.{Matches}
@@ -8,13 +8,13 @@ use Rattle.regex_lite_engine.specs.Search.Preference.{IsMostPreferred}
 use Rattle.regex_lite.specs.Expression.{Expression, OfTree}
 use Rattle.regex_lite.specs.RegexList.{AreTrees}
 
--- the pattern matches what stands between these two offsets
+-- the pattern matches the text between these two offsets
 abbrev pub MatchesSpan : Expression → (haystack : List ℕ) → (span : ℕ × ℕ) → Type 0
 MatchesSpan re haystack span =
     OfTree re (λ tree. (i : ℕ) × (j : ℕ) × IsOffset (chars haystack) i span.0
     × IsOffset (chars haystack) j span.1 × Matches (chars haystack) tree i j)
 
--- it matches what stands between this offset and some other: a match begins there
+-- the pattern matches the text between this offset and some other: a match begins there
 abbrev pub MatchesAt : Expression → (haystack : List ℕ) → (at : ℕ) → Type 0
 MatchesAt re haystack at = (end : ℕ) × MatchesSpan re haystack (at, end)
 
@@ -57,20 +57,20 @@ SomeMatchesWhole list haystack =
 abbrev pub HaveTrees : List Expression → Type 0
 HaveTrees list = (trees : List Tree) × AreTrees list trees
 
--- one of them has a match that begins at this offset or after it
+-- one of these patterns has a match that begins at this offset or after it
 abbrev pub SomeMatches : List Expression → (haystack : List ℕ) → (start : ℕ) → Type 0
 SomeMatches list haystack start =
     (number : ℕ) × (re : Expression) × (slice_get list number ≡ Some re)
     × ((at : ℕ) × (start ≤ at) × MatchesAt re haystack at)
 
--- none of them has one
+-- none of these patterns has a match that begins at this offset or after it
 abbrev pub NoneMatches : List Expression → (haystack : List ℕ) → (start : ℕ) → Type 0
 NoneMatches list haystack start =
     (number : ℕ) (re : Expression) → slice_get list number ≡ Some re
     → MatchesNowhere re haystack start
 
--- this one is the first of all: none of them has a match that begins before this one does, none
--- with a lower number has one that begins there, and the pattern with this number prefers it
+-- this match is the first of all: no pattern has a match that begins before it, none with a lower
+-- number has a match that begins there, and the pattern with this number prefers it
 pub record IsFirstOfList (list : List Expression) (haystack : List ℕ) (start number : ℕ)
     (span : ℕ × ℕ) : Type 0 where
   pub re : Expression

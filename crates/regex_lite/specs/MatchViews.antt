@@ -9,15 +9,15 @@ use Rattle.regex_lite.specs.declared.string.matches.Match.{Match}
 abbrev pub haystack_of_match : Match → List ℕ
 haystack_of_match m = m.haystack.now
 
--- where the match starts and ends
+-- the span of the match
 abbrev pub span_of_match : Match → ℕ × ℕ
 span_of_match m = (m.start, m.end)
 
--- what matched
+-- the text of the match
 abbrev pub text_of_match : Match → List ℕ
 text_of_match m = text_at (haystack_of_match m) (span_of_match m)
 
--- the two have the same start, the same end and the same text for a haystack
+-- the matches have the same start, the same end and the same text of the haystack
 abbrev pub is_same_match : Match → Match → Bool
 is_same_match =
     eq_of_both (on haystack_of_match bytes_eq)
@@ -27,7 +27,7 @@ is_same_match =
 abbrev pub match_with_haystack : Match → List ℕ × (ℕ × ℕ)
 match_with_haystack m = (haystack_of_match m, span_of_match m)
 
--- groups that come one after another, and the spans of those that are still to come
+-- groups that an iterator returns, and the spans of those that are left
 pub record Coming : Type 0 where
   pub groups : Groups
   pub spans : List (Option (ℕ × ℕ))

@@ -1,4 +1,4 @@
--- What a search returns that goes on after a match.
+-- What a search returns that continues after a match.
 use Rattle.std.specs.Prelude.{◌≡◌, ℕ, suc, List, Option, Some, None, option_map}
 use Rattle.regex_lite_engine.specs.Search.Answer.{Found}
 use Rattle.regex_lite_engine.specs.Search.Offsets.{position_at, search_start}
@@ -9,9 +9,9 @@ use Rattle.regex_lite.specs.MatchViews.{span_of_match}
 use Rattle.regex_lite.specs.Scanning.{IsMatchWithSlots}
 use Rattle.regex_lite.specs.Searches.{CanStartAt}
 
--- what is returned of the answer after a match that ended at this offset: nothing without one, and
--- otherwise its match, with the number of the pattern. It ends at the offset of the answer's end,
--- and further on. These are its slots
+-- what is returned of the answer after a match that ended at this offset: nothing if there is none,
+-- and otherwise its match, with the number of the pattern. The match ends at the offset of the
+-- answer's end, after this offset, and has these slots
 module _ {A N : Type 0} (found_of : A → Found) (number_of : A → N)
     (Answers : (s : ℕ) → Option A → Type 0) (haystack : List ℕ) where
   abbrev pub TellsNextMatch : (ended : Option ℕ) → (slots : List (Option ℕ))
@@ -25,7 +25,7 @@ module _ {A N : Type 0} (found_of : A → Found) (number_of : A → N)
       × (position_at haystack (span_of_match told.1).1 ≡ (found_of answer).end)
       × IsOnward ended (span_of_match told.1)
 
--- a search from this offset on is one from the next position
+-- a search from this offset on is a search from the next position on
 pub record IsNextOffset (haystack : List ℕ) (at next : ℕ) : Type 0 where
   pub can_start : CanStartAt haystack next
   pub starts : search_start haystack next ≡ suc (position_at haystack at)

@@ -1,4 +1,4 @@
--- Laws that say what searches return by the offsets at which patterns match.
+-- Laws of what searches return, in terms of the offsets at which patterns match.
 use Rattle.std.specs.Prelude.{◌≡◌, ◌≤◌, ◌↔◌, ℕ, List, IsUtf8, Some, None, chars}
 use Rattle.regex_lite_syntax.specs.Grammar.{HasTree}
 use Rattle.regex_lite.specs.declared.string.matches.Match.{Match}
@@ -11,19 +11,19 @@ use Rattle.regex_lite.specs.MatchViews.{haystack_of_match, span_of_match}
 use Rattle.regex_lite.specs.RegexListSearches.{AnyMatches, TellsGroupsOfList, TellsMatchOfList}
 use Rattle.regex_lite.specs.Searches.{CanStartAt, MatchesFrom, TellsGroups, TellsMatch}
 
--- the searches of one pattern from this offset on, by the offsets at which it matches
+-- the searches for one pattern from this offset on, in terms of the offsets at which it matches
 pub record FindsFirst (re : Expression) (haystack : List ℕ) (start : ℕ) : Type 0 where
-  -- it matches from there on exactly if a match begins there or later
+  -- the pattern matches from there on exactly if a match begins there or later
   pub matches :
       MatchesFrom re haystack start ↔ ((at : ℕ) × (start ≤ at) × MatchesAt re haystack at)
-  -- what is returned is the first match, and the first match is what may be returned
+  -- a match may be returned exactly if it is the first match
   pub found : (told : Match) → TellsMatch re haystack start (Some told)
       ↔ ((haystack_of_match told ≡ haystack)
       × IsFirstMatch re haystack start (span_of_match told))
-  -- nothing is returned where no match begins, of a pattern that has a tree
+  -- nothing is returned exactly if the pattern has a tree and no match begins there or later
   pub none : TellsMatch re haystack start None
       ↔ (HasTree re.flags (chars re.pattern) × MatchesNowhere re haystack start)
-  -- the same of the search for groups
+  -- the search for groups finds the first match, or nothing if there is none
   pub groups : (told : Groups) → TellsGroups re haystack start (Some told)
       → IsFirstMatch re haystack start (whole_span told)
   pub no_groups : TellsGroups re haystack start None
@@ -34,13 +34,14 @@ SearchesFindFirst =
     (re : Expression) (haystack : List ℕ) (start : ℕ) → IsUtf8 haystack
     → CanStartAt haystack start → FindsFirst re haystack start
 
--- from the haystack's start on it matches exactly if it matches somewhere
+-- a pattern matches from the haystack's start on exactly if it matches somewhere
 abbrev pub MatchesFromStart : Type 0
 MatchesFromStart =
     (re : Expression) (haystack : List ℕ) → IsUtf8 haystack
     → MatchesFrom re haystack 0 ↔ MatchesIn re haystack
 
--- the searches of several patterns from this offset on, in the same way
+-- the searches for several patterns from this offset on, in terms of the offsets at which they
+-- match
 pub record ListFindsFirst (list : List Expression) (haystack : List ℕ) (start : ℕ)
     : Type 0 where
   pub matches : AnyMatches list haystack start

@@ -14,11 +14,11 @@ use Rattle.regex_lite.specs.Settings.{Settings}
 abbrev pub IsReadable : Settings → Type 0
 IsReadable settings = (tree : Tree) × IsReadAs settings tree
 
--- and these are the parts of that tree
+-- the pattern has such a tree, and these are its parts
 abbrev pub AreParts : Settings → List Part → Type 0
 AreParts settings parts = (tree : Tree) × IsReadAs settings tree × (parts ≡ outline tree)
 
--- what the error says of the pattern under these settings is true: it can't be read
+-- what the error says of the pattern under these settings is true: it can't be parsed
 abbrev pub IsDueOnReading : Settings → Error → Type 0
 IsDueOnReading settings error =
     IsDueToPattern settings.flags settings.nest_limit (chars settings.pattern) (kind_of error)

@@ -1,3 +1,3 @@
--- What a value that several owners share is to each of them.
+-- Values that several owners share, as each owner sees them.
 pub mod Ownership
 pub mod Values

@@ -12,13 +12,13 @@ use Rattle.regex_lite.specs.Pieces.{ArePieces, found_span}
 use Rattle.regex_lite.specs.Replacements.{IsReplacedBy, IsReplacedInTurn, IsReplacement, Replaces}
 use Rattle.regex_lite.specs.Replacing.{Answer, IsAppendedTemplate, IsFixedText}
 
--- one text of each list in turn, the first list first, and then what is left of it
+-- the texts of the two lists alternating, beginning with the first list, and then the rest of it
 abbrev pub in_turn : (list others : List (List ℕ)) → List ℕ
 in_turn [] others = []
 in_turn (text ∷ list) [] = text ++ concat list
 in_turn (text ∷ list) (other ∷ others) = text ++ (other ++ in_turn list others)
 
--- the pieces are one more than the matches, and pieces and matches in turn give the haystack
+-- there is one more piece than matches, and pieces and matches alternating give the haystack
 pub record AreBetween (haystack : List ℕ) (list matches : List (List ℕ)) : Type 0 where
   pub one_more : length list ≡ length matches + 1
   pub whole : in_turn list matches ≡ haystack
@@ -28,7 +28,7 @@ abbrev pub texts_of_matches : (haystack : List ℕ) → List Found → List (Lis
 texts_of_matches haystack found =
     map (λ one. text_at haystack (found_span (chars haystack) one)) found
 
--- so it is for the pieces and the matches of a haystack, of which there is one list each
+-- the pieces and the matches of a haystack give the haystack in this way
 abbrev pub PiecesAndMatches : Type 0
 PiecesAndMatches =
     (re : Expression) (haystack : List ℕ) (list : List (List ℕ)) (found : List Found)
@@ -40,7 +40,7 @@ OnePieceList =
     (re : Expression) (haystack : List ℕ) (list other : List (List ℕ))
     → ArePieces re haystack list → ArePieces re haystack other → list ≡ other
 
--- the relations of a replacer that is a template, as every text is
+-- the relations of a replacer that is a template, like every text
 module _ {R : Type 0} (template : R → List ℕ) where
   abbrev pub TemplateFixed : R → Option (List ℕ) → R → Type 0
   TemplateFixed old text new = IsFixedText (template old) text × (new ≡ old)
@@ -49,7 +49,7 @@ module _ {R : Type 0} (template : R → List ℕ) where
   TemplateAppends old groups text answer new =
       IsAppendedTemplate (template old) groups text answer × (new ≡ old)
 
--- where matches are replaced by the template `$0`, all or up to a limit, the text is the haystack's
+-- replacing matches by the template `$0`, all or up to a limit, gives the text of the haystack
 abbrev pub WholeMatchesGiveHaystack : Type 0 → Type 0
 WholeMatchesGiveHaystack R =
     (template : R → List ℕ) (rep : R) (re : Expression) (haystack : List ℕ) (limit : Option ℕ)
@@ -59,7 +59,7 @@ WholeMatchesGiveHaystack R =
     → new ≡ haystack
 
 -- for a template without a `$`, replacing each match by the template itself gives the same as
--- replacing it by what the template gives for its groups
+-- replacing it by the template's expansion
 abbrev pub FixedTextIsTemplate : Type 0 → Type 0
 FixedTextIsTemplate R =
     (template : R → List ℕ) (rep : R) (ahead : Ahead) (new other : List ℕ) (last : R)
@@ -67,8 +67,8 @@ FixedTextIsTemplate R =
     → IsReplacedInTurn (TemplateFixed template) (TemplateAppends template) rep ahead other last
     → new ≡ other
 
--- if the relations of a replacer that borrows another are those of the other, matches are replaced
--- as the other replaces them, which leaves the other as it is left
+-- if the relations of a replacer that borrows another are those of the other, it replaces matches
+-- as the other does, and leaves the other in the same state
 module _ {R : Type 0} (Fixed : R → Option (List ℕ) → R → Type 0)
     (Appends : R → Groups → (text : List ℕ) → Answer → R → Type 0) where
   abbrev pub LentReplacersReplaceAlike : Type 0 → Type 0

@@ -11,11 +11,11 @@ use Rattle.regex_lite.specs.Searches.{offsets}
 use Rattle.regex_lite.specs.Ahead.{Ahead, AreAhead, ahead_of, most_ahead, whole}
 use Rattle.regex_lite.specs.Scanning.{Scanning}
 
--- where a match starts and ends, as offsets
+-- the span of a match, as offsets
 abbrev pub found_span : Text → Found → ℕ × ℕ
 found_span haystack found = offsets haystack (found.start, found.end)
 
--- what stands from this offset on before, between and after the spans
+-- the texts before, between and after the spans, from this offset on
 abbrev pub pieces : (haystack : List ℕ) → (from : ℕ) → (spans : List (ℕ × ℕ)) → List (List ℕ)
 pieces haystack from [] = drop from haystack ∷ []
 pieces haystack from (span ∷ spans) =
@@ -31,23 +31,23 @@ pub record IsCut (ahead : Ahead) (from : ℕ) (list : List (List ℕ)) : Type 0 
 abbrev pub ArePieces : Expression → (haystack : List ℕ) → List (List ℕ) → Type 0
 ArePieces re haystack list = IsCut (whole re haystack None) 0 list
 
--- these are at most this many of them, the last of which is all that is left
+-- these are at most this many pieces of the haystack, the last of which is the rest of it
 abbrev pub ArePiecesWithin : (limit : ℕ) → Expression → (haystack : List ℕ) → List (List ℕ)
     → Type 0
 ArePiecesWithin zero re haystack list = list ≡ []
 ArePiecesWithin (suc cuts) re haystack list = IsCut (whole re haystack (Some cuts)) 0 list
 
--- the matches at which a haystack is still to be cut, and whether its last piece has come
+-- the matches at which a haystack is still to be cut, and whether its last piece was returned
 pub record Cutting : Type 0 where
   pub matches : Scanning Expression
   pub is_done : Bool
 
--- a haystack that is cut at matches, or the text that is left as it is, if there is one
+-- a haystack that is cut at matches, or the rest of the text as one piece, if there is any
 pub data CuttingN : Type 0 where
   at_matches : (it : Cutting) → CuttingN
   as_it_is : (text : Option (List ℕ)) → CuttingN
 
--- these pieces are still to come
+-- these pieces are left
 abbrev pub ArePiecesLeft : Cutting → List (List ℕ) → Type 0
 ArePiecesLeft it list =
     MatchBool it.is_done (list ≡ [])
@@ -58,14 +58,15 @@ ArePiecesLeftN (at_matches it) list = ArePiecesLeft it list
 ArePiecesLeftN (as_it_is None) list = list ≡ []
 ArePiecesLeftN (as_it_is (Some text)) list = list ≡ text ∷ []
 
--- the first of the pieces that were left came; or none was left, and none comes from then on
+-- the first of the pieces that were left was returned; or none was left, and none comes from then
+-- on
 abbrev pub GivesPiece : (old : Cutting) → Option (Bor (List ℕ)) → (new : Cutting) → Type 0
 GivesPiece old item new =
     MatchOption item ((old.is_done ≡ true) × (new.is_done ≡ true))
     (λ piece. (old.is_done ≡ false)
     × ((list : List (List ℕ)) → ArePiecesLeft new list → ArePiecesLeft old (piece.now ∷ list)))
 
--- none is left
+-- no piece is left
 abbrev pub is_over : CuttingN → Bool
 is_over (at_matches it) = it.is_done
 is_over (as_it_is text) = is_none text
@@ -76,7 +77,7 @@ GivesPieceN old item new =
     (λ piece. (is_over old ≡ false)
     × ((list : List (List ℕ)) → ArePiecesLeftN new list → ArePiecesLeftN old (piece.now ∷ list)))
 
--- at most this many are left
+-- at most this many pieces are left
 abbrev pub most_pieces : Cutting → Count
 most_pieces it = at_most (if it.is_done then 0 else most_ahead it.matches + 1)
 

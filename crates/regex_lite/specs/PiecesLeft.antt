@@ -1,4 +1,4 @@
--- What is left of at most a given number of pieces, as contracts see it.
+-- The pieces left of a limited number, as contracts see them.
 use Rattle.std.specs.Prelude.{option_map}
 use Rattle.regex_lite.specs.declared.string.iter.split.Pieces.{Pieces}
 use Rattle.regex_lite.specs.declared.string.iter.split.Pieces.TheVariants.{Cut, Whole}

@@ -1,4 +1,4 @@
--- Several patterns at once, as contracts see them: what is built of them, and what is refused.
+-- Lists of patterns as contracts see them: what is built, and what is rejected.
 use Rattle.std.specs.Prelude.{◌≡◌, ◌<◌, ◌≤◌, ◌^◌, ◌⊎◌, ℕ, List, [], ◌∷◌, Some}
 use Rattle.std.specs.Prelude.{Result, IfOk, IfErr, chars, map, slice_get}
 use Rattle.regex_lite_syntax.specs.declared.error.Error.{Error}
@@ -11,7 +11,8 @@ use Rattle.regex_lite_engine.specs.Graph.Size.{Fits}
 use Rattle.regex_lite.specs.Expression.{Expression, IsAccepted, IsDue, IsReadAs, expression_of}
 use Rattle.regex_lite.specs.Settings.{Settings}
 
--- R holds of the first elements of two lists, of the second ones, and so on, and both have as many
+-- R holds of the first elements of two lists, of the second ones, and so on, and both have the same
+-- length
 abbrev pub AllPaired : {A B : Type 0} → (A → B → Type 0) → List A → List B → Type 0
 AllPaired R [] [] = Unit {0}
 AllPaired R [] (y ∷ ys) = ⊥
@@ -22,7 +23,7 @@ AllPaired R (x ∷ xs) (y ∷ ys) = R x y × AllPaired R xs ys
 abbrev pub IsAcceptedAs : Settings → Tree → Type 0
 IsAcceptedAs settings tree = IsReadAs settings tree × Fits settings.size_limit tree
 
--- the same for each of these patterns and the tree that has its number
+-- under its settings each pattern has the tree with its number, and exceeds no limit by itself
 abbrev pub AreAcceptedAs : List Settings → List Tree → Type 0
 AreAcceptedAs all trees = AllPaired IsAcceptedAs all trees
 
@@ -40,24 +41,25 @@ pub record IsDueToLowest (all : List Settings) (error : Error) : Type 0 where
   pub fails : IsAccepted settings → ⊥
   pub due : IsDue settings error
 
--- each pattern is accepted by itself, and the error says that they have too many places together
+-- each pattern is accepted by itself, and the error says that together they have too many places
 pub record IsDueToAll (all : List Settings) (error : Error) : Type 0 where
   pub trees : List Tree
   pub accepted : AreAcceptedAs all trees
   pub passed : 2 ^ 32 ≤ places_of_all trees
   pub kind : kind_of error ≡ Places
 
--- what is returned when a list of patterns is to be built, each under its own settings
+-- the result of building a list of patterns, each under its own settings
 pub record BuildsList (all : List Settings) (result : Result (List Expression) Error)
     : Type 0 where
   -- the list has the patterns and their flags, in their order
   pub ok : IfOk result (λ list. list ≡ map expression_of all)
-  -- and they are accepted
+  -- the patterns are accepted
   pub accepted : IfOk result (λ _. AreAccepted all)
-  -- what the error says is true of the lowest pattern that fails, or if none does, of them all
+  -- what the error says is true of the lowest pattern that is rejected, or if none is, of all
+  -- together
   pub refused : IfErr result (λ error.
       (error ≡ out_of_memory) ⊎ (IsDueToLowest all error ⊎ IsDueToAll all error))
-  -- accepted patterns are refused only where memory runs out
+  -- accepted patterns give an error only if memory runs out
   pub complete : IfErr result (λ error. AreAccepted all → error ≡ out_of_memory)
 
 -- the grammar gives each pattern the tree that has the same number

@@ -12,18 +12,18 @@ use Rattle.regex_lite.specs.RegexListSearches.{TellsGroupsOfList, TellsMatchOfLi
 use Rattle.regex_lite.specs.Searches.{IsWithinCost, MatchesFrom, TellsGroups, TellsMatch}
 use Rattle.regex_lite.specs.Settings.{Settings}
 
--- a result for the only pattern of a list, with its number
+-- a result for the only pattern of a list, with its number 0
 abbrev pub of_the_only : {A : Type 0} → Option A → Option (ℕ × A)
 of_the_only told = option_map (λ own. (0, own)) told
 
--- a search of the list returns what that of its only pattern returns, and nothing else
+-- a search of the list returns exactly what the search of its only pattern returns
 pub record TellsAlike {A : Type 0} (alone : Option A → Type 0) (listed : Option (ℕ × A) → Type 0)
     : Type 0 where
   pub same : (told : Option A) → alone told ↔ listed (of_the_only told)
   pub only : (told : Option (ℕ × A)) → listed told → (own : Option A) × (told ≡ of_the_only own)
 
--- each search of a list of one pattern returns what that of the pattern's regex returns, within the
--- same cost
+-- each search of a list of one pattern returns what the search of the pattern's regex returns,
+-- within the same cost
 pub record AnswersAsItsRegex (re : Expression) (haystack : List ℕ) (start : ℕ) : Type 0 where
   pub is_match : MatchesFrom re haystack start ↔ AnyMatches (re ∷ []) haystack start
   pub match : TellsAlike (TellsMatch re haystack start) (TellsMatchOfList (re ∷ []) haystack start)
@@ -69,7 +69,7 @@ pub record AgreeOnList (found : Bool) (told : Option (ℕ × Match)) (groups : O
     : Type 0 where
   pub with_match : is_some told ≡ found
   pub with_groups : is_some groups ≡ found
-  -- both are of one pattern
+  -- the match and the groups are of one pattern
   pub number : option_map (λ own. own.0) told ≡ option_map (λ own. own.0) groups
   -- the match is group 0
   pub whole : option_map (λ own. span_of_match own.1) told

@@ -1,4 +1,4 @@
--- What searches for several patterns return, by offsets.
+-- What searches for several patterns return, as offsets.
 use Rattle.std.specs.Prelude.{◌≡◌, ℕ, Bool, List, Option, Some, None, chars, length}
 use Rattle.std.specs.Prelude.{slice_get}
 use Rattle.regex_lite_syntax.specs.Text.{Text}
@@ -37,7 +37,7 @@ TellsOfList says trees haystack s (Some told) =
     (found : Found) × (answer : IsFoundInList trees haystack s told.0 found)
     × says answer.tree found told.1
 
--- the same for a search for the patterns from this offset on
+-- what a search for the patterns from this offset on returns, in the same way
 abbrev pub TellsAnswerOfList : {A : Type 0} → (says : Tree → Found → A → Type 0)
     → List Expression → (haystack : List ℕ) → (start : ℕ) → Option (ℕ × A) → Type 0
 TellsAnswerOfList says list haystack start told =
@@ -73,7 +73,7 @@ TellsLocationsOfList list haystack start spans told =
     (spans_from (chars haystack) found.marks 0 (captures_len tree))))
     list haystack start told
 
--- the search did no more than the places and arrows of the written-out patterns allow
+-- the cost of the search is within the bound by the places and arrows of the compiled patterns
 abbrev pub IsWithinListCost : List Expression → (haystack : List ℕ) → (start : ℕ) → Steps → Type 0
 IsWithinListCost list haystack start steps =
     OfTrees list (λ trees. HasCostOfList trees haystack start steps)

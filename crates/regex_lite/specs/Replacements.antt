@@ -1,4 +1,4 @@
--- The texts that replacements give.
+-- The texts that replacements return.
 use Rattle.std.specs.Prelude.{◌≡◌, ◌+◌, ◌++◌, ◌⊎◌, ℕ, zero, suc, List, [], ◌∷◌, Option}
 use Rattle.std.specs.Prelude.{Some, None, Ok, Err, MatchOption, map, chars, drop, slice_range}
 use Rattle.regex_lite_syntax.specs.declared.error.Error.{Error}
@@ -10,13 +10,13 @@ use Rattle.regex_lite.specs.Items.{AreGroupsFound}
 use Rattle.regex_lite.specs.Pieces.{found_span}
 use Rattle.regex_lite.specs.Replacing.{Answer}
 
--- how many matches are replaced: 0 stands for all
+-- the limit on the number of matches to replace: 0 means no limit
 abbrev pub limit_of : ℕ → Option ℕ
 limit_of zero = None
 limit_of (suc n) = Some (suc n)
 
--- at most this many matches were replaced, where the last ended there: each ends later than the one
--- before it
+-- an upper bound of the number of matches that were replaced, if the last ended there: each ends
+-- later than the one before it
 abbrev pub most_replaced : (ended : Option ℕ) → ℕ
 most_replaced None = 0
 most_replaced (Some end) = end + 1
@@ -42,7 +42,7 @@ pub record IsReplacedBy (text : List ℕ) (ahead : Ahead) (new : List ℕ) : Typ
   pub replaced :
       new ≡ replaced_by text ahead.haystack 0 (map (found_span (chars ahead.haystack)) found)
 
--- the groups of some of the matches ahead, from the first on, are such a list
+-- `Are` holds of the groups of some of the matches ahead, from the first on
 pub record OfFirstGroups (ahead : Ahead) (Are : List Groups → Type 0) : Type 0 where
   pub found : List Found
   pub are_first : AreFirstAhead ahead found
@@ -50,12 +50,12 @@ pub record OfFirstGroups (ahead : Ahead) (Are : List Groups → Type 0) : Type 0
   pub each : AreGroupsOfEach ahead.sought ahead.haystack found groups
   pub are : Are groups
 
--- A replacer is known by two relations: what it returns if it is asked for a fixed text, and what
--- it appends and returns for groups. Each leads from its state before to that after
+-- A replacer is characterised by two relations: what it returns if it is asked for a fixed text,
+-- and what it appends and returns for groups. Each relates its states before and after the call
 module _ {R : Type 0} (Fixed : R → Option (List ℕ) → R → Type 0)
     (Appends : R → Groups → List ℕ → Answer → R → Type 0) where
-  -- the haystack from this offset on where the replacer, asked for each match in turn, appended a
-  -- text with `Ok`, and the state in which this leaves it
+  -- the haystack from this offset on with each match replaced by the text that the replacer
+  -- appended for it, with `Ok`, and the state in which this leaves the replacer
   abbrev pub IsChain : (haystack : List ℕ) → R → (from : ℕ) → List Groups → (new : List ℕ)
       → (last : R) → Type 0
   IsChain haystack rep from [] new last = (new ≡ drop from haystack) × (last ≡ rep)
@@ -65,15 +65,15 @@ module _ {R : Type 0} (Fixed : R → Option (List ℕ) → R → Type 0)
       × (new ≡ slice_range haystack from (whole_span groups).0 ++ text ++ rest)
       × IsChain haystack after (whole_span groups).1 list rest last
 
-  -- it returned `Ok` for each of these in turn, which leaves it in this state
+  -- the replacer returned `Ok` for each of these in turn, which leaves it in this state
   abbrev pub IsAsked : R → List Groups → (last : R) → Type 0
   IsAsked rep [] last = last ≡ rep
   IsAsked rep (groups ∷ list) last =
       (text : List ℕ) × (after : R) × Appends rep groups text (Ok tt) after
       × IsAsked after list last
 
-  -- it returned this error for one of the matches, and `Ok` for those before it, which leaves it in
-  -- this state
+  -- the replacer returned this error for one of the matches, and `Ok` for those before it, which
+  -- leaves it in this state
   abbrev pub IsRefusedAt : R → List Groups → Error → (last : R) → Type 0
   IsRefusedAt rep [] error last = ⊥
   IsRefusedAt rep (groups ∷ list) error last =
@@ -89,11 +89,11 @@ module _ {R : Type 0} (Fixed : R → Option (List ℕ) → R → Type 0)
     pub each : AreGroupsOfEach ahead.sought ahead.haystack found groups
     pub chain : IsChain ahead.haystack rep 0 groups new last
 
-  -- the replacer refused one of the first matches ahead
+  -- the replacer returned an error for one of the first matches ahead
   abbrev pub IsRefused : R → Ahead → Error → (last : R) → Type 0
   IsRefused rep ahead error last = OfFirstGroups ahead (λ list. IsRefusedAt rep list error last)
 
-  -- it refused none of those that it was asked for
+  -- the replacer returned no error for those that it was asked for
   abbrev pub IsLeft : R → Ahead → (last : R) → Type 0
   IsLeft rep ahead last = OfFirstGroups ahead (λ list. IsAsked rep list last)
 
@@ -109,20 +109,20 @@ module _ {R : Type 0} (Fixed : R → Option (List ℕ) → R → Type 0)
       (fixed : Option (List ℕ)) × (after : R) × Fixed rep fixed after
       × IsReplaced fixed after ahead new last
 
-  -- it has no fixed text, and the error is one that it returns for a match that is to be replaced,
+  -- the replacer has no fixed text, and returned the error for a match that is to be replaced,
   -- which leaves it in the last state
   abbrev pub Refuses : R → Ahead → Error → (last : R) → Type 0
   Refuses rep ahead error last =
       (after : R) × Fixed rep None after × IsRefused after ahead error last
 
-  -- it was asked for a fixed text and, if it has none, for some of the matches ahead, from the
-  -- first on, of which it refused none. This leaves it in the last state
+  -- the replacer was asked for a fixed text and, if it has none, for some of the matches ahead,
+  -- from the first on, and returned no error; this leaves it in the last state
   abbrev pub Leaves : R → Ahead → (last : R) → Type 0
   Leaves rep ahead last =
       (fixed : Option (List ℕ)) × (after : R) × Fixed rep fixed after
       × MatchOption fixed (IsLeft after ahead last) (λ _. last ≡ after)
 
-  -- the same wherever it leaves the replacer
+  -- `Replaces` for some last state
   abbrev pub IsReplacement : R → Ahead → List ℕ → Type 0
   IsReplacement rep ahead new = (last : R) × Replaces rep ahead new last
 

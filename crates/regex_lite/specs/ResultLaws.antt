@@ -1,4 +1,4 @@
--- Laws of what one search shows by itself.
+-- Laws of what the result of a single search shows.
 use Rattle.std.specs.Prelude.{◌≡◌, ◌↔◌, ℕ, Bool, false, IsTrue, List, Option, Some, is_some}
 use Rattle.std.specs.Prelude.{length, slice_get, slice_index_or}
 use Rattle.regex_lite.specs.declared.string.matches.Match.{Match}
@@ -19,7 +19,7 @@ pub record EachShows (re : Expression) (haystack : List ℕ) (start : ℕ) : Typ
       → IsTrue (is_some told) ↔ MatchesFrom re haystack start
   pub end : (told : Option ℕ) → TellsEnd re haystack start told
       → IsTrue (is_some told) ↔ MatchesFrom re haystack start
-  -- one that writes to locations returns the match
+  -- a search that writes to locations returns the match
   pub locations : (spans : List (Option (ℕ × ℕ))) (told : Option Match)
       → TellsLocations re haystack start spans told → TellsMatch re haystack start told
 
@@ -27,14 +27,14 @@ abbrev pub EachSearchShows : Type 0
 EachSearchShows =
     (re : Expression) (haystack : List ℕ) (start : ℕ) → EachShows re haystack start
 
--- for each of several patterns it is told whether the pattern matches from this offset on
+-- the result says for each of several patterns whether it matches from this offset on
 pub record IsToldOfEach (list : List Expression) (haystack : List ℕ) (start : ℕ)
     (matched : List Bool) : Type 0 where
   pub all : length matched ≡ length list
   pub each : (number : ℕ) (re : Expression) → slice_get list number ≡ Some re
       → IsTrue (slice_index_or matched number false) ↔ MatchesFrom re haystack start
 
--- the same of the searches for several patterns
+-- each search for several patterns shows whether one of them matches from this offset on
 pub record EachShowsOfList (list : List Expression) (haystack : List ℕ) (start : ℕ)
     : Type 0 where
   pub match : (told : Option (ℕ × Match)) → TellsMatchOfList list haystack start told

@@ -1,4 +1,4 @@
--- What searches return, by offsets.
+-- What searches return, as offsets.
 use Rattle.std.specs.Prelude.{◌≡◌, ◌<◌, ◌≤◌, ◌⊎◌, ℕ, zero, suc, List, [], ◌∷◌, Option, Some}
 use Rattle.std.specs.Prelude.{None, IsSome, IsCharBoundary, chars, length, option_map}
 use Rattle.regex_lite_syntax.specs.Text.{Text}
@@ -46,7 +46,7 @@ TellsOf says tree haystack s None = IsAnswer tree haystack s None
 TellsOf says tree haystack s (Some told) =
     (found : Found) × IsAnswer tree haystack s (Some found) × says found told
 
--- the same for a search for the pattern from this offset on
+-- what a search for the pattern from this offset on returns, in the same way
 abbrev pub TellsAnswer : {A : Type 0} → (says : Tree → Found → A → Type 0)
     → Expression → (haystack : List ℕ) → (start : ℕ) → Option A → Type 0
 TellsAnswer says re haystack start told =
@@ -84,7 +84,7 @@ pub record AreOfMatch (re : Expression) (groups : Groups) : Type 0 where
   pub start : ℕ
   pub told : TellsGroups re haystack start (Some groups)
 
--- the groups of each match have this as the number of groups that are known to take part
+-- this is the number of groups that are known to take part in each match
 pub record IsStaticNumber (re : Expression) (known : Option ℕ) : Type 0 where
   pub each : (groups : Groups) → AreOfMatch re groups → groups.static_captures_len ≡ known
 
@@ -100,6 +100,6 @@ TellsLocations re haystack start spans told =
 abbrev pub TellsEnd : Expression → (haystack : List ℕ) → (start : ℕ) → Option ℕ → Type 0
 TellsEnd re haystack start told = OfTree re (λ tree. IsEndOutcome tree haystack start told)
 
--- the search did no more than the places and arrows of the written-out pattern allow
+-- the cost of the search is within the bound by the places and arrows of the compiled pattern
 abbrev pub IsWithinCost : Expression → (haystack : List ℕ) → (start : ℕ) → Steps → Type 0
 IsWithinCost re haystack start steps = OfTree re (λ tree. HasCost tree haystack start steps)

@@ -37,7 +37,7 @@ abbrev pub default_list : ListSettings
 default_list =
     record { patterns = []; flags = no_flags; nest_limit = 50; size_limit = 10485760 }
 
--- those of a pattern that is pushed next
+-- the settings of the pattern that is pushed next
 abbrev pub settings_of_next : ListSettings → (pattern : List ℕ) → Settings
 settings_of_next list pattern = record {
   pattern = pattern;

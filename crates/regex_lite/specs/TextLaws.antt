@@ -14,8 +14,8 @@ use Rattle.regex_lite.specs.RegexList.{AllPaired}
 use Rattle.regex_lite.specs.Replacements.{IsHandedOn, IsReplacement}
 use Rattle.regex_lite.specs.Templates.{IsExpansion}
 
--- what stands in the place of a match: what the template gives for its groups, or the template
--- itself, which then has no `$`
+-- the text that replaces a match: the template's expansion for its groups, or the template itself
+-- if it has no `$`
 abbrev pub StandsFor : Expression → (template haystack : List ℕ) → Found → (text : List ℕ)
     → Type 0
 StandsFor re template haystack found text =
@@ -23,8 +23,8 @@ StandsFor re template haystack found text =
     × IsExpansion groups template text)
     ⊎ ((text ≡ template) × ¬ (Contains template (the "$")))
 
--- the new text is the pieces before, between and after the matches ahead, and what stands in the
--- place of each match, in turn
+-- the new text consists of the pieces before, between and after the matches ahead, alternating with
+-- the texts that replace the matches
 pub record IsRewritten (template : List ℕ) (ahead : Ahead) (new : List ℕ) : Type 0 where
   pub found : List Found
   pub are_ahead : AreAhead ahead found
@@ -33,14 +33,14 @@ pub record IsRewritten (template : List ℕ) (ahead : Ahead) (new : List ℕ) : 
   pub whole : new ≡ in_turn
       (pieces ahead.haystack 0 (map (found_span (chars ahead.haystack)) found)) texts
 
--- so it is where a text is the replacer, whether it has a `$` or none
+-- a text as a replacer, with or without a `$`, rewrites the haystack in this way
 abbrev pub TextsRewrite : Type 0 → Type 0
 TextsRewrite R =
     (template : R → List ℕ) (rep : R) (ahead : Ahead) (new : List ℕ)
     → IsReplacement (TemplateFixed template) (TemplateAppends template) rep ahead new
     ↔ IsRewritten (template rep) ahead new
 
--- and the only error of such a replacement is that memory ran out
+-- the only error of a replacement by a text is that memory ran out
 abbrev pub TextsRefuseForMemory : Type 0 → Type 0
 TextsRefuseForMemory R =
     (template : R → List ℕ) (rep : R) (ahead : Ahead) (error : Error)

@@ -1,4 +1,4 @@
--- What a search of the graph tells of a way of the pattern, whatever it was asked for.
+-- What a search of the graph returns of a way, an accepting path of the pattern.
 use Rattle.std.specs.Prelude.{ℕ, List, Option, chars}
 use Rattle.regex_lite_syntax.specs.Grammar.{IsTree}
 use Rattle.regex_lite_syntax.specs.Tree.{Tree}
@@ -8,13 +8,13 @@ use Rattle.regex_lite_engine.specs.Search.Outcomes.{TellsFound}
 use Rattle.regex_lite.specs.Expression.{Expression}
 use Rattle.regex_lite.specs.RegexList.{AreTrees}
 
--- something is found of a way of the tree, and the span and the slots have its offsets
+-- a way of the tree is found, and the span and the slots have its offsets
 pub record IsToldOfWay (tree : Tree) (haystack : List ℕ) (span : ℕ × ℕ)
     (slots : List (Option ℕ)) (found : Found) : Type 0 where
   pub of_way : IsOfWay tree (chars haystack) found
   pub tells : TellsFound (chars haystack) found span slots
 
--- it is a way of the pattern's tree
+-- the span and the slots are those of a way of the pattern's tree
 pub record TellsOfWay (re : Expression) (haystack : List ℕ) (span : ℕ × ℕ)
     (slots : List (Option ℕ)) : Type 0 where
   pub tree : Tree
@@ -22,7 +22,7 @@ pub record TellsOfWay (re : Expression) (haystack : List ℕ) (span : ℕ × ℕ
   pub found : Found
   pub told : IsToldOfWay tree haystack span slots found
 
--- it is a way of the pattern with this number
+-- the span and the slots are those of a way of the pattern with this number
 pub record TellsOfListedWay (list : List Expression) (haystack : List ℕ) (number : ℕ)
     (span : ℕ × ℕ) (slots : List (Option ℕ)) : Type 0 where
   pub trees : List Tree

@@ -11,13 +11,13 @@ OneTree =
     (re : Expression) (a b : Tree) → IsTree re.flags (chars re.pattern) a
     → IsTree re.flags (chars re.pattern) b → a ≡ b
 
--- so are the lists of trees of several patterns
+-- the lists of trees of several patterns are equal
 abbrev pub OneTreeList : Type 0
 OneTreeList =
     (list : List Expression) (a b : List Tree) → AreTrees list a → AreTrees list b → a ≡ b
 
--- these are the trees of several patterns exactly if there are as many of both, and each pattern
--- has the tree with its number
+-- these are the trees of several patterns exactly if there are as many trees as patterns, and each
+-- pattern has the tree with its number
 abbrev pub TreesAreNumbered : Type 0
 TreesAreNumbered =
     (list : List Expression) (trees : List Tree)

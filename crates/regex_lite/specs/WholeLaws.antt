@@ -1,4 +1,4 @@
--- Laws of what searches for whole matches return, by the offsets at which patterns match.
+-- Laws of what searches for whole matches return, in terms of the offsets at which patterns match.
 use Rattle.std.specs.Prelude.{◌≡◌, ◌≤◌, ◌↔◌, ℕ, List, IfSome, IsUtf8, Some, None, chars, length}
 use Rattle.std.specs.Prelude.{slice_get}
 use Rattle.regex_lite_syntax.specs.Grammar.{HasTree}
@@ -11,7 +11,7 @@ use Rattle.regex_lite.specs.Laws.{LiesInside}
 use Rattle.regex_lite.specs.MatchOffsets.{HaveTrees, MatchesSpan, SomeMatchesWhole}
 use Rattle.regex_lite.specs.MatchViews.{haystack_of_match, span_of_match}
 
--- the pattern matches the whole haystack, and this is where it lies
+-- the pattern matches the whole haystack, and this is the span of the haystack
 pub record IsWholeSpan (re : Expression) (haystack : List ℕ) (span : ℕ × ℕ) : Type 0 where
   pub whole : span ≡ (0, length haystack)
   pub matches : MatchesSpan re haystack span

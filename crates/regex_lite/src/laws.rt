@@ -1,6 +1,6 @@
 //! What this library is for, in two contracts, and laws of what searches return and where patterns
 //! match, of trees, groups, lists, pieces and replacements, of escaped texts and of equality. The
-//! function of a law does nothing: its contract is the law.
+//! function that states a law has an empty body: its contract is the law.
 ghost use Rattle.std.specs.Cmp.{IsEquivalence};
 ghost use Rattle.regex_lite.specs.AnchoredLaws.{AnchoredListSearchesAreSearches};
 ghost use Rattle.regex_lite.specs.AnchoredLaws.{AnchoredListSearchesFindAt};
@@ -53,7 +53,8 @@ pub fn headline<'h>(
     regex.captures_counted_at(haystack, start)
 }
 
-/// The same for several patterns at once. The result has the number of the pattern that matches.
+/// The whole promise of this library for several patterns at once. The result has the number of the
+/// pattern that matches.
 ///
 /// Condition: the start is above the haystack's length or on a character boundary.
 ///
@@ -72,41 +73,43 @@ pub fn list_headline<'h>(
     list.captures_counted_at(haystack, start)
 }
 
-/// A pattern has one tree at most, and so has each of several patterns. These have the trees with
-/// their numbers.
+/// A pattern has at most one tree, and several patterns have at most one list of trees, in which
+/// each pattern's tree has the pattern's number.
 pub fn patterns_have_one_tree()
     ensures one_tree { OneTree }
     ensures one_list { OneTreeList }
     ensures numbered { TreesAreNumbered }
 {}
 
-/// By the offsets at which the pattern matches, a search returns a match exactly if none begins
-/// before it, from the start on, and the pattern prefers it to the others that begin where it does.
-/// It returns nothing exactly if no match begins at the start or later. From offset 0 on the
-/// pattern matches exactly if a match begins anywhere.
+/// In terms of the offsets at which the pattern matches, a search returns a match exactly if none
+/// begins before it, from the start on, and the pattern prefers it to the others that begin where
+/// it does. It returns nothing exactly if no match begins at the start or later. From offset 0 on
+/// the pattern matches exactly if a match begins anywhere.
 pub fn searches_find_the_first_match()
     ensures first { SearchesFindFirst }
     ensures anywhere { MatchesFromStart }
 {}
 
-/// The same for several patterns at once, by the offsets at which any of them matches. The number
-/// is that of the lowest pattern of which a match begins where this one does.
+/// In terms of the offsets at which several patterns match, a search for all of them returns a
+/// match exactly if no match of any of them begins before it, from the start on, its pattern is the
+/// lowest with a match that begins there, and that pattern prefers it. The search returns nothing
+/// exactly if no match of any pattern begins at the start or later.
 pub fn list_searches_find_the_first_match()
     ensures { ListSearchesFindFirst }
 {}
 
-/// An anchored search returns a match exactly if the search from there on returns it, and it starts
-/// there: for one pattern and for several, whether the match is returned, its groups, or where they
-/// lie.
+/// An anchored search returns a match exactly if the search from there on returns it and it starts
+/// there. This holds for one pattern and for several, whether a search returns the match, its
+/// groups or their spans.
 pub fn anchored_searches_find_what_starts_there()
     ensures one { AnchoredSearchesAreSearches }
     ensures several { AnchoredListSearchesAreSearches }
 {}
 
-/// By the offsets at which patterns match, an anchored search returns a match exactly if it starts
-/// where the search does and the pattern prefers it to the others that start there. It returns
-/// nothing exactly if no match starts there. Of several patterns the number is that of the lowest
-/// one that matches there.
+/// In terms of the offsets at which patterns match, an anchored search returns a match exactly if
+/// it starts where the search does and the pattern prefers it to the others that start there. It
+/// returns nothing exactly if no match starts there. Of several patterns the number is that of the
+/// lowest one that matches there.
 pub fn anchored_searches_find_the_match_there()
     ensures one { AnchoredSearchesFindAt }
     ensures several { AnchoredListSearchesFindAt }
@@ -120,30 +123,30 @@ pub fn whole_searches_find_whole_matches()
     ensures several { WholeListSearchesFindWhole }
 {}
 
-/// Where a pattern can't match the empty text as far as its tree tells, which is where
-/// [`Regex::may_be_empty`](crate::Regex::may_be_empty) returns `false`, each match ends after its
-/// start, in whatever haystack.
+/// If [`Regex::may_be_empty`](crate::Regex::may_be_empty) returns `false`, which is derived from
+/// the pattern's tree alone, no match is empty in any haystack.
 pub fn matches_are_empty_only_where_they_may_be()
     ensures { OnlyNullableMatchesAreEmpty }
 {}
 
-/// What any one search returns shows whether the pattern matches from the start on, or one of
-/// several patterns. What a search that writes to locations returns is the match that the search
-/// for it returns.
+/// The result of any single search shows whether the pattern, or one of several patterns, matches
+/// from the start on. A search that writes to locations returns the same match as the search for a
+/// match.
 pub fn each_search_shows_whether_there_is_a_match()
     ensures one { EachSearchShows }
     ensures several { EachListSearchShows }
 {}
 
-/// Group 0 of the groups that a search returns is the match that the search for it returns, for one
-/// pattern and for several. The groups of each match that is ahead have its span.
+/// Group 0 of the groups that a search returns is the match that the search for a match returns,
+/// for one pattern and for several. The groups of each match ahead have the match as group 0.
 pub fn match_is_group_0()
     ensures one { MatchIsGroup0 }
     ensures several { ListMatchIsGroup0 }
     ensures each { GroupsHaveTheirSpans }
 {}
 
-/// The groups of a pattern have one list of names, and the groups of each of its matches have it.
+/// All groups of a pattern have one list of names, and the groups of each of its matches have that
+/// list.
 pub fn groups_have_one_list_of_names()
     ensures one_list { OneNameList }
     ensures of_groups { GroupsHaveNames }
@@ -155,8 +158,8 @@ pub fn searches_agree()
     ensures { SearchesAgree }
 {}
 
-/// The groups that a search returns lie inside the match, on character boundaries. At least as many
-/// of them took part as `static_captures_len` says of every match: all, if it is their number.
+/// The groups that a search returns lie inside the match, on character boundaries. At least
+/// `static_captures_len` of them took part, so all did if that is their number.
 pub fn groups_lie_inside()
     ensures inside { GroupsLieInside }
     ensures enough { EnoughGroupsTakePart }
@@ -164,21 +167,22 @@ pub fn groups_lie_inside()
 {}
 
 /// The matches in a haystack don't overlap, their ends increase strictly, and there is at most one
-/// more of them than there are characters. A haystack has one list of matches.
+/// more of them than there are characters. The list of the matches in a haystack is unique.
 pub fn matches_are_apart()
     ensures apart { MatchesAreApart }
     ensures one_list { OneMatchList }
 {}
 
-/// The matches ahead of an iterator, or those that a replacement replaces, are one list. Up to a
-/// limit they are as many as all matches of the haystack, or as the limit says if that is less.
+/// The list of the matches ahead of an iterator, or of those that a replacement replaces, is
+/// unique. Up to a limit, their number is the number of all matches in the haystack or the limit,
+/// whichever is less.
 pub fn matches_within_a_limit_are_counted()
     ensures one_list { OneListAhead }
     ensures number { NumberWithinLimit }
 {}
 
-/// A haystack has one more piece than it has matches, and pieces and matches in turn give the
-/// haystack. It has one list of pieces.
+/// A haystack has one more piece than it has matches, and its pieces and matches, alternating, make
+/// up the haystack. The list of its pieces is unique.
 pub fn pieces_and_matches_are_the_haystack()
     ensures between { PiecesAndMatches }
     ensures one_list { OnePieceList }
@@ -196,16 +200,16 @@ pub fn fixed_text_is_template<R>()
     ensures { FixedTextIsTemplate R }
 {}
 
-/// What a text gives as a replacer, with a `$` or without, are the pieces of the haystack with what
-/// it gives as a template in the place of each match. It is refused only because memory runs out.
-/// Here `R` is as above.
+/// A text as a replacer, with a `$` or without, gives the haystack with each match replaced by the
+/// expansion of the text as a template. The only error is that memory runs out. Here `R` is as
+/// above.
 pub fn texts_rewrite_by_their_template<R>()
     ensures rewritten { TextsRewrite R }
     ensures refused { TextsRefuseForMemory R }
 {}
 
-/// A borrowed replacer behaves as the replacer itself, and leaves it as it is left. Here `L` is the
-/// type that borrows it, such as `ReplacerRef`.
+/// A borrowed replacer behaves as the replacer itself, and leaves that in the same state. Here `L`
+/// is the type that borrows it, such as `ReplacerRef`.
 pub fn lent_replacers_replace_alike<L, R: Replacer>()
     ensures { LentReplacersReplaceAlike R.fixed R.appends L }
 {}
@@ -222,16 +226,16 @@ pub fn equality_is_an_equivalence<T: Eq>()
     ensures { IsEquivalence T.eq }
 {}
 
-/// The pattern that [`escape`](crate::escape) makes of a text has a tree under the default
-/// settings, and matches exactly where the text occurs in the haystack. It is refused only as too
-/// large, by `Size` or `Places`, or because memory runs out.
+/// The pattern that [`escape`](crate::escape) returns for a text has a tree under the default
+/// settings, and matches exactly where the text occurs in the haystack. Its only errors are `Size`,
+/// `Places` and `Memory`.
 pub fn escaped_texts_match_themselves()
     ensures refused { EscapedTextsAreRefusedForSize }
     ensures matches { EscapedTextsMatchThemselves }
 {}
 
 /// A list of one pattern is accepted exactly if the pattern is, and each of its searches returns
-/// what that of the pattern's [`Regex`](crate::Regex) returns, within the same cost.
+/// what the search of the pattern's [`Regex`](crate::Regex) returns, within the same cost.
 pub fn list_of_one_answers_as_its_regex()
     ensures accepted { ListOfOneIsAcceptedAsItsRegex }
     ensures answers { ListOfOneAnswersAsItsRegex }
@@ -242,8 +246,8 @@ pub fn empty_list_finds_nothing()
     ensures { EmptyListFindsNothing }
 {}
 
-/// What a search for several patterns finds is what the search for the pattern with the returned
-/// number finds from the same offset on.
+/// A match that a search for several patterns finds is the match that the search for the pattern
+/// with the returned number finds from the same offset on.
 pub fn list_answers_are_answers()
     ensures { ListAnswersAreAnswers }
 {}

@@ -1,10 +1,10 @@
-//! Regular expressions over texts of Unicode characters.
+//! Regular expressions over Unicode text.
 //!
-//! A *pattern* is the text of a regular expression, and a [`Regex`] is what is built from it. A
-//! regex is asked about a *haystack*, the text that is searched. A *match* is a part of the
-//! haystack that the pattern fits; it may be empty. An *offset* counts bytes of UTF-8 from the
-//! start of the haystack, and no match begins or ends inside a character. A regex holds its pattern
-//! written out: *places*, with *arrows* from one to another.
+//! A *pattern* is the text of a regular expression, and a [`Regex`] is the compiled pattern. A
+//! regex searches a *haystack*. A *match* is a part of the haystack that the pattern matches; it
+//! may be empty. An *offset* counts bytes of UTF-8 from the start of the haystack, and no match
+//! begins or ends inside a character. A regex holds its pattern compiled to an NFA, whose states
+//! are called *places* here and whose transitions *arrows*.
 //!
 //! ```
 //! let regex = Regex::new(alloc, "samwise|sam")?;
@@ -14,19 +14,19 @@
 //!
 //! The test `examples::whole_crate` in tests/unit runs this example.
 //!
-//! Whatever takes memory is given the allocator, and returns an [`Error`] of the kind
+//! A call that needs memory takes the allocator and returns an [`Error`] of the kind
 //! [`ErrorKind::Memory`] if memory runs out. No call panics.
 //!
 //! What a pattern means is stated in `specs/`: the grammar says which tree a pattern stands for,
 //! and the match relation says which parts of a haystack a tree matches.
 //!
-//! A [`RegexList`] holds several patterns, which are searched for at once: it finds which of them
-//! matches first, and where.
+//! A [`RegexList`] holds several patterns, which are searched for in one pass: a search finds which
+//! of them matches first, and where.
 //!
-//! A [`RegexBuilder`] has the pattern read and written out by the crates below; what it builds is
-//! shared by the clones of a [`Regex`] and by the [`Captures`] that it finds. A
-//! [`RegexListBuilder`] does the same for a [`RegexList`]. `string` holds these types and the
-//! searches, and `owner` what they share by; `laws` holds what is true of the definitions alone.
+//! A [`RegexBuilder`] parses and compiles the pattern through the crates below. The clones of a
+//! [`Regex`] and the [`Captures`] that it finds share the compiled pattern. A [`RegexListBuilder`]
+//! builds a [`RegexList`] in the same way. The module `string` has these types and the searches,
+//! `owner` the reference counting, and `laws` theorems about the definitions alone.
 #![tactic(auto)]
 
 pub mod laws;

@@ -1,9 +1,7 @@
-//! A value that several owners share, in one thread.
+//! A value that several owners in one thread share.
 //!
-//! The library's `Rc` refuses a clone if its count is full, which 2^64 - 1 owners that are
-//! forgotten and not dropped can cause. So a `Clone` over an `Rc` can't promise to succeed. A
-//! [`Shared`] is never refused: a full count never decreases, and the value is leaked. Each further
-//! owner borrows it, and no drop lowers the count.
+//! Cloning the library's `Rc` fails if its count is full. Cloning a [`Shared`] never fails: a full
+//! count stays full, and the value is leaked.
 //!
 //! The memory follows the library's protocol for `Rc`, which leaves open how a count is stored.
 //! Here a word below the maximum is the count, and the maximum says that the value is leaked. A

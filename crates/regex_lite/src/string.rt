@@ -1,4 +1,4 @@
-//! Regexes over haystacks that are `&str`, and the builder that makes them.
+//! Regexes over `&str` haystacks, and their builders.
 mod anchored;
 mod builder;
 mod capture_names;

@@ -1,4 +1,4 @@
--- What anchored searches return, in spans of a caller: their matches start where the search does.
+-- What anchored searches return, as spans of a caller: their matches start where the search starts.
 use Rattle.std.specs.Prelude.{◌≡◌, ℕ, false, List, Option, Some, chars, length}
 use Rattle.regex_lite_syntax.specs.Tree.{Tree}
 use Rattle.regex_lite_engine.specs.Search.Answer.{Found}
@@ -13,43 +13,42 @@ use Rattle.regex_lite_c.specs.declared.list.types.ListGroups.{ListGroups}
 use Rattle.regex_lite_c.specs.declared.list.types.ListSpan.{ListSpan}
 use Rattle.regex_lite_c.specs.declared.types.Span.{Span}
 
--- a value is where what is found starts and ends
+-- the value is the span of what is found
 abbrev pub IsSpanOf : (haystack : List ℕ) → Tree → Found → (ℕ × ℕ) → Type 0
 IsSpanOf haystack tree found span = span ≡ offsets (chars haystack) (found.start, found.end)
 
--- what is returned of an anchored search for the pattern at this offset is where its match starts
--- and ends
+-- an anchored search for the pattern at this offset returns the span of its match
 abbrev pub TellsSpanAt : Expression → (haystack : List ℕ) → (start : ℕ) → Option (ℕ × ℕ) → Type 0
 TellsSpanAt re haystack start told =
     TellsAnswerAt false (IsSpanOf haystack) re haystack start told
 
--- the search finds a match, and the span is where that starts and ends
+-- the search finds a match with this span
 abbrev pub FindsSpanAt : Expression → (haystack : List ℕ) → (start : ℕ) → Span → Type 0
 FindsSpanAt re haystack start span =
     (told : ℕ × ℕ) × TellsSpanAt re haystack start (Some told) × (span ≡ span_of (Some told))
 
--- these are the groups of the match that starts at this offset, this many
+-- these are the groups of the match that starts at this offset, `count` of them
 abbrev pub AreGroupsAt : Expression → (haystack : List ℕ) → (start : ℕ) → (count : ℕ) → Groups
     → Type 0
 AreGroupsAt re haystack start count groups =
     TellsGroupsAt re haystack start (Some groups) × (count ≡ length groups.spans)
 
--- what is returned of an anchored search for the patterns at this offset is the number of the
--- pattern that matches there, and where its match starts and ends
+-- an anchored search for the patterns at this offset returns the number of the pattern that matches
+-- there, and the span of its match
 abbrev pub TellsListSpanAt : List Expression → (haystack : List ℕ) → (start : ℕ)
     → Option (ℕ × (ℕ × ℕ)) → Type 0
 TellsListSpanAt list haystack start told =
     TellsAnswerAtOfList false (IsSpanOf haystack) list haystack start told
 
--- the search finds a match, and the span is where that starts and ends, with its pattern's number
+-- the search finds a match with this span and this number of its pattern
 abbrev pub FindsListSpanAt : List Expression → (haystack : List ℕ) → (start : ℕ) → ListSpan
     → Type 0
 FindsListSpanAt list haystack start span =
     (told : ℕ × (ℕ × ℕ)) × TellsListSpanAt list haystack start (Some told)
     × (span ≡ list_span_of told)
 
--- these are the groups of the match that starts at this offset, as many as are told, of the pattern
--- with the number that is returned
+-- these are the groups of the match that starts at this offset; their count and the number of their
+-- pattern are returned
 abbrev pub AreListGroupsAt : List Expression → (haystack : List ℕ) → (start : ℕ) → ListGroups
     → Groups → Type 0
 AreListGroupsAt list haystack start told groups =

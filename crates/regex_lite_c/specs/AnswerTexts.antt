@@ -1,11 +1,11 @@
--- What the answers of calls mean, in words.
+-- The texts of the answers of calls.
 use Rattle.std.specs.Prelude.{◌==◌, ℕ, List, codes, if◌then◌else◌}
 use Rattle.regex_lite_c.specs.declared.answer.TheConstants.{NO, YES, NOTHING_HELD, NOT_TEXT}
 use Rattle.regex_lite_c.specs.declared.answer.TheConstants.{BAD_OFFSET, NO_ROOM, OUT_OF_MEMORY}
 use Rattle.regex_lite_c.specs.declared.answer.TheConstants.{NO_GROUP, NO_PATTERN, SYNTAX, NESTING}
 use Rattle.regex_lite_c.specs.declared.answer.TheConstants.{GROUPS, SIZE, PLACES, SLOTS}
 
--- the text of the answer with this number, which may be the number of none
+-- the text of the answer with this number, which needn't be that of an answer
 abbrev pub answer_text : (answer : ℕ) → List ℕ
 answer_text answer =
     if answer == NO then codes "no match, or nothing is left" else

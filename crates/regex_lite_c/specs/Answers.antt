@@ -7,7 +7,7 @@ use Rattle.regex_lite_c.specs.declared.answer.TheConstants.{NO, YES, NOT_TEXT, B
 use Rattle.regex_lite_c.specs.declared.answer.TheConstants.{OUT_OF_MEMORY, SYNTAX, NESTING, GROUPS}
 use Rattle.regex_lite_c.specs.declared.answer.TheConstants.{SIZE, PLACES, SLOTS, REPLACE}
 
--- the number of a refusal of a pattern
+-- the number of an error, by its kind
 abbrev pub number_of : ErrorKind → ℕ
 number_of kind.Syntax = SYNTAX
 number_of kind.Nesting = NESTING
@@ -24,8 +24,8 @@ IsRefusedText bytes start answer =
     ((answer ≡ NOT_TEXT) × (IsUtf8 bytes → ⊥))
     ⊎ ((answer ≡ BAD_OFFSET) × IsUtf8 bytes × (IsCharBoundary bytes start → ⊥))
 
--- this is said of the bytes from this offset on; or they can't be searched, or memory ran out, and
--- the number says which
+-- `Says` holds of the bytes from this offset on; or they can't be searched, or memory ran out, as
+-- the number says
 abbrev pub IsSaid : {X : Type 0} → (bytes : List ℕ) → (start : ℕ) → (Says : X → Type 0)
     → Result X ℕ → Type 0
 IsSaid bytes start Says said =
@@ -33,24 +33,23 @@ IsSaid bytes start Says said =
     (λ answer. IsRefusedText bytes start answer
     ⊎ ((answer ≡ OUT_OF_MEMORY) × IsUtf8 bytes × IsCharBoundary bytes start))
 
--- the bytes, or the offset, are refused exactly if that is due
+-- the bytes or the offset are rejected exactly if they are wrong
 pub record RefusesText (bytes : List ℕ) (start answer : ℕ) : Type 0 where
   pub not_text : (answer ≡ NOT_TEXT) ↔ (IsUtf8 bytes → ⊥)
   pub bad_offset : (answer ≡ BAD_OFFSET) ↔ (IsUtf8 bytes × (IsCharBoundary bytes start → ⊥))
 
--- what is returned of a text that can be searched: there is one or none, memory ran out, or the
--- room is too small
+-- the answer for a text that can be searched: yes, no, memory ran out, or the room is too small
 abbrev pub IsOfFound : (answer : ℕ) → Type 0
 IsOfFound answer = (answer ≤ YES) ⊎ ((answer ≡ OUT_OF_MEMORY) ⊎ (answer ≡ NO_ROOM))
 
 -- a call that writes what it finds in a text to the caller's room has failed: the text or the
--- offset is refused, memory runs out, or the room is too small
+-- offset is rejected, memory runs out, or the room is too small
 abbrev pub IsFailure : (answer : ℕ) → Type 0
 IsFailure answer =
     (answer ≡ NOT_TEXT) ⊎ ((answer ≡ BAD_OFFSET) ⊎ ((answer ≡ OUT_OF_MEMORY)
     ⊎ (answer ≡ NO_ROOM)))
 
--- what a search of these bytes from this offset on returns, where 1 says the one and 0 the other
+-- what a search of these bytes from this offset on returns, if 1 means `yes` and 0 means `no`
 pub record IsSearchAnswer (bytes : List ℕ) (start answer : ℕ) (yes no : Type 0) : Type 0 where
   pub found : answer ≡ YES → yes
   pub none : answer ≡ NO → no

@@ -1,4 +1,4 @@
--- What is returned, held and written where a regex is to be built.
+-- What is returned, held and written when a regex is built.
 use Rattle.std.specs.Prelude.{◌≡◌, ◌≢◌, ◌↔◌, ℕ, List, Option, Some, None, IsUtf8}
 use Rattle.regex_lite_syntax.specs.Errors.{Refusal, kind_of, text_of}
 use Rattle.regex_lite.specs.Expression.{Expression, IsAccepted, IsDue, expression_of}
@@ -11,19 +11,19 @@ use Rattle.regex_lite_c.specs.declared.answer.TheConstants.{YES, NOT_TEXT, OUT_O
 abbrev pub IsMessage : (text old new : List ℕ) → (len : ℕ) → Type 0
 IsMessage text old new len = (answer : ℕ) × IsWritten text old new len answer
 
--- a pattern is refused by this number, with the text of a refusal of which this is true
+-- a pattern is rejected with this number, and with the text of a refusal that has this property
 abbrev pub IsRefusedFor : (Refusal → Type 0) → (answer : ℕ) → (old new : List ℕ) → (len : ℕ)
     → Type 0
 IsRefusedFor IsTrueOf answer old new len =
     (error : Refusal) × IsTrueOf error × (answer ≡ number_of (kind_of error))
     × IsMessage (text_of error) old new len
 
--- the pattern is refused by this number, with the text of this refusal, which is due
+-- the pattern is rejected with this number, and with the text of a refusal that is due
 abbrev pub IsRefusedBy : Settings → (answer : ℕ) → (old new : List ℕ) → (len : ℕ) → Type 0
 IsRefusedBy settings = IsRefusedFor (IsDue settings)
 
--- what is returned where a regex is to be built under these settings, whose pattern may be any
--- bytes, and what is held then; and the room for a message before and after
+-- the answer when a regex is built under these settings, whose pattern may be any bytes; what is
+-- held then, and the room for a message before and after
 pub record IsBuildAnswer (settings : Settings) (answer : ℕ) (held : Option Expression)
     (old new : List ℕ) (len : ℕ) : Type 0 where
   pub built : answer ≡ YES → held ≡ Some (expression_of settings)
@@ -31,7 +31,7 @@ pub record IsBuildAnswer (settings : Settings) (answer : ℕ) (held : Option Exp
   pub nothing : answer ≢ YES → held ≡ None
   pub not_text : (answer ≡ NOT_TEXT) ↔ (IsUtf8 settings.pattern → ⊥)
   pub refused : answer ≢ YES → IsUtf8 settings.pattern → IsRefusedBy settings answer old new len
-  -- if the pattern has a tree and exceeds no limit, the only refusal is that memory ran out
+  -- if the pattern has a tree and exceeds no limit, the only error is that memory ran out
   pub complete : answer ≢ YES → IsUtf8 settings.pattern → IsAccepted settings
       → answer ≡ OUT_OF_MEMORY
   pub no_message : (IsUtf8 settings.pattern → answer ≡ YES) → (len ≡ 0) × (new ≡ old)

@@ -1,4 +1,4 @@
--- What searches cost, in numbers of a caller.
+-- The cost of searches, in numbers of a caller.
 use Rattle.std.specs.Prelude.{◌≡◌, ◌-◌, ◌^◌, ℕ, List, min}
 use Rattle.regex_lite_engine.specs.declared.steps.Steps.{Steps}
 use Rattle.regex_lite.specs.Expression.{Expression}
@@ -6,18 +6,18 @@ use Rattle.regex_lite.specs.RegexListSearches.{IsWithinListCost}
 use Rattle.regex_lite.specs.Searches.{IsWithinCost}
 use Rattle.regex_lite_c.specs.declared.types.Cost.{Cost}
 
--- these are the counts of the steps, each as far as it fits
+-- the numbers are the counts of the steps, each capped
 pub record IsCostOf (steps : Steps) (cost : Cost) : Type 0 where
   pub tried : cost.tried ≡ min steps.tried (2 ^ 64 - 1)
   pub entered : cost.entered ≡ min steps.entered (2 ^ 64 - 1)
   pub looked : cost.looked ≡ min steps.looked (2 ^ 64 - 1)
 
--- they are those of a search that did no more than the pattern written out allows
+-- the numbers are those of a search within the bounds for the pattern
 abbrev pub IsCostOfSearch : Expression → (haystack : List ℕ) → (start : ℕ) → Cost → Type 0
 IsCostOfSearch re haystack start cost =
     (steps : Steps) × IsWithinCost re haystack start steps × IsCostOf steps cost
 
--- the same for several patterns
+-- the numbers are those of a search within the bounds for several patterns
 abbrev pub IsCostOfListSearch : List Expression → (haystack : List ℕ) → (start : ℕ) → Cost
     → Type 0
 IsCostOfListSearch list haystack start cost =

@@ -1,4 +1,4 @@
--- What is returned of the pieces of a text before, between and after its matches, some at a time.
+-- What is returned for the pieces of a text before, between and after its matches, in batches.
 use Rattle.std.specs.Prelude.{◌≡◌, ◌≢◌, ◌⊎◌, ◌<◌, ◌≤◌, ◌++◌, ℕ, List, [], ◌∷◌, Bool, false}
 use Rattle.std.specs.Prelude.{Option, Some, IsTrue, chars, cond, length, map, unwrap_or}
 use Rattle.regex_lite_engine.specs.Search.Answer.{Found}
@@ -13,22 +13,22 @@ use Rattle.regex_lite_c.specs.declared.answer.TheConstants.{NO, YES, NO_ROOM}
 use Rattle.regex_lite_c.specs.declared.types.Cut.{Cut}
 use Rattle.regex_lite_c.specs.declared.types.Span.{Span}
 
--- where the last of these spans ends, which come after one that ended there
+-- the end of the last of these spans, which follow one that ended at `ended`
 abbrev pub last_end : (ended : Option ℕ) → List (ℕ × ℕ) → Option ℕ
 last_end ended [] = ended
 last_end ended (span ∷ spans) = last_end (Some span.1) spans
 
--- what stands before each of them: from where the one before it ended, or from the start on
+-- the piece before each span: from the end of the one before it, or from the start on
 abbrev pub pieces_before : (ended : Option ℕ) → List (ℕ × ℕ) → List (Option (ℕ × ℕ))
 pieces_before ended [] = []
 pieces_before ended (span ∷ spans) =
     Some (unwrap_or ended 0, span.0) ∷ pieces_before (Some span.1) spans
 
--- and what stands after the last in a text of this many bytes
+-- the piece after the last span in a text of this many bytes
 abbrev pub rest_after : (ended : Option ℕ) → List (ℕ × ℕ) → (bytes : ℕ) → Option (ℕ × ℕ)
 rest_after ended spans bytes = Some (unwrap_or (last_end ended spans) 0, bytes)
 
--- the pieces, the last of them only where they are over
+-- the pieces before the spans, and the last piece if the cut is over
 abbrev pub pieces_of : (ended : Option ℕ) → List (ℕ × ℕ) → (bytes : ℕ) → (is_over : Bool)
     → List (Option (ℕ × ℕ))
 pieces_of ended spans bytes is_over =
@@ -38,8 +38,8 @@ abbrev pub spans_in : (haystack : List ℕ) → List Found → List (ℕ × ℕ)
 spans_in haystack list = map (found_span (chars haystack)) list
 
 -- the pieces before the first of the matches ahead were written to the front of the room, as many
--- as there is room for; and where all matches came before it was full, the last piece too. The cut
--- goes on where the last of these matches ends
+-- as there is room for, and the last piece too if all matches came before the room was full; the
+-- cut continues at the end of the last of these matches
 pub record ArePiecesListed (ahead : Ahead) (ended : Option ℕ) (cut : Cut) (old new : List Span)
     (count : ℕ) : Type 0 where
   pub list : List Found
@@ -52,7 +52,7 @@ pub record ArePiecesListed (ahead : Ahead) (ended : Option ℕ) (cut : Cut) (old
       ≡ length (pieces_of ended (spans_in ahead.haystack list) (length ahead.haystack) cut.is_over)
   pub goes_on : ended_of cut.walk ≡ last_end ended (spans_in ahead.haystack list)
 
--- what is returned where the cutting of this text goes on
+-- the answer when the cutting of this text continues
 pub record IsCutAnswer (re : Expression) (bytes : List ℕ) (old_cut cut : Cut)
     (old new : List Span) (count answer : ℕ) : Type 0 where
   pub found : answer ≡ YES

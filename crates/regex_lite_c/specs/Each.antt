@@ -1,4 +1,4 @@
--- What is returned of the first matches in many texts, whose bytes come one after another.
+-- What is returned for the first matches in many texts, whose bytes are concatenated.
 use Rattle.std.specs.Prelude.{◌≡◌, ◌≢◌, ◌⊎◌, ◌↔◌, ◌<◌, ◌+◌, ℕ, List, [], ◌∷◌, Option}
 use Rattle.std.specs.Prelude.{IsCharBoundary, IsUtf8, length, slice_range}
 use Rattle.regex_lite.specs.Expression.{Expression}
@@ -7,14 +7,14 @@ use Rattle.regex_lite_c.specs.Spans.{AreWritten, TellsSpan}
 use Rattle.regex_lite_c.specs.declared.answer.TheConstants.{YES, NOT_TEXT, BAD_OFFSET, NO_ROOM}
 use Rattle.regex_lite_c.specs.declared.types.Span.{Span}
 
--- from this offset on texts of these lengths come one after another, each of which ends between two
--- characters, and nothing comes after them
+-- from this offset on the bytes are texts of these lengths, each of which ends on a character
+-- boundary, and nothing follows
 abbrev pub AreTextLengths : (bytes : List ℕ) → (at : ℕ) → (lens : List ℕ) → Type 0
 AreTextLengths bytes at [] = at ≡ length bytes
 AreTextLengths bytes at (len ∷ lens) =
     IsCharBoundary bytes (at + len) × AreTextLengths bytes (at + len) lens
 
--- where the first match of each of these texts is
+-- the spans of the first match in each of these texts
 abbrev pub AreFirstOfEach : Expression → (bytes : List ℕ) → (at : ℕ) → (lens : List ℕ)
     → (told : List (Option (ℕ × ℕ))) → Type 0
 AreFirstOfEach re bytes at [] told = told ≡ []
@@ -23,13 +23,13 @@ AreFirstOfEach re bytes at (len ∷ lens) (one ∷ told) =
     TellsSpan re (slice_range bytes at (at + len)) 0 one
     × AreFirstOfEach re bytes (at + len) lens told
 
--- and it was written to the front of the room
+-- these spans were written to the front of the room
 abbrev pub AreFoundEach : Expression → (bytes lens : List ℕ) → (old new : List Span) → Type 0
 AreFoundEach re bytes lens old new =
     (told : List (Option (ℕ × ℕ))) × AreFirstOfEach re bytes 0 lens told
     × AreWritten told old new
 
--- what is returned where many texts are searched
+-- the answer when many texts are searched
 pub record IsEachAnswer (re : Expression) (bytes lens : List ℕ) (old new : List Span)
     (answer : ℕ) : Type 0 where
   pub found : answer ≡ YES → AreFoundEach re bytes lens old new

@@ -1,4 +1,4 @@
--- What is returned of where in a pattern its first fault stands.
+-- What is returned for the place of the first fault in a pattern.
 use Rattle.std.specs.Prelude.{◌≡◌, ◌≢◌, ◌≤◌, ◌⊎◌, ◌↔◌, ℕ, IsUtf8, chars}
 use Rattle.std.specs.Prelude.{length, MatchOption, true, false}
 use Rattle.regex_lite_syntax.specs.Limits.{GroupsRefused}
@@ -9,8 +9,8 @@ use Rattle.regex_lite_c.specs.declared.answer.TheConstants.{NO, YES, NOT_TEXT, O
 use Rattle.regex_lite_c.specs.declared.answer.TheConstants.{GROUPS}
 use Rattle.regex_lite_c.specs.declared.types.Fault.{Fault}
 
--- how a fault with this span is written, in a pattern of this many bytes: where it has no end the
--- pattern is cut short, and the end written is the pattern's
+-- how a fault with this span is written, in a pattern of this many bytes: if it has no end, the
+-- pattern is cut short, and the end that is written is the pattern's
 pub record IsFaultOf (span : FaultSpan) (len : ℕ) (fault : Fault) : Type 0 where
   pub starts : fault.start ≡ span.start
   pub ends : MatchOption span.end ((fault.is_cut_short ≡ true) × (fault.end ≡ len))
@@ -23,8 +23,8 @@ pub record IsFirstFault (settings : Settings) (fault : Fault) : Type 0 where
   pub written : IsFaultOf span (length settings.pattern) fault
   pub treeless : HasTreeUnder settings → ⊥
 
--- what is returned of the first fault under these settings, whose pattern may be any bytes: where
--- there is one, it is written
+-- the answer for the first fault under these settings, whose pattern may be any bytes: if there is
+-- one, it is written
 pub record IsFaultAnswer (settings : Settings) (old_fault fault : Fault) (answer : ℕ)
     : Type 0 where
   pub found : answer ≡ YES → IsFirstFault settings fault

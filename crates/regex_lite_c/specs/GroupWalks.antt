@@ -1,4 +1,4 @@
--- What is returned of the groups of all matches of a text, some at a time.
+-- What is returned for the groups of all matches in a text, in batches.
 use Rattle.std.specs.Prelude.{◌≡◌, ◌≢◌, ◌⊎◌, ◌+◌, ◌<◌, ◌≤◌, ◌++◌, ℕ, true, cond, List, [], ◌∷◌}
 use Rattle.std.specs.Prelude.{Option, Some, chars, flat_map, length, map, unwrap_or}
 use Rattle.std.specs.List.{All}
@@ -15,8 +15,8 @@ use Rattle.regex_lite_c.specs.declared.list.types.ListGroups.{ListGroups}
 use Rattle.regex_lite_c.specs.declared.types.Span.{Span}
 use Rattle.regex_lite_c.specs.declared.types.MatchWalk.{MatchWalk}
 
--- what a walk over groups writes to: how far it has gone, the room for what is told of each match,
--- and the room for spans
+-- what a walk over groups writes to: its position, the room for what is written of each match, and
+-- the room for spans
 pub record GroupRoom (T : Type 0) : Type 0 where
   pub walk : MatchWalk
   pub told : List T
@@ -25,16 +25,16 @@ pub record GroupRoom (T : Type 0) : Type 0 where
 abbrev pub group_room : {T : Type 0} → MatchWalk → List T → List Span → GroupRoom T
 group_room walk told room = record { walk = walk; told = told; room = room }
 
--- the spans of all these groups in a row, each those of an answer
+-- the spans of all these groups, those of one answer after another
 abbrev pub spans_of_all : {A : Type 0} → List (A × Groups) → List (Option (ℕ × ℕ))
 spans_of_all list = flat_map (λ own. own.1.spans) list
 
 module _ {S X T : Type 0} (kind : Kind S X T) where
-  -- what is told of the groups of an answer
+  -- what is written of the groups of an answer besides their spans
   abbrev pub told_of_groups : kind.Answer × Groups → T
   told_of_groups own = kind.groups_told own.0 (length own.1.spans)
 
-  -- these are the first of the answers ahead, this many, or all where they are fewer
+  -- these are the first answers ahead: this many, or all if they are fewer
   abbrev pub AreFirstAnswered : AheadOf S → (count : ℕ) → List (kind.Answer × Groups) → Type 0
   AreFirstAnswered ahead count list =
       AreFirstAnswers kind.found_of (kind.IsAnswerTo ahead.sought (chars ahead.haystack)) count
@@ -45,7 +45,7 @@ module _ {S X T : Type 0} (kind : Kind S X T) where
   AreItsGroups ahead own = kind.AreGroups ahead.sought ahead.haystack own.0 own.1
 
   -- the groups of this many matches, the first of those ahead, were written to the front of the
-  -- room, with what is told of each match, and the walk goes on where the last of them ends
+  -- room, with what is written of each match, and the walk continues at the end of the last of them
   pub record AreGroupsListed (ahead : AheadOf S) (old new : GroupRoom T) (count : ℕ)
       : Type 0 where
     pub list : List (kind.Answer × Groups)
@@ -59,12 +59,12 @@ module _ {S X T : Type 0} (kind : Kind S X T) where
     pub ends : list ≡ front ++ (last ∷ [])
     pub end : ended_of new.walk ≡ Some (whole_span last.1).1
 
-  -- what is to be told of matches has filled its room with this many
+  -- the room for what is written of each match is full after this many
   abbrev pub IsToldFull : (told : List T) → (count : ℕ) → Type 0
   IsToldFull told count = (kind.is_told ≡ true) × (length told ≡ count)
 
   -- after these matches none is ahead; or the groups of the next one need more room than is left,
-  -- or there is no room for what is told of it
+  -- or there is no room for what is written of it
   abbrev pub NoMoreFit : AheadOf S → (old : GroupRoom T) → List (kind.Answer × Groups) → Type 0
   NoMoreFit ahead old list =
       AreFirstAnswered ahead (length list + 1) list
@@ -73,14 +73,14 @@ module _ {S X T : Type 0} (kind : Kind S X T) where
       × (IsToldFull old.told (length list)
       ⊎ (length old.room < length (spans_of_all list) + length next.1.spans)))
 
-  -- so the groups of as many matches as there is room for were written, or of all that are left
+  -- the groups of as many matches as fit were written, or of all that are left
   pub record AreAllThatFit (ahead : AheadOf S) (old new : GroupRoom T) (count : ℕ)
       : Type 0 where
     pub listed : AreGroupsListed ahead old new count
     pub no_more : NoMoreFit ahead old listed.list
 
-  -- there is a next match, and the room is too small for its groups. How many these are is the
-  -- number that is written, where something is told of each match
+  -- there is a next match, and the room is too small for its groups; their number is written if
+  -- something is written of each match
   abbrev pub IsWithoutRoom : AheadOf S → (old : GroupRoom T) → (number : ℕ) → Type 0
   IsWithoutRoom ahead old number =
       (next : kind.Answer × Groups)
@@ -88,8 +88,8 @@ module _ {S X T : Type 0} (kind : Kind S X T) where
       × AreItsGroups ahead next × (number ≡ cond kind.is_told (length next.1.spans) 0)
       × (IsToldFull old.told 0 ⊎ (length old.room < length next.1.spans))
 
-  -- what is returned where groups are written as long as there is room. Where memory runs out,
-  -- those of the matches before were written
+  -- the answer when groups are written as long as there is room; if memory runs out, those of the
+  -- matches before were written
   pub record IsFilled (ahead : AheadOf S) (old new : GroupRoom T) (count answer : ℕ)
       : Type 0 where
     pub found : answer ≡ YES → AreAllThatFit ahead old new count × (0 < count)
@@ -99,21 +99,21 @@ module _ {S X T : Type 0} (kind : Kind S X T) where
     pub no_count : answer ≢ YES → answer ≢ NO_ROOM → answer ≢ OUT_OF_MEMORY → count ≡ 0
     pub same : (answer ≡ NO_ROOM) ⊎ (count ≡ 0) → new ≡ old
 
-  -- what is returned where a walk over the groups of this text's matches goes on
+  -- the answer when a walk over the groups of this text's matches continues
   pub record IsGroupWalkAnswerOf (sought : S) (bytes : List ℕ) (old new : GroupRoom T)
       (count answer : ℕ) : Type 0 where
     pub filled : IsFilled (after sought bytes (ended_of old.walk)) old new count answer
     pub refused : RefusesText bytes (unwrap_or (ended_of old.walk) 0) answer
     pub one_of : (answer ≤ YES) ⊎ IsFailure answer
 
--- the same for a regex, of whose matches nothing is told besides the spans of their groups
+-- the answer for a regex, for whose matches only the spans of the groups are written
 abbrev pub IsGroupWalkAnswer : Expression → (bytes : List ℕ) → (old new : WalkRoom Span)
     → (count answer : ℕ) → Type 0
 IsGroupWalkAnswer re bytes old new count answer =
     IsGroupWalkAnswerOf of_regex re bytes (group_room old.walk [] old.room)
     (group_room new.walk [] new.room) count answer
 
--- and for several patterns, with what is told of each match
+-- the answer for several patterns, with what is written of each match
 abbrev pub list_group_room : MatchWalk → List ListGroups → List Span → GroupRoom ListGroups
 list_group_room walk told room = group_room walk told room
 

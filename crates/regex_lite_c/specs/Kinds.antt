@@ -1,4 +1,4 @@
--- What is searched for, a regex or several patterns, and how what is found is written.
+-- What is searched for, a regex or several patterns, and how the results are written.
 use Rattle.std.specs.Prelude.{◌≡◌, ℕ, Bool, false, true, List, Option, Some, MatchOption}
 use Rattle.std.specs.Prelude.{IsSome, chars, length}
 use Rattle.regex_lite_syntax.specs.Text.{Text}
@@ -18,10 +18,9 @@ use Rattle.regex_lite_c.specs.declared.list.types.ListSpan.{ListSpan}
 use Rattle.regex_lite_c.specs.declared.types.Cost.{Cost}
 use Rattle.regex_lite_c.specs.declared.types.Span.{Span}
 
--- A search gives answers, in each of which a match was found. What is told of one is written as
--- what stands for it, which shows where the match ends. To search from an offset on costs this. Of
--- the groups of a match this is told besides their spans. A walk over all matches writes it of
--- each, if it is to be told
+-- A search gives answers, each with a match. An answer is written as a value from which the end of
+-- the match can be read. A search from an offset on has a cost. Besides their spans, something is
+-- written of the groups of a match, and a walk over all matches may write it for each
 pub record Kind (S X T : Type 0) : Type 1 where
   pub Answer : Type 0
   pub Told : Type 0
@@ -35,11 +34,11 @@ pub record Kind (S X T : Type 0) : Type 1 where
   pub groups_told : Answer → (count : ℕ) → T
   pub is_told : Bool
 
--- where a match starts and ends, as it is written
+-- the span of a match, as it is written
 abbrev pub told_of : (haystack : List ℕ) → Found → Option (ℕ × ℕ)
 told_of haystack found = Some (found_span (chars haystack) found)
 
--- a regex is searched for, whose answers are its matches
+-- a regex as what is searched for; the answers are its matches
 abbrev pub of_regex : Kind Expression Span ℕ
 of_regex = record {
   Answer = Found;
@@ -55,11 +54,11 @@ of_regex = record {
   is_told = false;
 }
 
--- the number of a pattern, and where its match starts and ends, as it is written
+-- the number of a pattern and the span of its match, as they are written
 abbrev pub told_of_answer : (haystack : List ℕ) → ℕ × Found → ℕ × (ℕ × ℕ)
 told_of_answer haystack answer = (answer.0, found_span (chars haystack) answer.1)
 
--- several patterns are searched for, with the number of the pattern in each answer
+-- several patterns as what is searched for; each answer has the number of its pattern
 abbrev pub of_patterns : Kind (List Expression) ListSpan ListGroups
 of_patterns = record {
   Answer = ℕ × Found;
@@ -76,8 +75,8 @@ of_patterns = record {
 }
 
 module _ {S X T : Type 0} (kind : Kind S X T) where
-  -- the next of the matches ahead came, as it is written; or there was none, and none comes from
-  -- then on
+  -- the next of the matches ahead was returned, as it is written; or there was none, and none comes
+  -- from then on
   abbrev pub GivesWritten : (old : AheadOf S) → Option X → (new : AheadOf S) → Type 0
   GivesWritten old item new =
       MatchOption item (EndsAhead kind.found_of kind.IsAnswerTo old new)
@@ -85,7 +84,8 @@ module _ {S X T : Type 0} (kind : Kind S X T) where
       × PassesAnswer kind.found_of kind.IsAnswerTo old answer new
       × (span ≡ kind.stands_for (kind.tell old.haystack answer)))
 
-  -- the groups of the next of the matches ahead came, of which this is told; or there was none
+  -- the groups of the next of the matches ahead were returned, with what is written of them; or
+  -- there was none
   abbrev pub GivesGroups : (old : AheadOf S) → Option (T × Groups) → (new : AheadOf S) → Type 0
   GivesGroups old item new =
       MatchOption item (EndsAhead kind.found_of kind.IsAnswerTo old new)

@@ -1,4 +1,5 @@
--- What a caller in C holds, what it is told by numbers and spans, and what is written to its room.
+-- What a caller in C holds, the numbers and spans that it receives, and what is written to its
+-- room.
 pub mod Searchers
 pub mod Handles
 pub mod Options

@@ -1,4 +1,4 @@
--- What is returned, held and written where a list of patterns is to be built.
+-- What is returned, held and written when a list of patterns is built.
 use Rattle.std.specs.Prelude.{◌≡◌, ◌≢◌, ◌<◌, ◌⊎◌, ◌↔◌, ℕ, List, [], ◌∷◌, Option, Some, None}
 use Rattle.std.specs.Prelude.{IsUtf8, drop, length, map, slice_get, take}
 use Rattle.std.specs.List.{sum_by}
@@ -17,15 +17,15 @@ use Rattle.regex_lite_c.specs.declared.list.patterns.PatternSource.{PatternSourc
 use Rattle.regex_lite_c.specs.declared.list.types.ListPattern.{ListPattern}
 use Rattle.regex_lite_c.specs.declared.list.types.ListRefusal.{ListRefusal}
 
--- how many bytes the patterns have together
+-- the total length of the patterns in bytes
 abbrev pub all_len : List ListPattern → ℕ
 all_len patterns = sum_by (λ pattern. pattern.len) patterns
 
--- they are as many as there are
+-- the lengths of the patterns add up to that of the bytes
 abbrev pub AreAllBytes : List ListPattern → (bytes : List ℕ) → Type 0
 AreAllBytes patterns bytes = all_len patterns ≡ length bytes
 
--- the patterns under their options: each is the next of the bytes, as many as it has
+-- the patterns under their options: each has as many of the next bytes as its length says
 abbrev pub settings_of_all : (bytes : List ℕ) → List ListPattern → List Settings
 settings_of_all bytes [] = []
 settings_of_all bytes (pattern ∷ patterns) =
@@ -47,8 +47,8 @@ pub record IsFirstOtherBytes (all : List Settings) (number : ℕ) : Type 0 where
   pub lower : (k : ℕ) (own : Settings) → k < number → slice_get all k ≡ Some own
       → IsUtf8 own.pattern
 
--- what the error says is true of the first pattern that is refused by itself, which has this
--- number; or if the number is that of all patterns, memory ran out, or they have too many places
+-- what the error says is true of the first pattern that is rejected by itself, which has this
+-- number; or if the number is the number of patterns, memory ran out, or they have too many places
 -- together
 abbrev pub IsDueAt : List Settings → (number : ℕ) → Refusal → Type 0
 IsDueAt all number error =
@@ -60,14 +60,15 @@ abbrev pub IsEachAccepted : List Settings → Type 0
 IsEachAccepted all =
     (k : ℕ) (own : Settings) → slice_get all k ≡ Some own → IsAccepted own
 
--- the reason why patterns are refused is true
+-- the reason why patterns are rejected is true
 abbrev pub IsRefusedAs : List Settings → Refused → Type 0
 IsRefusedAs all (refused.NotText number) = IsFirstOtherBytes all number
 IsRefusedAs all (refused.By number error) =
     IsDueAt all number error × ((error ≡ out_of_memory) ⊎ AreTexts all)
     × (AreAccepted all → error ≡ out_of_memory)
 
--- the number of the reason why they are refused is returned, and what is said of it is written
+-- the number of the reason why patterns are rejected is returned, and the number of the pattern and
+-- the message are written
 abbrev pub IsTold : Refused → (answer : ℕ) → ListRefusal → (old new : List ℕ) → Type 0
 IsTold (refused.NotText number) answer told old new =
     (answer ≡ NOT_TEXT) × (told.number ≡ number) × (told.message_len ≡ 0) × (new ≡ old)
@@ -75,30 +76,30 @@ IsTold (refused.By number error) answer told old new =
     (answer ≡ number_of (kind_of error)) × (told.number ≡ number)
     × IsMessage (text_of error) old new told.message_len
 
--- the patterns are refused by this number, with the text of a refusal that is due
+-- the patterns are rejected with this number, and with the text of a refusal that is due
 abbrev pub IsListRefusedBy : List Settings → (answer : ℕ) → ListRefusal → (old new : List ℕ)
     → Type 0
 IsListRefusedBy all answer told old new =
     (error : Refusal) × IsDueAt all told.number error × (answer ≡ number_of (kind_of error))
     × IsMessage (text_of error) old new told.message_len
 
--- what is returned where a list of these patterns is to be built, each under its own options, and
--- what is held and told then; and the room for a message before and after
+-- the answer when a list of these patterns is built, each under its own options; what is held and
+-- written then, and the room for a message before and after
 pub record IsListBuildAnswer (bytes : List ℕ) (patterns : List ListPattern) (answer : ℕ)
     (held : Option (List Expression)) (told : ListRefusal) (old new : List ℕ) : Type 0 where
   pub built : answer ≡ YES → held ≡ Some (map expression_of (settings_of_all bytes patterns))
   pub accepted : answer ≡ YES → AreAccepted (settings_of_all bytes patterns)
   pub nothing : answer ≢ YES → held ≡ None
-  -- the patterns don't have as many bytes as there are
+  -- the lengths of the patterns don't add up to that of the bytes
   pub bad_offset : (answer ≡ BAD_OFFSET) ↔ (AreAllBytes patterns bytes → ⊥)
-  -- one of them isn't valid UTF-8
+  -- one of the patterns isn't valid UTF-8
   pub not_text : answer ≡ NOT_TEXT
       → IsFirstOtherBytes (settings_of_all bytes patterns) told.number
   pub texts : (answer ≡ BAD_OFFSET) ⊎ ((answer ≡ NOT_TEXT) ⊎ ((answer ≡ OUT_OF_MEMORY)
       ⊎ AreTexts (settings_of_all bytes patterns)))
   pub refused : answer ≢ YES → answer ≢ BAD_OFFSET → answer ≢ NOT_TEXT
       → IsListRefusedBy (settings_of_all bytes patterns) answer told old new
-  -- if the patterns are accepted, the only refusal is that memory ran out
+  -- if the patterns are accepted, the only error is that memory ran out
   pub complete : answer ≢ YES → AreAllBytes patterns bytes
       → AreTexts (settings_of_all bytes patterns) → AreAccepted (settings_of_all bytes patterns)
       → answer ≡ OUT_OF_MEMORY

@@ -1,4 +1,4 @@
--- What is returned of searches for several patterns.
+-- What searches for several patterns return.
 use Rattle.std.specs.Prelude.{◌≡◌, ◌≢◌, ◌⊎◌, ◌<◌, ℕ, Bool, List, Option, Some}
 use Rattle.std.specs.Prelude.{chars, cond, length}
 use Rattle.regex_lite.specs.Expression.{Expression}
@@ -16,8 +16,8 @@ use Rattle.regex_lite_c.specs.declared.list.types.ListSpan.{ListSpan}
 abbrev pub list_span_of : ℕ × (ℕ × ℕ) → ListSpan
 list_span_of told = record { number = told.0; start = told.1.0; end = told.1.1 }
 
--- what is returned of a search for the patterns from this offset on is the number of the pattern
--- that matches, and where its match starts and ends
+-- a search for the patterns from this offset on returns the number of the pattern that matches, and
+-- the span of its match
 abbrev pub TellsListSpan : List Expression → (haystack : List ℕ) → (start : ℕ)
     → Option (ℕ × (ℕ × ℕ)) → Type 0
 TellsListSpan list haystack start told =
@@ -25,31 +25,31 @@ TellsListSpan list haystack start told =
     (λ tree found span. span ≡ offsets (chars haystack) (found.start, found.end))
     list haystack start told
 
--- the search finds a match, and the span is where that starts and ends, with its pattern's number
+-- the search finds a match with this span and this number of its pattern
 abbrev pub FindsListSpan : List Expression → (haystack : List ℕ) → (start : ℕ) → ListSpan → Type 0
 FindsListSpan list haystack start span =
     (told : ℕ × (ℕ × ℕ)) × TellsListSpan list haystack start (Some told)
     × (span ≡ list_span_of told)
 
--- these are the groups of the match that starts first from this offset on, as many as are told, of
--- the pattern with the number that is returned
+-- these are the groups of the match that starts first from this offset on; their count and the
+-- number of their pattern are returned
 abbrev pub AreFirstListGroups : List Expression → (haystack : List ℕ) → (start : ℕ) → ListGroups
     → Groups → Type 0
 AreFirstListGroups list haystack start told groups =
     TellsGroupsOfList list haystack start (Some (told.number, groups))
     × (told.count ≡ length groups.spans)
 
--- a byte for a pattern: 1 if it matches, and 0 if not
+-- a byte for a pattern: 1 if it matches, and 0 if it doesn't
 abbrev pub flag_of : Bool → ℕ
 flag_of matches = cond matches 1 0
 
--- whether each pattern matches from this offset on, for this many
+-- whether each pattern matches from this offset on, for this many patterns
 abbrev pub AreToldFlags : List Expression → (haystack : List ℕ) → (start count : ℕ) → List Bool
     → Type 0
 AreToldFlags list haystack start count matched =
     TellsWhichMatch list haystack start matched × (count ≡ length matched)
 
--- what is returned where it is asked which patterns match
+-- the answer to the question which patterns match
 pub record IsFlagsAnswer (list : List Expression) (bytes : List ℕ) (start : ℕ)
     (old new : List ℕ) (old_count count answer : ℕ) : Type 0 where
   pub told : answer ≡ YES → (matched : List Bool) × AreToldFlags list bytes start count matched

@@ -14,7 +14,7 @@ flags_of options = record {
   ignore_whitespace = options.ignore_whitespace;
 }
 
--- a pattern, as its bytes, under these options. A nest limit above 2^32 - 2 counts as that
+-- a pattern, as its bytes, under these options. a nest limit above 2^32 - 2 counts as 2^32 - 2
 abbrev pub settings_of : (pattern : List ℕ) → Options → Settings
 settings_of pattern options = record {
   pattern = pattern;

@@ -1,4 +1,4 @@
--- What is returned and written where a pattern is to be told part by part.
+-- What is returned and written for the outline of a pattern.
 use Rattle.std.specs.Prelude.{◌≡◌, ◌≢◌, ◌⊎◌, ◌↔◌, ◌<◌, ℕ, List, IsUtf8}
 use Rattle.std.specs.Prelude.{false, is_some, length, unwrap_or}
 use Rattle.regex_lite_syntax.specs.declared.hir.look.Look.{Look}
@@ -32,7 +32,7 @@ number_of_look look.WordEnd = 10
 number_of_look look.WordStartHalf = 11
 number_of_look look.WordEndHalf = 12
 
--- a part of the kind with this number, of which nothing else is told
+-- a part of the kind with this number, with all other fields 0 or false
 abbrev pub part_of_kind : (depth number : ℕ) → WrittenPart
 part_of_kind depth number = record {
   depth = depth;
@@ -47,7 +47,7 @@ part_of_kind depth number = record {
   greedy = false;
 }
 
--- what is written of a part of this kind at this depth
+-- a part of this kind at this depth, as it is written
 abbrev pub written_at : (depth : ℕ) → PartKind → WrittenPart
 written_at depth kind.Empty = part_of_kind depth EMPTY
 written_at depth (kind.Char c) = record (part_of_kind depth CHAR) { first = c; last = c }
@@ -67,7 +67,7 @@ written_at depth (kind.Capture index) = record (part_of_kind depth CAPTURE) { in
 written_at depth kind.Concat = part_of_kind depth CONCAT
 written_at depth kind.Alternation = part_of_kind depth ALTERNATION
 
--- what is written of a part
+-- a part, as it is written
 abbrev pub written_part : Part → WrittenPart
 written_part part = written_at part.depth part.kind
 
@@ -75,8 +75,8 @@ written_part part = written_at part.depth part.kind
 abbrev pub AreThisMany : Settings → (count : ℕ) → List Part → Type 0
 AreThisMany settings count own = AreParts settings own × (count ≡ length own)
 
--- what is returned where a pattern, which may be any bytes, is to be told part by part under these
--- settings; the room for the parts and that for a message before and after, and what is told
+-- the answer for the outline of a pattern, which may be any bytes, under these settings; the room
+-- for the parts and that for a message before and after, and what is written
 pub record IsOutlineAnswer (settings : Settings) (answer : ℕ) (old_parts parts : List WrittenPart)
     (old new : List ℕ) (told : Outlined) : Type 0 where
   pub written : answer ≡ YES → (own : List Part) × AreThisMany settings told.count own
@@ -87,7 +87,7 @@ pub record IsOutlineAnswer (settings : Settings) (answer : ℕ) (old_parts parts
   pub not_text : (answer ≡ NOT_TEXT) ↔ (IsUtf8 settings.pattern → ⊥)
   pub refused : answer ≢ YES → answer ≢ NO_ROOM → IsUtf8 settings.pattern
       → IsRefusedFor (IsDueOnReading settings) answer old new told.message_len
-  -- if the pattern has a tree and exceeds neither limit on reading it, the only refusal is that
+  -- if the pattern has a tree and exceeds neither limit on reading it, the only error is that
   -- memory ran out
   pub complete : answer ≢ YES → answer ≢ NO_ROOM → IsUtf8 settings.pattern → IsReadable settings
       → answer ≡ OUT_OF_MEMORY

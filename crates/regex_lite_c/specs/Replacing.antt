@@ -1,4 +1,4 @@
--- What is returned of new texts.
+-- What is returned for new texts.
 use Rattle.std.specs.Prelude.{◌≡◌, ◌↔◌, ◌⊎◌, ℕ, List, MatchBool}
 use Rattle.std.specs.Borrow.{Bor}
 use Rattle.regex_lite.specs.Ahead.{Ahead, AreSoManyAhead, whole}
@@ -9,7 +9,7 @@ use Rattle.regex_lite_c.specs.Rooms.{IsWritten}
 use Rattle.regex_lite_c.specs.declared.answer.TheConstants.{NOT_TEXT, OUT_OF_MEMORY}
 use Rattle.regex_lite_c.specs.declared.types.Replacing.{Replacing}
 
--- each match ahead is replaced by what the template gives for its groups
+-- each match ahead is replaced by the template's expansion for its groups
 abbrev pub IsReplacedByTemplate : (template : List ℕ) → Ahead → (new : List ℕ) → Type 0
 IsReplacedByTemplate template a new =
     (rep : Bor (List ℕ)) × (rep.now ≡ template)
@@ -17,7 +17,8 @@ IsReplacedByTemplate template a new =
     (λ old groups text answer after.
     IsAppendedTemplate old.now groups text answer × (after ≡ old)) rep a new
 
--- the new text is this one with its matches replaced as is asked for, which are this many
+-- the new text is this one with its matches replaced as the caller requests; their number is
+-- written
 abbrev pub IsReplaced : Expression → (text template : List ℕ) → Replacing → (new : List ℕ)
     → (count : ℕ) → Type 0
 IsReplaced re text template replacing new count =
@@ -26,8 +27,8 @@ IsReplaced re text template replacing new count =
     (IsReplacedByTemplate template a new)
     × AreSoManyAhead a count
 
--- what is returned where a new text is to be written to the room, which is one of which this is
--- said: it was written as far as the room allows; or it was refused, and all stays
+-- the answer when a new text that has this property is written to the room: it was written if the
+-- room suffices; or the call failed, and nothing changes
 pub record IsTextAnswer (AreTexts : Type 0) (Says : List ℕ → Type 0) (old new : List ℕ)
     (old_len len answer : ℕ) : Type 0 where
   pub not_text : (answer ≡ NOT_TEXT) ↔ (AreTexts → ⊥)

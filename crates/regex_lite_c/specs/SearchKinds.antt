@@ -1,4 +1,4 @@
--- The searches for one match, and how what they find is written.
+-- The searches for one match, and how their results are written.
 use Rattle.std.specs.Prelude.{ℕ, List, Option, None, MatchOption, length}
 use Rattle.regex_lite.specs.Anchored.{TellsGroupsAt, TellsGroupsAtOfList, TellsWholeGroups}
 use Rattle.regex_lite.specs.Anchored.{TellsWholeGroupsOfList}
@@ -22,9 +22,8 @@ use Rattle.regex_lite_c.specs.declared.list.types.ListSpan.{ListSpan}
 use Rattle.regex_lite_c.specs.declared.types.Span.{Span}
 use Rattle.regex_lite_c.specs.declared.whole.Whole.{Whole}
 
--- What a search finds that starts at an offset: whether there is a match, that this is the span of
--- the one that it finds, or that it finds none; and that these are the groups of that match, of
--- which this is told besides their spans
+-- What a search from an offset finds: whether there is a match, the span of the match if there is
+-- one, and its groups with what is written besides their spans
 pub record SearchKind (S X T : Type 0) : Type 1 where
   pub Matches : S → (haystack : List ℕ) → (start : ℕ) → Type 0
   pub Finds : S → (haystack : List ℕ) → (start : ℕ) → X → Type 0
@@ -32,7 +31,7 @@ pub record SearchKind (S X T : Type 0) : Type 1 where
   pub AreFirst : S → (haystack : List ℕ) → (start : ℕ) → T → Groups → Type 0
   pub AreNone : S → (haystack : List ℕ) → (start : ℕ) → Type 0
 
--- for a regex, from the offset on
+-- the search for a regex, from the offset on
 abbrev pub regex_search : SearchKind Expression Span ℕ
 regex_search = record {
   Matches = MatchesFrom;
@@ -42,7 +41,7 @@ regex_search = record {
   AreNone = λ re haystack start. TellsGroups re haystack start None;
 }
 
--- for several patterns, from the offset on
+-- the search for several patterns, from the offset on
 abbrev pub patterns_search : SearchKind (List Expression) ListSpan ListGroups
 patterns_search = record {
   Matches = AnyMatches;
@@ -52,7 +51,7 @@ patterns_search = record {
   AreNone = λ list haystack start. TellsGroupsOfList list haystack start None;
 }
 
--- for a regex, at the offset alone
+-- the anchored search for a regex
 abbrev pub anchored_regex_search : SearchKind (Anchored Expression) Span ℕ
 anchored_regex_search = record {
   Matches = λ own haystack start. MatchesAt own.sought.now haystack start;
@@ -63,7 +62,7 @@ anchored_regex_search = record {
   AreNone = λ own haystack start. TellsGroupsAt own.sought.now haystack start None;
 }
 
--- for several patterns, at the offset alone
+-- the anchored search for several patterns
 abbrev pub anchored_patterns_search : SearchKind (Anchored (List Expression)) ListSpan ListGroups
 anchored_patterns_search = record {
   Matches = λ own haystack start. SomeMatchesAt own.sought.now haystack start;
@@ -74,7 +73,7 @@ anchored_patterns_search = record {
   AreNone = λ own haystack start. TellsGroupsAtOfList own.sought.now haystack start None;
 }
 
--- for a regex, the whole text, whatever the offset
+-- the search for a whole match of a regex, whatever the offset
 abbrev pub whole_regex_search : SearchKind (Whole Expression) Span ℕ
 whole_regex_search = record {
   Matches = λ own haystack start. MatchesSpan own.sought.now haystack (0, length haystack);
@@ -85,7 +84,7 @@ whole_regex_search = record {
   AreNone = λ own haystack start. TellsWholeGroups own.sought.now haystack None;
 }
 
--- for several patterns, the whole text, whatever the offset
+-- the search for a whole match of several patterns, whatever the offset
 abbrev pub whole_patterns_search : SearchKind (Whole (List Expression)) ListSpan ListGroups
 whole_patterns_search = record {
   Matches = λ own haystack start. SomeMatchesWhole own.sought.now haystack;
@@ -96,11 +95,11 @@ whole_patterns_search = record {
   AreNone = λ own haystack start. TellsWholeGroupsOfList own.sought.now haystack None;
 }
 
--- the list has a pattern with this number, of which this is said
+-- the list has a pattern with this number, and the pattern has this property
 abbrev pub OfListed : Listed → (Expression → Type 0) → Type 0
 OfListed one Says = OfPattern one.list.now one.number Says
 
--- for one pattern of a list, from the offset on
+-- the search for one pattern of a list, from the offset on
 abbrev pub listed_search : SearchKind Listed Span ℕ
 listed_search = record {
   Matches = λ one haystack start. OfListed one (λ re. MatchesFrom re haystack start);
@@ -112,12 +111,12 @@ listed_search = record {
 }
 
 module _ {S X T : Type 0} (kind : SearchKind S X T) where
-  -- the search at this offset finds this, or nothing
+  -- the search from this offset finds this match, or none
   abbrev pub IsFirst : S → (haystack : List ℕ) → (start : ℕ) → Option X → Type 0
   IsFirst sought haystack start span =
       MatchOption span (kind.FindsNone sought haystack start) (kind.Finds sought haystack start)
 
-  -- it finds these groups, of which this is told, or none
+  -- the search from this offset finds these groups, with what is written of them, or none
   abbrev pub AreFirstTold : S → (haystack : List ℕ) → (start : ℕ) → Option (T × Groups) → Type 0
   AreFirstTold sought haystack start own =
       MatchOption own (kind.AreNone sought haystack start)

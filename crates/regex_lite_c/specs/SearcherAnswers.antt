@@ -12,15 +12,15 @@ use Rattle.regex_lite_c.specs.declared.answer.TheConstants.{NOT_TEXT, OUT_OF_MEM
 use Rattle.regex_lite_c.specs.declared.types.Span.{Span}
 
 -- the regex went from its handle to the searcher, which has an empty text; or memory ran out, and
--- it is where it was
+-- it is still in its handle
 pub record IsMoveAnswer (re : Expression) (searcher : Option TextSearch)
     (regex : Option Expression) (answer : ℕ) : Type 0 where
   pub moved : answer ≡ YES → (searcher ≡ Some (record { re = re; text = [] })) × (regex ≡ None)
   pub refused : answer ≢ YES → (searcher ≡ None) × (regex ≡ Some re)
   pub one_of : (answer ≡ YES) ⊎ (answer ≡ OUT_OF_MEMORY)
 
--- the bytes are the text from now on; or they are none, or memory ran out, and the text is the one
--- before
+-- the bytes are the text from now on; or they aren't valid UTF-8, or memory ran out, and the text
+-- is unchanged
 pub record IsReadAnswer (own : TextSearch) (bytes : List ℕ) (new : Option TextSearch)
     (answer : ℕ) : Type 0 where
   pub read : answer ≡ YES → new ≡ Some (record { re = own.re; text = bytes })
@@ -28,16 +28,15 @@ pub record IsReadAnswer (own : TextSearch) (bytes : List ℕ) (new : Option Text
   pub not_text : (answer ≡ NOT_TEXT) ↔ (IsUtf8 bytes → ⊥)
   pub one_of : (answer ≡ YES) ⊎ ((answer ≡ NOT_TEXT) ⊎ (answer ≡ OUT_OF_MEMORY))
 
--- what is returned of a search for the pattern from this offset on are the spans of all groups of
--- its match
+-- a search for the pattern from this offset on returns the spans of all groups of its match
 abbrev pub TellsSpans : Expression → (haystack : List ℕ) → (start : ℕ)
     → Option (List (Option (ℕ × ℕ))) → Type 0
 TellsSpans re haystack start told =
     TellsAnswer (λ tree found spans.
     spans ≡ spans_from (chars haystack) found.marks 0 (captures_len tree)) re haystack start told
 
--- these are the spans of the groups of the match that starts first from this offset on, this many.
--- Nothing is said of their names
+-- these are the spans of the groups of the match that starts first from this offset on, `count` of
+-- them; their names aren't returned
 abbrev pub AreFirstSpans : Expression → (haystack : List ℕ) → (start : ℕ) → (count : ℕ) → Groups
     → Type 0
 AreFirstSpans re haystack start count groups =
@@ -50,7 +49,7 @@ IsSpansAnswer own start old new old_count count answer =
     IsGroupsAnswerOf (AreFirstSpans own.re own.text start) (TellsSpans own.re own.text start None)
     own.text start old new old_count count answer
 
--- the same for the match that starts at the offset
+-- an anchored search for the pattern at this offset returns the spans of all groups of its match
 abbrev pub TellsSpansAt : Expression → (haystack : List ℕ) → (start : ℕ)
     → Option (List (Option (ℕ × ℕ))) → Type 0
 TellsSpansAt re haystack start told =

@@ -1,4 +1,4 @@
--- What is returned of all matches of a text, some at a time.
+-- What is returned for all matches in a text, in batches.
 use Rattle.std.specs.Prelude.{◌≡◌, ◌≢◌, ◌⊎◌, ◌<◌, ◌≤◌, ℕ, suc, List, Option, Some, None}
 use Rattle.std.specs.Prelude.{cond, chars, length, map, option_map, slice_get, unwrap_or}
 use Rattle.regex_lite.specs.Ahead.{AheadOf, AnswerComesNext, after}
@@ -12,11 +12,11 @@ use Rattle.regex_lite_c.specs.declared.list.types.ListSpan.{ListSpan}
 use Rattle.regex_lite_c.specs.declared.types.Span.{Span}
 use Rattle.regex_lite_c.specs.declared.types.MatchWalk.{MatchWalk}
 
--- where the last match ended, if there was one
+-- the end of the last match, if there was one
 abbrev pub ended_of : MatchWalk → Option ℕ
 ended_of walk = cond walk.is_begun (Some walk.end) None
 
--- what a walk writes to: how far it has gone, and the caller's room
+-- what a walk writes to: its position, and the caller's room
 pub record WalkRoom (X : Type 0) : Type 0 where
   pub walk : MatchWalk
   pub room : List X
@@ -24,8 +24,8 @@ pub record WalkRoom (X : Type 0) : Type 0 where
 abbrev pub walk_room : {X : Type 0} → MatchWalk → List X → WalkRoom X
 walk_room walk room = record { walk = walk; room = room }
 
--- these are the first of the matches ahead, as many as there is room for, or all where they are
--- fewer; and they were written to the front of the room
+-- these are the first of the matches ahead, as many as there is room for, or all if they are fewer,
+-- and they were written to the front of the room
 pub record AreListed {S X T : Type 0} (kind : Kind S X T) (ahead : AheadOf S)
     (old new : List X) (count : ℕ) : Type 0 where
   pub list : List kind.Answer
@@ -34,17 +34,17 @@ pub record AreListed {S X T : Type 0} (kind : Kind S X T) (ahead : AheadOf S)
   pub number : count ≡ length list
   pub written : AreWrittenAs kind.stands_for (map (kind.tell ahead.haystack) list) old new
 
--- none is ahead
+-- no match is ahead
 abbrev pub NoneComes : {S X T : Type 0} → Kind S X T → AheadOf S → Type 0
 NoneComes kind ahead = AnswerComesNext kind.found_of kind.IsAnswerTo ahead None
 
--- the walk goes on where the last of this many ends
+-- the walk continues at the end of the last of this many matches
 pub record GoesOnAfterLast {X : Type 0} (end_of : X → ℕ) (written : List X) (count : ℕ)
     (walk : MatchWalk) : Type 0 where
   pub some : 0 < count
   pub end : (k : ℕ) → suc k ≡ count → option_map end_of (slice_get written k) ≡ ended_of walk
 
--- what is returned where a walk over the matches of this text goes on
+-- the answer when a walk over the matches in this text continues
 pub record IsWalkAnswerOf {S X T : Type 0} (kind : Kind S X T) (sought : S) (bytes : List ℕ)
     (old new : WalkRoom X) (count answer : ℕ) : Type 0 where
   pub found : answer ≡ YES
@@ -56,13 +56,13 @@ pub record IsWalkAnswerOf {S X T : Type 0} (kind : Kind S X T) (sought : S) (byt
   pub refused : RefusesText bytes (unwrap_or (ended_of old.walk) 0) answer
   pub one_of : (answer ≤ YES) ⊎ IsFailure answer
 
--- the same for a regex
+-- the answer for a walk over the matches of a regex
 abbrev pub IsWalkAnswer : Expression → (bytes : List ℕ) → (old new : WalkRoom Span)
     → (count answer : ℕ) → Type 0
 IsWalkAnswer re bytes old new count answer =
     IsWalkAnswerOf of_regex re bytes old new count answer
 
--- and for several patterns
+-- the answer for a walk over the matches of several patterns
 abbrev pub IsListWalkAnswer : List Expression → (bytes : List ℕ) → (old new : WalkRoom ListSpan)
     → (count answer : ℕ) → Type 0
 IsListWalkAnswer list bytes old new count answer =

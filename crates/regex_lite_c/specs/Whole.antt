@@ -1,4 +1,4 @@
--- What searches for whole matches return, in spans of a caller.
+-- What searches for whole matches return, as spans of a caller.
 use Rattle.std.specs.Prelude.{◌≡◌, ℕ, true, List, Option, Some, length}
 use Rattle.regex_lite.specs.Anchored.{TellsAnswerAt, TellsAnswerAtOfList, TellsWholeGroups}
 use Rattle.regex_lite.specs.Anchored.{TellsWholeGroupsOfList}
@@ -11,35 +11,35 @@ use Rattle.regex_lite_c.specs.declared.list.types.ListGroups.{ListGroups}
 use Rattle.regex_lite_c.specs.declared.list.types.ListSpan.{ListSpan}
 use Rattle.regex_lite_c.specs.declared.types.Span.{Span}
 
--- what is returned of a search for a match of the whole haystack is where that starts and ends
+-- a search for a match of the whole haystack returns its span
 abbrev pub TellsWholeSpan : Expression → (haystack : List ℕ) → Option (ℕ × ℕ) → Type 0
 TellsWholeSpan re haystack told = TellsAnswerAt true (IsSpanOf haystack) re haystack 0 told
 
--- the search finds a match, and the span is where that starts and ends
+-- the search finds a match with this span
 abbrev pub FindsWholeSpan : Expression → (haystack : List ℕ) → Span → Type 0
 FindsWholeSpan re haystack span =
     (told : ℕ × ℕ) × TellsWholeSpan re haystack (Some told) × (span ≡ span_of (Some told))
 
--- these are the groups of the match of the whole haystack, this many
+-- these are the groups of the match of the whole haystack, `count` of them
 abbrev pub AreWholeGroups : Expression → (haystack : List ℕ) → (count : ℕ) → Groups → Type 0
 AreWholeGroups re haystack count groups =
     TellsWholeGroups re haystack (Some groups) × (count ≡ length groups.spans)
 
--- what is returned of a search for a match of the whole haystack is the number of the pattern that
--- has one, and where that starts and ends
+-- a search for a match of the whole haystack returns the number of the pattern that has one, and
+-- its span
 abbrev pub TellsWholeListSpan : List Expression → (haystack : List ℕ) → Option (ℕ × (ℕ × ℕ))
     → Type 0
 TellsWholeListSpan list haystack told =
     TellsAnswerAtOfList true (IsSpanOf haystack) list haystack 0 told
 
--- the search finds a match, and the span is where that starts and ends, with its pattern's number
+-- the search finds a match with this span and this number of its pattern
 abbrev pub FindsWholeListSpan : List Expression → (haystack : List ℕ) → ListSpan → Type 0
 FindsWholeListSpan list haystack span =
     (told : ℕ × (ℕ × ℕ)) × TellsWholeListSpan list haystack (Some told)
     × (span ≡ list_span_of told)
 
--- these are the groups of the match of the whole haystack, as many as are told, of the pattern with
--- the number that is returned
+-- these are the groups of the match of the whole haystack; their count and the number of their
+-- pattern are returned
 abbrev pub AreWholeListGroups : List Expression → (haystack : List ℕ) → ListGroups → Groups
     → Type 0
 AreWholeListGroups list haystack told groups =

@@ -1,4 +1,4 @@
-//! What the library says of itself: its version, and what its answers mean.
+//! The version of the library, and the texts of its answers.
 ghost use Rattle.std.specs.Prelude.{◌≡◌};
 ghost use Rattle.regex_lite_c.specs.AnswerTexts.{answer_text};
 ghost use Rattle.regex_lite_c.specs.Rooms.{IsWritten};
@@ -16,7 +16,7 @@ pub extern "C" fn regex_lite_version(room: &mut [u8], len: &mut usize) -> u32
     room::write(VERSION.as_bytes(), room, len)
 }
 
-/// Writes what an answer means to the room: 1. A number that is no answer has a text too. The
+/// Writes the text of an answer to the room: 1. A number that isn't an answer has a text too. The
 /// text's length is written either way.
 #[unsafe(no_mangle)]
 pub extern "C" fn regex_lite_strerror(answer: u32, room: &mut [u8], len: &mut usize) -> u32

@@ -1,4 +1,4 @@
-//! Anchored searches: for the match that starts at the offset.
+//! Anchored searches: they find a match that starts at the offset.
 ghost use Rattle.std.specs.Prelude.{◌≡◌, ◌≢◌, ◌↔◌, IfSome, None};
 ghost use Rattle.regex_lite.specs.MatchOffsets.{MatchesAt};
 ghost use Rattle.regex_lite_c.specs.Anchored.{FindsSpanAt, TellsSpanAt};
@@ -14,7 +14,7 @@ use crate::types::Span;
 use regex_lite::{Captures, Error, Regex};
 use std::alloc::Global;
 
-/// The search for a match of this that starts at the offset.
+/// An anchored search for what it borrows.
 #[derive(Drop)]
 pub(crate) struct Anchored<'r, P> {
     /// What is searched for.
@@ -53,7 +53,7 @@ impl<'r> Search for Anchored<'r, Regex> {
     }
 }
 
-/// Whether a match of the pattern starts at this offset: 1 or 0.
+/// Whether the pattern matches at this offset: 1 or 0.
 #[unsafe(no_mangle)]
 pub extern "C" fn regex_lite_is_match_anchored(
     alloc: Global,
@@ -74,8 +74,8 @@ pub extern "C" fn regex_lite_is_match_anchored(
     answer
 }
 
-/// The match that starts at this offset, of several the one that the pattern prefers: 1 with its
-/// span written, or 0.
+/// The match that starts at this offset, the one that the pattern prefers if there are several: 1
+/// with its span written, or 0.
 #[unsafe(no_mangle)]
 pub extern "C" fn regex_lite_find_anchored(
     alloc: Global,
@@ -98,8 +98,8 @@ pub extern "C" fn regex_lite_find_anchored(
     answer
 }
 
-/// The groups of the match that `regex_lite_find_anchored` finds: 1 with their spans written, from
-/// the whole match on, or 0. With a match, the number of groups is written either way.
+/// The groups of the match that `regex_lite_find_anchored` finds: 1 with their spans written,
+/// beginning with the whole match, or 0. With a match, the number of groups is written either way.
 #[unsafe(no_mangle)]
 pub extern "C" fn regex_lite_captures_anchored(
     alloc: Global,

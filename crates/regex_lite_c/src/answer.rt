@@ -6,10 +6,10 @@ ghost use Rattle.regex_lite_c.specs.Answers.{number_of};
 
 use regex_lite::{Error, ErrorKind};
 
-/// There is none.
+/// No: there is no match, or none is left.
 pub(crate) const NO: u32 = 0;
 
-/// There is one, and where something is written, all of it was.
+/// Yes, and whatever the call writes was written completely.
 pub(crate) const YES: u32 = 1;
 
 /// The handle holds nothing.
@@ -18,10 +18,10 @@ pub(crate) const NOTHING_HELD: u32 = 2;
 /// The bytes aren't valid UTF-8.
 pub(crate) const NOT_TEXT: u32 = 3;
 
-/// The offset is above the text's length or inside a character.
+/// The offset is above the text's length or isn't on a character boundary.
 pub(crate) const BAD_OFFSET: u32 = 4;
 
-/// The room is too small for what is to be written first, and stays as it was.
+/// The room is too small for the first thing to write, and is unchanged.
 pub(crate) const NO_ROOM: u32 = 5;
 
 /// Memory ran out.
@@ -51,7 +51,7 @@ pub(crate) const PLACES: u32 = 14;
 /// A group's slots can't be numbered.
 pub(crate) const SLOTS: u32 = 15;
 
-/// A replacer refused. No call here returns it, since no replacer of a caller is asked.
+/// A replacer returned an error. No call here returns this, since callers can't pass replacers.
 pub(crate) const REPLACE: u32 = 16;
 
 /// Yes or no.
@@ -61,7 +61,7 @@ pub(crate) fn answer_of(is_so: bool) -> u32
     if is_so { YES } else { NO }
 }
 
-/// The number of a refusal.
+/// The number of an error.
 pub(crate) fn number_of(error: &Error) -> u32
     ensures { result ≡ number_of (kind_of error.now) }
 {
@@ -77,7 +77,7 @@ pub(crate) fn number_of(error: &Error) -> u32
     }
 }
 
-/// What an answer means, in a few words. A number that no call returns is an unknown answer.
+/// The text of an answer. A number that no call returns is an unknown answer.
 pub(crate) fn text_of_answer(answer: u32) -> &'static str
     ensures { result.now ≡ answer_text answer }
 {

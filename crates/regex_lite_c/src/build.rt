@@ -1,4 +1,4 @@
-//! Regexes: how one is built and freed.
+//! Building and freeing regexes.
 ghost use Rattle.std.specs.Prelude.{◌≡◌, ◌-◌, ◌^◌, None, IfOk, IfErr, length, min};
 ghost use Rattle.regex_lite_syntax.specs.Errors.{out_of_memory, text_of};
 ghost use Rattle.regex_lite.specs.Expression.{Builds, IsAccepted, IsDue, expression_of};
@@ -12,10 +12,10 @@ use crate::types::Options;
 use regex_lite::{Error, Regex, RegexBuilder};
 use std::alloc::Global;
 
-/// Builds the regex of a pattern: 1, and the handle holds it; otherwise why not, and it holds
-/// nothing.
+/// Builds the regex of a pattern: 1, and the handle holds it. Otherwise the reason, and the handle
+/// holds nothing.
 ///
-/// What was held before is freed. The text of a refusal is written to the room for a message, if
+/// What was held before is freed. The text of an error is written to the room for a message, if
 /// that is large enough. Its length is written either way, and is 0 if there is no text.
 #[unsafe(no_mangle)]
 pub extern "C" fn regex_lite_new(
@@ -46,7 +46,7 @@ pub extern "C" fn regex_lite_new(
     }
 }
 
-/// Frees what is held, if anything is.
+/// Frees the regex, if one is held.
 #[unsafe(no_mangle)]
 pub extern "C" fn regex_lite_free(alloc: Global, handle: &mut Handle)
     ensures { handle.new.value ≡ None }
@@ -112,7 +112,7 @@ fn set_limits(builder: &mut RegexBuilder, options: &Options)
     builder.size_limit(options.size_limit);
 }
 
-/// Writes the error's text to the room, if that is large enough, and how long it is.
+/// Writes the error's text to the room, if that is large enough, and writes its length.
 pub(crate) fn write_message(error: &Error, message: &mut [u8], len: &mut usize)
     ensures { IsMessage (text_of error.now) message.old message.new len.new }
 {

@@ -1,4 +1,4 @@
-//! The first matches in many texts, which are searched one after another in the same memory.
+//! The first matches in many texts, which are searched with one searcher.
 ghost use Rattle.std.specs.Prelude.{◌≡◌, ◌↔◌, ◌≤◌, IfSome, IsTrue, None, length};
 ghost use Rattle.regex_lite_c.specs.Each.{AreFoundEach, AreTextLengths, IsEachAnswer};
 
@@ -8,12 +8,12 @@ use crate::types::Span;
 use regex_lite::{Regex, RegexSearcher};
 use std::alloc::Global;
 
-/// The first match in each of some texts, whose bytes come one after another: 1 with a span for
-/// each text written, which is none where the text has no match.
+/// The first match in each of several texts, whose bytes are concatenated: 1 with a span written
+/// for each text, which is none if the text has no match.
 ///
-/// The texts have these lengths, which have to add up to that of the bytes, and each ends between
-/// two characters; otherwise a bad offset is reported. They are searched in the same memory, and
-/// what the search of one learns about the pattern speeds up that of the next.
+/// The lengths of the texts have to add up to that of the bytes, and each text has to end on a
+/// character boundary; otherwise the answer is that of a bad offset. The searches reuse the
+/// transitions that earlier searches have cached.
 #[unsafe(no_mangle)]
 pub extern "C" fn regex_lite_find_each(
     alloc: Global,

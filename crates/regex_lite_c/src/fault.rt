@@ -1,4 +1,4 @@
-//! Where in a pattern its first fault stands.
+//! The place of the first fault in a pattern.
 ghost use Rattle.std.specs.Prelude.{chars, IfOk, IfErr, MatchOption};
 ghost use Rattle.regex_lite_syntax.specs.Errors.{kind_of};
 ghost use Rattle.regex_lite_syntax.specs.FaultPlaces.{IsUntold};
@@ -12,11 +12,11 @@ use crate::types::{Fault, Options};
 use regex_lite::{Error, FaultSpan};
 use std::alloc::Global;
 
-/// Where the first fault of a pattern stands: 1 with the fault written, or 0 where the grammar
-/// gives the pattern a tree.
+/// The place of the first fault in a pattern: 1 with the fault written, or 0 if the grammar gives
+/// the pattern a tree.
 ///
-/// So where `regex_lite_new` refuses a pattern for its syntax, this says where it is wrong. The
-/// limits of the options don't count.
+/// If `regex_lite_new` rejects a pattern for its syntax, this call finds the place of the fault.
+/// The limits of the options don't matter.
 #[unsafe(no_mangle)]
 pub extern "C" fn regex_lite_fault_at(
     alloc: Global,

@@ -1,4 +1,4 @@
-//! The groups of all matches of a text, some at a time.
+//! The groups of all matches in a text, in batches.
 ghost use Rattle.std.specs.Prelude.{◌≡◌, ◌↔◌, ◌<◌, IfSome, IsTrue, None, cond, length};
 ghost use Rattle.std.specs.Prelude.{slice_set, true};
 ghost use Rattle.regex_lite_c.specs.Answers.{IsOfFound};
@@ -15,13 +15,13 @@ use crate::types::{MatchWalk, Span};
 use crate::written::Written;
 use std::alloc::Global;
 
-/// The groups of the next matches of a text, as many as there is room for: 1 with the spans of each
-/// match in a row, from the whole match on, or 0 where none is left. The number of these matches is
-/// written too, and the walk goes on after the last of them.
+/// The groups of the next matches in a text, as many as there is room for: 1 with the spans of the
+/// groups of each match, beginning with the whole match, one match after another, or 0 if none is
+/// left. The number of these matches is written too, and the walk moves past the last of them.
 ///
 /// They are the matches of `regex_lite_find_all`. 1 means that no further match would have fitted:
-/// none is left, or the next has more groups than the room has spans left. Where memory runs out,
-/// the number tells how many matches were written before, and the walk goes on after them.
+/// none is left, or the next has more groups than the room has spans left. If memory runs out, the
+/// number is that of the matches that were written before, and the walk moves past them.
 #[unsafe(no_mangle)]
 pub extern "C" fn regex_lite_captures_all(
     alloc: Global,
@@ -47,8 +47,7 @@ pub extern "C" fn regex_lite_captures_all(
     answer
 }
 
-/// The groups of the next matches of what is searched for: the answer, and the number that goes
-/// with it.
+/// Writes the groups of the next matches. Returns the answer, and the number to write.
 pub(crate) fn captures_all<P: Sought>(
     sought: &P,
     text: &[u8],
@@ -99,21 +98,22 @@ pub(crate) fn fill_groups<'h, M: GroupsAhead<'h>>(
     }
 }
 
-/// Whether there is no room for what is told of a match after this many.
+/// Whether the room for what is written of each match besides spans is full after this many
+/// matches.
 fn is_told_full<P: Written>(told: &[P::Told], count: usize) -> bool
     ensures { IsTrue result ↔ IsToldFull P.kind told.now count }
 {
     P::is_told() && told.len() == count
 }
 
-/// The number that is written where there is no room for a match with this many groups.
+/// The number to write if there is no room for a match with this many groups.
 fn told_without_room<P: Written>(groups: usize) -> usize
     ensures { result ≡ cond P.kind.is_told groups 0 }
 {
     if P::is_told() { groups } else { 0 }
 }
 
-/// Writes what is told of a match there, if that is to be told.
+/// Writes what is to be written of a match besides spans, if anything is.
 fn put_told<P: Written>(told: &mut [P::Told], at: usize, own: P::Told)
     requires { P.kind.is_told ≡ true → at < length told.old }
     ensures { P.kind.is_told ≡ true → told.new ≡ slice_set told.old at own }
@@ -123,7 +123,7 @@ fn put_told<P: Written>(told: &mut [P::Told], at: usize, own: P::Told)
     }
 }
 
-/// Yes with the number of matches, if there are some, and otherwise this answer and this number.
+/// Yes with the number of matches if there are any, and otherwise this answer and this number.
 fn or_none(count: usize, answer: u32, number: usize) -> (u32, usize)
     ensures some { 0 < count → result ≡ (YES, count) }
     ensures none { count ≡ 0 → result ≡ (answer, number) }

@@ -1,4 +1,4 @@
-//! The groups of a match, in spans of the caller.
+//! The groups of a match, written to the caller's spans.
 ghost use Rattle.std.specs.Prelude.{◌≡◌, ◌+◌, ◌<◌, ◌≤◌, ℕ, List, Option, IfSome, None, length};
 ghost use Rattle.regex_lite.specs.Groups.{span_at};
 ghost use Rattle.regex_lite_c.specs.GroupAnswers.{IsGroupsAnswer, IsGroupsAnswerOf};
@@ -12,8 +12,8 @@ use crate::types::Span;
 use regex_lite::{CaptureLocations, Captures};
 use std::alloc::Global;
 
-/// The groups of the match that starts first from this offset on: 1 with their spans written, from
-/// the whole match on, or 0. With a match, the number of groups is written either way.
+/// The groups of the match that starts first from this offset on: 1 with their spans written,
+/// beginning with the whole match, or 0. With a match, the number of groups is written either way.
 #[unsafe(no_mangle)]
 pub extern "C" fn regex_lite_captures(
     alloc: Global,
@@ -64,15 +64,15 @@ pub(crate) fn captures<P: Search>(
     }
 }
 
-/// The groups of a match, as they are written.
+/// The groups of a match, as spans to write.
 pub(crate) trait GroupSpans {
     ghost spans: { Self → List (Option (ℕ × ℕ)) };
 
-    /// How many there are.
+    /// The number of groups.
     fn count(&self) -> usize
         ensures { result ≡ length (spans self.now) };
 
-    /// What is written of the group with this index.
+    /// The span to write for the group with this index.
     fn span_at(&self, index: usize) -> Span
         ensures { result ≡ span_of (span_at (spans self.now) index) };
 }
@@ -104,7 +104,7 @@ impl GroupSpans for CaptureLocations {
     }
 }
 
-/// Writes these groups, or nothing where there is too little room.
+/// Writes these groups, or nothing if there is too little room.
 pub(crate) fn write_groups<G: GroupSpans>(groups: &G, spans: &mut [Span]) -> u32
     ensures written { length (G.spans groups.now) ≤ length spans.old
         → (result ≡ YES) × AreWritten (G.spans groups.now) spans.old spans.new }

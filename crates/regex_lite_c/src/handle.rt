@@ -1,4 +1,5 @@
-//! What C holds: the place of a regex, of a list of patterns or of a searcher on the heap, or null.
+//! Handles, which C holds: a pointer to a regex, a list of patterns or a searcher on the heap, or
+//! null.
 //!
 //! A regex itself can't cross to C, since its clones share it. So a caller has one opaque pointer.
 //! Each call takes the value out of its handle, asks it and puts it back, which is two stores, and
@@ -20,10 +21,10 @@ use regex_lite::{Regex, RegexList, Unboxed};
 use std::alloc::Global;
 use std::marker::Model;
 
-/// The place of a regex, or null where there is none.
+/// A pointer to a regex, or null.
 ///
-/// Its bytes are those of one pointer. A caller who copies them has two owners of one regex, which
-/// nothing here can detect.
+/// It is a single pointer. A caller who copies it has two owners of one regex, which nothing here
+/// can detect.
 #[repr(C)]
 #[derive(Drop)]
 pub struct Handle {
@@ -37,10 +38,10 @@ impl Model for Handle {
     ghost also_owns = { λ handle. holds handle.ptr handle.value };
 }
 
-/// The place of a list of patterns, or null where there is none.
+/// A pointer to a list of patterns, or null.
 ///
-/// Its bytes are those of one pointer. A caller who copies them has two owners of one list, which
-/// nothing here can detect.
+/// It is a single pointer. A caller who copies it has two owners of one list, which nothing here
+/// can detect.
 #[repr(C)]
 #[derive(Drop)]
 pub struct ListHandle {
@@ -54,10 +55,10 @@ impl Model for ListHandle {
     ghost also_owns = { λ handle. holds_list handle.ptr handle.value };
 }
 
-/// The place of a searcher with its text, or null where there is none.
+/// A pointer to a searcher with its text, or null.
 ///
-/// Its bytes are those of one pointer. A caller who copies them has two owners of one searcher,
-/// which nothing here can detect.
+/// It is a single pointer. A caller who copies it has two owners of one searcher, which nothing
+/// here can detect.
 #[repr(C)]
 #[derive(Drop)]
 pub struct SearcherHandle {
@@ -71,22 +72,23 @@ impl Model for SearcherHandle {
     ghost also_owns = { λ handle. holds_searcher handle.ptr handle.value };
 }
 
-/// A handle of any kind. A type that crosses to C has no type parameter, so there are three.
+/// A handle of any kind. There are three types of handles, since a type that crosses to C has no
+/// type parameter.
 pub(crate) trait Holds: Drop {
-    /// What is held.
+    /// The type of the value that is held.
     type Value: Drop;
 
     ghost held: { Self → Option Self.Value };
 
-    /// The handle of what is at this place.
+    /// The handle with this pointer.
     fn from_place(place: HeapPlace<Self::Value>) -> Self
         ensures { held result ≡ place.value };
 
-    /// The place of what is held.
+    /// The pointer to the value that is held.
     fn into_place(self) -> HeapPlace<Self::Value>
         ensures { result.value ≡ held self };
 
-    /// The value, which the handle no longer holds.
+    /// Takes the value out of the handle.
     final fn take(&mut self, alloc: Global) -> Option<Box<Self::Value, Global>>
         ensures taken { MatchOption result (held self.old ≡ None)
             (λ value. held self.old ≡ Some value.value) }
@@ -99,9 +101,9 @@ pub(crate) trait Holds: Drop {
         }
     }
 
-    /// Holds this value.
+    /// Puts this value into the handle.
     ///
-    /// Condition: nothing is held; otherwise what is held would never be freed.
+    /// Condition: the handle is empty; otherwise its value would never be freed.
     final fn put(&mut self, value: Box<Self::Value, Global>)
         requires { held self.old ≡ None }
         ensures { held self.new ≡ Some value.value }
@@ -110,9 +112,9 @@ pub(crate) trait Holds: Drop {
     }
 }
 
-/// What this says of the value that is held, and `absent` where nothing is.
-// Calls that write to the caller's memory take the value and put it back themselves: where a
-// closure isn't called, nothing says that what it borrows stays the same.
+/// The result of `say` for the value that is held, or `absent` if the handle is empty.
+// Calls that write to the caller's memory take the value and put it back themselves: a contract
+// can't state that what a closure borrows is unchanged if the closure isn't called.
 pub(crate) fn ask<H: Holds, R: Drop, F: FnOnce(&H::Value) -> R>(
     alloc: Global,
     handle: &mut H,

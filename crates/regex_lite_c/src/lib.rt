@@ -1,14 +1,14 @@
-//! Regular expressions for programs in C, and in each language that calls C.
+//! Regular expressions for programs in C, and in every language that can call C.
 //!
-//! A caller keeps a [`Handle`](handle::Handle): one pointer, null at first. Each call is given a
-//! pointer to the handle, and leaves in it what was there, except for those that build and free.
-//! Texts and arrays stay the caller's: no call keeps a pointer to one.
+//! A caller keeps a [`Handle`](handle::Handle): one opaque pointer, initially null. Each call takes
+//! a pointer to the handle, and only those that build and free change what it holds. Texts and
+//! arrays belong to the caller: no call keeps a pointer to one.
 //!
-//! Where a call returns a number, it is one of `answer`: 1 for yes, 0 for no, and otherwise why it
-//! refused. Bytes that aren't valid UTF-8, a bad offset or index, and a handle that holds nothing
-//! are refused, so the caller needn't check for them. The contract of each call says what the call
-//! of `regex_lite` below it returns, by bytes, numbers and spans. bindings/c/regex_lite.h says the
-//! same for callers in C.
+//! If a call returns an answer, it is one of the numbers in `answer`: 1 for yes, 0 for no, and
+//! otherwise the reason for a failure. Bytes that aren't valid UTF-8, a bad offset or index, and an
+//! empty handle have answers of their own, so the caller needn't check for them. The contract of
+//! each call states its result in bytes, numbers and spans, in terms of the call of `regex_lite`
+//! that it makes. bindings/c/regex_lite.h documents the calls for callers in C.
 #![tactic(auto)]
 
 mod about;

@@ -1,4 +1,4 @@
-//! Several patterns that are searched for at once.
+//! Lists of patterns that are searched for in one pass.
 
 mod anchored;
 mod build;

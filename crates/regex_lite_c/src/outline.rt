@@ -1,4 +1,4 @@
-//! A pattern part by part, in room of the caller.
+//! The outline of a pattern, written to the caller's room.
 ghost use Rattle.std.specs.Prelude.{◌≡◌, ◌<◌, ◌≤◌, IfOk, IfErr, length};
 ghost use Rattle.regex_lite_syntax.specs.Errors.{out_of_memory};
 ghost use Rattle.regex_lite.specs.Outlines.{AreParts, IsDueOnReading, IsReadable};
@@ -16,11 +16,11 @@ use part::{Outlined, WrittenPart};
 use regex_lite::{Error, Part};
 use std::alloc::Global;
 
-/// Writes the parts of a pattern in its order: 1; otherwise why not. How many they are is written
-/// too, even if there is too little room for as many; it is 0 where the pattern is refused.
+/// Writes the parts of a pattern in order: 1, otherwise the reason. The number of parts is written
+/// even if there is too little room for them; it is 0 if the pattern is rejected.
 ///
-/// A pattern is refused as `regex_lite_new` refuses it, with the same message, but never for what
-/// it would become written out: the size limit doesn't count.
+/// A pattern is rejected if `regex_lite_new` rejects it, with the same message, but never for the
+/// size of its NFA: the size limit doesn't matter.
 #[unsafe(no_mangle)]
 pub extern "C" fn regex_lite_outline(
     alloc: Global,
@@ -60,7 +60,7 @@ fn parts_of(alloc: Global, pattern: &str, options: &Options) -> Result<Vec<Part>
     builder_of(alloc, pattern, options)?.outline()
 }
 
-/// Writes the parts, or nothing where there is too little room, and how many they are.
+/// Writes the parts, or nothing if there is too little room, and writes their number.
 fn write_parts(found: &[Part], parts: &mut [WrittenPart], count: &mut usize) -> u32
     ensures count { count.new ≡ length found.now }
     ensures written { count.new ≤ length parts.old → (result ≡ YES)

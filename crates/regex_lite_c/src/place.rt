@@ -1,4 +1,4 @@
-//! The place of a value on the heap, or null.
+//! A pointer to a value on the heap, or null.
 ghost use Rattle.std.specs.Prelude.{◌≡◌, Option, None, Some, MatchOption};
 ghost use Rattle.std.specs.Coded.{coded_option};
 
@@ -6,7 +6,7 @@ use regex_lite::Unboxed;
 use std::alloc::Global;
 use std::marker::Model;
 
-/// The place of a value on the heap, or null where there is none.
+/// A pointer to a value on the heap, or null.
 pub(crate) struct HeapPlace<T> {
     pub(crate) ptr: *mut T,
     pub ghost value: { Option T } by { coded_option T.code },
@@ -19,7 +19,7 @@ impl<T> Model for HeapPlace<T> {
 }
 
 impl<T> HeapPlace<T> {
-    /// No value.
+    /// A null pointer.
     pub(crate) fn nothing() -> HeapPlace<T>
         ensures { result.value ≡ None }
     {
@@ -27,7 +27,7 @@ impl<T> HeapPlace<T> {
         HeapPlace { ptr }
     }
 
-    /// The place of this value.
+    /// The pointer to this value.
     pub(crate) fn of(value: Unboxed<T, Global>) -> HeapPlace<T>
         ensures { result.value ≡ Some value.value }
     {

@@ -1,4 +1,4 @@
-//! What a regex says of its pattern and its groups.
+//! Properties of a regex: its pattern and its groups.
 ghost use Rattle.std.specs.Prelude.{◌≡◌, IfSome, MatchOption, None};
 ghost use Rattle.std.specs.Prelude.{cond, option_map, slice_get, unwrap_or};
 ghost use Rattle.regex_lite_syntax.specs.Tree.Properties.{captures_len, nullable};
@@ -43,8 +43,8 @@ pub extern "C" fn regex_lite_groups(alloc: Global, handle: &mut Handle) -> usize
     ask(alloc, handle, 0, |regex| regex.captures_len())
 }
 
-/// At least this many groups take part in every match, the whole match among them; 0 where that
-/// isn't known, or nothing is held.
+/// The least number of groups that take part in every match, including the whole match; 0 if it
+/// isn't known or the handle is empty.
 #[unsafe(no_mangle)]
 pub extern "C" fn regex_lite_static_groups(alloc: Global, handle: &mut Handle) -> usize
     ensures same { handle.new.value ≡ handle.old.value }
@@ -59,8 +59,8 @@ pub extern "C" fn regex_lite_static_groups(alloc: Global, handle: &mut Handle) -
     )
 }
 
-/// Whether the pattern may match the empty text, as far as it tells by itself, which takes its
-/// looks to hold: 1 or 0. With 0 each match reads a character.
+/// Whether the pattern may match the empty text if its looks are assumed to hold: 1 or 0. With 0 no
+/// match is empty.
 #[unsafe(no_mangle)]
 pub extern "C" fn regex_lite_may_be_empty(alloc: Global, handle: &mut Handle) -> u32
     ensures same { handle.new.value ≡ handle.old.value }
@@ -71,7 +71,7 @@ pub extern "C" fn regex_lite_may_be_empty(alloc: Global, handle: &mut Handle) ->
     ask(alloc, handle, NOTHING_HELD, say)
 }
 
-/// How many places the pattern has when it is written out; 0 where nothing is held.
+/// The number of places (NFA states) of the compiled pattern; 0 if the handle is empty.
 #[unsafe(no_mangle)]
 pub extern "C" fn regex_lite_places(alloc: Global, handle: &mut Handle) -> usize
     ensures same { handle.new.value ≡ handle.old.value }
@@ -81,7 +81,7 @@ pub extern "C" fn regex_lite_places(alloc: Global, handle: &mut Handle) -> usize
     ask(alloc, handle, 0, |regex| regex.places())
 }
 
-/// How many arrows lead from place to place in the pattern written out; 0 where nothing is held.
+/// The number of arrows (transitions) of the compiled pattern; 0 if the handle is empty.
 #[unsafe(no_mangle)]
 pub extern "C" fn regex_lite_arrows(alloc: Global, handle: &mut Handle) -> usize
     ensures same { handle.new.value ≡ handle.old.value }
@@ -91,7 +91,7 @@ pub extern "C" fn regex_lite_arrows(alloc: Global, handle: &mut Handle) -> usize
     ask(alloc, handle, 0, |regex| regex.arrows())
 }
 
-/// Writes the name of the group with this index to the room: 1, or 0 where the group has no name.
+/// Writes the name of the group with this index to the room: 1, or 0 if the group has no name.
 #[unsafe(no_mangle)]
 pub extern "C" fn regex_lite_group_name(
     alloc: Global,
@@ -133,7 +133,7 @@ fn name_in<'r>(mut names: CaptureNames<'r>, index: usize) -> Option<Option<&'r s
     names.nth(index)
 }
 
-/// The index of the group with this name: 1 with the index written, or 0 where no group has it.
+/// The index of the group with this name: 1 with the index written, or 0 if no group has it.
 #[unsafe(no_mangle)]
 pub extern "C" fn regex_lite_group_index(
     alloc: Global,

@@ -1,4 +1,4 @@
-//! New texts: a text with its matches replaced, and a text as a pattern.
+//! New texts: a text with its matches replaced, and the pattern that matches a text.
 ghost use Rattle.std.specs.Prelude.{◌≡◌, ◌≢◌, ◌⊎◌, IfOk, IfSome, IsUtf8, None};
 ghost use Rattle.std.specs.Cow.{cow_str_bytes};
 ghost use Rattle.regex_lite.specs.Escapes.{escaped_pattern};
@@ -12,8 +12,8 @@ use regex_lite::{Error, NoExpand, Regex};
 use std::alloc::Global;
 use std::borrow::CowStr;
 
-/// Writes the text with its matches replaced to the room: 1. The new text's length, and how many
-/// matches were replaced, are written to `replacing` either way.
+/// Writes the text with its matches replaced to the room: 1. The new text's length and the number
+/// of matches that were replaced are written to `replacing` either way.
 #[unsafe(no_mangle)]
 pub extern "C" fn regex_lite_replace(
     alloc: Global,
@@ -75,7 +75,7 @@ fn replace(
     }
 }
 
-/// The text with the matches of this regex replaced, and how many were replaced.
+/// The text with the matches of this regex replaced, and their number.
 fn replaced<'h>(
     regex: &Regex,
     text: &'h str,

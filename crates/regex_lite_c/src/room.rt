@@ -1,4 +1,4 @@
-//! Room of the caller for bytes.
+//! The caller's room (output buffer) for bytes.
 ghost use Rattle.std.specs.Prelude.{◌≡◌, IfSome, MatchResult, None};
 ghost use Rattle.std.specs.Fn.{FnOnceReturnsAt};
 ghost use Rattle.regex_lite_c.specs.Rooms.{IsWritten};
@@ -7,7 +7,7 @@ use crate::answer::{NO_ROOM, NOTHING_HELD, YES};
 use crate::handle::Holds;
 use std::alloc::Global;
 
-/// Writes a text to the room, or nothing where that is too small, and how long the text is.
+/// Writes a text to the room, or nothing if that is too small, and writes the text's length.
 pub(crate) fn write(text: &[u8], room: &mut [u8], len: &mut usize) -> u32
     ensures { IsWritten text.now room.old room.new len.new result }
 {
@@ -19,7 +19,8 @@ pub(crate) fn write(text: &[u8], room: &mut [u8], len: &mut usize) -> u32
     YES
 }
 
-/// Writes the text that is found in what is held, or returns what stands for its absence.
+/// Writes the text that `find` finds in the value that is held, or returns the answer for its
+/// absence.
 pub(crate) fn write_from<H: Holds, F: FnOnce(&H::Value) -> Result<&str, u32>>(
     alloc: Global,
     handle: &mut H,
@@ -44,7 +45,7 @@ pub(crate) fn write_from<H: Holds, F: FnOnce(&H::Value) -> Result<&str, u32>>(
     answer
 }
 
-/// Writes this text, or returns what stands for its absence.
+/// Writes this text, or returns the answer for its absence.
 fn write_found(found: Result<&str, u32>, room: &mut [u8], len: &mut usize) -> u32
     ensures { MatchResult found.entry
         (λ text. IsWritten text.now room.old room.new len.new result)

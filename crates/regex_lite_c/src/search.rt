@@ -95,7 +95,7 @@ pub(crate) fn find<P: Search>(search: &P, text: &[u8], start: usize, span: &mut 
     }
 }
 
-/// The same, and writes what the search cost, if there is an answer.
+/// `regex_lite_find`, which also writes the cost of the search if the answer is 1 or 0.
 #[unsafe(no_mangle)]
 pub extern "C" fn regex_lite_find_counted(
     alloc: Global,
@@ -123,7 +123,7 @@ pub extern "C" fn regex_lite_find_counted(
     answer
 }
 
-/// Where what is searched for matches first, and what it cost to find out.
+/// Finds the first match, and writes the cost of the search.
 pub(crate) fn find_counted<P: Sought>(
     sought: &P,
     text: &[u8],
@@ -180,7 +180,7 @@ pub extern "C" fn regex_lite_shortest(
     answer
 }
 
-/// Where a match of this regex ends first.
+/// The least end of any match of this regex.
 fn shortest(regex: &Regex, text: &[u8], start: usize, end: &mut usize) -> u32
     ensures answer { IsSearchAnswer text.now start result
         (TellsEnd regex.now text.now start (Some end.new))

@@ -1,4 +1,4 @@
-//! A searcher that has a text of its own, which is read as UTF-8 once.
+//! A searcher with a text of its own, which is validated as UTF-8 once.
 //!
 //! It takes the regex out of its handle. Sharing it would tie two handles to one thread, since the
 //! count of a regex's owners isn't atomic. Its text is a copy: a pointer to the caller's text would
@@ -15,12 +15,12 @@ use regex_lite::{CaptureLocations, Error, Regex, RegexSearcher};
 use std::alloc::{AllocError, Global};
 use std::marker::Model;
 
-/// A regex, the memory for its searches, and the text that is searched.
+/// A regex, the memory of its searches, and the text that is searched.
 #[derive(Drop)]
 pub(crate) struct TextSearcher {
     searcher: RegexSearcher<'static>,
     text: String,
-    /// Where the groups of the last match are that was asked for them.
+    /// The groups of the last match for which they were requested.
     groups: CaptureLocations,
 }
 
@@ -50,7 +50,7 @@ impl TextSearcher {
         })
     }
 
-    /// Takes this text in place of the one before, which stays where memory runs out.
+    /// Replaces the text with this one. If memory runs out, the text is unchanged.
     fn read(&mut self, text: &str) -> Result<(), AllocError>
         ensures read { IfOk result (λ _. self.new ≡ record self.old { text = text.now }) }
         ensures same { IfErr result (λ _. self.new ≡ self.old) }
@@ -59,13 +59,13 @@ impl TextSearcher {
     }
 }
 
-/// Puts a text in place of the one before, which stays where memory runs out.
+/// Replaces a text with another. If memory runs out, the text is unchanged.
 fn read(own: &mut String, text: &str) -> Result<(), AllocError>
     ensures { MatchResult result (λ _. string_bytes own.new ≡ text.now)
         (λ _. string_bytes own.new ≡ string_bytes own.old) }
 {
     own.reserve(text.len().saturating_sub(own.len()))?;
     own.clear();
-    // There is room for it now, so this is not refused.
+    // The capacity suffices now, so this doesn't fail.
     own.push_str(text)
 }

@@ -1,4 +1,4 @@
-//! What is searched for, a regex or several patterns, as the calls for both see it.
+//! What is searched for, a regex or several patterns: the traits behind the calls for both.
 ghost use Rattle.std.specs.Prelude.{◌≡◌, ◌↔◌, ◌<◌, ◌≤◌, length, unwrap_or, ⊤};
 ghost use Rattle.std.specs.Prelude.{IfErr, IfOk, IfSome, IsCharBoundary, IsTrue};
 ghost use Rattle.regex_lite.specs.Ahead.{AheadOf, after};
@@ -14,16 +14,16 @@ use crate::types::{Cost, MatchWalk, Span};
 use crate::written::Written;
 use regex_lite::{Captures, Error};
 
-/// A search for one match: from an offset on, or at the offset alone. A call in C is for one kind
-/// of it, and is passed on to a function for all.
+/// A search for one match: unanchored, anchored or for a whole match. Each call of the C interface
+/// is for one kind of search, and calls a function that is generic over them.
 pub(crate) trait Search {
-    /// What is written of a match.
+    /// The type that is written for a match.
     type Span: Copy;
 
-    /// What is written of its groups besides their spans.
+    /// The type that is written for groups besides their spans.
     type Told: Copy;
 
-    // One pattern of a list can be searched for only if the list has it.
+    // A single pattern of a list can be searched for only if the list has it.
     ghost can_search: { Self → Type 0 } = { λ _. ⊤ };
 
     ghost search: { SearchKind Self Self.Span Self.Told };
@@ -35,13 +35,13 @@ pub(crate) trait Search {
         ensures { IfOk result
             (λ found. IsTrue found ↔ Self.search.Matches self.now text.now start) };
 
-    /// The match that it finds.
+    /// The match that the search finds.
     fn first_span(&self, text: &str, start: usize) -> Result<Option<Self::Span>, Error>
         requires can { Self.can_search self.now }
         requires start { IsCharBoundary text.now start }
         ensures { IfOk result (IsFirst Self.search self.now text.now start) };
 
-    /// The groups of that match, and what is told of them.
+    /// The groups of that match, and what is written besides their spans.
     fn first_groups<'h>(
         &self,
         text: &'h str,
@@ -52,16 +52,16 @@ pub(crate) trait Search {
         ensures { IfOk result (AreFirstTold Self.search self.now text.now start) };
 }
 
-/// What is searched for from an offset on, for one match or for all.
+/// What can be searched for from an offset on, for one match or for all.
 pub(crate) trait Sought: Written + Drop {
-    /// The first match from this offset on, and what the search cost.
+    /// The first match from this offset on, and the cost of the search.
     fn counted_span(&self, text: &str, start: usize) -> Result<(Option<Self::Span>, Cost), Error>
         requires { IsCharBoundary text.now start }
         ensures found { IfOk result (λ told. IsFirst Self.search self.now text.now start told.0) }
         ensures cost { IfOk result (λ told. Self.kind.IsCost self.now text.now start told.1) }
         ensures entered { IfOk result (λ told. IfSome told.0 (λ _. 0 < told.1.entered)) };
 
-    /// Writes the next matches after one that ended there, and returns how many.
+    /// Writes the next matches after one that ended there, and returns their number.
     fn write_after(
         &self,
         text: &str,
@@ -77,7 +77,7 @@ pub(crate) trait Sought: Written + Drop {
         ensures refused { IfErr result (λ _. spans.new ≡ spans.old) };
 
     /// Writes the groups of the next matches, and where the last of these ends. Returns the answer,
-    /// and the number that goes with it.
+    /// and the number to write.
     fn write_groups_after(
         &self,
         text: &str,
@@ -92,26 +92,27 @@ pub(crate) trait Sought: Written + Drop {
         ensures one_of { IsOfFound result.0 };
 }
 
-/// The matches ahead in a text, as they are written.
+/// An iterator over the matches ahead in a text, as they are written.
 pub(crate) trait Spans {
     /// What is searched for.
     type Sought: Written;
 
     ghost ahead: { Self → AheadOf Self.Sought };
 
-    /// The next one, if there is one.
+    /// The next match, if there is one.
     fn next_span(&mut self) -> Option<<Self::Sought as Search>::Span>
         ensures { GivesWritten Self.Sought.kind (ahead self.old) result (ahead self.new) };
 }
 
-/// The matches ahead in a text with their groups, and what is told of these.
+/// An iterator over the matches ahead in a text, with their groups and what is written besides
+/// their spans.
 pub(crate) trait GroupsAhead<'h> {
     /// What is searched for.
     type Sought: Written;
 
     ghost ahead: { Self → AheadOf Self.Sought };
 
-    /// Those of the next one, if there is one.
+    /// The groups of the next match, if there is one.
     fn next_groups(
         &mut self,
     ) -> Result<Option<(<Self::Sought as Search>::Told, Captures<'h>)>, Error>

@@ -1,4 +1,4 @@
-//! What stands before, between and after the matches of a text, some pieces at a time.
+//! The pieces of a text before, between and after its matches, in batches.
 ghost use Rattle.std.specs.Prelude.{◌≡◌, ◌<◌, ◌≤◌, IfSome, None, length, false};
 ghost use Rattle.regex_lite.specs.Ahead.{ahead_of};
 ghost use Rattle.regex_lite_c.specs.Cuts.{ArePiecesListed, IsCutAnswer};
@@ -11,12 +11,13 @@ use crate::types::{Cut, MatchWalk, Span};
 use regex_lite::{Matches, Regex};
 use std::alloc::Global;
 
-/// The next pieces of a text, as many as there is room for: 1 with their spans written, or 0 where
-/// none is left. How many pieces were written is stored too, and the cut goes on after the last of
+/// The next pieces of a text, as many as there is room for: 1 with their spans written, or 0 if
+/// none is left. The number of these pieces is written too, and the cut moves past the last of
 /// them.
 ///
-/// They are what stands before the first of the matches of `regex_lite_find_all`, between two of
-/// them, and after the last, so one more than there are matches. A piece may be empty.
+/// They are the texts before the first match of `regex_lite_find_all`, between two consecutive
+/// matches, and after the last match, so there is one more piece than matches. A piece may be
+/// empty.
 #[unsafe(no_mangle)]
 pub extern "C" fn regex_lite_split(
     alloc: Global,
@@ -67,7 +68,7 @@ fn split(regex: &Regex, text: &[u8], cut: &mut Cut, pieces: &mut [Span], count: 
     }
 }
 
-/// Writes the next pieces, and returns how many.
+/// Writes the next pieces, and returns their number.
 fn put_pieces(
     matches: &mut Matches<'_, '_>,
     len: usize,

@@ -1,10 +1,10 @@
-//! Texts of the caller.
+//! The caller's texts.
 ghost use Rattle.std.specs.Prelude.{◌≡◌, ◌↔◌, IsTrue, IsUtf8, MatchResult, IsCharBoundary};
 ghost use Rattle.regex_lite_c.specs.Answers.{IsRefusedText};
 
 use crate::answer::{BAD_OFFSET, NOT_TEXT};
 
-/// Whether these bytes are a text, in UTF-8.
+/// Whether these bytes are valid UTF-8.
 #[unsafe(no_mangle)]
 pub extern "C" fn regex_lite_is_text(bytes: &[u8]) -> bool
     ensures { IsTrue result ↔ IsUtf8 bytes.now }
@@ -12,8 +12,8 @@ pub extern "C" fn regex_lite_is_text(bytes: &[u8]) -> bool
     std::str::from_utf8(bytes).is_ok()
 }
 
-/// The text that these bytes are, if the offset is on a character boundary of it; otherwise why
-/// not.
+/// The bytes as a text, if they are valid UTF-8 and the offset is on a character boundary;
+/// otherwise the answer that says why not.
 pub(crate) fn text_from(bytes: &[u8], start: usize) -> Result<&str, u32>
     ensures { MatchResult result
         (λ text. (text.now ≡ bytes.now) × IsUtf8 bytes.now × IsCharBoundary bytes.now start)

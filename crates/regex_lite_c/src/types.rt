@@ -1,4 +1,4 @@
-//! What a caller passes besides texts.
+//! The types that calls take and return besides texts.
 ghost use Rattle.std.specs.Prelude.{◌≡◌, ◌-◌, ◌^◌, Some, None, min, option_map};
 ghost use Rattle.regex_lite.specs.MatchViews.{span_of_match};
 ghost use Rattle.regex_lite_c.specs.Costs.{IsCostOf};
@@ -18,27 +18,27 @@ pub struct Options {
     pub multi_line: bool,
     /// `.` matches every character: the flag `s`.
     pub dot_matches_new_line: bool,
-    /// A carriage return ends a line too: the flag `R`.
+    /// A carriage return ends a line as well: the flag `R`.
     pub crlf: bool,
     /// Greedy and lazy operators are swapped: the flag `U`.
     pub swap_greed: bool,
     /// White space and comments in the pattern are ignored: the flag `x`.
     pub ignore_whitespace: bool,
-    /// How deep the pattern may nest.
+    /// How deeply the pattern may nest.
     pub nest_limit: u32,
-    /// How large the pattern may become.
+    /// How large the compiled pattern may become.
     pub size_limit: usize,
 }
 
-/// A part of a text, or a group that took no part.
+/// A span: a part of a text, or none, as for a group that took no part.
 #[repr(C)]
 #[derive(Clone, Copy)]
 pub struct Span {
-    /// Whether there is one. Where there is none, both offsets are 0.
+    /// Whether there is a part. If not, both offsets are 0.
     pub is_there: bool,
-    /// The offset of its first byte.
+    /// The offset of the first byte.
     pub start: usize,
-    /// The offset after its last byte.
+    /// The offset after the last byte.
     pub end: usize,
 }
 
@@ -75,7 +75,7 @@ impl Span {
         }
     }
 
-    /// That of a group that took no part.
+    /// The span of a group that took no part.
     pub(crate) fn none() -> Span
         ensures { result ≡ span_of None }
     {
@@ -87,14 +87,14 @@ impl Span {
     }
 }
 
-/// Where a fault stands in a pattern.
+/// The place of a fault in a pattern.
 #[repr(C)]
 #[derive(Clone, Copy)]
 pub struct Fault {
-    /// The offset at which the part begins that can't be read.
+    /// The offset at which the part begins that can't be parsed.
     pub start: usize,
-    /// The offset at which it ends: the least one past the start such that no accepted pattern
-    /// begins with what stands before it. If the pattern is cut short, its length.
+    /// The offset at which the fault ends: the length of the shortest prefix, longer than `start`,
+    /// with which no accepted pattern begins. If the pattern is cut short, its length.
     pub end: usize,
     /// Whether some accepted pattern begins with this one.
     pub is_cut_short: bool,
@@ -120,16 +120,15 @@ impl Fault {
     }
 }
 
-/// What a search cost, in places of the pattern written out. A number above 2^64 - 1 is written as
-/// 2^64 - 1.
+/// The cost of a search, in places (NFA states). A number above 2^64 - 1 is written as 2^64 - 1.
 #[repr(C)]
 #[derive(Clone, Copy)]
 pub struct Cost {
-    /// How often the search came to a place.
+    /// The number of places that the search tried.
     pub tried: u64,
-    /// How often it entered one.
+    /// The number of places that it entered.
     pub entered: u64,
-    /// How often it looked up what stands at one.
+    /// The number of places that it looked up.
     pub looked: u64,
 }
 
@@ -146,46 +145,47 @@ impl Cost {
     }
 }
 
-/// The number, or the greatest that fits.
+/// The number, capped at 2^64 - 1.
 fn capped(n: u128) -> u64
     ensures { result ≡ min n (2 ^ 64 - 1) }
 {
     if n < 1 << 64 { n as u64 } else { u64::MAX }
 }
 
-/// How matches are replaced, how long the new text is, and how many were replaced.
+/// How matches are replaced, and the length of the new text and the number of matches that were
+/// replaced.
 #[repr(C)]
 #[derive(Clone, Copy)]
 pub struct Replacing {
-    /// How many matches are replaced at most: the first ones. 0 stands for all.
+    /// The greatest number of matches to replace, from the first on. 0 means all.
     pub limit: usize,
-    /// Whether the template stands for itself, and a `$` in it too.
+    /// Whether the template is literal, so that a `$` in it stands for itself.
     pub is_literal: bool,
-    /// How many bytes the new text has, which a call writes.
+    /// The length of the new text in bytes, which a call writes.
     pub len: usize,
-    /// How many matches were replaced, which a call writes.
+    /// The number of matches that were replaced, which a call writes.
     pub count: usize,
 }
 
-/// How far a walk over the matches of a text has come.
+/// The position of a walk over the matches in a text.
 #[repr(C)]
 #[derive(Clone, Copy)]
 pub struct MatchWalk {
     /// Whether a match has been found yet.
     pub is_begun: bool,
-    /// Where the last one ended.
+    /// The end of the last match.
     pub end: usize,
 }
 
 impl MatchWalk {
-    /// Where the last match ended, if there was one.
+    /// The end of the last match, if there was one.
     pub(crate) fn ended(&self) -> Option<usize>
         ensures { result ≡ ended_of self.now }
     {
         if self.is_begun { Some(self.end) } else { None }
     }
 
-    /// After the match with this span.
+    /// The walk after the match with this span.
     pub(crate) fn after(span: &Span) -> MatchWalk
         ensures { ended_of result ≡ Some span.now.end }
     {
@@ -196,11 +196,11 @@ impl MatchWalk {
     }
 }
 
-/// How far a text has been cut into pieces.
+/// The position of a cut of a text into pieces.
 #[repr(C)]
 #[derive(Clone, Copy)]
 pub struct Cut {
-    /// The matches before which pieces were written.
+    /// The walk over the matches before which pieces were written.
     pub walk: MatchWalk,
     /// Whether the last piece was written.
     pub is_over: bool,

@@ -1,4 +1,4 @@
-//! All matches of a text, some at a time.
+//! All matches in a text, in batches.
 ghost use Rattle.std.specs.Prelude.{◌≡◌, ◌<◌, ◌≤◌, IfSome, None, length};
 ghost use Rattle.regex_lite_c.specs.Walks.{AreListed, GoesOnAfterLast, IsWalkAnswer};
 ghost use Rattle.regex_lite_c.specs.Walks.{IsWalkAnswerOf, NoneComes, walk_room};
@@ -11,13 +11,13 @@ use crate::types::{MatchWalk, Span};
 use crate::written::Written;
 use std::alloc::Global;
 
-/// The next matches of a text, as many as there is room for: 1 with their spans written, or 0 where
-/// none is left. The number of matches written is stored too, and the walk goes on after the last
-/// of them.
+/// The next matches of a text, as many as there is room for: 1 with their spans written, or 0 if
+/// none is left. The number of these matches is written too, and the walk moves past the last of
+/// them.
 ///
-/// They are the matches of one text from left to right, of which no two overlap: after a match the
-/// next is looked for where it ended, and where that would be an empty match at that very place,
-/// one character further on.
+/// They are the matches in the text from left to right, and no two overlap. The search for the next
+/// match starts where the last one ended; if it finds an empty match right there, it starts one
+/// character later instead.
 #[unsafe(no_mangle)]
 pub extern "C" fn regex_lite_find_all(
     alloc: Global,
@@ -42,7 +42,7 @@ pub extern "C" fn regex_lite_find_all(
     answer
 }
 
-/// The next matches of what is searched for.
+/// Writes the next matches.
 pub(crate) fn find_all<P: Sought>(
     sought: &P,
     text: &[u8],
@@ -71,7 +71,7 @@ pub(crate) fn find_all<P: Sought>(
     }
 }
 
-/// Goes on after the last of these matches, if there is one.
+/// Moves the walk past the last of these matches, if there is one.
 fn go_on<P: Written>(walk: &mut MatchWalk, spans: &[P::Span], count: usize) -> u32
     requires { count ≤ length spans.now }
     ensures found { 0 < count
@@ -89,7 +89,7 @@ fn go_on<P: Written>(walk: &mut MatchWalk, spans: &[P::Span], count: usize) -> u
     YES
 }
 
-/// Writes the next matches, and returns how many.
+/// Writes the next matches, and returns their number.
 pub(crate) fn fill<M: Spans>(matches: &mut M, spans: &mut [<M::Sought as Search>::Span]) -> usize
     requires { (M.ahead matches.old).limit ≡ None }
     ensures listed { AreListed M.Sought.kind (M.ahead matches.old) spans.old spans.new result }

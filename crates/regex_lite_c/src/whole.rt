@@ -1,4 +1,4 @@
-//! Whole matches: those of the whole text.
+//! Whole matches: matches of the whole text.
 ghost use Rattle.std.specs.Prelude.{◌≡◌, ◌≢◌, ◌↔◌, IfSome, None, length};
 ghost use Rattle.regex_lite.specs.MatchOffsets.{MatchesSpan};
 ghost use Rattle.regex_lite_c.specs.Answers.{IsSearchAnswer};
@@ -14,8 +14,8 @@ use crate::types::Span;
 use regex_lite::{Captures, Error, Regex};
 use std::alloc::Global;
 
-/// The search for a match of this that is the whole text. It begins at the text's start, whatever
-/// start it is given.
+/// A search for a match of the whole text, for what it borrows. It begins at the text's start,
+/// whatever start it is given.
 #[derive(Drop)]
 pub(crate) struct Whole<'r, P> {
     /// What is searched for.
@@ -93,9 +93,9 @@ pub extern "C" fn regex_lite_full_match(
     answer
 }
 
-/// The groups of the way that the pattern prefers of those that match the whole text: 1 with their
-/// spans written, from the whole match on, or 0. With a match, the number of groups is written
-/// either way.
+/// The groups of the match of the whole text, of the preferred way in which the pattern matches it:
+/// 1 with their spans written, beginning with the whole match, or 0. With a match, the number of
+/// groups is written either way.
 #[unsafe(no_mangle)]
 pub extern "C" fn regex_lite_full_captures(
     alloc: Global,

@@ -1,4 +1,4 @@
-//! What is written of the matches of a regex, and of several patterns.
+//! What is written for the matches of a regex and of several patterns.
 ghost use Rattle.std.specs.Prelude.{◌≡◌};
 ghost use Rattle.regex_lite_c.specs.Kinds.{Kind};
 
@@ -7,15 +7,15 @@ use crate::sought::Search;
 use crate::types::Span;
 use regex_lite::{Regex, RegexList};
 
-/// What is searched for, and what is written of all its matches.
+/// What is searched for, and what a walk over all its matches writes.
 pub(crate) trait Written: Search {
     ghost kind: { Kind Self Self.Span Self.Told };
 
-    /// Where the match with this span ends.
+    /// The end of the match with this span.
     fn end_of(span: &Self::Span) -> usize
         ensures { result ≡ kind.end_of span.now };
 
-    /// Whether a walk over all matches writes that of the groups of each.
+    /// Whether a walk over all matches writes something for the groups of each besides their spans.
     fn is_told() -> bool
         ensures { result ≡ kind.is_told };
 }

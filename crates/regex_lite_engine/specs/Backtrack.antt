@@ -1,4 +1,4 @@
--- What the functions of the depth-first search promise one another.
+-- The internal contracts of the bounded backtracker.
 pub mod Bits
 pub mod PairMaps
 pub mod DepthFirst

@@ -1,4 +1,4 @@
--- What a template stands for. Templates, names and texts are given as their bytes.
+-- The expansion of a template. Templates, names and texts are given as their bytes.
 use Rattle.std.specs.Prelude.{◌≡◌, ◌≢◌, ◌<◌, ◌⊎◌, ◌&&◌, ◌||◌, ◌==◌, ◌^◌, ℕ, Bool}
 use Rattle.std.specs.Prelude.{not, nat_lt, List, [], ◌∷◌, ◌++◌, Option, Contains}
 use Rattle.std.specs.Prelude.{length, take, drop, unwrap_or, if◌then◌else◌}
@@ -14,15 +14,15 @@ pub data Piece : Type 0 where
   numbered : (index : ℕ) → Piece
   named : (name : List ℕ) → Piece
 
--- what a name without braces is written with
+-- the characters of a name without braces
 abbrev pub is_name_character : ℕ → Bool
 is_name_character b = is_digit b || is_letter b || b == the "_"
 
 abbrev pub is_closing : ℕ → Bool
 is_closing b = b == the "}"
 
--- A reference in braces goes up to the next closing one. Here `after` stands after its `$`, and
--- `rest` after the reference.
+-- A reference in braces extends to the next closing brace. Here `after` is the text after its `$`,
+-- and `rest` the text after the reference.
 pub record IsBraced (after name rest : List ℕ) : Type 0 where
   pub inner : List ℕ
   pub opens : after ≡ the "{" ∷ inner
@@ -30,7 +30,8 @@ pub record IsBraced (after name rest : List ℕ) : Type 0 where
   pub is_name : name ≡ before_first is_closing inner
   pub is_rest : rest ≡ after_first is_closing inner
 
--- one without braces is the longest run of such characters, of which there is one at least
+-- the name of a reference without braces is the longest run of such characters, of which there is
+-- at least one
 pub record IsBare (after name rest : List ℕ) : Type 0 where
   pub some : 0 < prefix_len is_name_character after
   pub is_name : name ≡ take (prefix_len is_name_character after) after
@@ -42,7 +43,7 @@ IsReference after name rest = IsBraced after name rest ⊎ IsBare after name res
 abbrev pub HasNoReference : (after : List ℕ) → Type 0
 HasNoReference after = (name rest : List ℕ) → IsReference after name rest → ⊥
 
--- digits alone, whose number is below 2^64, are an index
+-- a name that consists of digits and whose number is below 2^64 is an index
 abbrev pub is_index : (name : List ℕ) → Bool
 is_index name =
     not (length name == 0) && list_all is_digit name && nat_lt (number_of 10 name) (2 ^ 64)
@@ -64,18 +65,18 @@ pub data BeginsWith (template : List ℕ) (piece : Piece) (rest : List ℕ) : Ty
   one_dollar : template ≡ the "$" ∷ rest → ((t : List ℕ) → rest ≢ the "$" ∷ t) → HasNoReference rest
       → piece ≡ plain (the "$" ∷ []) → BeginsWith template piece rest
 
--- the texts of the groups that there are and that took part, by index and by name
+-- the texts of the groups that exist and took part, by index and by name
 pub record GroupTexts : Type 0 where
   pub at : ℕ → Option (List ℕ)
   pub at_name : List ℕ → Option (List ℕ)
 
--- what a piece gives: nothing, where there is no such group or it took no part
+-- the expansion of a piece: the empty text if there is no such group or it took no part
 abbrev pub piece_text : GroupTexts → Piece → List ℕ
 piece_text groups (plain text) = text
 piece_text groups (numbered index) = unwrap_or (groups.at index) []
 piece_text groups (named name) = unwrap_or (groups.at_name name) []
 
--- the template is cut into pieces, and gives what they give
+-- the expansion of a template is that of its pieces, one after another
 pub data IsInterpolation (groups : GroupTexts) : (template text : List ℕ) → Type 0 where
   nothing : {template text : List ℕ} → template ≡ [] → text ≡ []
       → IsInterpolation groups template text

@@ -1,7 +1,7 @@
--- Where to begin: Graph.WrittenOut says what the written-out pattern of a tree is and what a way
--- through it, Graph.Size what it takes, and Search.Answer what a search answers. WayLaws and
--- SearchLaws say how matches, ways, preference and answers belong together. Interpolation says what
--- a template stands for, and TemplateLaws that this is one text.
+-- Where to begin: Graph.WrittenOut defines the written-out pattern of a tree, which is its NFA, and
+-- a way through it, an accepting path. Graph.Size defines its size, and Search.Answer the answer of
+-- a search. WayLaws and SearchLaws relate matches, ways, preference and answers. Interpolation
+-- defines the expansion of a template, and TemplateLaws states that it is unique.
 pub mod Graph
 pub mod WayLaws
 pub mod Search
@@ -9,8 +9,7 @@ pub mod SearchLaws
 pub mod ListSearchLaws
 pub mod Interpolation
 pub mod TemplateLaws
--- What the functions of nfa, and those of the searches, promise one another. No public contract
--- rests on it.
+-- The internal contracts of nfa and of the searches. No public contract depends on them.
 pub mod Nfa
 pub mod Pikevm
 pub mod Backtrack

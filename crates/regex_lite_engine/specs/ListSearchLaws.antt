@@ -9,7 +9,7 @@ use Rattle.regex_lite_engine.specs.Search.Answer.{Found, IsMatchFrom, IsAnswer}
 use Rattle.regex_lite_engine.specs.Search.AnswerOfList.{AnyMatchesFrom, IsAnswerOfList}
 use Rattle.regex_lite_engine.specs.Graph.SideBySide.{HasTree}
 
--- the grammar gives each of these trees to some pattern
+-- each of these trees is the tree of some pattern
 abbrev pub ArePatternTrees : List Tree → Type 0
 ArePatternTrees trees = (k : ℕ) (tree : Tree) → HasTree trees k tree → IsPatternTree tree
 
@@ -33,7 +33,7 @@ AtMostOneAnswerOfList =
     → IsAnswerOfList trees haystack s b → a ≡ b
 
 -- something is found exactly if some pattern matches from a position at or after the start, and
--- what is found is a match, and the answer, of the pattern with the number
+-- what is found is a match of the pattern with the number, and its answer
 abbrev pub ListAnswersAreAnswers : Type 0
 ListAnswersAreAnswers =
     (trees : List Tree) → ArePatternTrees trees → (haystack : Text) (s : ℕ)

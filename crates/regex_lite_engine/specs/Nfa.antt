@@ -1,4 +1,4 @@
--- What the functions that write a graph promise one another.
+-- The internal contracts of the functions that write a graph.
 pub mod Saturation
 pub mod Fragments
 pub mod Repetitions

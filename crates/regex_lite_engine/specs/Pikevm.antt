@@ -1,4 +1,4 @@
--- What the functions of the search by ordered sets promise one another.
+-- The internal contracts of the PikeVM.
 pub mod Machine
 pub mod Cells
 pub mod PlaceSets

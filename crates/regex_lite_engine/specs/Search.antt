@@ -1,4 +1,4 @@
--- The answer of a search, what the search may cost, and what all searches share.
+-- The answer of a search, the bounds of its cost, and what all searches share.
 pub mod Preference
 pub mod Marks
 pub mod Answer

@@ -25,8 +25,8 @@ PreferenceIsTotal =
     → IsWayThrough tree haystack i way j → IsWayThrough tree haystack i other k
     → (way ≡ other) ⊎ (IsPreferred way other ⊎ IsPreferred other way)
 
--- the two share their arrows up to some place and position, where the one takes an earlier arrow
--- than the other
+-- the two share their arrows up to some place and position, where the first takes an earlier arrow
+-- than the second
 pub record IsEarlier (tree : Tree) (haystack : Text) (i : ℕ) (way other : List ℕ) : Type 0 where
   pub shared : List ℕ
   pub place : Address × ℕ
@@ -69,7 +69,7 @@ AnswersAreMatches =
     × ((found : Found) → answer ≡ Some found
     → IsMatchFrom tree haystack s found.start found.end)
 
--- an anchored search finds something exactly if the search from there finds it, and it starts there
+-- an anchored search finds something exactly if the search from there finds it and it starts there
 abbrev pub AnchoredAnswersAreAnswers : Type 0
 AnchoredAnswersAreAnswers =
     (tree : Tree) (haystack : Text) (s : ℕ) (found : Found)
@@ -91,7 +91,7 @@ AreRanked tree haystack i (way ∷ ways) (entry ∷ list) =
     IsWayThrough tree haystack i way entry.0 × (entry.1 ≡ marks_of_way tree haystack i way)
     × IsBefore way ways × AreRanked tree haystack i ways list
 
--- the preference list is that of all ways from the position, in the order of preference
+-- the preference list has all ways from the position, in the order of preference
 abbrev pub ListIsOfAllWays : Type 0
 ListIsOfAllWays =
     (tree : Tree) → IsPatternTree tree → HasReadingLoops tree → (haystack : Text) (i : ℕ)
@@ -117,14 +117,14 @@ pub record HasGroupsInside (found : Found) : Type 0 where
   pub inside : (index from to : ℕ) → span found.marks index ≡ Some (from, to)
       → (found.start ≤ from) × (from ≤ to) × (to ≤ found.end)
 
--- so are the groups of whatever a search finds, since it is told of a way
+-- the groups of whatever a search finds lie inside
 abbrev pub GroupsLieInside : Type 0
 GroupsLieInside =
     (tree : Tree) → IsPatternTree tree → (haystack : Text) (found : Found)
     → IsOfWay tree haystack found → HasGroupsInside found
 
--- at least as many groups take part in what is found as the tree is known to have in every match,
--- the whole match among them
+-- at least as many groups take part in what is found as are known to take part in every match,
+-- including the whole match
 abbrev pub EnoughTakePart : Type 0
 EnoughTakePart =
     (tree : Tree) → IsPatternTree tree → (haystack : Text) (found : Found) (n : ℕ)
@@ -132,7 +132,7 @@ EnoughTakePart =
     → n ≤ taking_part found.marks 0 (captures_len tree)
 
 abbrev mutual
-  -- no look stands in the tree
+  -- the tree has no look
   pub HasNoLook : Tree → Type 0
   HasNoLook (look test) = ⊥
   HasNoLook (repetition least most greedy body) = HasNoLook body

@@ -1,8 +1,8 @@
-//! What a tree takes when it is written out, counted before anything is written: one walk over the
-//! tree, which takes no memory.
+//! The size of a tree's NFA, counted before anything is compiled: one walk over the tree, which
+//! needs no memory.
 //!
-//! A repetition is counted by multiplication, so a number may be too large to be stored. It then
-//! saturates, and the pattern exceeds the size limit all the same.
+//! A repetition is counted by multiplication, so a number may overflow. It then saturates, and the
+//! pattern exceeds the size limit in any case.
 ghost use Rattle.std.specs.Prelude.{◌≡◌, ◌+◌, ◌*◌, ◌^◌, ◌<◌, ℕ, Bool, map, option_map};
 ghost use Rattle.regex_lite_syntax.specs.Tree.Regular.{IsRegular};
 ghost use Rattle.regex_lite_syntax.specs.Tree.{Tree, Trees, class, repetition, capture};
@@ -23,20 +23,20 @@ use copies::{OwnPlaces, copies};
 use regex_lite_syntax::{Class, Hir, Properties};
 use std::rc::RcStr;
 
-/// What a tree takes when it is written out. A number that is too large to be stored saturates.
+/// The counts of a tree's NFA. A number that overflows saturates.
 #[derive(Clone, Copy)]
 pub(crate) struct Counts {
     pub(crate) places: u64,
     pub(crate) arrows: u64,
     pub(crate) choice_arrows: u64,
-    /// The places that read a character.
+    /// The number of places that read a character.
     pub(crate) reading: u64,
     pub(crate) ranges: u64,
     pub(crate) names_size: u64,
     pub(crate) properties: Properties,
 }
 
-/// The counts of no tree at all.
+/// The counts without a tree.
 const NONE: Counts = Counts {
     places: 0,
     arrows: 0,
@@ -58,7 +58,7 @@ const NOT_NULLABLE: Properties = Properties {
     static_groups: Some(0),
 };
 
-/// What alternatives without a branch take: a choice and a join.
+/// The counts of alternatives without a branch: a choice and a join.
 const NO_BRANCHES: Counts = Counts {
     places: 2,
     arrows: 1,
@@ -66,14 +66,14 @@ const NO_BRANCHES: Counts = Counts {
     ..NONE
 };
 
-/// What each branch takes besides its own places.
+/// The counts of each branch besides its own places.
 const BRANCH: Counts = Counts {
     arrows: 1,
     choice_arrows: 1,
     ..NONE
 };
 
-/// What a place takes that reads a character and leads on.
+/// The counts of a place that reads a character.
 const READING: Counts = Counts {
     places: 1,
     arrows: 1,
@@ -82,7 +82,7 @@ const READING: Counts = Counts {
     ..NONE
 };
 
-/// What the place of the empty tree or of a look takes.
+/// The counts of the place of the empty tree or of a look.
 const EMPTY: Counts = Counts {
     places: 1,
     arrows: 1,
@@ -90,7 +90,7 @@ const EMPTY: Counts = Counts {
 };
 
 impl Counts {
-    /// What the tree takes.
+    /// The counts of the tree.
     #[cycle(count)]
     pub(crate) fn of(hir: &Hir) -> Counts
         ensures { AreCountsOf (tree_of hir.now) result }
@@ -111,7 +111,7 @@ impl Counts {
         }
     }
 
-    /// What these parts take, one after another.
+    /// The counts of a concatenation of these parts.
     #[cycle(count)]
     fn of_parts(parts: &[Hir]) -> Counts
         ensures { AreCountsOf (concat (trees (map tree_of parts.now))) result }
@@ -123,7 +123,7 @@ impl Counts {
         counts
     }
 
-    /// What these branches take, with their choice and their join.
+    /// The counts of these branches, with their choice and their join.
     #[cycle(count)]
     fn of_branches(branches: &[Hir]) -> Counts
         ensures { AreCountsOf (alternation (trees (map tree_of branches.now))) result }
@@ -138,7 +138,7 @@ impl Counts {
         counts
     }
 
-    /// What the place of a set takes. If the set is empty, the place has no arrow and reads
+    /// The counts of the place of a set. If the set is empty, the place has no arrow and reads
     /// nothing.
     fn of_class(set: &Class) -> Counts
         ensures { AreCountsOf (class set.now) result }
@@ -153,7 +153,7 @@ impl Counts {
         }
     }
 
-    /// What this takes with what follows it.
+    /// The counts of this tree followed by the rest.
     fn then(self, rest: Counts) -> Counts
         ensures { (first : Tree) (parts : Trees)
             → AreCountsOf first self → AreCountsOf (concat parts) rest
@@ -165,7 +165,7 @@ impl Counts {
         }
     }
 
-    /// The sums of these numbers and the others. Properties have no sum: they stay as they are.
+    /// The sums of these numbers and the others. Properties have no sum: they are unchanged.
     fn plus(self, rest: Counts) -> Counts
         ensures { AreSumsOf self rest result }
     {
@@ -180,7 +180,7 @@ impl Counts {
         }
     }
 
-    /// What this branch takes alone, with the choice and the join.
+    /// The counts of this branch alone, with the choice and the join.
     fn alone(self) -> Counts
         ensures { (branch : Tree) → AreCountsOf branch self
             → AreCountsOf (alternation (more branch none)) result }
@@ -191,7 +191,7 @@ impl Counts {
         }
     }
 
-    /// What this branch takes with the others, and the arrow of their choice that leads to it.
+    /// The counts of this branch and the others, with the arrow of their choice that leads to it.
     fn or(self, others: Counts) -> Counts
         ensures { (branch next : Tree) (rest : Trees)
             → AreCountsOf branch self → AreCountsOf (alternation (more next rest)) others
@@ -203,7 +203,7 @@ impl Counts {
         }
     }
 
-    /// What a group around this takes.
+    /// The counts of a group around this tree.
     fn captured(self, index: u32, name: &Option<RcStr>) -> Counts
         ensures { (body : Tree) → AreCountsOf body self
             → AreCountsOf (capture index (option_map text_of_name name.now) body) result }
@@ -217,7 +217,7 @@ impl Counts {
         }
     }
 
-    /// What a repetition of this takes.
+    /// The counts of a repetition of this tree.
     fn repeated(self, least: u32, most: Option<u32>) -> Counts
         ensures { (body : Tree) (greedy : Bool) → AreCountsOf body self
             → AreCountsOf (repetition least most greedy body) result }
@@ -235,7 +235,7 @@ impl Counts {
         }
     }
 
-    /// How many arrows the whole pattern has, where its places can be numbered.
+    /// The number of arrows of the whole pattern, if its places can be numbered.
     pub(crate) fn arrows(&self) -> usize
         ensures { (tree : Tree) → AreCountsOf tree self.now → IsRegular tree
             → whole_places tree < 2 ^ 32 → result ≡ whole_arrows tree }
@@ -243,7 +243,8 @@ impl Counts {
         self.arrows.saturating_add(2) as usize
     }
 
-    /// How many places of the whole pattern read a character, where its places can be numbered.
+    /// The number of places of the whole pattern that read a character, if its places can be
+    /// numbered.
     pub(crate) fn reading(&self) -> usize
         ensures { (tree : Tree) → AreCountsOf tree self.now → whole_places tree < 2 ^ 32
             → result ≡ reading_places tree }
@@ -258,8 +259,8 @@ impl Counts {
         self.properties.greatest_index as usize + 1
     }
 
-    /// How many groups at least take part in every match, the whole match among them, where that is
-    /// known and the places can be numbered.
+    /// The least number of groups that take part in every match, including the whole match, if it
+    /// is known and the places can be numbered.
     pub(crate) fn static_captures_len(&self) -> Option<usize>
         ensures { (tree : Tree) → AreCountsOf tree self.now → whole_places tree < 2 ^ 32
             → result ≡ static_captures_len tree }
@@ -268,7 +269,7 @@ impl Counts {
     }
 }
 
-/// What the name takes, if there is one.
+/// The size of the name, if there is one.
 fn name_size(name: &Option<RcStr>) -> u64
     ensures { result ≡ saturated (name_size (option_map text_of_name name.now)) }
 {
@@ -278,7 +279,7 @@ fn name_size(name: &Option<RcStr>) -> u64
     }
 }
 
-/// `copies` times what each takes, plus `own`.
+/// `copies` times `each`, plus `own`.
 fn times(copies: u64, each: u64, own: u64) -> u64
     ensures { (n : ℕ) → each ≡ saturated n → result ≡ saturated (copies * n + own) }
 {

@@ -1,8 +1,8 @@
-//! What a template is made of: text, and references to groups.
+//! Parsing a template into text and references to groups.
 //!
-//! `$name` refers to a group by its name, or by its index where the name is digits alone. It is as
-//! long as it can be: ASCII letters, digits and `_`. `${name}` goes up to the next `}`. `$$` gives
-//! a `$`, and so does any other `$`.
+//! `$name` refers to a group by its name, or by its index if the name consists of digits. The name
+//! is the longest run of ASCII letters, digits and `_`. `${name}` extends to the next `}`. `$$`
+//! gives a `$`, and so does any other `$`.
 ghost use Rattle.std.specs.Prelude.{◌≡◌, ◌≢◌, ◌<◌, ◌≤◌, ◌+◌, ◌*◌, ◌^◌, ◌∷◌, [], ℕ, List};
 ghost use Rattle.std.specs.Prelude.{MatchOption, IfSome, if◌then◌else◌, Some, None, length};
 ghost use Rattle.std.specs.List.{prefix_len};
@@ -23,7 +23,7 @@ pub enum Piece<'t> {
     Name(&'t str),
 }
 
-/// The first piece of the template, and what follows it: `None` where the template is empty.
+/// The first piece of the template, and the rest, or `None` if the template is empty.
 pub fn next_piece(template: &str) -> Option<(Piece<'_>, &str)>
     ensures cut { MatchOption result (template.now ≡ [])
         (λ r. BeginsWith template.now (piece_of r.0) r.1.now) }
@@ -69,7 +69,7 @@ fn at_dollar<'t>(template: &'t str, after: &'t str) -> (Piece<'t>, &'t str)
     }
 }
 
-/// The name or the index after a `$`, and what follows the reference.
+/// The name or the index after a `$`, and the text after the reference.
 fn find_cap_ref(after: &str) -> Option<(&str, &str)>
     ensures found { MatchOption result (HasNoReference after.now)
         (λ r. IsReference after.now r.0.now r.1.now) }
@@ -81,7 +81,7 @@ fn find_cap_ref(after: &str) -> Option<(&str, &str)>
     }
 }
 
-/// The name or the index after a `$` without braces, and what follows it.
+/// The name or the index after a `$` without braces, and the text after it.
 fn find_bare(after: &str) -> Option<(&str, &str)>
     requires { (t : List ℕ) → after.now ≢ the "{" ∷ t }
     ensures found { MatchOption result (HasNoReference after.now)
@@ -95,7 +95,7 @@ fn find_bare(after: &str) -> Option<(&str, &str)>
     Some(after.split_at(len))
 }
 
-/// How many characters of a name come first.
+/// The number of leading bytes that are characters of a name.
 fn name_len(bytes: &[u8]) -> usize
     ensures { result ≡ prefix_len is_name_character bytes.now }
 {
@@ -123,7 +123,7 @@ fn referred(name: &str) -> Piece<'_>
     }
 }
 
-/// The number that a name of digits alone stands for, if it is below 2^64.
+/// The number that a name of digits stands for, if it is below 2^64.
 fn parse_index(name: &[u8]) -> Option<usize>
     ensures { result ≡ (if is_index name.now then Some (number_of 10 name.now) else None) }
 {
@@ -140,7 +140,7 @@ fn parse_index(name: &[u8]) -> Option<usize>
     Some(index)
 }
 
-/// The number with one more digit, if it is below 2^64.
+/// The number with a digit appended, if it is below 2^64.
 fn with_digit(number: usize, digit: u8) -> Option<usize>
     ensures { MatchOption result (2 ^ 64 ≤ number * 10 + digit)
         (λ longer. longer ≡ number * 10 + digit) }

@@ -1,4 +1,5 @@
-//! Laws of the definitions. Each function does nothing: its contract is the law.
+//! Laws of the definitions. The function that states a law has an empty body: its contract is the
+//! law.
 ghost use Rattle.regex_lite_engine.specs.TemplateLaws.{
   PlainTemplatesGiveThemselves,
   TemplatesGiveOneText,
@@ -14,8 +15,8 @@ ghost use Rattle.regex_lite_engine.specs.SearchLaws.{AtMostOneAnswer, EnoughTake
 ghost use Rattle.regex_lite_engine.specs.SearchLaws.{GroupsLieInside, HasAnswer, ListIsOfAllWays};
 ghost use Rattle.regex_lite_engine.specs.SearchLaws.{PreferenceIsTotal, PreferredWaysAreEarlier};
 
-/// A tree that the grammar gives matches from one position to another exactly if a way through its
-/// written-out pattern leads from the one to the other.
+/// A tree that the grammar gives matches from one position to another exactly if a way leads from
+/// the one to the other: an accepting path of the NFA that is written out for the tree.
 pub fn matches_are_ways()
     ensures { MatchesAreWays }
 {}
@@ -46,14 +47,14 @@ pub fn answers_are_matches()
     ensures { AnswersAreMatches }
 {}
 
-/// An anchored search finds something exactly if the search from there finds it, and it starts
+/// An anchored search finds something exactly if the search from there finds it and it starts
 /// there.
 pub fn anchored_answers_are_answers()
     ensures { AnchoredAnswersAreAnswers }
 {}
 
-/// If each pass of a repetition without a limit reads a character, the preference list is that of
-/// all ways from the position, each preferred to those after it.
+/// If each pass of a repetition without a limit reads a character, the preference list has all ways
+/// from the position, each preferred to those after it.
 pub fn list_is_of_all_ways()
     ensures { ListIsOfAllWays }
 {}
@@ -74,23 +75,23 @@ pub fn enough_groups_take_part()
     ensures { EnoughTakePart }
 {}
 
-/// What is found of a tree without looks is also found if the haystack is cut off at the end of the
+/// A match of a tree without looks is also found if the haystack is cut off at the end of the
 /// match.
 pub fn answers_need_no_later_text()
     ensures { AnswersNeedNoLaterText }
 {}
 
-/// Whatever the texts of the groups, a template gives one text.
+/// For given texts of the groups, a template has exactly one expansion.
 pub fn templates_give_one_text()
     ensures { TemplatesGiveOneText }
 {}
 
-/// A template without a `$` gives itself.
+/// A template without a `$` is its own expansion.
 pub fn plain_templates_give_themselves()
     ensures { PlainTemplatesGiveThemselves }
 {}
 
-/// The ways of a pattern that is written out beside others are those of the pattern by itself.
+/// The ways of a pattern that is written out next to others are those of the pattern by itself.
 pub fn patterns_stand_apart()
     ensures { PatternsStandApart }
 {}

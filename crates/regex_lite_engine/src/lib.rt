@@ -1,14 +1,14 @@
-//! What a pattern is searched with: its graph, and two searches. Templates are read here too.
+//! The engines: the graph (NFA) of a pattern, the PikeVM and the bounded backtracker. Templates are
+//! parsed here too.
 //!
-//! [`Graph::new`] counts a tree (`count`), tests it against the limits and writes it out as
-//! numbered places with ordered arrows (`nfa`). A search goes over the bytes of a haystack along
-//! the arrows, counts its [`Steps`] and returns an [`Outcome`]: position by position (`pikevm`), or
-//! depth first where there is little to keep (`backtrack`). `search` holds what both share.
-//! `interpolate` cuts a template into its pieces. `laws` holds what is true of the definitions
-//! alone: of matches, ways, answers and templates.
+//! [`Graph::new`] counts a tree (`count`), checks it against the limits and compiles it to an NFA:
+//! numbered states (places) with ordered transitions (arrows) (`nfa`). A search counts its
+//! [`Steps`] and returns an [`Outcome`]: position by position (`pikevm`), or by backtracking in
+//! short haystacks (`backtrack`). `search` has what both share. `interpolate` parses a template
+//! into its pieces. `laws` has theorems about the definitions alone: about matches, ways (accepting
+//! paths), answers and templates.
 //!
-//! The modules are public for `regex_lite_meta`, which chooses a search and remembers the turns
-//! that it takes.
+//! The modules are public for `regex_lite_meta`, which chooses an engine and adds the lazy DFA.
 #![tactic(auto)]
 
 pub mod backtrack;

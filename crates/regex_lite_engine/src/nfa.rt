@@ -1,5 +1,4 @@
-//! The graph of a pattern: numbered places with ordered arrows. It is the compiled NFA, whose
-//! states are the places and whose transitions are the arrows.
+//! The graph of a pattern, an NFA: numbered places (states) with ordered arrows (transitions).
 //!
 //! A regex keeps its graph and not its tree. Sets of characters and the names of groups are shared
 //! with the tree by reference counting, and not by an index into a table: a copy takes no memory
@@ -38,15 +37,15 @@ use std::rc::RcStr;
 use table::Table;
 use write::write_out;
 
-/// A pattern that is written out as a graph: a search starts at one place, and follows the arrows
-/// to the place where a match is complete.
+/// A compiled pattern: a search starts at one place, and follows the arrows to the place where a
+/// match is complete.
 #[derive(Drop)]
 pub struct Graph {
     table: Table,
-    /// Where a search starts.
+    /// The place at which a search starts.
     start: u32,
     groups: Groups,
-    /// Where a match can begin.
+    /// The filter for positions at which a match can begin.
     filter: Filter,
     /// Whether each match reads a character.
     reads: bool,
@@ -76,18 +75,18 @@ impl Model for Graph {
 }
 
 impl Graph {
-    /// The graph of a tree. Whether a limit is exceeded is found out before anything is written.
+    /// Compiles the graph of a tree. The limits are checked before anything is compiled.
     ///
     /// Condition: the tree is regular, as the grammar gives it: in each repetition the least number
     /// is at most the most, a group's index is at least 1, each list has two trees or more, a
-    /// character is one, and the ranges of a class are maximal runs in order.
+    /// character is a Unicode scalar value, and the ranges of a class are maximal runs in order.
     ///
     /// # Errors
     ///
-    /// `Size` where the size is above the limit, `Places` where there are more places than can be
-    /// numbered, `Slots` where a group's slots can't be numbered, and `Memory` if memory runs out
-    /// or a set or a name has as many owners as can be counted. If several limits are exceeded, any
-    /// of them may be named.
+    /// `Size` if the size is above the limit, `Places` if there are more places than can be
+    /// numbered, `Slots` if a group's slots can't be numbered, and `Memory` if memory runs out or a
+    /// set or a name has as many owners as can be counted. If several limits are exceeded, any of
+    /// these errors may be returned.
     pub fn new(alloc: Global, hir: &Hir, size_limit: usize) -> Result<Graph, Error>
         requires { IsRegular (tree_of hir.now) }
         ensures ok { IfOk result (λ graph. IsGraphOf (tree_of hir.now) graph) }
@@ -112,7 +111,7 @@ impl Graph {
         })
     }
 
-    /// Its places by number.
+    /// The places of the graph by number.
     pub fn table(&self) -> &Table
         ensures some { 0 < length result.now.places }
         ensures same { result.now ≡ record {
@@ -123,7 +122,7 @@ impl Graph {
         &self.table
     }
 
-    /// Where a match can begin.
+    /// The filter for positions at which a match can begin.
     fn filter(&self) -> PatternFilter<'_>
         ensures all { AreFactsOf (table_of self.now) self.now.start (facts_of result) }
         ensures answers { DoWordsAnswer (table_of self.now) self.now.start (facts_of result) }
@@ -132,7 +131,7 @@ impl Graph {
         PatternFilter::Whole(&self.filter)
     }
 
-    /// Its pattern, which may start nowhere yet.
+    /// The pattern of the graph, which may start nowhere yet.
     pub fn pattern(&self) -> OnePattern<'_>
         ensures table { places_of result.table.now ≡ table_of self.now }
         ensures entry { result.entry ≡ self.now.start }
@@ -149,7 +148,7 @@ impl Graph {
         }
     }
 
-    /// How many places there are.
+    /// The number of places.
     pub fn places(&self) -> usize
         ensures same { result ≡ length self.now.places }
         ensures few { result < 2 ^ 32 }
@@ -159,7 +158,7 @@ impl Graph {
         self.table.places()
     }
 
-    /// How many arrows there are.
+    /// The number of arrows.
     pub fn arrows(&self) -> usize
         ensures same { result ≡ self.now.arrows }
         ensures all { result ≡ arrows_of (table_of self.now) }
@@ -168,15 +167,15 @@ impl Graph {
         self.table.arrows()
     }
 
-    /// The names of the groups by index, group 0 first.
+    /// The names of the groups by index, from group 0 on.
     pub fn capture_names(&self) -> &[Option<RcStr>]
         ensures { result.now ≡ self.now.capture_names }
     {
         self.groups.capture_names()
     }
 
-    /// How many groups at least take part in every match, the whole match among them, where that is
-    /// known.
+    /// The least number of groups that take part in every match, including the whole match, if it
+    /// is known.
     pub fn static_captures_len(&self) -> Option<usize>
         ensures { result ≡ self.now.static_captures_len }
     {

@@ -1,5 +1,5 @@
-//! What all searches share: a position with the characters beside it, what is searched for, the
-//! positions that are passed over, and the outcome.
+//! What all searches share: a position with the characters next to it, the patterns, the positions
+//! that are skipped, and the outcome.
 //!
 //! Whether a match may begin is asked in several ways, from the widest to the narrowest.
 //! `first_start` of a pattern returns the first offset from one on at which a match may begin, and

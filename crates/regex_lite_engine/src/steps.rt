@@ -1,9 +1,9 @@
-//! What a search does, counted.
+//! The cost of a search.
 ghost use Rattle.std.specs.Prelude.{◌≡◌, ◌+◌, ◌-◌, ◌<◌, ◌^◌, min, if◌then◌else◌};
 
 use std::marker::Model;
 
-/// How much a search did.
+/// The cost of a search, as counts of its steps.
 #[derive(Clone, Copy, PartialEq, Eq, Debug)]
 pub struct Steps {
     tried: u128,
@@ -30,7 +30,7 @@ impl Model for Steps {
 }
 
 impl Steps {
-    /// What two searches did together. A sum that is too large to be stored saturates.
+    /// The total cost of two searches. A sum that overflows saturates.
     pub fn plus(&self, other: &Steps) -> Steps
         ensures tried { result.tried ≡ min (self.now.tried + other.now.tried) (2 ^ 128 - 1) }
         ensures entered { result.entered
@@ -44,7 +44,7 @@ impl Steps {
         }
     }
 
-    /// The search visits a place.
+    /// Counts that the search tries a place.
     pub(crate) fn count_try(&mut self)
         requires { self.old.tried + 1 < 2 ^ 128 }
         ensures { self.new ≡ record self.old { tried = self.old.tried + 1 } }
@@ -52,7 +52,7 @@ impl Steps {
         self.tried += 1;
     }
 
-    /// The search visits a place, which counts with COUNTED alone.
+    /// Counts that the search tries a place, if COUNTED.
     #[inline(always)]
     pub(crate) fn count_try_if<const COUNTED: bool>(&mut self)
         requires { self.old.tried + 1 < 2 ^ 128 }
@@ -64,7 +64,7 @@ impl Steps {
         }
     }
 
-    /// It enters the place.
+    /// Counts that the search enters a place.
     pub(crate) fn count_entry(&mut self)
         requires { self.old.entered + 1 < 2 ^ 128 }
         ensures { self.new ≡ record self.old { entered = self.old.entered + 1 } }
@@ -72,7 +72,7 @@ impl Steps {
         self.entered += 1;
     }
 
-    /// It looks up what stands there.
+    /// Counts that the search looks a place up.
     pub(crate) fn count_look(&mut self)
         requires { self.old.looked + 1 < 2 ^ 128 }
         ensures { self.new ≡ record self.old { looked = self.old.looked + 1 } }
@@ -80,21 +80,22 @@ impl Steps {
         self.looked += 1;
     }
 
-    /// How often the search came to a place, by an arrow or to start there.
+    /// The number of places (NFA states) that the search tried: how often it reached one by an
+    /// arrow or as a start.
     pub fn tried(&self) -> u128
         ensures { result ≡ self.now.tried }
     {
         self.tried
     }
 
-    /// How often it entered a place, at most once at each position.
+    /// The number of places that the search entered, each at most once per position.
     pub fn entered(&self) -> u128
         ensures { result ≡ self.now.entered }
     {
         self.entered
     }
 
-    /// How often it looked up what stands at a place.
+    /// The number of places that the search looked up in the graph.
     pub fn looked(&self) -> u128
         ensures { result ≡ self.now.looked }
     {
@@ -102,7 +103,8 @@ impl Steps {
     }
 }
 
-/// Of a search that has done nothing yet. It is no call of [`Steps`], which users see.
+/// The cost of a search that has done nothing yet. It is no associated function of [`Steps`], since
+/// users see that type.
 pub fn no_steps() -> Steps
     ensures tried { result.tried ≡ 0 }
     ensures entered { result.entered ≡ 0 }

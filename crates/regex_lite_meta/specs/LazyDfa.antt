@@ -1,4 +1,4 @@
--- What the functions of the lazy automaton promise one another.
+-- The internal contracts of the lazy DFA.
 pub mod Boundaries
 pub mod Intervals
 pub mod Parts

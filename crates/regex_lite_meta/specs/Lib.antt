@@ -1,15 +1,18 @@
--- Where to begin: Searching says what a searcher is to those who call it. What a search of a graph
--- returns is said in the specifications of regex_lite_engine: Graph, and Search below it.
+-- Where to begin: Searching says what a searcher is to its callers. The specifications of
+-- regex_lite_engine say what a search of a graph returns: Graph, and the files in its folder
+-- Search.
 pub mod Searching
--- What the memory of a searcher is for. No public contract rests on it.
+-- The memory of searchers. No public contract depends on it.
 pub mod Memories
--- What searches for any match of a pattern promise one another. No public contract rests on it.
+-- The internal contracts of searches for any match of a pattern. No public contract depends on
+-- them.
 pub mod AnyOfOne
--- What is kept for searches that find slots. No public contract rests on it.
+-- The memory of searches for slots. No public contract depends on it.
 pub mod Slots
--- What the functions of the lazy automaton promise one another. No public contract rests on it.
+-- The internal contracts of the lazy DFA. No public contract depends on them.
 pub mod LazyDfa
--- What searches for single patterns of a list promise one another. No public contract rests on it.
+-- The internal contracts of searches for single patterns of a list. No public contract depends on
+-- them.
 pub mod ListMatches
--- What a pass for all patterns of a list promises. No public contract rests on it.
+-- The internal contracts of a pass for all patterns of a list. No public contract depends on them.
 pub mod ListPass

@@ -1,4 +1,4 @@
--- Which of several patterns match, each of which is searched for by itself.
+-- Which of several patterns match, by a search for each.
 use Rattle.std.specs.Prelude.{◌≡◌, ◌+◌, ◌<◌, ◌∷◌, [], ℕ, Bool, List, IfSome, IsTrue, is_some}
 use Rattle.std.specs.Prelude.{length}
 use Rattle.std.specs.Prelude.{Option, Some, None}
@@ -14,8 +14,8 @@ use Rattle.regex_lite_engine.specs.Search.NumberedOutcomes.{Best, IsNumberedEndO
 use Rattle.regex_lite_meta.specs.declared.list_matches.kept.Kept.{Kept}
 use Rattle.regex_lite_meta.specs.declared.list_matches.kept.Learning.{Learning}
 
--- it is told whether the pattern that is entered there matches from position m on, and what the
--- search for it did: no more than is allowed in any part of its own
+-- the result says whether the pattern with this entry matches from position m on, and the cost of
+-- the search for it, which is within the bounds of any part that has the pattern
 pub record IsToldOf (table : List (Place ℕ)) (haystack : Text) (entry m : ℕ)
     (told : Bool × StepCounts) : Type 0 where
   pub best : Best
@@ -26,7 +26,7 @@ pub record IsToldOf (table : List (Place ℕ)) (haystack : Text) (entry m : ℕ)
       told.1.entered told.1.looked
   pub entered : IsTrue told.0 → 0 < told.1.entered
 
--- searches for single patterns of the list go on in its memory
+-- the memory serves searches for single patterns of the list
 pub record LearnsFor (list : StoredList) (learning : Learning) : Type 0 where
   pub between : IsBetween (table_of_list list) learning.cache
   pub countable : IsCountable (table_of_list list)
@@ -37,11 +37,11 @@ pub record AreKeptFor (list : StoredList) (kept : Kept) : Type 0 where
   pub sets : IfSome kept.sets (GoesOnIn list)
   pub learning : IfSome kept.learning (λ learning. LearnsFor list learning.value)
 
--- the memory of searches by ordered sets is there, and no others are needed
+-- the memory of the PikeVM is there, and no other memory is needed
 abbrev pub NeedsNoMemory : Kept → Type 0
 NeedsNoMemory kept = kept.sets ≡ None → ⊥
 
--- so it is for searches of this list. Without a pattern none is begun
+-- all memory for searches of this list is there; an empty list needs none
 abbrev pub IsReadyFor : StoredList → Option Kept → Type 0
 IsReadyFor list None = length list.entries ≡ 0
 IsReadyFor list (Some kept) = AreKeptFor list kept × NeedsNoMemory kept

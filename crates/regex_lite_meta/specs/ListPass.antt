@@ -1,4 +1,4 @@
--- What a pass over a haystack for all patterns of a list knows of each of them.
+-- What a pass over a haystack for all patterns of a list knows about each of them.
 use Rattle.std.specs.Prelude.{◌≡◌, ◌+◌, ◌<◌, ◌↔◌, ◌∷◌, [], ℕ, Bool, List, IsCharBoundary, IsTrue}
 use Rattle.std.specs.Prelude.{chars, length, slice_index, slice_index_or, Option, Some, None}
 use Rattle.regex_lite_engine.specs.declared.search.here.Here.{Here}
@@ -15,30 +15,30 @@ use Rattle.regex_lite_meta.specs.declared.list_matches.status.Status.TheVariants
 use Rattle.regex_lite_meta.specs.declared.list_matches.status.Rest.{Rest}
 use Rattle.regex_lite_meta.specs.declared.list_matches.status.Rest.TheVariants as rest
 
--- of the pattern that is entered there
+-- definitions for the pattern with this entry
 module _ (table : List (Place ℕ)) (bytes : List ℕ) (entry : ℕ) where
-  -- it is told whether it has a match that starts at position s or a later one
+  -- the result says whether the pattern has a match that starts at position s or later
   abbrev pub IsToldFrom : (s : ℕ) → (told : Bool) → Type 0
   IsToldFrom s told = IsTrue told ↔ HasMatchOfAny table (chars bytes) (entry ∷ []) s
 
-  -- no match of it from position s on starts before the offset
+  -- no match of the pattern from position s on starts before the offset
   pub record StartsNoSooner (s at : ℕ) : Type 0 where
     pub boundary : IsCharBoundary bytes at
     pub none : NoneStartsBefore table (chars bytes) entry s (position_at bytes at)
 
-  -- a pass from position s on that has come to position q knows this of it
+  -- a pass from position s on that has reached position q knows this about the pattern
   abbrev pub PassKnows : (s q : ℕ) → Status → Type 0
   PassKnows s q (Known told) = IsToldFrom s told
   PassKnows s q (Open at) =
       StartsNoSooner s at × NoneStartsBefore table (chars bytes) entry s q
   PassKnows s q (Left at) = StartsNoSooner s at
 
-  -- what is left to do for it
+  -- what is left to do for the pattern
   abbrev pub IsRest : (s : ℕ) → Rest → Type 0
   IsRest s (rest.Known told) = IsToldFrom s told
   IsRest s (rest.From at) = StartsNoSooner s at
 
--- it knows this of all patterns
+-- the pass has this status for each pattern
 pub record PassKnowsAll (list : StoredList) (bytes : List ℕ) (s q : ℕ) (statuses : List Status)
     : Type 0 where
   pub all : length statuses ≡ length list.entries
@@ -46,7 +46,7 @@ pub record PassKnowsAll (list : StoredList) (bytes : List ℕ) (s q : ℕ) (stat
       → PassKnows (table_of_list list) bytes (slice_index list.entries number) s q
       (slice_index_or statuses number (Left 0))
 
--- it was left at this position, or came to the haystack's end and went over it
+-- the pass was abandoned at this position, or reached the haystack's end and included it
 abbrev pub EndsPass : StoredList → (bytes : List ℕ) → (s : ℕ) → List Status → Option Here
     → Type 0
 EndsPass list bytes s statuses None = PassKnowsAll list bytes s (length (chars bytes) + 1) statuses

@@ -1,4 +1,4 @@
--- What the memory of a searcher is for.
+-- The memory of searchers.
 use Rattle.std.specs.Prelude.{◌≡◌, ◌∷◌, [], ℕ, List, IfSome, length, option_map}
 use Rattle.regex_lite_meta.specs.declared.list_searcher.Inner.{Inner}
 use Rattle.regex_lite_meta.specs.declared.list_searcher.Inner.TheVariants.{One, Several, Words}
@@ -12,7 +12,7 @@ use Rattle.regex_lite_meta.specs.LazyDfa.Remembering.{FindsSpansIn, FindsSpansIn
 use Rattle.regex_lite_meta.specs.LazyDfa.Remembering.{IsRemembering}
 use Rattle.regex_lite_meta.specs.Slots.{FindsListSlots, FindsSlotsIn, kept_row}
 
--- searches for the pattern that is entered there go on in it
+-- the memory serves searches for the pattern with this entry
 pub record SearchesForOne (table : List (Place ℕ)) (entry : ℕ) (searcher : PatternSearcher)
     : Type 0 where
   pub memory : FindsSlotsIn table searcher.memory
@@ -25,7 +25,7 @@ abbrev pub row_of_several : SeveralSearcher → Row
 row_of_several several =
     kept_row several.spans.cache.best.row (option_map (λ boxed. boxed.value) several.slots)
 
--- searches for the patterns of the list go on in it
+-- the memory serves searches for the patterns of the list
 pub record SearchesForSeveral (list : StoredList) (searcher : SeveralSearcher) : Type 0 where
   pub spans : FindsSpansInList list searcher.spans
   pub slots : FindsListSlots list (length searcher.spans.cache.best.row)
@@ -37,8 +37,8 @@ row_of_list (One one) = one.memory.cache.best.row
 row_of_list (Words words) = []
 row_of_list (Several several) = row_of_several several
 
--- searches of the list go on in it: of one that has a single pattern, of one whose patterns are
--- nothing but their words, or of any
+-- the memory serves searches for the list: one with a single pattern, one whose patterns are plain
+-- words, or any other
 abbrev pub SearchesList : StoredList → Inner → Type 0
 SearchesList list (One one) =
     (entry : ℕ) × (list.entries ≡ entry ∷ []) × SearchesForOne (table_of_list list) entry one

@@ -1,4 +1,4 @@
--- What is searched again and again, as contracts see it.
+-- Searchers, as contracts see them.
 use Rattle.std.specs.Prelude.{ℕ, List, Option, Some}
 use Rattle.regex_lite_syntax.specs.Tree.{Tree}
 use Rattle.regex_lite_engine.specs.Graph.Stored.{StoredGraph, table_of}
@@ -10,15 +10,15 @@ use Rattle.regex_lite_meta.specs.Slots.{FindsSlotsIn}
 use Rattle.regex_lite_meta.specs.declared.searcher.GraphSearcher.{GraphSearcher}
 use Rattle.regex_lite_meta.specs.declared.slot_searcher.SlotSearcher.{SlotSearcher}
 
--- the memory was made for this graph, and searches of it go on there
+-- the memory was made for this graph, and serves searches of it
 abbrev pub SearchesGraph : StoredGraph → GraphSearcher → Type 0
 SearchesGraph graph searcher = SearchesForOne (table_of graph) graph.start searcher.inner
 
--- the slots of the last match that was found there
+-- the slots of the last match that was found
 abbrev pub row_of_graph : GraphSearcher → Row
 row_of_graph searcher = searcher.inner.memory.cache.best.row
 
--- the memory was made for this graph, and the slots of its matches are searched for there
+-- the memory was made for this graph, and serves searches for the slots of its matches
 abbrev pub FindsSlotsOf : StoredGraph → SlotSearcher → Type 0
 FindsSlotsOf graph searcher = FindsSlotsIn (table_of graph) searcher.memory
 
@@ -26,7 +26,7 @@ FindsSlotsOf graph searcher = FindsSlotsIn (table_of graph) searcher.memory
 abbrev pub found_slots : SlotSearcher → Row
 found_slots searcher = searcher.memory.cache.best.row
 
--- the graph of several patterns that is searched again and again
+-- a searcher for several patterns
 pub record ListSearching : Type 0 where
   pub graph : StoredList
   -- the slots of the last match that was found, whatever its pattern

@@ -1,4 +1,4 @@
--- The memory in which slots are searched for.
+-- The memory of searches for slots.
 use Rattle.std.specs.Prelude.{◌≡◌, ◌<◌, ℕ, List, Option, Some, None, IfSome, length}
 use Rattle.regex_lite_meta.specs.declared.slots.SlotCache.{SlotCache}
 use Rattle.regex_lite_engine.specs.Backtrack.Short.{SearchesShort}
@@ -9,27 +9,27 @@ use Rattle.regex_lite_engine.specs.Pikevm.Searching.{IsBetween}
 use Rattle.regex_lite_engine.specs.Search.Counting.{IsCountable}
 use Rattle.regex_lite_engine.specs.Search.Rows.{Row}
 
--- short searches of the table for this many slots go on in it
+-- the memory serves short searches of the table for this many slots
 pub record FindsShortSlots (table : List (Place ℕ)) (slots : ℕ) (short : ShortSearcher) : Type 0
   where
     pub searches : SearchesShort table short
     pub width : length short.walk.stack.row ≡ slots
 
--- searches of the table go on in it, for as many slots as its row has
+-- the memory serves searches of the table, for as many slots as its row has
 pub record FindsSlotsIn (table : List (Place ℕ)) (memory : SlotCache) : Type 0 where
   pub between : IsBetween table memory.cache
   pub countable : IsCountable table
   pub short : IfSome memory.short (λ boxed.
       FindsShortSlots table (length memory.cache.best.row) boxed.value)
 
--- the slots of the last match: where they are searched for once it is known, and else those that
--- its search has kept
+-- the slots of the last match: from the separate search for slots if there is one, otherwise those
+-- that the search for the match has kept
 abbrev pub kept_row : Row → Option SlotCache → Row
 kept_row row None = row
 kept_row row (Some memory) = memory.cache.best.row
 
--- searches for slots of the list's matches go on in it, whose spans are found without slots.
--- Without a pattern none is begun
+-- the memory serves searches for the slots of the list's matches, whose spans are found without
+-- slots; an empty list needs none
 abbrev pub FindsListSlots : StoredList → (slots : ℕ) → Option SlotCache → Type 0
 FindsListSlots list slots memory =
     IfSome memory (λ memory. (slots ≡ 0)

@@ -1,4 +1,4 @@
-//! Anchored searches: for the match that starts where the search does. They go by ordered sets.
+//! Anchored searches: they find a match that starts where the search starts. They use the PikeVM.
 ghost use Rattle.std.specs.Prelude.{◌≡◌, ◌<◌, ◌⊎◌, ◌↔◌, ◌^◌, ℕ, List, IfOk, IfSome};
 ghost use Rattle.std.specs.Prelude.{IsCharBoundary, IsTrue, [], chars, length};
 ghost use Rattle.regex_lite_syntax.specs.Tree.{Tree};
@@ -25,15 +25,15 @@ use regex_lite_engine::{Graph, Steps};
 use regex_lite_syntax::prefilter::ListWords;
 use std::alloc::{AllocError, Global};
 
-/// The most preferred match that starts at this offset, with this number of slots, and what the
-/// search did. It is over as soon as no way is left that began there. With WHOLE it is the most
-/// preferred of those that end where the haystack does.
+/// The most preferred match that starts at this offset, with this number of slots, and the cost of
+/// the search. The search stops when no thread is left that began there. If WHOLE, only matches
+/// that end where the haystack ends count.
 ///
 /// Condition: the start is above the haystack's length or on a character boundary.
 ///
 /// # Errors
 ///
-/// If memory runs out, which can happen only before the first step.
+/// If memory runs out, which can happen only before the search begins.
 pub fn search_anchored<const WHOLE: bool>(
     graph: &Graph,
     alloc: Global,
@@ -57,15 +57,14 @@ pub fn search_anchored<const WHOLE: bool>(
     pattern.search_anchored::<WHOLE>(alloc, haystack, start, slots)
 }
 
-/// Whether a match starts at this offset, with WHOLE one that ends where the haystack does, and
-/// what
-/// the search did. It stops at the first such match that it comes to.
+/// Whether a match starts at this offset, and the cost of the search. The search stops at the first
+/// match that it can confirm. If WHOLE, only matches that end where the haystack ends count.
 ///
 /// Condition: the start is above the haystack's length or on a character boundary.
 ///
 /// # Errors
 ///
-/// If memory runs out, which can happen only before the first step.
+/// If memory runs out, which can happen only before the search begins.
 pub fn search_any_anchored<const WHOLE: bool>(
     graph: &Graph,
     alloc: Global,
@@ -87,9 +86,9 @@ pub fn search_any_anchored<const WHOLE: bool>(
     pattern.search_any_anchored::<WHOLE>(alloc, haystack, start)
 }
 
-/// Where the match starts and ends that starts at this offset, of the lowest of these patterns that
-/// match there, found in this memory, whose row has its slots. With EARLIEST only whether there is
-/// one is known, and with WHOLE it ends where the haystack does.
+/// The span of the match that starts at this offset, of the lowest of these patterns that match
+/// there. It is found in this cache, whose row has its slots. If EARLIEST, the result only says
+/// whether there is a match. If WHOLE, only matches that end where the haystack ends count.
 pub(crate) fn find_anchored<P: Anchored, const EARLIEST: bool, const WHOLE: bool>(
     cache: &mut Cache<Origin>,
     patterns: &mut P,
@@ -113,8 +112,7 @@ pub(crate) fn find_anchored<P: Anchored, const EARLIEST: bool, const WHOLE: bool
     cache.best.found()
 }
 
-/// Of the first of these words that stands at this offset the number of its pattern, and where it
-/// starts and ends.
+/// The first of these words that occurs at this offset: the number of its pattern, and its span.
 pub(crate) fn find_word_at(
     words: &ListWords,
     haystack: &str,

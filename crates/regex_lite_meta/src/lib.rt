@@ -1,14 +1,14 @@
-//! How a graph is searched: which search is taken, and the one that remembers its turns.
+//! Searching a graph: the choice of the engine, and the lazy DFA.
 //!
-//! [`search`], [`search_any`] and [`search_shortest`] search a graph once, and [`search_list`],
-//! [`search_list_uncounted`] and [`search_list_any`] that of several patterns. A [`GraphSearcher`]
-//! searches one graph again and again in the same memory, and a [`GraphListSearcher`] that of
-//! several patterns. [`search_each`] and [`search_each_uncounted`] say which of several patterns
-//! match, and a [`GraphSetSearcher`] does so again and again in the same memory. Each goes by a
-//! lazy automaton (`lazy_dfa`) where that pays, and otherwise by one of the two searches of
-//! `regex_lite_engine`. All of them return the same. A [`SlotSearcher`] finds the slots of matches
-//! that another search has found. [`search_listed`] and [`search_listed_any`] search for one of
-//! several patterns, which is given by its number.
+//! [`search`], [`search_any`] and [`search_shortest`] search a graph once. [`search_list`],
+//! [`search_list_uncounted`] and [`search_list_any`] search the graph of several patterns once. A
+//! [`GraphSearcher`] and a [`GraphListSearcher`] reuse their memory for many searches.
+//! [`search_each`] and [`search_each_uncounted`] find which of several patterns match, and a
+//! [`GraphSetSearcher`] does so for many haystacks. All of them use a lazy DFA (`lazy_dfa`) where
+//! that pays, and otherwise the PikeVM or the bounded backtracker of `regex_lite_engine`; the
+//! results are the same. A [`SlotSearcher`] finds the slots of matches that another search has
+//! found. [`search_listed`] and [`search_listed_any`] search for one of several patterns, given by
+//! its number.
 #![tactic(auto)]
 
 mod anchored;

@@ -1,5 +1,5 @@
-//! Which of several patterns match: by their words, if they are nothing but these, by one pass for
-//! all, or each is searched for by itself, in memory that is kept for the next.
+//! Which of several patterns match: by their words if the patterns are plain words, by one pass for
+//! all patterns, or by a search for each, which reuses the memory of the one before.
 //!
 //! Short lists go pattern by pattern, and so does the counted call, since all patterns together may
 //! cost no more than one search for the list. What a pattern tries is counted against its own part
@@ -41,8 +41,8 @@ use regex_lite_syntax::prefilter::ListWords;
 pub(crate) use status::Status;
 use std::alloc::{AllocError, Global};
 
-/// For each pattern whether it matches from a position at or after this offset, and what the
-/// searches for all of them did.
+/// Whether each pattern matches from a position at or after this offset, and the total cost of the
+/// searches.
 ///
 /// Condition: the start is above the haystack's length or on a character boundary.
 ///
@@ -73,8 +73,8 @@ pub fn search_each(
     Ok((matched, steps))
 }
 
-/// [`search_each`] without what the searches did. Patterns that are nothing but their words are
-/// searched for at once, and for others the haystack is gone over once, where that pays.
+/// [`search_each`] without the cost. Patterns that are plain words are searched for at once, and
+/// other patterns in one pass over the haystack where that pays.
 ///
 /// Condition: the start is above the haystack's length or on a character boundary.
 ///
@@ -104,7 +104,7 @@ pub fn search_each_uncounted(
     Ok(matched)
 }
 
-/// Tells by the words of the patterns which of them match.
+/// Finds which patterns match by their words.
 ///
 /// # Errors
 ///
@@ -127,7 +127,7 @@ fn search_words(
     Ok(matched)
 }
 
-/// Tells by a pass over the haystack for all patterns which of them match.
+/// Finds which patterns match by one pass over the haystack for all of them.
 ///
 /// # Errors
 ///
@@ -150,8 +150,8 @@ fn search_in_one_pass(
     Ok(matched)
 }
 
-/// Searches for each pattern, and tells which of them match. Returns what all searches did.
-// Inlined: what is kept then needs no place in memory where a haystack is searched by itself.
+/// Searches for each pattern, to find which of them match. Returns the total cost of the searches.
+// Inlined: then a one-off search doesn't store the kept memory.
 #[inline(always)]
 pub(crate) fn search_all(
     list: &GraphList,

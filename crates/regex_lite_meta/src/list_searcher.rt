@@ -1,4 +1,4 @@
-//! Searches for several patterns, one after another, in the same working memory.
+//! A searcher for several patterns, which reuses its memory.
 ghost use Rattle.std.specs.Prelude.{◌≡◌, ◌<◌, ◌⊎◌, ◌↔◌, List, IfOk, IsCharBoundary, IsTrue};
 ghost use Rattle.std.specs.Prelude.{chars, false, length};
 ghost use Rattle.regex_lite_syntax.specs.Tree.{Tree};
@@ -20,19 +20,19 @@ use regex_lite_syntax::prefilter::ListWords;
 use std::alloc::{AllocError, Global};
 use std::marker::Model;
 
-/// The graph of several patterns, and the memory in which it is searched, search after search.
+/// The graph of several patterns, and the memory of its searches.
 #[derive(Drop)]
 pub struct GraphListSearcher<'g> {
     graph: &'g GraphList,
     inner: Inner<'g>,
 }
 
-/// What searches the graph.
+/// The searcher that is used.
 #[derive(Drop)]
 pub(crate) enum Inner<'g> {
-    /// Of a pattern alone, which is searched for as that of a regex is.
+    /// For a single pattern: the searcher of a regex.
     One(PatternSearcher),
-    /// Several patterns that are nothing but their words, without slots. No memory is needed.
+    /// For several patterns that are plain words, without slots. It needs no memory.
     Words(&'g ListWords),
     Several(SeveralSearcher<'g>),
 }
@@ -53,13 +53,12 @@ impl<'g> Model for GraphListSearcher<'g> {
 
 impl<'g> GraphListSearcher<'g> {
     /// A searcher of this graph, whose matches have `slots` slots, for haystacks of about `bytes`
-    /// bytes. All the memory that its searches need is asked for here. In long haystacks its
-    /// searches may remember their turns, unless the memory for that is refused: the results are
-    /// the same.
+    /// bytes. It allocates all memory that its searches need. For long haystacks it may use a lazy
+    /// DFA, if there is memory for one; the results are the same.
     ///
     /// # Errors
     ///
-    /// If memory runs out without which it can't search.
+    /// If memory runs out that the searches can't do without.
     pub fn new(
         alloc: Global,
         graph: &'g GraphList,
@@ -82,8 +81,8 @@ impl<'g> GraphListSearcher<'g> {
         Ok(GraphListSearcher { graph, inner })
     }
 
-    /// One for several patterns that finds a match first, in this way, and then its slots: depth
-    /// first if there are at most this number of pairs.
+    /// A searcher for several patterns that first finds the span of a match with this strategy, and
+    /// then its slots: with the bounded backtracker if there are at most this number of pairs.
     pub(crate) fn span_first(
         alloc: Global,
         graph: &'g GraphList,
@@ -102,8 +101,8 @@ impl<'g> GraphListSearcher<'g> {
     }
 
     /// The match that starts first at or after this offset, of the pattern with the lowest number
-    /// that matches there: that number, and where the most preferred match of the pattern starts
-    /// and ends. It takes no memory, and [`GraphListSearcher::slots`] has the slots of the match.
+    /// that matches there: that number, and the span of the pattern's most preferred match. It
+    /// needs no memory, and [`GraphListSearcher::slots`] has the slots of the match.
     ///
     /// Condition: the start is above the haystack's length or on a character boundary.
     pub fn search(&mut self, haystack: &str, start: usize) -> Option<(usize, (usize, usize))>
@@ -128,9 +127,9 @@ impl<'g> GraphListSearcher<'g> {
         }
     }
 
-    /// Whether any pattern has a match that starts at or after this offset. The search is over at
-    /// the first match that it comes to, and takes no memory. What [`GraphListSearcher::slots`] has
-    /// then belongs to no match.
+    /// Whether any pattern has a match that starts at or after this offset. The search stops at the
+    /// first match that it can confirm, and needs no memory. Afterwards
+    /// [`GraphListSearcher::slots`] belong to no match.
     ///
     /// Condition: the start is above the haystack's length or on a character boundary.
     pub fn search_any(&mut self, haystack: &str, start: usize) -> bool
@@ -155,8 +154,8 @@ impl<'g> GraphListSearcher<'g> {
     }
 
     /// The match that starts at this offset, of the pattern with the lowest number that matches
-    /// there: that number, and where the most preferred match of the pattern starts and ends. It
-    /// takes no memory, and [`GraphListSearcher::slots`] has the slots of the match.
+    /// there: that number, and the span of the pattern's most preferred match. It needs no memory,
+    /// and [`GraphListSearcher::slots`] has the slots of the match.
     ///
     /// Condition: the start is above the haystack's length or on a character boundary.
     pub fn search_anchored(
@@ -184,9 +183,8 @@ impl<'g> GraphListSearcher<'g> {
         }
     }
 
-    /// Whether a match of any pattern starts at this offset. The search is over at the first match
-    /// that it comes to, and takes no memory. What [`GraphListSearcher::slots`] has then belongs to
-    /// no match.
+    /// Whether any pattern matches at this offset. The search stops at the first match that it can
+    /// confirm, and needs no memory. Afterwards [`GraphListSearcher::slots`] belong to no match.
     ///
     /// Condition: the start is above the haystack's length or on a character boundary.
     pub fn search_any_anchored(&mut self, haystack: &str, start: usize) -> bool

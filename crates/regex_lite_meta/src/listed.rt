@@ -1,4 +1,4 @@
-//! Searches by themselves for one pattern of a list, which is given by its number.
+//! One-off searches for one pattern of a list, given by its number.
 ghost use Rattle.std.specs.Prelude.{◌≡◌, ◌<◌, ◌⊎◌, ◌↔◌, List, IfOk, IfSome, IsCharBoundary};
 ghost use Rattle.std.specs.Prelude.{IsTrue, chars, length};
 ghost use Rattle.regex_lite_syntax.specs.Tree.{Tree};
@@ -21,7 +21,7 @@ use std::alloc::{AllocError, Global};
 ///
 /// # Errors
 ///
-/// If memory runs out, which can happen only before the first step.
+/// If memory runs out, which can happen only before the search begins.
 pub fn search_listed(
     list: &GraphList,
     number: usize,
@@ -47,14 +47,14 @@ pub fn search_listed(
 }
 
 /// Whether the pattern with this number matches from a position at or after this offset. The search
-/// stops at the first match that it comes to.
+/// stops at the first match that it can confirm.
 ///
 /// Conditions: the list has more patterns than this number, and the start is above the haystack's
 /// length or on a character boundary.
 ///
 /// # Errors
 ///
-/// If memory runs out, which can happen only before the first step.
+/// If memory runs out, which can happen only before the search begins.
 pub fn search_listed_any(
     list: &GraphList,
     number: usize,

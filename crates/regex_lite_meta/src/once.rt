@@ -1,4 +1,4 @@
-//! Searches by themselves, each by the way that `strategy` chooses.
+//! One-off searches, each with the engine that `strategy` chooses.
 //!
 //! The bounds on the counts of a search are part of its contract. A search for the span of a match
 //! and another one for its slots may try more than the bound of one search together, so the counted
@@ -27,13 +27,13 @@ use regex_lite_engine::{Graph, Steps};
 use std::alloc::{AllocError, Global};
 
 /// The most preferred match from the least start at or after this offset, with this number of
-/// slots, and what the search did.
+/// slots, and the cost of the search.
 ///
 /// Condition: the start is above the haystack's length or on a character boundary.
 ///
 /// # Errors
 ///
-/// If memory runs out, which can happen only before the first step.
+/// If memory runs out, which can happen only before the search begins.
 pub fn search(
     graph: &Graph,
     alloc: Global,
@@ -57,14 +57,14 @@ pub fn search(
     search_one(&mut pattern, alloc, haystack, start, slots)
 }
 
-/// Whether there is a match that starts at or after this offset, and what the search did. It stops
-/// at the first match that it comes to.
+/// Whether there is a match that starts at or after this offset, and the cost of the search. It
+/// stops at the first match that it can confirm.
 ///
 /// Condition: the start is above the haystack's length or on a character boundary.
 ///
 /// # Errors
 ///
-/// If memory runs out, which can happen only before the first step.
+/// If memory runs out, which can happen only before the search begins.
 pub fn search_any(
     graph: &Graph,
     alloc: Global,
@@ -86,14 +86,14 @@ pub fn search_any(
     search_any_one(&mut pattern, alloc, haystack, start)
 }
 
-/// The least end of any match that starts at or after this offset, and what the search did. It
-/// stops at the first match that it comes to.
+/// The least end of any match that starts at or after this offset, and the cost of the search. It
+/// stops at the first match that it can confirm.
 ///
 /// Condition: the start is above the haystack's length or on a character boundary.
 ///
 /// # Errors
 ///
-/// If memory runs out, which can happen only before the first step.
+/// If memory runs out, which can happen only before the search begins.
 pub fn search_shortest(
     graph: &Graph,
     alloc: Global,
@@ -115,14 +115,14 @@ pub fn search_shortest(
 }
 
 /// The match that starts first at or after this offset, of the pattern with the lowest number that
-/// matches there: that number, the most preferred match of the pattern, and what the search did.
+/// matches there: that number, the most preferred match of the pattern, and the cost of the search.
 /// The match has this number of slots.
 ///
 /// Condition: the start is above the haystack's length or on a character boundary.
 ///
 /// # Errors
 ///
-/// If memory runs out, which can happen only before the first step.
+/// If memory runs out, which can happen only before the search begins.
 pub fn search_list(
     list: &GraphList,
     alloc: Global,
@@ -155,14 +155,14 @@ pub fn search_list(
     let left = haystack.len() - start;
     match choose(&searched, Wanted::Match { start }, slots, left) {
         Strategy::LazyDfa => search_list_remembering(list, alloc, haystack, start),
-        // With slots an automaton would find the match and another search its slots: both together
-        // may try more places than are allowed.
+        // With slots a lazy DFA would find the match and another search its slots: together they
+        // may exceed the bound on the places that are tried.
         _ => list.search(alloc, haystack, start, slots),
     }
 }
 
-/// [`search_list`] without its cost. Two searches may then find the match and its slots, where that
-/// pays.
+/// [`search_list`] without its cost. Where it pays, one search finds the match and another its
+/// slots.
 ///
 /// Condition: the start is above the haystack's length or on a character boundary.
 ///
@@ -201,14 +201,14 @@ pub fn search_list_uncounted(
     Ok(Some((number, outcome)))
 }
 
-/// Whether any pattern matches from a position at or after this offset, and what the search did. It
-/// stops at the first match that it comes to.
+/// Whether any pattern matches from a position at or after this offset, and the cost of the search.
+/// It stops at the first match that it can confirm.
 ///
 /// Condition: the start is above the haystack's length or on a character boundary.
 ///
 /// # Errors
 ///
-/// If memory runs out, which can happen only before the first step.
+/// If memory runs out, which can happen only before the search begins.
 pub fn search_list_any(
     list: &GraphList,
     alloc: Global,
@@ -247,8 +247,8 @@ fn first_of_list(found: Option<Outcome>) -> Option<(usize, Outcome)>
     Some((0, outcome))
 }
 
-/// How the span of a match of several patterns is found before its slots, where that pays, and up
-/// to how many pairs these are searched for depth first.
+/// The strategy that finds the span of a match of several patterns before its slots, where that
+/// pays, and the greatest number of pairs for which the bounded backtracker finds the slots.
 fn span_first_in(
     list: &GraphList,
     start: usize,

@@ -1,4 +1,4 @@
-//! Searches by themselves for one pattern, of a regex or alone in a list.
+//! One-off searches for one pattern, of a regex or alone in a list.
 //!
 //! Whether there is a match is asked apart from its least end. For a pattern that is nothing but
 //! its words any of them answers the first, but of words of several lengths another one may end
@@ -23,7 +23,7 @@ use regex_lite_engine::steps::no_steps;
 use std::alloc::{AllocError, Global};
 
 /// The most preferred match from the least start at or after this offset, with this number of
-/// slots, and what the search did.
+/// slots, and the cost of the search.
 pub(crate) fn search_one(
     pattern: &mut OnePattern<'_>,
     alloc: Global,
@@ -57,8 +57,8 @@ pub(crate) fn search_one(
     }
 }
 
-/// Whether there is a match that starts at or after this offset, and what the search did. Any
-/// match will do: the next of a pattern's words, if it is nothing but these.
+/// Whether there is a match that starts at or after this offset, and the cost of the search. Any
+/// match suffices: the next of the pattern's words, if it is plain words.
 #[inline(always)]
 pub(crate) fn search_any_one(
     pattern: &mut OnePattern<'_>,
@@ -79,8 +79,8 @@ pub(crate) fn search_any_one(
     Ok((end.is_some(), steps))
 }
 
-/// The least end of any match that starts at or after this offset, and what the search did: that of
-/// the next word, if the pattern is one word alone.
+/// The least end of any match that starts at or after this offset, and the cost of the search. If
+/// the pattern is a single word, it is the end of the next occurrence.
 #[inline(always)]
 pub(crate) fn search_shortest_one(
     pattern: &mut OnePattern<'_>,
@@ -100,10 +100,10 @@ pub(crate) fn search_shortest_one(
     search_shortest_in_graph(pattern, alloc, haystack, start)
 }
 
-/// The same, whether the pattern is one word alone or not. It stops at the first match that it
-/// comes to.
-// Inlined, since many searches are over before their pattern is looked at twice: as a call it cost
-// `is_match` of 20 bytes up to 1.14 times as much.
+/// The least end of any match that starts at or after this offset, and the cost of the search,
+/// without regard to words. The search stops at the first match that it can confirm.
+// Inlined, since many searches are very short: as a call it made `is_match` of 20 bytes up to 1.14
+// times as expensive.
 #[inline(always)]
 fn search_shortest_in_graph(
     pattern: &mut OnePattern<'_>,

@@ -1,4 +1,4 @@
-//! Searches for one pattern, of a regex or alone in a list, one after another in the same memory.
+//! A searcher for one pattern, of a regex or alone in a list, which reuses its memory.
 //!
 //! `find_any` looks for a start before it begins a search, since no match begins in most lines of a
 //! log. It is over at the first match that it comes to.
@@ -28,24 +28,24 @@ use regex_lite_engine::pikevm::run::advance;
 use regex_lite_engine::search::one_pattern::OnePattern;
 use std::alloc::{AllocError, Global};
 
-/// The memory in which a pattern is searched for, search after search.
+/// The memory of searches for a pattern.
 #[derive(Drop)]
 pub(crate) struct PatternSearcher {
     memory: SlotCache,
-    /// What is remembered of the turns of earlier searches, if no slots are kept and it pays.
+    /// The lazy DFA, if no slots are kept and it pays.
     dfa: Option<Box<LazyDfa>>,
-    /// What finds where a match starts and ends, if slots are kept and it pays.
+    /// The searcher for the span of a match, if slots are kept and it pays.
     spans: Option<Box<SpanSearcher>>,
 }
 
 impl PatternSearcher {
-    /// One for this pattern, whose matches have `slots` slots, and for haystacks of about `bytes`
-    /// bytes. All the memory that its searches need is asked for here. In long haystacks its
-    /// searches remember their turns, unless the memory for that is refused.
+    /// A searcher of this pattern, for matches with `slots` slots and haystacks of about `bytes`
+    /// bytes. It allocates all memory that its searches need. For long haystacks it uses a lazy
+    /// DFA, if there is memory for one.
     ///
     /// # Errors
     ///
-    /// If memory runs out without which it can't search.
+    /// If memory runs out that the searches can't do without.
     pub(crate) fn new(
         alloc: Global,
         pattern: &OnePattern<'_>,
@@ -72,8 +72,8 @@ impl PatternSearcher {
         Ok(PatternSearcher { memory, dfa, spans })
     }
 
-    /// Where the most preferred match starts and ends, from the least start at or after this
-    /// offset. It needs no memory, and the row has the slots of the match.
+    /// The span of the most preferred match from the least start at or after this offset. It needs
+    /// no memory, and the row has the slots of the match.
     #[inline(always)]
     pub(crate) fn find(
         &mut self,
@@ -102,7 +102,8 @@ impl PatternSearcher {
         self.find_in_graph(pattern, haystack, start)
     }
 
-    /// The same, whether the pattern is nothing but its words or not.
+    /// The span of the most preferred match from the least start at or after this offset, without
+    /// regard to words.
     // Inlined, since a search in a short line takes few instructions.
     #[inline(always)]
     fn find_in_graph(
@@ -138,9 +139,8 @@ impl PatternSearcher {
         self.memory.find_known(pattern, haystack, span)
     }
 
-    /// Whether there is a match that starts at or after this offset. The search is over at the
-    /// first match that it comes to, and needs no memory. What the row has then belongs to no
-    /// match.
+    /// Whether there is a match that starts at or after this offset. The search stops at the first
+    /// match that it can confirm, and needs no memory. Afterwards the row belongs to no match.
     pub(crate) fn find_any(
         &mut self,
         pattern: &mut OnePattern<'_>,
@@ -165,8 +165,8 @@ impl PatternSearcher {
         self.find_end(pattern, haystack, start).is_some()
     }
 
-    /// The least end of any match that starts at or after this offset. The search is over at the
-    /// first match that it comes to, and needs no memory. What the row has then belongs to no
+    /// The least end of any match that starts at or after this offset. The search stops at the
+    /// first match that it can confirm, and needs no memory. Afterwards the row belongs to no
     /// match.
     fn find_end(
         &mut self,
@@ -195,9 +195,9 @@ impl PatternSearcher {
         end_of(dfa.find::<_, true>(pattern, cache, haystack, first.at))
     }
 
-    /// Where the most preferred match starts and ends that starts at this offset. It needs no
-    /// memory, and the row has the slots of the match. With EARLIEST only whether there is one is
-    /// known, and with WHOLE it ends where the haystack does.
+    /// The span of the most preferred match that starts at this offset. It needs no memory, and the
+    /// row has the slots of the match. If EARLIEST, the result only says whether there is a match.
+    /// If WHOLE, only matches that end where the haystack ends count.
     pub(crate) fn find_anchored<const EARLIEST: bool, const WHOLE: bool>(
         &mut self,
         pattern: &mut OnePattern<'_>,
@@ -226,9 +226,9 @@ impl PatternSearcher {
     }
 }
 
-/// An automaton of this pattern that remembers nothing yet, on the heap: most searchers have none,
-/// and are moved about often.
-// Not inlined, so that to make a searcher without one costs no more for it.
+/// A lazy DFA of this pattern with an empty cache. It is on the heap, since most searchers have
+/// none and are moved often.
+// Not inlined, so that making a searcher without one doesn't pay for it.
 #[inline(never)]
 fn automaton_for(alloc: Global, pattern: &OnePattern<'_>) -> Option<Box<LazyDfa>>
     ensures { IfSome result (λ dfa. RemembersFor (places_of pattern.now.table.now)

@@ -1,4 +1,4 @@
-//! Searches in one graph, one after another, in the same working memory.
+//! A searcher of one graph, which reuses its memory.
 ghost use Rattle.std.specs.Prelude.{◌≡◌, ◌<◌, ◌⊎◌, ◌↔◌, IfOk, IsCharBoundary, IsTrue, chars};
 ghost use Rattle.std.specs.Prelude.{length};
 ghost use Rattle.regex_lite_syntax.specs.Tree.{Tree};
@@ -15,19 +15,19 @@ use regex_lite_engine::Graph;
 use regex_lite_engine::pikevm::best::span_of;
 use std::alloc::{AllocError, Global};
 
-/// The memory in which one graph is searched, search after search.
+/// The memory of searches of one graph.
 ///
-/// It doesn't hold the graph, so that what owns the graph can hold it too: each call takes the
-/// graph for which it was made.
+/// It doesn't hold the graph, so that the owner of the graph can hold the searcher too: each call
+/// takes the graph for which the searcher was made.
 #[derive(Drop)]
 pub struct GraphSearcher {
     inner: PatternSearcher,
 }
 
 impl GraphSearcher {
-    /// Memory for searches of this graph, whose matches have `slots` slots, for haystacks of about
-    /// `bytes` bytes. All that they need is asked for here. In long haystacks they remember their
-    /// turns, unless the memory for that is refused: the results are the same.
+    /// A searcher of this graph, for matches with `slots` slots and haystacks of about `bytes`
+    /// bytes. It allocates all memory that its searches need. For long haystacks it uses a lazy
+    /// DFA, if there is memory for one; the results are the same.
     ///
     /// # Errors
     ///
@@ -46,8 +46,8 @@ impl GraphSearcher {
         Ok(GraphSearcher { inner })
     }
 
-    /// Where the most preferred match starts and ends, from the least start at or after this
-    /// offset. It needs no memory, and [`GraphSearcher::slots`] has the slots of the match.
+    /// The span of the most preferred match from the least start at or after this offset. It needs
+    /// no memory, and [`GraphSearcher::slots`] has the slots of the match.
     ///
     /// Conditions: the searcher was made for this graph. The start is above the haystack's length
     /// or on a character boundary.
@@ -66,9 +66,9 @@ impl GraphSearcher {
         self.inner.find(&mut pattern, haystack, start)
     }
 
-    /// Whether there is a match that starts at or after this offset. The search is over at the
-    /// first match that it comes to, and needs no memory. What [`GraphSearcher::slots`] has then
-    /// belongs to no match.
+    /// Whether there is a match that starts at or after this offset. The search stops at the first
+    /// match that it can confirm, and needs no memory. Afterwards [`GraphSearcher::slots`] belong
+    /// to no match.
     ///
     /// Conditions: the searcher was made for this graph. The start is above the haystack's length
     /// or on a character boundary.
@@ -88,9 +88,9 @@ impl GraphSearcher {
         self.inner.find_any(&mut pattern, haystack, start)
     }
 
-    /// Where the most preferred match starts and ends that starts at this offset, with WHOLE of
-    /// those that end where the haystack does. It needs no memory, and [`GraphSearcher::slots`] has
-    /// the slots of the match.
+    /// The span of the most preferred match that starts at this offset. If WHOLE, only matches that
+    /// end where the haystack ends count. It needs no memory, and [`GraphSearcher::slots`] has the
+    /// slots of the match.
     ///
     /// Conditions: the searcher was made for this graph. The start is above the haystack's length
     /// or on a character boundary.
@@ -117,9 +117,9 @@ impl GraphSearcher {
         )
     }
 
-    /// Whether a match starts at this offset, with WHOLE one that ends where the haystack does. The
-    /// search is over at the first such match that it comes to, and needs no memory. What
-    /// [`GraphSearcher::slots`] has then belongs to no match.
+    /// Whether a match starts at this offset. If WHOLE, only matches that end where the haystack
+    /// ends count. The search stops at the first such match that it can confirm, and needs no
+    /// memory. Afterwards [`GraphSearcher::slots`] belong to no match.
     ///
     /// Conditions: the searcher was made for this graph. The start is above the haystack's length
     /// or on a character boundary.

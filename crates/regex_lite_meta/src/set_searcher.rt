@@ -1,4 +1,4 @@
-//! Which of several patterns match, told of one haystack after another in the same working memory.
+//! A searcher for which of several patterns match, which reuses its memory.
 ghost use Rattle.std.specs.Prelude.{◌≡◌, ◌<◌, ◌⊎◌, List, IfOk, IfSome, IsCharBoundary, chars};
 ghost use Rattle.std.specs.Prelude.{length};
 ghost use Rattle.regex_lite_syntax.specs.Tree.{Tree};
@@ -15,14 +15,13 @@ use regex_lite_engine::nfa::list::GraphList;
 use std::alloc::{AllocError, Global};
 use std::marker::Model;
 
-/// The graph of several patterns, and the memory in which each of them is searched for, haystack
-/// after haystack.
+/// The graph of several patterns, and the memory of the searches for each of them.
 #[derive(Drop)]
 pub struct GraphSetSearcher<'g> {
     graph: &'g GraphList,
-    /// Without a pattern nothing is searched for.
+    /// The memory of searches for single patterns. An empty list needs none.
     kept: Option<Kept>,
-    /// What a pass for all patterns needs, where one pays.
+    /// The memory of a pass for all patterns, where a pass pays.
     pass: Option<ListPass<'g>>,
 }
 
@@ -41,7 +40,7 @@ impl<'g> Model for GraphSetSearcher<'g> {
 }
 
 impl<'g> GraphSetSearcher<'g> {
-    /// A searcher of this graph. All the memory that its searches need is asked for here.
+    /// A searcher of this graph. It allocates all memory that its searches need.
     ///
     /// # Errors
     ///
@@ -54,12 +53,12 @@ impl<'g> GraphSetSearcher<'g> {
         Ok(GraphSetSearcher { graph, kept, pass })
     }
 
-    /// Tells of each pattern, by its number, whether it matches from a position at or after this
-    /// offset. In long haystacks it asks for memory in which searches remember their turns, and
-    /// goes without where it is refused: the results are the same.
+    /// Writes for each pattern, by its number, whether it matches from a position at or after this
+    /// offset. For long haystacks it requests memory for a lazy DFA, and does without if there is
+    /// none; the results are the same.
     ///
-    /// Conditions: there is room for as many answers as there are patterns, and the start is above
-    /// the haystack's length or on a character boundary.
+    /// Conditions: `matched` has an element for each pattern, and the start is above the haystack's
+    /// length or on a character boundary.
     pub fn search(&mut self, haystack: &str, start: usize, matched: &mut [bool])
         requires all { length matched.old ≡ length self.old.entries }
         requires start { (length haystack.now < start) ⊎ IsCharBoundary haystack.now start }
@@ -80,7 +79,7 @@ impl<'g> GraphSetSearcher<'g> {
         let Some(kept) = &mut self.kept else {
             return;
         };
-        // It is never refused, since all memory that it needs is there.
+        // This never fails, since all memory that it needs was allocated before.
         match &mut self.pass {
             Some(pass) => {
                 let _ = pass.search(self.graph, kept, haystack, start, matched);
@@ -92,7 +91,7 @@ impl<'g> GraphSetSearcher<'g> {
     }
 }
 
-/// What searches for the patterns of this list need, if it has any.
+/// The memory of searches for the patterns of this list, if it has any.
 ///
 /// # Errors
 ///
@@ -107,7 +106,7 @@ fn memory_for(alloc: Global, list: &GraphList) -> Result<Option<Kept>, AllocErro
     Ok(Some(kept))
 }
 
-/// What passes for all patterns of the list need, where they pay.
+/// The memory of passes for all patterns of the list, where they pay.
 ///
 /// # Errors
 ///

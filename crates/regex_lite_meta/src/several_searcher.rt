@@ -1,5 +1,4 @@
-//! Searches for several patterns, one after another, in the same memory, over the table of their
-//! graph.
+//! A searcher for several patterns over the table of their graph, which reuses its memory.
 //!
 //! A search without slots may find where a match starts and ends and of which pattern it is. A
 //! search for that pattern alone then finds the slots. The list's match is that pattern's first, so
@@ -26,21 +25,22 @@ use regex_lite_engine::pikevm::best::numbered;
 use regex_lite_engine::pikevm::cache::cache_for_list;
 use std::alloc::{AllocError, Global};
 
-/// The memory in which several patterns are searched for, search after search.
+/// The memory of searches for several patterns.
 #[derive(Drop)]
 pub(crate) struct SeveralSearcher<'g> {
     spans: ListSpanSearcher<'g>,
-    /// What finds the slots of a match, where they are searched for once it is known.
+    /// The searcher for the slots of a match whose span is known, if they are found separately.
     slots: Option<Box<SlotCache>>,
 }
 
 impl<'g> SeveralSearcher<'g> {
-    /// One for this graph, whose matches have `slots` slots, for haystacks of about `bytes` bytes.
+    /// A searcher of this graph, for matches with `slots` slots and haystacks of about `bytes`
+    /// bytes.
     ///
     /// # Errors
     ///
-    /// If memory runs out without which it can't search.
-    // Not inlined, since what an inlined one needs is cleared each time.
+    /// If memory runs out that the searches can't do without.
+    // Not inlined: when inlined, its stack frame is cleared on each call.
     #[inline(never)]
     pub(crate) fn new(
         alloc: Global,
@@ -62,8 +62,8 @@ impl<'g> SeveralSearcher<'g> {
         Ok(SeveralSearcher { spans, slots: None })
     }
 
-    /// One that finds a match first, in this way, and then its slots: depth first if there are at
-    /// most this number of pairs.
+    /// A searcher that first finds the span of a match with this strategy, and then its slots: with
+    /// the bounded backtracker if there are at most this number of pairs.
     pub(crate) fn span_first(
         alloc: Global,
         graph: &'g GraphList,
@@ -84,8 +84,8 @@ impl<'g> SeveralSearcher<'g> {
     }
 
     /// The match that starts first at or after this offset, of the pattern with the lowest number
-    /// that matches there: that number, and where the most preferred match of the pattern starts
-    /// and ends. It takes no memory, and the row has the slots of the match.
+    /// that matches there: that number, and the span of the pattern's most preferred match. It
+    /// needs no memory, and the row has the slots of the match.
     pub(crate) fn find(
         &mut self,
         graph: &GraphList,
@@ -109,8 +109,8 @@ impl<'g> SeveralSearcher<'g> {
     }
 
     /// The match that starts at this offset, of the pattern with the lowest number that matches
-    /// there: that number, and where the most preferred match of the pattern starts and ends. It
-    /// takes no memory, and the row has the slots of the match.
+    /// there: that number, and the span of the pattern's most preferred match. It needs no memory,
+    /// and the row has the slots of the match.
     pub(crate) fn find_anchored(
         &mut self,
         graph: &GraphList,
@@ -133,8 +133,8 @@ impl<'g> SeveralSearcher<'g> {
         find_slots(graph, slots, haystack, found)
     }
 
-    /// Whether a match of any pattern starts at this offset. The search is over at the first match
-    /// that it comes to, and takes no memory. What the row has then belongs to no match.
+    /// Whether any pattern matches at this offset. The search stops at the first match that it can
+    /// confirm, and needs no memory. Afterwards the row belongs to no match.
     pub(crate) fn find_any_anchored(
         &mut self,
         graph: &GraphList,
@@ -153,9 +153,9 @@ impl<'g> SeveralSearcher<'g> {
         self.spans.find_anchored::<true>(graph, haystack, start)
     }
 
-    /// The least end of a match of any pattern that starts at or after this offset. The search is
-    /// over at the first match that it comes to, and takes no memory. What the row has then belongs
-    /// to no match.
+    /// The least end of a match of any pattern that starts at or after this offset. The search
+    /// stops at the first match that it can confirm, and needs no memory. Afterwards the row
+    /// belongs to no match.
     pub(crate) fn find_end(
         &mut self,
         graph: &GraphList,
@@ -184,9 +184,9 @@ impl<'g> SeveralSearcher<'g> {
     }
 }
 
-/// Searches for the slots of the match that starts and ends here, of the pattern with this number,
-/// which is the first match of any pattern. Its row has them afterwards. Returns the number, and
-/// where the match starts and ends.
+/// Finds the slots of the match with this span, which is the first match of any pattern and belongs
+/// to the pattern with this number. Afterwards the row has the slots. Returns the number and the
+/// span.
 fn find_slots(
     graph: &GraphList,
     memory: &mut SlotCache,

@@ -1,4 +1,4 @@
-//! Searches for the slots of matches that other searches have found, in the same working memory.
+//! A searcher for the slots of matches that other searches have found, which reuses its memory.
 ghost use Rattle.std.specs.Prelude.{◌≡◌, ℕ, IfOk, Some, length};
 ghost use Rattle.regex_lite_syntax.specs.Tree.{Tree};
 ghost use Rattle.regex_lite_syntax.specs.Tree.Regular.{IsRegular};
@@ -13,22 +13,22 @@ use regex_lite_engine::Graph;
 use regex_lite_engine::pikevm::cache::cache_for;
 use std::alloc::{AllocError, Global};
 
-/// The memory in which the slots of one graph's matches are searched for, match after match.
+/// The memory of searches for the slots of one graph's matches.
 ///
-/// As a [`crate::GraphSearcher`], it doesn't hold the graph.
+/// Like a [`crate::GraphSearcher`], it doesn't hold the graph.
 #[derive(Drop)]
 pub struct SlotSearcher {
     memory: SlotCache,
 }
 
 impl SlotSearcher {
-    /// Memory for searches of this graph, whose matches have `slots` slots. All that they need is
-    /// asked for here. Short searches go depth first, unless the memory for that is
-    /// refused: the results are the same.
+    /// A searcher of this graph, for matches with `slots` slots. It allocates all memory that its
+    /// searches need. Short searches use the bounded backtracker, if there is memory for it; the
+    /// results are the same.
     ///
     /// # Errors
     ///
-    /// If memory runs out without which it can't search.
+    /// If memory runs out that the searches can't do without.
     pub fn new(alloc: Global, graph: &Graph, slots: usize) -> Result<SlotSearcher, AllocError>
         ensures finds { IfOk result (FindsSlotsOf graph.now) }
         ensures slots { IfOk result (λ searcher. length (found_slots searcher) ≡ slots) }
@@ -38,8 +38,8 @@ impl SlotSearcher {
         Ok(SlotSearcher { memory })
     }
 
-    /// Finds the slots of the match between these offsets, which [`SlotSearcher::slots`] has then.
-    /// It needs no memory.
+    /// Finds the slots of the match between these offsets, which [`SlotSearcher::slots`] then
+    /// returns. It needs no memory.
     ///
     /// Conditions: the searcher was made for this graph. A search from some offset finds a match
     /// with this span.

@@ -1,5 +1,5 @@
-//! Searches for the slots of matches: depth first where the span is known and little is left to
-//! search, and otherwise by the PikeVM.
+//! Searches for the slots of matches: with the bounded backtracker if the span is known and short
+//! enough, and otherwise with the PikeVM.
 //!
 //! A match whose span is known is searched for in the haystack up to the character after its end. A
 //! look sees no more than the characters beside its position, so up to that end each path leads
@@ -27,18 +27,19 @@ use regex_lite_engine::search::here::next_char;
 use regex_lite_engine::search::one_pattern::OnePattern;
 use std::alloc::{AllocError, Global};
 
-/// The memory in which slots are searched for. Those of the last match are in the cache's row.
+/// The memory of searches for slots. The slots of the last match are in the cache's row.
 #[derive(Drop)]
 pub(crate) struct SlotCache {
     pub cache: Cache<Origin>,
-    /// What finds them depth first. It is on the heap: most have none, and are moved about often.
+    /// The bounded backtracker. It is on the heap, since most searchers have none and are moved
+    /// often.
     short: Option<Box<ShortSearcher>>,
 }
 
 impl SlotCache {
-    /// Memory for searches in this table that keep as many slots as this cache, which is one for
-    /// it. Those that have at most `pairs` pairs of a place and an offset may go depth first,
-    /// unless the memory for that is refused.
+    /// Memory for searches in this table that keep as many slots as this cache, which was made for
+    /// the table. Searches with at most `pairs` pairs of a place and an offset use the bounded
+    /// backtracker, if there is memory for it.
     pub(crate) fn new(alloc: Global, cache: Cache<Origin>, table: &Table, pairs: usize) -> SlotCache
         ensures finds { IsBetween (places_of table.now) cache → IsCountable (places_of table.now)
             → FindsSlotsIn (places_of table.now) result }
@@ -74,8 +75,8 @@ impl SlotCache {
         self.find_from(pattern, haystack, span.0)
     }
 
-    /// Where the most preferred match from the least start at or after this offset starts and
-    /// ends, found by ordered sets. Its slots are in the row.
+    /// The span of the most preferred match from the least start at or after this offset, found by
+    /// the PikeVM. Its slots are in the row.
     pub(crate) fn find_from(
         &mut self,
         pattern: &mut OnePattern<'_>,
@@ -98,8 +99,8 @@ impl SlotCache {
     }
 }
 
-/// What searches depth first, for as many slots and for at most `pairs` pairs of a place and an
-/// offset. None if the table has too many places, or if memory runs out.
+/// A bounded backtracker for this many slots and at most `pairs` pairs of a place and an offset.
+/// `None` if the table has too many places or memory runs out.
 fn short_for(alloc: Global, table: &Table, slots: usize, pairs: usize) -> Option<Box<ShortSearcher>>
     ensures { IfSome result (λ boxed. FindsShortSlots (places_of table.now) slots boxed.value) }
 {
@@ -110,7 +111,7 @@ fn short_for(alloc: Global, table: &Table, slots: usize, pairs: usize) -> Option
 }
 
 /// Sets the row to the slots of the match with this span, and returns whether it did. It doesn't if
-/// too much is to be searched, or if a longer match ends where the search does.
+/// the span is too long, or if a longer match ends where the search ends.
 fn find_short(
     short: &mut ShortSearcher,
     pattern: &OnePattern<'_>,
@@ -140,7 +141,7 @@ fn find_short(
     let Some((_, last)) = short.search(pattern, seen, from) else {
         return false;
     };
-    // A look may hold at the end of what is seen, and not in the haystack.
+    // A look may hold at the end of the truncated haystack, but not in the whole haystack.
     if last != end {
         return false;
     }
@@ -148,8 +149,8 @@ fn find_short(
     true
 }
 
-/// The haystack up to the character after this offset, which is all that is seen from there and
-/// from offsets before it.
+/// The haystack up to the end of the character at this offset: looks see no further from this
+/// offset or earlier ones.
 fn up_to_next(haystack: &str, at: usize) -> &str
     requires { IsCharBoundary haystack.now at }
     ensures { (p : ℕ) → IsOffset (chars haystack.now) p at

@@ -1,4 +1,4 @@
--- Which faults are that the pattern ends inside a part.
+-- The faults of patterns that end inside a part.
 use Rattle.std.specs.Prelude.{Bool, true, false}
 use Rattle.regex_lite_syntax.specs.declared.error.syntax.SyntaxFault.{SyntaxFault}
 use Rattle.regex_lite_syntax.specs.declared.error.syntax.SyntaxFault.TheVariants.{CutShort}

@@ -1,4 +1,4 @@
--- What a refusal is, its kind and its text.
+-- Refusals, which errors stand for: their kinds and their texts.
 use Rattle.std.specs.Prelude.{ℕ, List, codes}
 use Rattle.regex_lite_syntax.specs.declared.error.ErrorKind.{ErrorKind}
 use Rattle.regex_lite_syntax.specs.declared.error.ErrorKind.TheVariants as kind
@@ -10,18 +10,18 @@ use Rattle.regex_lite_syntax.specs.FaultTexts.{fault_text}
 pub data Refusal : Type 0 where
   -- the pattern breaks this rule of the grammar
   syntax_error : (rule : SyntaxFault) → Refusal
-  -- the pattern passes the limit on nesting
+  -- the pattern exceeds the limit on nesting
   too_deep : Refusal
   -- the pattern has more groups than can be numbered
   too_many_groups : Refusal
-  -- the pattern passes this limit on what is written out
+  -- the compiled pattern exceeds this limit
   passed_limit : (limit : LimitFault) → Refusal
-  -- a growth was refused
+  -- memory ran out
   out_of_memory : Refusal
-  -- a replacer refused
+  -- a replacer returned an error
   refused_replacement : Refusal
 
--- what kind of refusal it is
+-- the kind of a refusal
 abbrev pub kind_of : Refusal → ErrorKind
 kind_of (syntax_error rule) = kind.Syntax
 kind_of too_deep = kind.Nesting
@@ -32,7 +32,7 @@ kind_of (passed_limit limit.Slots) = kind.Slots
 kind_of out_of_memory = kind.Memory
 kind_of refused_replacement = kind.Replace
 
--- its text
+-- the text of a refusal
 abbrev pub text_of : Refusal → List ℕ
 text_of (syntax_error rule) = fault_text rule
 text_of too_deep = codes "pattern has too much nesting"

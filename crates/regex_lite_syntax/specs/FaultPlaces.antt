@@ -1,4 +1,4 @@
--- How far the grammar reads a pattern, and where its first fault stands.
+-- How far the grammar reads a pattern, and the place of its first fault.
 use Rattle.std.specs.Prelude.{◌≡◌, ◌⊎◌, ℕ, ◌+◌, ◌<◌, ◌≤◌, List, [], ◌++◌, length, drop, take}
 use Rattle.std.specs.Prelude.{MatchOption}
 use Rattle.regex_lite_syntax.specs.declared.error.ErrorKind.{ErrorKind}
@@ -30,21 +30,22 @@ pub data ReadsOn : (level : ℕ) → Point → Point → Type 0 where
       → Alternatives level first q branches
       → ReadsOn level p q
 
--- under these flags the pattern is read from its beginning up to q, and no name stands twice in it
+-- under these flags the pattern is read from its beginning up to q, and no name occurs twice in it
 pub record IsReadTo (flags : Flags) (pattern : Text) (q : Point) : Type 0 where
   pub level : ℕ
   pub reads : ReadsOn level (start flags pattern) q
   pub names_differ : NamesDiffer q.names
 
--- the pattern is read up to where its first k characters end, but for a gap there, and no further
+-- the pattern is read up to the end of its first k characters, except for a gap there, and no
+-- further
 pub record IsStuckAt (flags : Flags) (pattern : Text) (k : ℕ) : Type 0 where
   pub last : Point
   pub reads : IsReadTo flags pattern last
   pub gap : WholeGap last.flags.ignore_whitespace last.rest (drop k pattern)
   pub farthest : (q : Point) → IsReadTo flags pattern q → length last.rest ≤ length q.rest
 
--- the pattern is read to its end, and the innermost group that is open there begins where its first
--- k characters end
+-- the pattern is read to its end, and the innermost group that is open there begins after its first
+-- k characters
 pub record IsUnclosedAt (flags : Flags) (pattern : Text) (k : ℕ) : Type 0 where
   pub level : ℕ
   pub last : Point
@@ -61,7 +62,7 @@ pub record IsUnclosedAt (flags : Flags) (pattern : Text) (k : ℕ) : Type 0 wher
   pub ends : Gap end.flags.ignore_whitespace end.rest []
   pub names_differ : NamesDiffer end.names
 
--- under these flags the first fault of the pattern stands where its first k characters end
+-- under these flags the first fault of the pattern begins after its first k characters
 pub record IsFaultAt (flags : Flags) (pattern : Text) (k : ℕ) : Type 0 where
   pub inside : k < length pattern
   pub place : IsStuckAt flags pattern k ⊎ IsUnclosedAt flags pattern k
@@ -74,22 +75,23 @@ BeginsNone flags text = (more : Text) → HasTree flags (text ++ more) → ⊥
 abbrev pub BeginsSome : Flags → Text → Type 0
 BeginsSome flags text = (more : Text) × HasTree flags (text ++ more)
 
--- past the pattern's first `start` characters, `end` is the least number of them with which no
--- accepted pattern begins
+-- `end` is the length of the shortest prefix, longer than `start`, with which no accepted pattern
+-- begins
 pub record IsEndOfFault (flags : Flags) (pattern : Text) (start end : ℕ) : Type 0 where
   pub past : start < end
   pub inside : end ≤ length pattern
   pub none : BeginsNone flags (take end pattern)
   pub least : (k : ℕ) → start < k → k < end → BeginsSome flags (take k pattern)
 
--- the first fault of the pattern stands where the place begins. The place has an end where no
--- accepted pattern begins with the pattern, and none where some does
+-- the place begins at the first fault of the pattern; it has an end if no accepted pattern begins
+-- with the pattern, and none if some does
 pub record IsPlaceOfFault (flags : Flags) (pattern : Text) (place : FaultPlace) : Type 0 where
   pub starts : IsFaultAt flags pattern place.start
   pub ends : MatchOption place.end (BeginsSome flags pattern)
       (IsEndOfFault flags pattern place.start)
 
--- what an error says by its kind where the fault can't be told. Memory may run out with any pattern
+-- an error of this kind may be returned instead of the place of the fault; memory may run out with
+-- any pattern
 abbrev pub IsUntold : Flags → Text → ErrorKind → Type 0
 IsUntold flags pattern Groups = GroupsRefused flags pattern
 IsUntold flags pattern Memory = Unit {0}

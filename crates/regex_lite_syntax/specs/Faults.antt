@@ -1,4 +1,4 @@
--- What an error of the code holds, as the refusal that it stands for, and back.
+-- The cause of an error in the code as the refusal that it stands for, and back.
 use Rattle.std.specs.Prelude.{◌≡◌, refl}
 use Rattle.regex_lite_syntax.specs.declared.error.Cause.{Cause}
 use Rattle.regex_lite_syntax.specs.declared.error.Cause.TheVariants.{Syntax, Nesting, Groups}
@@ -22,7 +22,7 @@ fault_of (passed_limit limit) = Limit limit
 fault_of out_of_memory = Memory
 fault_of refused_replacement = Replace
 
--- the refusal names the fault
+-- the refusal determines the cause
 pub fault_back : (fault : Cause) → fault_of (refusal_of fault) ≡ fault
 fault_back (Syntax rule) = refl
 fault_back Nesting = refl

@@ -1,5 +1,5 @@
 -- Where to begin: Grammar says which tree a pattern has, Tree.Matches where a tree matches, and
--- Limits when a pattern is refused. What they rest on stands above them.
+-- Limits when a pattern is rejected. The modules that they use come before them.
 pub mod Text
 pub mod Characters
 pub mod Sets
@@ -16,9 +16,9 @@ pub mod Limits
 pub mod FaultPlaces
 pub mod Refusals
 pub mod SyntaxLaws
--- Where matches of trees can begin. The searches of the crate above rest on it.
+-- Where matches of trees can begin. The searches of the crate above use it.
 pub mod Prefilter
--- What the functions of the parser promise one another, and what an error holds inside. No public
--- contract rests on them.
+-- The internal contracts of the parser, and the representation of errors. No public contract
+-- depends on them.
 pub mod Parser
 pub mod Faults

@@ -1,4 +1,4 @@
--- What the functions of the parser promise one another.
+-- The internal contracts of the parser.
 pub mod RangeEnds
 pub mod RunStorage
 pub mod SetNames

@@ -22,7 +22,7 @@ AtMostOneTree =
     → Grammar flags pattern a groups deepest → Grammar flags pattern b groups' deepest'
     → (a ≡ b) × (groups ≡ groups') × (deepest ≡ deepest')
 
--- a set of characters has one list of maximal runs
+-- a set of characters has exactly one list of maximal runs
 abbrev pub EqualSetsHaveEqualRanges : Type 0
 EqualSetsHaveEqualRanges =
     (a b : List ClassRange) → AreRuns 0 a → AreRuns 0 b
@@ -34,28 +34,28 @@ GroupsAreNumbered =
     (flags : Flags) (pattern : Text) (tree : Tree) → IsTree flags pattern tree
     → IsStrictlyIncreasing (indices tree)
 
--- So no index stands twice in a tree of the grammar: a tree with two groups of one index could say
+-- no index occurs twice in a tree of the grammar; a tree with two groups of one index could claim
 -- that more groups take part in each match than it has
 abbrev pub NoIndexStandsTwice : Type 0
 NoIndexStandsTwice =
     (flags : Flags) (pattern : Text) (tree : Tree) → IsTree flags pattern tree
     → IndicesDiffer tree
 
--- where neither `i` nor `x` is on, the tree of an escaped text is its characters, without a group
+-- if neither `i` nor `x` is on, the tree of an escaped text is its characters, without a group
 abbrev pub EscapedTextsAreLiteral : Type 0
 EscapedTextsAreLiteral =
     (flags : Flags) (text : Text) → flags.case_insensitive ≡ false
     → flags.ignore_whitespace ≡ false → AreCharacters text
     → Grammar flags (escaped text) (literal text) 0 0
 
--- the characters of a text match exactly where the text stands
+-- the characters of a text match exactly where the text occurs
 abbrev pub LiteralsMatchTheirText : Type 0
 LiteralsMatchTheirText =
     (text haystack : Text) (i j : ℕ)
     → Matches haystack (literal text) i j ↔ StandsAt text haystack i j
 
--- reading goes from left to right: what is read of a pattern is read of each longer pattern that
--- begins with it, where more than a gap is left
+-- parsing goes from left to right: what is read of a pattern is also read of each longer pattern
+-- that begins with it, if more than a gap is left
 abbrev pub ReadingGoesOn : Type 0
 ReadingGoesOn =
     (flags : Flags) (pattern more : Text) (q : Point) → IsReadTo flags pattern q

@@ -26,8 +26,8 @@ pub struct ClassRange {
     pub end: char,
 }
 
-/// Where the runs of a set are. Of those that are a part of the program it says which: a borrow of
-/// them would be a part of the groups of a match too, and closures can't take such groups.
+/// The storage of a set's runs. Static runs are given by their name: a borrow of them would become
+/// a part of the groups of a match too, and closures can't take such groups.
 #[derive(Debug, Drop)]
 enum RunStorage {
     Known(KnownSet),
@@ -39,7 +39,7 @@ enum RunStorage {
 #[derive(Debug, Drop)]
 pub struct Class {
     ranges: RunStorage,
-    // Two words, since a `u128` would be aligned to 16 bytes, in the places of a graph too.
+    // Two words, since a `u128` would align the places of a graph to 16 bytes too.
     ascii: [u64; 2],
 }
 
@@ -67,7 +67,7 @@ impl Class {
         Class { ranges, ascii }
     }
 
-    /// The set, whose runs are a part of the program.
+    /// The set with these static runs.
     pub(crate) fn of_known(set: KnownSet) -> Class
         ensures { AreRunsOf result (known_members set) }
     {
@@ -76,7 +76,7 @@ impl Class {
         Class { ranges, ascii }
     }
 
-    /// The characters that stand in some of these ranges.
+    /// The set of the characters in any of these ranges.
     pub(crate) fn new(mut ranges: Vec<ClassRange>) -> Class
         ensures { AreRunsOf result (in_ranges ranges.items) }
     {
@@ -86,14 +86,14 @@ impl Class {
         Class::of_runs(ranges)
     }
 
-    /// The set with this name, or all other characters.
+    /// The set with this name, or its complement.
     pub(crate) fn named(alloc: Global, set: NamedSet, negated: bool) -> Result<Class, AllocError>
         ensures { IfOk result (λ class. AreRunsOf class (named_or_not set negated)) }
     {
         Class::of_known(KnownSet::Named(set)).into_negated(alloc, negated)
     }
 
-    /// The characters that the set lacks where `negated` asks for them, or else the set itself.
+    /// The complement of the set if `negated`, otherwise the set itself.
     pub(crate) fn into_negated(self, alloc: Global, negated: bool) -> Result<Class, AllocError>
         ensures { IfOk result (λ class. AreRunsOf class (if negated then complement (in_ranges self)
             else in_ranges self)) }
@@ -105,7 +105,7 @@ impl Class {
         }
     }
 
-    /// The characters that the set lacks.
+    /// The complement of the set.
     pub(crate) fn negate(&self, alloc: Global) -> Result<Class, AllocError>
         ensures { IfOk result (λ class. AreRunsOf class (complement (in_ranges self.now))) }
     {
@@ -119,7 +119,7 @@ impl Class {
         Ok(Class::of_runs(gaps))
     }
 
-    /// Whether the set holds the character.
+    /// Whether the set contains the character.
     pub fn contains(&self, c: char) -> bool
         ensures { result ≡ in_ranges self.now c }
     {
@@ -128,7 +128,7 @@ impl Class {
         at < ranges.len() && ranges[at].start <= c
     }
 
-    /// The ASCII characters of the set: a bit for each, the lowest 64 in the first word.
+    /// The bitmap of the set's ASCII characters, the lowest 64 in the first word.
     pub fn ascii(&self) -> [u64; 2]
         ensures { AreMapOf result (in_ranges self.now) }
     {

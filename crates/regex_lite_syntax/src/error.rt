@@ -1,7 +1,7 @@
-//! Why a pattern is refused: the kinds of refusal and the text of each.
+//! The errors for a pattern: their kinds, and the text of each.
 //!
-//! A text of a syntax fault stands in one place, `SyntaxFault::text`, so that it shows which rule
-//! of the grammar a pattern broke.
+//! The texts of syntax faults are in one place, `SyntaxFault::text`. Each names the rule of the
+//! grammar that a pattern breaks.
 ghost use Rattle.std.specs.Prelude.{◌≡◌, ◌≢◌, MatchOption, Some};
 ghost use Rattle.regex_lite_syntax.specs.declared.error.ErrorKind.TheVariants.{Syntax};
 ghost use Rattle.regex_lite_syntax.specs.Errors.{kind_of, text_of, syntax_error};
@@ -17,39 +17,39 @@ use std::marker::Model;
 pub use syntax::SyntaxFault;
 pub use unexpected_eof::UnexpectedEof;
 
-/// What kind of refusal an [`Error`] is.
+/// The kind of an [`Error`].
 #[derive(Clone, Copy, PartialEq, Eq, Debug)]
 pub enum ErrorKind {
     /// The grammar has no tree for the pattern.
     Syntax,
-    /// A depth passes the nest limit.
+    /// The pattern nests deeper than the nest limit.
     Nesting,
     /// The pattern has more capture groups than can be numbered.
     Groups,
-    /// The size of the pattern written out passes the size limit.
+    /// The size of the compiled pattern is above the size limit.
     Size,
-    /// Written out, the pattern has more places than can be numbered.
+    /// The compiled pattern has more places (NFA states) than can be numbered.
     Places,
     /// A group's slots can't be numbered.
     Slots,
     /// Memory ran out.
     Memory,
-    /// A caller's replacer refused.
+    /// A caller's replacer returned an error.
     Replace,
 }
 
-/// Which limit on what is written out a pattern passes.
+/// A limit on compiled patterns.
 #[derive(Clone, Copy, PartialEq, Eq, Debug)]
 pub enum LimitFault {
     /// The size limit.
     Size,
-    /// How many places can be numbered.
+    /// The number of places that can be numbered.
     Places,
-    /// How many slots can be numbered.
+    /// The number of slots that can be numbered.
     Slots,
 }
 
-/// What an [`Error`] holds.
+/// The cause of an [`Error`].
 #[derive(Clone, Copy, PartialEq, Eq, Debug)]
 pub(crate) enum Cause {
     Syntax(SyntaxFault),
@@ -60,7 +60,7 @@ pub(crate) enum Cause {
     Replace,
 }
 
-/// A refusal. Its text is what `Display` writes.
+/// Why a call failed: an error with a kind, and with a text, which `Display` writes.
 #[derive(Clone, PartialEq, Eq, Debug, Drop)]
 pub struct Error {
     fault: Cause,
@@ -83,7 +83,7 @@ impl Model for Error {
 }
 
 impl Error {
-    /// What kind of refusal this is.
+    /// The kind of the error.
     pub fn kind(&self) -> ErrorKind
         ensures { result ≡ kind_of self.now }
     {
@@ -99,7 +99,7 @@ impl Error {
         }
     }
 
-    /// The rule of the grammar that the pattern breaks, if that is why it is refused.
+    /// The rule of the grammar that the pattern breaks, if that is the error.
     pub(crate) fn syntax_fault(&self) -> Option<SyntaxFault>
         ensures { MatchOption result (kind_of self.now ≢ Syntax)
             (λ fault. self.now ≡ syntax_error fault) }
@@ -110,7 +110,7 @@ impl Error {
         }
     }
 
-    /// The refusal of a pattern that passes the limit on nesting.
+    /// The error for a pattern that nests deeper than the limit.
     pub(crate) fn nesting() -> Error
         ensures { result ≡ too_deep }
     {
@@ -119,7 +119,7 @@ impl Error {
         }
     }
 
-    /// The refusal of a pattern with more groups than can be numbered.
+    /// The error for a pattern with more groups than can be numbered.
     pub(crate) fn groups() -> Error
         ensures { result ≡ too_many_groups }
     {
@@ -128,7 +128,7 @@ impl Error {
         }
     }
 
-    /// The error for memory that ran out, for a caller's replacer.
+    /// The error that memory ran out, for a caller's replacer to return.
     pub fn memory() -> Error
         ensures { result ≡ out_of_memory }
     {
@@ -137,7 +137,7 @@ impl Error {
         }
     }
 
-    /// The refusal of a replacement, for a caller's replacer.
+    /// The error that a replacement isn't possible, for a caller's replacer to return.
     pub fn replace() -> Error
         ensures { result ≡ refused_replacement }
     {
@@ -146,7 +146,7 @@ impl Error {
         }
     }
 
-    /// The text that `Display` writes. It is static, so it asks for no memory.
+    /// The text that `Display` writes. It is static, so it needs no memory.
     pub fn text(&self) -> &'static str
         ensures { result.now ≡ text_of self.now }
     {

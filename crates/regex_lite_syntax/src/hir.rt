@@ -22,11 +22,11 @@ pub enum Hir {
     Empty,
     /// This character.
     Char(char),
-    /// A character of this set. Whatever is made of the tree shares the set with it.
+    /// A character of this set, which is shared with whatever is built from the tree.
     Class(Rc<Class>),
     /// A test of the position.
     Look(Look),
-    /// `body` at least `least` times, and at most `most` times where there is a limit.
+    /// `body` at least `least` times, and at most `most` times if there is a limit.
     Repetition {
         least: u32,
         most: Option<u32>,
@@ -35,20 +35,20 @@ pub enum Hir {
         body: Box<Hir>,
     },
     /// `body`, whose span is that of the group with this index, and with this name if it has one.
-    /// Whatever is made of the tree shares the name with it.
+    /// The name is shared with whatever is built from the tree.
     Capture {
         index: u32,
         name: Option<RcStr>,
         body: Box<Hir>,
     },
-    /// One after another.
+    /// These trees, one after another.
     Concat(Vec<Hir>),
-    /// One of these, the earlier preferred.
+    /// One of these trees, the earlier preferred.
     Alternation(Vec<Hir>),
 }
 
 impl Drop for Hir {
-    // A chain of repetitions is as long as the pattern has operators, so it is taken apart in a
+    // A chain of repetitions can be as long as the pattern has operators, so it is dropped in a
     // loop: only lists are dropped by recursion.
     fn drop(mut self) {
         loop {
@@ -123,7 +123,7 @@ impl Hir {
         Ok(Hir::Capture { index, name, body })
     }
 
-    /// What an operator makes of an item.
+    /// The tree of an item with an operator.
     pub(crate) fn repetition(
         alloc: Global,
         least: u32,
@@ -148,7 +148,7 @@ impl Hir {
         })
     }
 
-    /// Whether more nodes than the limit stand in one another below the root.
+    /// Whether nodes are nested more deeply below the root than the limit.
     #[cycle(deeper)]
     pub(crate) fn is_deeper_than(&self, limit: u32) -> bool
         ensures { IsTrue result ↔ (limit < depth (tree_of self.now)) }
@@ -165,7 +165,7 @@ impl Hir {
     }
 }
 
-/// Whether that holds of one of the trees.
+/// Whether that holds for one of the trees.
 #[cycle(deeper)]
 fn is_one_deeper_than(trees: &[Hir], limit: u32) -> bool
     ensures { IsTrue result ↔ (limit < depth_of_list (trees_of (map tree_of trees.now))) }

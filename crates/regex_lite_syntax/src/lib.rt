@@ -1,10 +1,10 @@
-//! What a pattern says: its errors, its tree and its grammar, and where a match can begin.
+//! Parsing: the errors, the tree and the grammar of patterns, and prefilters.
 //!
-//! [`Hir::parse`] reads a pattern's characters under the [`Flags`] of a [`Config`] and gives its
-//! tree, [`Hir`], or an [`Error`]. The module `parse` has a reader for each construct and keeps the
-//! open groups on a stack of its own; `class` makes the sets that a tree holds, `hir` has the
-//! properties of a tree, and `error` names each way of refusing. `prefilter` says where matches of
-//! trees can begin. `laws` holds what is true of the definitions alone.
+//! [`Hir::parse`] parses a pattern under the [`Flags`] of a [`Config`] and returns its tree,
+//! [`Hir`], or an [`Error`]. The module `parse` has a function for each construct and keeps the
+//! open groups on a stack of its own. `class` builds the character sets of a tree, `hir` has the
+//! properties of a tree, and `error` the errors. `prefilter` derives from trees where matches can
+//! begin. `laws` has theorems about the definitions alone.
 #![tactic(auto)]
 
 mod class;

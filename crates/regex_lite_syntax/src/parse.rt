@@ -1,9 +1,8 @@
-//! From a pattern to its tree.
+//! The parser: from a pattern to its tree.
 //!
-//! The parser goes over the pattern once, and keeps the open groups on a stack of its own: no
-//! pattern, however deep its groups stand in one another, is read by recursion. It takes one
-//! thing after another: an item of a branch, an operator, a `|`, the head of a group or its end,
-//! or a directive.
+//! The parser makes one pass over the pattern, and keeps the open groups on a stack of its own:
+//! however deeply groups are nested, there is no recursion. Each step reads one part: an item of a
+//! branch, an operator, a `|`, the head of a group or its end, or a directive.
 ghost use Rattle.std.specs.Prelude.{◌≡◌, ◌<◌, ◌≤◌, ◌^◌, ◌↔◌, ◌≢◌, ◌∷◌, [], drop};
 ghost use Rattle.std.specs.Prelude.{length, chars, IsTrue, IfOk, IfErr, OnOk};
 ghost use Rattle.regex_lite_syntax.specs.Errors.{kind_of};
@@ -42,12 +41,12 @@ use group_names::GroupNames;
 use level::{Level, OpenGroup};
 use std::alloc::{AllocError, Global};
 
-/// What a pattern is read under.
+/// The settings under which a pattern is parsed.
 #[derive(Clone, Copy, PartialEq, Eq, Debug)]
 pub struct Config {
     /// The flags at its first character.
     pub flags: Flags,
-    /// How deep groups may stand in one another, and the tree's nodes below its root.
+    /// How deeply groups may be nested, and the tree's nodes below its root.
     pub nest_limit: u32,
 }
 
@@ -55,13 +54,13 @@ pub struct Config {
 #[derive(Drop)]
 pub(crate) struct Parser {
     alloc: Global,
-    /// How many groups have been numbered.
+    /// The number of groups that have been numbered.
     groups: u32,
-    /// Their names, in order.
+    /// The names of groups, in order.
     names: GroupNames,
     /// The open groups, the innermost last.
     below: Vec<OpenGroup>,
-    /// What has been read of the innermost one, or outside them all.
+    /// What has been read of the innermost open group, or of the whole pattern if none is open.
     here: Level,
 }
 
@@ -70,8 +69,8 @@ impl Hir {
     ///
     /// # Errors
     ///
-    /// `Syntax` where the grammar gives the pattern no tree, `Nesting` where it nests too deep,
-    /// `Groups` where it has more groups than can be numbered, and `Memory` if memory runs out.
+    /// `Syntax` if the grammar gives the pattern no tree, `Nesting` if it nests too deeply,
+    /// `Groups` if it has more groups than can be numbered, and `Memory` if memory runs out.
     pub fn parse(alloc: Global, config: Config, pattern: &str) -> Result<Hir, Error>
         ensures tree { IfOk result (λ hir.
             IsAdmitted config.flags config.nest_limit (chars pattern.now) (tree_of hir)) }
@@ -115,7 +114,7 @@ fn parse_chars(alloc: Global, config: Config, chars: &[char]) -> Result<Hir, Err
 }
 
 impl Parser {
-    /// Before the first character.
+    /// A parser before the first character.
     fn new(alloc: Global, flags: Flags) -> Parser
         ensures state { (pattern : Text) → state result pattern 0 ≡ first_state flags pattern }
         ensures names { result.names ≡ [] }
@@ -129,7 +128,7 @@ impl Parser {
         }
     }
 
-    /// Where the gap at the index ends.
+    /// The end of the gap at the index.
     fn skip_gap(&self, chars: &[char], at: usize) -> usize
         requires { at ≤ length chars.now }
         ensures inside { (at ≤ result) × (result ≤ length chars.now) }
@@ -139,7 +138,7 @@ impl Parser {
         skip_gap(chars, at, self.here.flags.ignore_whitespace)
     }
 
-    /// How many groups are open.
+    /// The number of open groups.
     fn open_groups(&self) -> usize
         ensures { result ≡ length self.now.below.items }
     {
@@ -153,7 +152,7 @@ impl Parser {
         self.below.len() > nest_limit as usize
     }
 
-    /// Reads what stands at the index, past the gap, and returns the index after it.
+    /// Reads the part at the index, and the gap before it, and returns the index after it.
     fn step(&mut self, chars: &[char], at: usize) -> Result<usize, Error>
         requires inside { at < length chars.now }
         requires past_gap { EndsGap self.old.here.flags.ignore_whitespace (drop at chars.now) }
@@ -180,7 +179,7 @@ impl Parser {
         }
     }
 
-    /// The end of the pattern: the tree, if no group is open and the tree is no deeper than the
+    /// Ends the pattern: returns the tree, if no group is open and the tree is no deeper than the
     /// limit.
     fn finish(self, nest_limit: u32) -> Result<Hir, Error>
         ensures ok { IfOk result (λ hir.
@@ -199,7 +198,7 @@ impl Parser {
         Ok(hir)
     }
 
-    /// An item that is no group stands at the index, if anything that the grammar has does.
+    /// Reads an item that isn't a group. Nothing else can be at the index.
     fn read_item(&mut self, chars: &[char], at: usize) -> Result<usize, Error>
         requires inside { at < length chars.now }
         requires past_gap { EndsGap self.old.here.flags.ignore_whitespace (drop at chars.now) }
@@ -217,7 +216,7 @@ impl Parser {
         Ok(end)
     }
 
-    /// An item follows.
+    /// Adds an item to the branch.
     fn add(&mut self, item: Hir) -> Result<(), AllocError>
         ensures { OnOk result (Adds self.old self.new (tree_of item)) }
     {
@@ -225,7 +224,7 @@ impl Parser {
         Ok(())
     }
 
-    /// A branch ends, and the next begins.
+    /// Ends a branch, and begins the next.
     fn end_branch(&mut self) -> Result<(), AllocError>
         ensures { OnOk result (EndsBranch self.old self.new) }
     {

@@ -18,6 +18,6 @@ words (Escape text) = codes "escape" ∷ text.now ∷ []
 abbrev pub Asks : (args : List (Bor (List ℕ))) → Command → Type 0
 Asks args command = map (λ arg. arg.now) args ≡ words command
 
--- they ask for none
+-- the arguments ask for no command
 abbrev pub AskForNone : (args : List (Bor (List ℕ))) → Type 0
 AskForNone args = (command : Command) → Asks args command → ⊥

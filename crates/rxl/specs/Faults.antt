@@ -1,4 +1,4 @@
--- What a fault says, and the line that reports it.
+-- The meaning of a fault, and the line that reports it.
 use Rattle.std.specs.Prelude.{◌≡◌, ◌⊎◌, ◌++◌, ℕ, Bool, false, List, Option, IfSome, IsUtf8, codes}
 use Rattle.std.specs.Borrow.{Bor}
 use Rattle.std.specs.Io.KnownBytes.{Appends}
@@ -28,13 +28,13 @@ abbrev pub line_of_fault : Failure → List ℕ
 line_of_fault fault = text_of_fault fault ++ codes "\n"
 
 -- a writer that held the first bytes holds the second now: it has received the line of the fault,
--- or a beginning of it
+-- or a prefix of it
 abbrev pub IsReported : Failure → (before now : Option (List ℕ)) → Type 0
 IsReported fault before now =
     (written : List ℕ) × Begins written (line_of_fault fault) × Appends before now written
 
--- the first fault is reported as the second: as itself, or a refusal as the out-of-memory error,
--- where there is no memory to report it
+-- the first fault is reported as the second: as itself, or an error as the out-of-memory error if
+-- there is no memory to report it
 abbrev pub IsReportedAs : Failure → Failure → Type 0
 IsReportedAs (Refused error) named =
     (named ≡ Refused error) ⊎ (named ≡ Refused out_of_memory)
@@ -44,9 +44,8 @@ IsReportedAs fault named = named ≡ fault
 abbrev pub IsReadFault : Failure → Type 0
 IsReadFault fault = (fault ≡ Unreadable) ⊎ (fault ≡ Refused out_of_memory)
 
--- what the fault says of a pattern that is asked about and of the input is true. A fault of the
--- input comes only where the pattern is accepted, and then no refusal comes but the out-of-memory
--- error
+-- what the fault says of a pattern that is asked about and of the input is true. there is a fault
+-- of the input only if the pattern is accepted, and then the only error is that memory ran out
 abbrev pub IsQuestionFault : Failure → (pattern : List ℕ) → (input : Option (List ℕ)) → Type 0
 IsQuestionFault Usage pattern input = ⊥
 IsQuestionFault NotUtf8 pattern input =
@@ -62,13 +61,13 @@ abbrev pub IsFaultOf : Failure → Command → (input : Option (List ℕ)) → T
 IsFaultOf fault (Ask question pattern) input = IsQuestionFault fault pattern.now input
 IsFaultOf fault (Escape text) input = fault ≡ Refused out_of_memory
 
--- the fault is one of the arguments, or of the command that they ask for
+-- the fault is due for the arguments, or for the command that they ask for
 abbrev pub IsFault : Failure → (args : List (Bor (List ℕ))) → (input : Option (List ℕ)) → Type 0
 IsFault Usage args input = AskForNone args
 IsFault fault args input =
     (command : Command) × Asks args command × IsFaultOf fault command input
 
--- this would have been printed, and a beginning of it was written
+-- a prefix of what would have been printed was written
 abbrev pub IsCutShort : (args : List (Bor (List ℕ))) → (input before now : Option (List ℕ))
     → Type 0
 IsCutShort args input before now =

@@ -18,7 +18,7 @@ use Rattle.rxl.specs.declared.command.Question.TheVariants.{IsMatch, Find, Captu
 abbrev pub span_text : ℕ × ℕ → List ℕ
 span_text span = decimal span.0 ++ codes ".." ++ decimal span.1
 
--- the same and a line feed
+-- a span and a line feed
 abbrev pub span_line : ℕ × ℕ → List ℕ
 span_line span = span_text span ++ codes "\n"
 
@@ -27,11 +27,11 @@ abbrev pub group_text : Option (ℕ × ℕ) → List ℕ
 group_text None = codes "-"
 group_text (Some span) = span_text span
 
--- those of several groups, with a space before each
+-- the spans of several groups, with a space before each
 abbrev pub spaced : List (Option (ℕ × ℕ)) → List ℕ
 spaced spans = flat_map (λ span. codes " " ++ group_text span) spans
 
--- those of all groups of a match with a space between, and a line feed
+-- the spans of all groups of a match, separated by spaces, and a line feed
 abbrev pub groups_line : List (Option (ℕ × ℕ)) → List ℕ
 groups_line [] = codes "\n"
 groups_line (span ∷ spans) = group_text span ++ spaced spans ++ codes "\n"
@@ -45,7 +45,7 @@ abbrev pub has_some : List Found → Bool
 has_some [] = false
 has_some (found ∷ list) = true
 
--- the matches of the pattern, and a line of each
+-- a line for each match of the pattern
 pub record PrintsMatches (re : Expression) (haystack : List ℕ) (found : Bool) (text : List ℕ)
     : Type 0 where
   pub matches : List Found
@@ -54,7 +54,7 @@ pub record PrintsMatches (re : Expression) (haystack : List ℕ) (found : Bool) 
   pub printed :
       text ≡ flat_map span_line (map (found_span (chars haystack)) matches)
 
--- the matches of the pattern, and a line of the groups of each
+-- a line with the groups of each match of the pattern
 pub record PrintsGroups (re : Expression) (haystack : List ℕ) (found : Bool) (text : List ℕ)
     : Type 0 where
   pub matches : List Found
@@ -64,7 +64,7 @@ pub record PrintsGroups (re : Expression) (haystack : List ℕ) (found : Bool) (
   pub known : found ≡ has_some matches
   pub printed : text ≡ flat_map (λ own. groups_line own.spans) groups
 
--- the pieces of the haystack, and a line of each
+-- a line for each piece of the haystack
 pub record PrintsPieces (re : Expression) (haystack text : List ℕ) : Type 0 where
   pub pieces : List (List ℕ)
   pub are_all : ArePieces re haystack pieces

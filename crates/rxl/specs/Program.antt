@@ -16,8 +16,8 @@ abbrev pub status_of : (found : Bool) → ℕ
 status_of true = 0
 status_of false = 1
 
--- this is printed for the question about the pattern, under the default settings, and the input.
--- Where the input's bytes aren't known nothing is said of the text
+-- this text is printed for the question about the pattern, under the default settings, and the
+-- input; if the input's bytes aren't known, nothing is said about the text
 pub record IsQuestionAnswered (question : Question) (pattern : List ℕ) (input : Option (List ℕ))
     (found : Bool) (text : List ℕ) : Type 0 where
   -- the grammar gives the pattern a tree, and no limit is exceeded
@@ -32,11 +32,11 @@ abbrev pub TakesInput : Command → Type 0
 TakesInput (Ask question pattern) = IsAccepted (default_settings pattern.now)
 TakesInput (Escape text) = ⊥
 
--- so is the command that the arguments ask for
+-- the command that the arguments ask for is answered from the input
 abbrev pub AsksForInput : (args : List (Bor (List ℕ))) → Type 0
 AsksForInput args = (command : Command) × Asks args command × TakesInput command
 
--- this is printed for the command
+-- this text is printed for the command
 abbrev pub IsCommandAnswered : Command → (input : Option (List ℕ)) → (found : Bool)
     → (text : List ℕ) → Type 0
 IsCommandAnswered (Ask question pattern) input found text =
@@ -44,7 +44,7 @@ IsCommandAnswered (Ask question pattern) input found text =
 IsCommandAnswered (Escape pattern) input found text =
     (found ≡ true) × (text ≡ escaped_pattern pattern.now)
 
--- the arguments ask for a command, and this is printed for it
+-- the arguments ask for a command, and this text is printed for it
 abbrev pub IsAnswered : (args : List (Bor (List ℕ))) → (input : Option (List ℕ))
     → (found : Bool) → (text : List ℕ) → Type 0
 IsAnswered args input found text =

@@ -1,33 +1,33 @@
-//! What the arguments ask for.
+//! Commands: what the arguments ask for.
 ghost use Rattle.std.specs.Prelude.{◌≡◌, MatchOption};
 ghost use Rattle.rxl.specs.Commands.{Asks};
 
-/// What the arguments ask for.
+/// A command: what the arguments ask for.
 #[derive(Clone, Copy, Debug)]
 pub(crate) enum Command<'a> {
-    /// A question about the pattern and standard input.
+    /// Answer a question about the pattern and standard input.
     Ask(Question<'a>, &'a str),
-    /// A pattern that matches exactly this text.
+    /// Print a pattern that matches exactly this text.
     Escape(&'a str),
 }
 
-/// What is asked of a pattern and a haystack.
+/// A question about a pattern and a haystack.
 #[derive(Clone, Copy, Debug)]
 pub(crate) enum Question<'a> {
     /// Whether there is a match.
     IsMatch,
-    /// Where the matches are.
+    /// The spans of the matches.
     Find,
-    /// Where the groups of the matches are.
+    /// The spans of the groups of the matches.
     Captures,
-    /// What stands between the matches.
+    /// The pieces between the matches.
     Split,
     /// The haystack with each match replaced by this template.
     Replace(&'a str),
 }
 
 impl<'a> Command<'a> {
-    /// What the arguments ask for, if they are a complete command.
+    /// The command of the arguments, if they are a complete one.
     pub fn of(args: &[&'a str]) -> Option<Command<'a>>
         ensures { MatchOption result ((command : Command) → Asks args.now command → ⊥)
             (Asks args.now) }

@@ -1,4 +1,4 @@
-//! What the commands print.
+//! The output of the commands.
 ghost use Rattle.std.specs.Prelude.{◌≡◌, ◌↔◌, ⊤, true, option_map, IfOk, IfErr, IsTrue};
 ghost use Rattle.std.specs.Cow.{IsOwnedStr};
 ghost use Rattle.regex_lite.specs.Errors.{out_of_memory};
@@ -14,7 +14,7 @@ use std::alloc::Global;
 use std::borrow::CowStr;
 use std::io::Write;
 
-/// Prints where the matches are, and returns whether there is one.
+/// Prints the spans of the matches, and returns whether there is one.
 pub(crate) fn print_matches<W: Write>(
     regex: &Regex,
     haystack: &str,
@@ -37,7 +37,7 @@ pub(crate) fn print_matches<W: Write>(
     Ok(has_match)
 }
 
-/// Prints where the groups of the matches are, and returns whether there is a match.
+/// Prints the spans of the groups of the matches, and returns whether there is a match.
 pub(crate) fn print_captures<W: Write>(
     regex: &Regex,
     haystack: &str,
@@ -60,7 +60,7 @@ pub(crate) fn print_captures<W: Write>(
     Ok(has_match)
 }
 
-/// Prints what stands between the matches. There is always something.
+/// Prints the pieces between the matches. There is always at least one.
 pub(crate) fn print_pieces<W: Write>(
     regex: &Regex,
     haystack: &str,
@@ -100,11 +100,11 @@ pub(crate) fn print_replaced<W: Write>(
 {
     let replaced = regex.replace_all(haystack, template)?;
     output.text(out, replaced.as_str());
-    // Without a match the haystack itself is returned, and with one a new text.
+    // Without a match the haystack itself is returned, otherwise a new text.
     Ok(is_new(&replaced))
 }
 
-/// Whether the text is a new one.
+/// Whether the text is owned, and so a new one.
 fn is_new(text: &CowStr<'_>) -> bool
     ensures { IsTrue result ↔ IsOwnedStr text.now }
 {
@@ -155,7 +155,7 @@ fn print_group<W: Write>(group: Option<Match<'_>>, output: &mut Output, out: &mu
     }
 }
 
-/// Prints where a match starts and ends.
+/// Prints the span of a match.
 fn print_span<W: Write>(found: Match<'_>, output: &mut Output, out: &mut W)
     ensures { Puts output.old (W.contents out.old) output.new (W.contents out.new)
         (span_text (span_of_match found.entry)) }

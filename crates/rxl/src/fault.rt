@@ -11,7 +11,7 @@ use std::alloc::Global;
 use std::io;
 use std::io::Write;
 
-/// What goes wrong in a run.
+/// A fault of a run.
 #[derive(Debug, Drop)]
 pub(crate) enum Failure {
     /// The arguments aren't a complete command.
@@ -22,12 +22,12 @@ pub(crate) enum Failure {
     Unreadable,
     /// A write to standard output failed.
     Unwritten,
-    /// The pattern was refused, or memory ran out.
+    /// The pattern was rejected, or memory ran out.
     Refused(Error),
 }
 
 impl Failure {
-    /// What a failed read of standard input is reported as.
+    /// The fault for a failed read of standard input.
     pub(crate) fn of_read(error: io::Error) -> Failure
         ensures { IsReadFault result }
     {
@@ -37,12 +37,12 @@ impl Failure {
         }
     }
 
-    /// Writes the line that reports the fault. If there is no memory to describe a refusal, the
-    /// line reports that memory ran out.
+    /// Writes the line that reports the fault. If there is no memory to describe an error, the line
+    /// reports that memory ran out.
     ///
     /// # Errors
     ///
-    /// A write failed, and a beginning of the line was written.
+    /// If a write failed. Then a prefix of the line was written.
     pub(crate) fn report<W: Write>(self, alloc: Global, out: &mut W) -> io::Result<()>
         ensures { (named : Failure) × IsReportedAs self named
             × IsWritten (W.contents out.old) (W.contents out.new) (line_of_fault named)
@@ -90,7 +90,7 @@ impl From<io::Error> for Failure {
 
     ghost from_gives = { λ _ fault. fault ≡ Unwritten };
 
-    /// What a failed write of standard output is reported as.
+    /// The fault for a failed write of standard output.
     fn from(_: io::Error) -> Failure {
         Failure::Unwritten
     }

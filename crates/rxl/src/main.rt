@@ -1,7 +1,8 @@
 //! Searches standard input for a regular expression, or escapes a text.
 //!
-//! `main` gathers the arguments and the standard streams of the process; `program` does the work
-//! over any reader and writers, and `fault` says why a run ends without an answer.
+//! `main` gathers the arguments and the standard streams of the process; `program` does the work,
+//! generic over the reader and the writers, and `fault` has the reasons why a run ends without an
+//! answer.
 #![tactic(auto)]
 
 mod command;
@@ -35,7 +36,8 @@ fn main(rt: HostRuntime) -> ExitCode {
 ///
 /// # Errors
 ///
-/// One of them isn't valid UTF-8, so that they ask for no command, or there is no memory for them.
+/// If one of them isn't valid UTF-8, so that they aren't a command, or if there is no memory for
+/// them.
 fn arguments<R: Env + AllocGlobal>(rt: &R) -> io::Result<Vec<String>> {
     let mut words = Vec::new(rt.alloc());
     for word in env::args(rt)?.skip(1) {
@@ -44,7 +46,7 @@ fn arguments<R: Env + AllocGlobal>(rt: &R) -> io::Result<Vec<String>> {
     Ok(words)
 }
 
-/// Prints how the program is used, where there are no arguments to run on.
+/// Prints the usage of the program if the arguments can't be read.
 fn misused(rt: &HostRuntime) -> ExitCode {
     let _ = Failure::Usage.report(rt.alloc(), &mut rt.stderr());
     ExitCode::from(2)

@@ -1,4 +1,4 @@
-//! Buffered output, written in large parts.
+//! Buffered output.
 ghost use Rattle.std.specs.Prelude.{◌≡◌, ◌≤◌, ◌++◌, ℕ, List, [], drop, length};
 ghost use Rattle.std.specs.Prelude.{Option, IfErr, IfOk, false, is_ok, codes};
 ghost use Rattle.std.specs.Fmt.{decimal};
@@ -12,13 +12,13 @@ use std::alloc::Global;
 use std::io;
 use std::io::Write;
 
-/// How many bytes are buffered at most.
+/// The greatest number of bytes that are buffered.
 const LARGE: usize = 8192;
 
-/// How many digits a number has at most.
+/// The greatest number of digits of a number.
 const DIGITS: usize = 20;
 
-/// Texts that were printed and are still to be written. Once a write failed, all further texts are
+/// Texts that were printed but not yet written. Once a write has failed, all further texts are
 /// dropped.
 #[derive(Drop)]
 pub(crate) struct Output {
@@ -31,7 +31,7 @@ impl Output {
     ///
     /// # Errors
     ///
-    /// The memory of the buffer is requested here, and may be refused.
+    /// If there is no memory for the buffer, which is allocated here.
     pub fn new(alloc: Global) -> Result<Output, Error>
         ensures waiting { IfOk result (λ output. output.waiting.items ≡ []) }
         ensures has_failed { IfOk result (λ output. output.has_failed ≡ false) }
@@ -43,7 +43,7 @@ impl Output {
         })
     }
 
-    /// Prints a text. If there is no room to buffer it, it's written at once.
+    /// Prints a text. If it doesn't fit the buffer, it is written at once.
     pub fn text<W: Write>(&mut self, out: &mut W, text: &str)
         ensures { Puts self.old (W.contents out.old) self.new (W.contents out.new) text.now }
     {
@@ -66,7 +66,7 @@ impl Output {
             self.send(out, b"");
         }
         if !self.has_failed {
-            // There is room for the digits. If they were refused, nothing more would be written.
+            // There is room for the digits, so this doesn't fail.
             self.has_failed = write!(self.waiting, "{number}").is_err();
         }
     }
@@ -86,7 +86,7 @@ impl Output {
     ///
     /// # Errors
     ///
-    /// `Unwritten` where a write failed, now or before.
+    /// `Unwritten` if a write failed, now or before.
     pub fn finish<W: Write>(self, out: &mut W) -> Result<(), Failure>
         ensures written { (before : Option (List ℕ)) → (text : List ℕ)
             → IsPrinted before (W.contents out.old) self text
@@ -110,7 +110,7 @@ pub(crate) fn write_line<W: Write>(out: &mut W, text: &str) -> io::Result<()>
     write_both(out, text.as_bytes(), b"\n")
 }
 
-/// Writes the bytes of both.
+/// Writes the bytes of both slices.
 fn write_both<W: Write>(out: &mut W, first: &[u8], second: &[u8]) -> io::Result<()>
     ensures { IsWritten (W.contents out.old) (W.contents out.new) (first.now ++ second.now)
         (is_ok result) }
@@ -119,7 +119,7 @@ fn write_both<W: Write>(out: &mut W, first: &[u8], second: &[u8]) -> io::Result<
     write_all(out, second)
 }
 
-/// Writes all bytes. Where a write fails, a beginning of them was written.
+/// Writes all bytes. If a write fails, a prefix of them was written.
 fn write_all<W: Write>(out: &mut W, bytes: &[u8]) -> io::Result<()>
     ensures { IsWritten (W.contents out.old) (W.contents out.new) bytes.now (is_ok result) }
 {

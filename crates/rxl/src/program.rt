@@ -1,4 +1,4 @@
-//! What the program does, over any reader and writers.
+//! The program, generic over its reader and its writers.
 ghost use Rattle.std.specs.Prelude.{◌≡◌, ◌<◌, ◌≤◌, ◌⊎◌, ⊤, List, ℕ};
 ghost use Rattle.std.specs.Prelude.{Err, IfOk, IfErr, IfSome, IsUtf8};
 ghost use Rattle.std.specs.Io.KnownBytes.{Appends};
@@ -23,13 +23,13 @@ use std::alloc::Global;
 use std::io::{Read, Write};
 use std::str;
 
-/// Runs the program on its arguments, without the program's own name, and returns its exit
-/// status: 0 where what was asked for is found, 1 where it isn't there, and 2 after a fault, which
-/// is one line on `err`.
+/// Runs the program on its arguments, without the program's own name, and returns its exit status:
+/// 0 if what was asked for was found, 1 if it wasn't, and 2 after a fault, which is reported in one
+/// line on `err`.
 ///
-/// Wrong arguments are found before anything else. Then the pattern is built, and then the whole
-/// input is read. So nothing is read where the arguments are wrong, where a text is escaped, or
-/// where the pattern is refused. What was printed before a fault stays.
+/// The arguments are checked first. Then the pattern is compiled, and then the whole input is read.
+/// So nothing is read if the arguments are wrong, if a text is to be escaped, or if the pattern is
+/// rejected. What was printed before a fault remains.
 pub(crate) fn run<R: Read, O: Write, E: Write>(
     alloc: Global,
     args: &[&str],

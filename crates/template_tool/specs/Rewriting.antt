@@ -8,9 +8,9 @@ use Rattle.regex_lite.specs.RegexList.{AllPaired}
 use Rattle.regex_lite.specs.Search.Answer.{Found}
 use Rattle.regex_lite.specs.TextLaws.{StandsFor}
 
--- the new text is the text with another in the place of each of its matches: what the template
--- gives for the groups of the match, or the template itself if it has no `$`. What stands before,
--- between and after the matches stays
+-- the new text is the text with each match replaced by the template's expansion for the groups of
+-- the match, or by the template itself if it has no `$`; the pieces before, between and after the
+-- matches are unchanged
 pub record IsRewriting (re : Expression) (template text new : List ℕ) : Type 0 where
   pub found : List Found
   pub are_all : AreMatches re (chars text) None found

@@ -1,4 +1,4 @@
-//! Replaces the matches of a pattern in standard input: `template_tool PATTERN TEMPLATE` writes the
+//! Replaces the matches of a pattern in standard input: `template_tool PATTERN TEMPLATE` prints the
 //! new text.
 #![tactic(auto)]
 

@@ -8,8 +8,8 @@ use regex_lite::laws::texts_rewrite_by_their_template;
 use regex_lite::{Error, Regex};
 use std::borrow::CowStr;
 
-/// The text with each match replaced by what the template gives for its groups: the text itself if
-/// there is no match. In the template `$name` and `${1}` stand for groups.
+/// The text with each match replaced by the template's expansion for its groups, or the text itself
+/// if there is no match. In the template `$name` and `${1}` refer to groups.
 ///
 /// # Errors
 ///

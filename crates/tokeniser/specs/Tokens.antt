@@ -7,8 +7,7 @@ use Rattle.tokeniser.specs.declared.tokens.Token.{Token}
 use Rattle.tokeniser.specs.declared.tokens.Fault.{Fault}
 use Rattle.tokeniser.specs.declared.tokens.Fault.TheVariants.{NoRule, Empty, Refused}
 
--- this is the lowest rule of which a match begins at one offset, and the match that it prefers ends
--- at the other
+-- this is the lowest rule that matches at `at`, and the match that it prefers there ends at `end`
 pub record IsPartAt (rules : List Expression) (text : List ℕ) (number at end : ℕ) : Type 0 where
   pub rule : Expression
   pub numbered : slice_get rules number ≡ Some rule
@@ -16,7 +15,7 @@ pub record IsPartAt (rules : List Expression) (text : List ℕ) (number at end :
       → slice_get rules lower ≡ Some other → ¬ (MatchesAt other text at)
   pub preferred : PrefersSpan rule text (at, end)
 
--- the token stands between these offsets
+-- the token lies between these offsets
 pub record IsTokenAt (rules : List Expression) (text : List ℕ) (at end : ℕ) (token : Token)
     : Type 0 where
   pub part : IsPartAt rules text token.rule at end

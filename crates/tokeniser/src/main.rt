@@ -1,4 +1,4 @@
-//! Splits standard input into tokens by rules: `tokeniser RULE..` writes the number of the rule and
+//! Splits standard input into tokens by rules: `tokeniser RULE..` prints the number of the rule and
 //! the text of each token. A rule is a pattern, and the lowest that matches wins.
 #![tactic(auto)]
 

@@ -7,7 +7,7 @@ use regex_lite::{Error, RegexList, RegexListSearcher};
 use std::alloc::{AllocFailed, Global};
 use std::fmt;
 
-/// A part of a text, and the rule that it was found by.
+/// A part of a text, and the rule that matches it.
 #[derive(Clone, Copy, Debug)]
 pub struct Token<'t> {
     /// The index of the rule.
@@ -16,7 +16,7 @@ pub struct Token<'t> {
     pub text: &'t str,
 }
 
-/// Why a text has no tokens.
+/// The reason why a text has no tokens.
 #[derive(Debug, Drop)]
 pub enum Fault {
     /// No rule matches at this offset, where the last token ends.
@@ -60,15 +60,15 @@ impl<T: Drop> From<AllocFailed<T>> for Fault {
     }
 }
 
-/// The text as tokens, from its start to its end.
+/// Splits the text into tokens, from its start to its end.
 ///
-/// Each token is by the lowest rule of which a match begins where the last token ends, and as long
-/// as that rule prefers.
+/// Each token is the match of the lowest rule that matches where the last token ends, as that rule
+/// prefers it.
 ///
 /// # Errors
 ///
-/// `NoRule` where no rule matches at the end of the last token, `Empty` where the token there would
-/// be empty, and `Refused` if memory runs out.
+/// `NoRule` if no rule matches at the end of the last token, `Empty` if the token there would be
+/// empty, and `Refused` if memory runs out.
 pub fn tokenise<'t>(
     alloc: Global,
     rules: &RegexList,
@@ -84,7 +84,7 @@ pub fn tokenise<'t>(
     tokens_of(alloc, &mut searcher, text)
 }
 
-/// The text as tokens by the rules that the searcher is for.
+/// Splits the text into tokens by the rules of the searcher.
 fn tokens_of<'t>(
     alloc: Global,
     searcher: &mut RegexListSearcher<'_>,

@@ -1,16 +1,16 @@
-//! Anchored searches for several patterns: for the match that starts at the offset.
+//! Anchored searches for several patterns: they find a match that starts at the offset.
 
 use crate::error::{unwrap, Error};
 use crate::raw::Where;
 use crate::{Captures, Match, RegexList};
 
 /// These calls find only a match that starts at the offset itself, of the pattern with the lowest
-/// number that matches there. They are over as soon as no match that starts there can come. The
+/// number that matches there. They stop as soon as no match that starts there can continue. The
 /// patterns' looks see the whole text, as in [`Regex::find_at`](crate::Regex::find_at).
 ///
 /// # Panics
 ///
-/// A call that returns no [`Result`] panics if memory is refused, or if the offset is above the
+/// A call that returns no [`Result`] panics if memory runs out, or if the offset is above the
 /// text's length or inside a character.
 ///
 /// # Errors
@@ -30,8 +30,8 @@ impl RegexList {
 
     /// Returns the match that starts at the offset.
     ///
-    /// A tokeniser takes each token from where the last one ended. Each call checks the whole text,
-    /// so for a long one take [`RegexList::find_iter`], and check where each match starts.
+    /// A tokeniser searches for each token where the last one ended. Each call checks the whole
+    /// text, so for a long one use [`RegexList::find_iter`], and check where each match starts.
     ///
     /// ```
     /// let list = regex_lite_proved::RegexList::new(["[0-9]+", "[a-z]+", "[-+*/]"])?;

@@ -1,4 +1,4 @@
-//! Searches for one pattern of a list, which is given by its number.
+//! Searches for one pattern of a list, given by its number.
 
 use std::sync::Arc;
 
@@ -6,21 +6,21 @@ use crate::error::{unwrap, Error};
 use crate::pattern::Pattern;
 use crate::{Captures, Match, RegexList};
 
-/// These calls search for the pattern with this number alone, and return what the calls of its own
-/// [`Regex`](crate::Regex) return, whatever the other patterns match. So a caller that prefers some
-/// patterns to others asks for them in that order, where [`RegexList::find`] returns the match that
-/// starts first.
+/// These calls search only for the pattern with this number, and return what the calls of its own
+/// [`Regex`](crate::Regex) return, whatever the other patterns match. [`RegexList::find`] returns
+/// the match that starts first; a caller that prefers some patterns to others searches for them in
+/// that order instead.
 ///
 /// # Panics
 ///
 /// If the list has no pattern with this number. A call that returns no [`Result`] also panics if
-/// memory is refused, or if the offset is above the text's length or inside a character.
+/// memory runs out, or if the offset is above the text's length or inside a character.
 ///
 /// # Errors
 ///
 /// A call that returns a [`Result`] returns [`Error::OutOfMemory`] or [`Error::BadOffset`] then.
 impl RegexList {
-    /// Returns whether the pattern may match the empty text, as far as it tells by itself: what
+    /// Returns whether the pattern may match the empty text: what
     /// [`Regex::may_be_empty`](crate::Regex::may_be_empty) returns for it.
     #[track_caller]
     pub fn may_be_empty(&self, number: usize) -> bool {
@@ -95,8 +95,8 @@ impl RegexList {
 
     /// Returns the groups of the first match of the pattern.
     ///
-    /// A router that takes the first of its rules that fits asks which match at all, and then for
-    /// the groups of that one:
+    /// A router that takes the first of its rules that matches first finds out which match, and
+    /// then searches for the groups of that one:
     ///
     /// ```
     /// let rules = regex_lite_proved::RegexList::new(["id=([0-9]+)", "([a-z]+)=([0-9]+)"])?;

@@ -16,7 +16,7 @@ use crate::{Captures, Cost, Match, RegexList};
 ///
 /// # Panics
 ///
-/// A call that returns no [`Result`] panics if memory is refused, or if the offset is above the
+/// A call that returns no [`Result`] panics if memory runs out, or if the offset is above the
 /// text's length or inside a character.
 ///
 /// # Errors
@@ -100,13 +100,13 @@ impl RegexList {
         Ok(span.map(|span| Match::numbered(text, span)))
     }
 
-    /// Returns the first match, and what the search for it cost.
+    /// Returns the first match, and the cost of the search for it.
     #[track_caller]
     pub fn find_counted<'h>(&self, text: &'h str) -> (Option<(usize, Match<'h>)>, Cost) {
         self.find_counted_at(text, 0)
     }
 
-    /// Returns the first match from the offset on, and what the search for it cost.
+    /// Returns the first match from the offset on, and the cost of the search for it.
     #[track_caller]
     pub fn find_counted_at<'h>(
         &self,
@@ -116,7 +116,7 @@ impl RegexList {
         unwrap(self.try_find_counted_at(text, start))
     }
 
-    /// Returns the first match, and what the search for it cost.
+    /// Returns the first match, and the cost of the search for it.
     pub fn try_find_counted<'h>(
         &self,
         text: &'h str,
@@ -124,7 +124,7 @@ impl RegexList {
         self.try_find_counted_at(text, 0)
     }
 
-    /// Returns the first match from the offset on, and what the search for it cost.
+    /// Returns the first match from the offset on, and the cost of the search for it.
     pub fn try_find_counted_at<'h>(
         &self,
         text: &'h str,
@@ -191,7 +191,7 @@ impl RegexList {
 ///
 /// # Panics
 ///
-/// If memory is refused, `next` of an iterator panics. Its `try_` form yields an error instead.
+/// If memory runs out, `next` of an iterator panics. Its `try_` form yields an error instead.
 ///
 /// # Errors
 ///

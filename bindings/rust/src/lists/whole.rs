@@ -1,4 +1,4 @@
-//! Searches of several patterns for whole matches: those of the whole text.
+//! Searches for whole matches of several patterns: matches of the whole text.
 
 use crate::error::{unwrap, Error};
 use crate::raw::Where;
@@ -9,7 +9,7 @@ use crate::{Captures, Match, RegexList};
 ///
 /// # Panics
 ///
-/// A call that returns no [`Result`] panics if memory is refused.
+/// A call that returns no [`Result`] panics if memory runs out.
 ///
 /// # Errors
 ///
@@ -45,8 +45,8 @@ impl RegexList {
         Ok(span.map(|span| Match::numbered(text, span)))
     }
 
-    /// Returns the groups of the match of the whole text, by their indices and names in its
-    /// pattern: of the ways in which that matches, those of the one that it prefers.
+    /// Returns the groups of the match of the whole text, with the indices and names of its
+    /// pattern, as that pattern prefers them.
     #[track_caller]
     pub fn full_captures<'h>(&self, text: &'h str) -> Option<(usize, Captures<'h>)> {
         unwrap(self.try_full_captures(text))

@@ -12,13 +12,13 @@ use crate::Cost;
 
 /// What a handle holds: a regex, or a list of patterns.
 pub trait Held: Sized + 'static {
-    /// Where a match is, as a call writes it.
+    /// The span of a match, as a call writes it.
     type Span: Copy + Default + fmt::Debug;
 
     /// The calls for such a handle.
     const CALLS: Calls<Self>;
 
-    /// Writes the groups of the first match, and how many they are. Returns the answer of the call.
+    /// Writes the groups of the first match, and their number. Returns the answer of the call.
     fn captures(
         handle: &mut Handle<Self>,
         text: &str,
@@ -27,8 +27,8 @@ pub trait Held: Sized + 'static {
         told: &mut GroupCount,
     ) -> u32;
 
-    /// Writes the groups of the next matches, how many each has, and how many matches these are, or
-    /// how many groups the next one has. Returns the answer of the call.
+    /// Writes the groups of the next matches, their number in each, and the number of matches, or
+    /// the number of groups of the next match. Returns the answer of the call.
     fn captures_all(
         handle: &mut Handle<Self>,
         text: &str,
@@ -42,7 +42,7 @@ pub trait Held: Sized + 'static {
 /// A call that returns whether there is a match.
 type IsMatch<H> = unsafe extern "C" fn(*mut Handle<H>, *const u8, usize, usize) -> u32;
 
-/// A call that writes where a match is.
+/// A call that writes the span of a match.
 type Find<H> =
     unsafe extern "C" fn(*mut Handle<H>, *const u8, usize, usize, *mut <H as Held>::Span) -> u32;
 
@@ -95,13 +95,13 @@ impl<H: Held> Handle<H> {
         }
     }
 
-    /// Returns how many places the patterns have, written out.
+    /// Returns the number of places of the patterns.
     pub fn places(&mut self) -> usize {
         // SAFETY: the handle is live, and borrowed mutably.
         unsafe { (H::CALLS.places)(self) }
     }
 
-    /// Returns how many arrows lead from place to place.
+    /// Returns the number of arrows of the patterns.
     pub fn arrows(&mut self) -> usize {
         // SAFETY: the handle is live, and borrowed mutably.
         unsafe { (H::CALLS.arrows)(self) }
@@ -135,7 +135,7 @@ impl<H: Held> Handle<H> {
         Ok(is_yes(answer)?.then_some(span))
     }
 
-    /// Returns the first match from the offset on, and what the search for it cost.
+    /// Returns the first match from the offset on, and the cost of the search for it.
     pub fn find_counted(
         &mut self,
         text: &str,
@@ -150,8 +150,8 @@ impl<H: Held> Handle<H> {
         Ok((is_yes(answer)?.then_some(span), cost))
     }
 
-    /// Writes the next matches, as many as the buffer holds, and returns how many these are. The
-    /// buffer isn't empty, and the walk is one over this text.
+    /// Writes the next matches, as many as the buffer holds, and returns their number. The buffer
+    /// isn't empty, and the walk is one over this text.
     pub fn find_all(
         &mut self,
         text: &str,
@@ -176,8 +176,7 @@ impl<H: Held> Handle<H> {
     }
 
     /// Writes the groups of the first match, and returns the number of its pattern, if there is a
-    /// match. The buffer is made longer where it has to be, and then as long as the match has
-    /// groups.
+    /// match. The buffer is extended if necessary, and then has the length of the match's groups.
     pub fn captures(
         &mut self,
         text: &str,
@@ -189,9 +188,9 @@ impl<H: Held> Handle<H> {
         })
     }
 
-    /// Writes the groups of the next matches and how many each has, and returns how many matches
-    /// these are. They may be fewer than the buffers hold although others follow. The spans are
-    /// made more where the next match has more groups. The walk is one over this text.
+    /// Writes the groups of the next matches and their number in each, and returns the number of
+    /// matches. They may be fewer than the buffers hold although others follow. The buffer of spans
+    /// is extended if the next match has more groups. The walk is one over this text.
     pub fn captures_all(
         &mut self,
         text: &str,
@@ -205,7 +204,7 @@ impl<H: Held> Handle<H> {
             resize(spans, count)?;
             answer = H::captures_all(self, text, walk, told, spans, &mut count);
         }
-        // Where memory is refused after some matches, these come first.
+        // If memory runs out after some matches, these come first.
         if answer != OUT_OF_MEMORY || count == 0 {
             is_yes(answer)?;
         }
@@ -213,9 +212,9 @@ impl<H: Held> Handle<H> {
     }
 }
 
-/// Returns the number of the pattern of the match whose groups `call` writes, with how many they
-/// are, if there is a match. `call` returns its answer. The buffer is made longer where it has to
-/// be, and then as long as the match has groups.
+/// Returns the number of the pattern of the match whose groups `call` writes, with their number, if
+/// there is a match. `call` returns its answer. The buffer is extended if necessary, and then has
+/// the length of the match's groups.
 pub(super) fn groups_written(
     spans: &mut Vec<Span>,
     mut call: impl FnMut(&mut [Span], &mut GroupCount) -> u32,

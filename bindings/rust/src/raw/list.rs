@@ -1,4 +1,4 @@
-//! The calls that a list of patterns alone has.
+//! The calls that only a list of patterns has.
 
 use super::calls::*;
 use super::handle::{groups_written, Calls, Handle, Held};
@@ -8,7 +8,7 @@ use super::{is_yes, resize, MESSAGE, YES};
 use crate::error::{Error, ListError};
 use crate::Options;
 
-/// A list of patterns, as what a handle holds.
+/// A list of patterns, as a handle holds it.
 pub enum List {}
 
 impl Held for List {
@@ -111,8 +111,8 @@ impl Handle<List> {
         Err(ListError { number, error })
     }
 
-    /// Returns whether the pattern with this number may match the empty text, as far as it tells by
-    /// itself. There is such a pattern.
+    /// Returns whether the pattern with this number may match the empty text if its looks are
+    /// assumed to hold. There is such a pattern.
     pub fn may_be_empty(&mut self, number: usize) -> bool {
         // SAFETY: the handle is live, and borrowed mutably.
         unsafe { regex_lite_list_may_be_empty(self, number) == YES }
@@ -143,7 +143,7 @@ impl Handle<List> {
     }
 
     /// Writes the groups of that match, and returns whether there is one. There is such a pattern.
-    /// The buffer is made longer where it has to be, and then as long as the match has groups.
+    /// The buffer is extended if necessary, and then has the length of the match's groups.
     pub fn captures_of(
         &mut self,
         number: usize,

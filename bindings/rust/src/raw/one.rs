@@ -1,4 +1,4 @@
-//! The calls that a regex alone has, and those that need no handle.
+//! The calls that only a regex has, and those that need no handle.
 
 use super::calls::*;
 use super::handle::{Calls, Handle, Held};
@@ -7,10 +7,10 @@ use super::{is_yes, resize, written, MESSAGE, OUT_OF_MEMORY, SYNTAX, YES};
 use crate::error::{Error, Fault};
 use crate::Options;
 
-/// How many bytes of a name there is room for at first.
+/// The number of bytes of a name for which there is room at first.
 const NAME: usize = 32;
 
-/// A regex, as what a handle holds.
+/// A regex, as a handle holds it.
 pub enum One {}
 
 impl Held for One {
@@ -110,19 +110,19 @@ impl Handle<One> {
         }
     }
 
-    /// Returns how many groups a match has, including the whole match.
+    /// Returns the number of groups of a match, including the whole match.
     pub fn groups(&mut self) -> usize {
         // SAFETY: the handle is live, and borrowed mutably.
         unsafe { regex_lite_groups(self) }
     }
 
-    /// Returns how many groups take part in every match, at least; 0 if that isn't known.
+    /// Returns the least number of groups that take part in every match; 0 if it isn't known.
     pub fn static_groups(&mut self) -> usize {
         // SAFETY: the handle is live, and borrowed mutably.
         unsafe { regex_lite_static_groups(self) }
     }
 
-    /// Returns whether the pattern may match the empty text, as far as it tells by itself.
+    /// Returns whether the pattern may match the empty text if its looks are assumed to hold.
     pub fn may_be_empty(&mut self) -> bool {
         // SAFETY: the handle is live, and borrowed mutably.
         unsafe { regex_lite_may_be_empty(self) == YES }
@@ -148,7 +148,7 @@ impl Handle<One> {
         Ok(is_yes(answer)?.then_some(end))
     }
 
-    /// Returns the first match in each of some texts, which follow one another and have these
+    /// Returns the first match in each of several texts, which are concatenated and have these
     /// lengths.
     pub fn find_each(&mut self, texts: &str, lens: &[usize]) -> Result<Vec<Span>, Error> {
         let mut spans = Vec::new();
@@ -170,7 +170,7 @@ impl Handle<One> {
     }
 }
 
-/// Returns the pattern that means this text and nothing else.
+/// Returns the pattern that matches exactly this text.
 pub fn escape(text: &str) -> Result<String, Error> {
     let pattern = written(text.len().saturating_mul(2), |buffer| {
         let mut len = 0;
@@ -183,7 +183,7 @@ pub fn escape(text: &str) -> Result<String, Error> {
     Ok(pattern?.unwrap_or_default())
 }
 
-/// Makes the error for a pattern that is refused, with a message of `len` bytes.
+/// Makes the error for a pattern that is rejected, with a message of `len` bytes.
 pub(super) fn refusal(
     number: u32,
     message: &[u8],
@@ -207,7 +207,7 @@ pub(super) fn refusal(
     }
 }
 
-/// Returns where the syntax of a pattern is wrong, if it is and memory isn't refused.
+/// Returns the place of the first fault in a pattern, if there is one and memory suffices.
 fn fault_in(pattern: &str, options: &Options) -> Option<Fault> {
     let mut told = RawFault::default();
     // SAFETY: all that is passed is live, and the pattern is as long as is said.

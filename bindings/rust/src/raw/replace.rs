@@ -27,7 +27,7 @@ extern "C" {
     ) -> u32;
 }
 
-/// Returns the text with all its matches replaced by what the library makes of the template.
+/// Returns the text with all its matches replaced by the library's expansion of the template.
 pub fn replaced(handle: &mut Handle<One>, text: &str, template: &str) -> String {
     let mut replacing = Replacing::default();
     let new = written(text.len(), |buffer| {

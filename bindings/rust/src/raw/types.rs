@@ -1,6 +1,6 @@
-//! What the calls are passed, laid out as C has it.
+//! The types that the calls take, laid out as in C.
 
-/// A part of a text. It is not there for a group that took no part in a match.
+/// A part of a text. A group that took no part in a match has none.
 #[repr(C)]
 #[derive(Clone, Copy, Debug, Default)]
 pub struct Span {
@@ -18,7 +18,7 @@ pub struct ListSpan {
     pub end: usize,
 }
 
-/// Where the match of a search may stand.
+/// Where the match of a search may lie.
 #[derive(Clone, Copy)]
 pub enum Where {
     /// It starts at this offset or later.
@@ -29,8 +29,8 @@ pub enum Where {
     Whole,
 }
 
-/// The number of the pattern that a match is of, and how many groups that has. The number is 0
-/// where there is one pattern.
+/// The number of a match's pattern, and the number of that pattern's groups. The former is 0 if
+/// there is one pattern.
 #[repr(C)]
 #[derive(Clone, Copy, Debug, Default)]
 pub struct GroupCount {
@@ -38,7 +38,7 @@ pub struct GroupCount {
     pub count: usize,
 }
 
-/// How far the matches of a text have been fetched: up to the end of the last of them.
+/// The position up to which the matches in a text have been fetched: the end of the last of them.
 #[repr(C)]
 #[derive(Clone, Copy, Debug, Default)]
 pub struct Walk {
@@ -53,7 +53,7 @@ impl Walk {
     }
 }
 
-/// Where a pattern is at fault.
+/// The place of a pattern's first fault.
 #[repr(C)]
 #[derive(Default)]
 pub struct RawFault {
@@ -62,14 +62,14 @@ pub struct RawFault {
     pub is_cut_short: bool,
 }
 
-/// One of several patterns, whose texts follow one another.
+/// One of several patterns, whose texts are concatenated.
 #[repr(C)]
 pub struct ListPattern {
     pub len: usize,
     pub options: crate::Options,
 }
 
-/// Which of several patterns is refused, and how long the message is.
+/// Which of several patterns is rejected, and the length of the message.
 #[repr(C)]
 #[derive(Default)]
 pub struct ListRefusal {

@@ -1,15 +1,15 @@
-//! Anchored searches: for the match that starts at the offset.
+//! Anchored searches: they find a match that starts at the offset.
 
 use crate::error::{unwrap, Error};
 use crate::raw::Where;
 use crate::{Captures, Match, Regex};
 
-/// These calls find only a match that starts at the offset itself, and are over as soon as none
-/// can. The pattern's looks see the whole text, as in [`Regex::find_at`].
+/// These calls find only a match that starts at the offset itself, and stop as soon as none can.
+/// The pattern's looks see the whole text, as in [`Regex::find_at`].
 ///
 /// # Panics
 ///
-/// A call that returns no [`Result`] panics if memory is refused, or if the offset is above the
+/// A call that returns no [`Result`] panics if memory runs out, or if the offset is above the
 /// text's length or inside a character.
 ///
 /// # Errors
@@ -27,7 +27,7 @@ impl Regex {
         self.shared.lock().is_match(text, Where::At(start))
     }
 
-    /// Returns the match that starts at the offset: of several, the one that the pattern prefers.
+    /// Returns the match that starts at the offset; of several, the one that the pattern prefers.
     ///
     /// ```
     /// let number = regex_lite_proved::Regex::new("[0-9]+")?;

@@ -11,7 +11,7 @@ use crate::{CaptureLocations, Captures, Match, Regex};
 ///
 /// # Panics
 ///
-/// A call that returns no [`Result`] panics if memory is refused, or if the offset is above the
+/// A call that returns no [`Result`] panics if memory runs out, or if the offset is above the
 /// text's length or inside a character.
 ///
 /// # Errors
@@ -64,8 +64,8 @@ impl Regex {
         Ok(found.map(|_| Captures::new(text, spans, &self.pattern)))
     }
 
-    /// Returns the groups of all matches that [`Regex::find_iter`] yields. They too are fetched
-    /// some at a time.
+    /// Returns the groups of all matches that [`Regex::find_iter`] yields. They too are fetched in
+    /// batches.
     ///
     /// ```
     /// let pair = regex_lite_proved::Regex::new("([a-z]+)=([0-9]+)")?;
@@ -83,7 +83,7 @@ impl Regex {
         self.first_captures(text, usize::MAX)
     }
 
-    /// Returns the groups of all matches, of which no more than `wanted` are wanted.
+    /// Returns the groups of all matches, of which at most `wanted` are wanted.
     pub(super) fn first_captures<'r, 'h>(
         &'r self,
         text: &'h str,
@@ -95,12 +95,13 @@ impl Regex {
         }
     }
 
-    /// Makes locations for [`Regex::captures_read`], which writes those of one match after another.
+    /// Makes locations for [`Regex::captures_read`], which writes to them for one match after
+    /// another.
     pub fn capture_locations(&self) -> CaptureLocations {
         CaptureLocations::new(self.captures_len())
     }
 
-    /// Writes where the groups of the first match are, and returns the match.
+    /// Writes the spans of the groups of the first match, and returns the match.
     ///
     /// ```
     /// let pair = regex_lite_proved::Regex::new("([a-z]+)=([0-9]+)?")?;
@@ -118,7 +119,7 @@ impl Regex {
         self.captures_read_at(locations, text, 0)
     }
 
-    /// Writes where the groups of the first match from the offset on are, and returns the match.
+    /// Writes the spans of the groups of the first match from the offset on, and returns the match.
     #[track_caller]
     pub fn captures_read_at<'h>(
         &self,
@@ -129,7 +130,7 @@ impl Regex {
         unwrap(self.try_captures_read_at(locations, text, start))
     }
 
-    /// Writes where the groups of the first match are, and returns the match.
+    /// Writes the spans of the groups of the first match, and returns the match.
     pub fn try_captures_read<'h>(
         &self,
         locations: &mut CaptureLocations,
@@ -138,7 +139,7 @@ impl Regex {
         self.try_captures_read_at(locations, text, 0)
     }
 
-    /// Writes where the groups of the first match from the offset on are, and returns the match.
+    /// Writes the spans of the groups of the first match from the offset on, and returns the match.
     pub fn try_captures_read_at<'h>(
         &self,
         locations: &mut CaptureLocations,

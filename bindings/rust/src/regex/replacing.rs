@@ -5,15 +5,15 @@ use std::borrow::Cow;
 use crate::error::{unwrap, Error};
 use crate::{Regex, Replacer};
 
-/// These calls replace the matches that [`Regex::find_iter`] yields by what a [`Replacer`] gives: a
-/// template for [`Captures::expand`](crate::Captures::expand), a text that stands for itself in a
+/// These calls replace the matches that [`Regex::find_iter`] yields by what a [`Replacer`] returns:
+/// a template for [`Captures::expand`](crate::Captures::expand), a literal text in a
 /// [`NoExpand`](crate::NoExpand), or a closure that is called with the groups of each match.
 ///
 /// What they return borrows the text exactly if there is no match.
 ///
 /// # Panics
 ///
-/// A call that returns no [`Result`] panics if memory is refused for a search.
+/// A call that returns no [`Result`] panics if memory runs out for a search.
 ///
 /// # Errors
 ///
@@ -47,7 +47,7 @@ impl Regex {
         self.replacen(text, 0, replacer)
     }
 
-    /// Returns the text with its first `limit` matches replaced, or all where the limit is 0.
+    /// Returns the text with its first `limit` matches replaced, or all if the limit is 0.
     #[track_caller]
     pub fn replacen<'h, R: Replacer>(
         &self,
@@ -76,7 +76,7 @@ impl Regex {
         self.try_replacen(text, 0, replacer)
     }
 
-    /// Returns the text with its first `limit` matches replaced, or all where the limit is 0.
+    /// Returns the text with its first `limit` matches replaced, or all if the limit is 0.
     pub fn try_replacen<'h, R: Replacer>(
         &self,
         text: &'h str,
@@ -101,11 +101,11 @@ impl Regex {
     }
 }
 
-/// A new text, as far as it is written.
+/// The new text, as far as it is written.
 struct Written<'h> {
     text: &'h str,
     new: Option<String>,
-    /// Where what hasn't been copied begins.
+    /// The start of the text that hasn't been copied.
     rest: usize,
 }
 
@@ -119,8 +119,8 @@ impl<'h> Written<'h> {
         }
     }
 
-    /// Copies the text up to the start of a match, and passes over the match. Returns what is to be
-    /// appended to.
+    /// Copies the text up to the start of a match, and skips the match. Returns the text to append
+    /// to.
     fn up_to(&mut self, start: usize, end: usize) -> &mut String {
         let new = self
             .new
@@ -130,7 +130,7 @@ impl<'h> Written<'h> {
         new
     }
 
-    /// Returns the new text with the rest, or the old one where nothing is replaced.
+    /// Returns the new text with the rest, or the old one if nothing was replaced.
     fn finish(self) -> Cow<'h, str> {
         match self.new {
             Some(mut new) => {

@@ -1,4 +1,4 @@
-//! Searches for whole matches, and for what stands between them.
+//! Searches for matches, and for the pieces between them.
 
 use crate::batches::Spans;
 use crate::error::{unwrap, Error};
@@ -11,7 +11,7 @@ use crate::{Cost, Match, Regex};
 ///
 /// # Panics
 ///
-/// A call that returns no [`Result`] panics if memory is refused, or if the offset is above the
+/// A call that returns no [`Result`] panics if memory runs out, or if the offset is above the
 /// text's length or inside a character.
 ///
 /// # Errors
@@ -76,24 +76,24 @@ impl Regex {
         Ok(span.map(|span| Match::new(text, span)))
     }
 
-    /// Returns the first match, and what the search for it cost.
+    /// Returns the first match, and the cost of the search for it.
     #[track_caller]
     pub fn find_counted<'h>(&self, text: &'h str) -> (Option<Match<'h>>, Cost) {
         self.find_counted_at(text, 0)
     }
 
-    /// Returns the first match from the offset on, and what the search for it cost.
+    /// Returns the first match from the offset on, and the cost of the search for it.
     #[track_caller]
     pub fn find_counted_at<'h>(&self, text: &'h str, start: usize) -> (Option<Match<'h>>, Cost) {
         unwrap(self.try_find_counted_at(text, start))
     }
 
-    /// Returns the first match, and what the search for it cost.
+    /// Returns the first match, and the cost of the search for it.
     pub fn try_find_counted<'h>(&self, text: &'h str) -> Result<(Option<Match<'h>>, Cost), Error> {
         self.try_find_counted_at(text, 0)
     }
 
-    /// Returns the first match from the offset on, and what the search for it cost.
+    /// Returns the first match from the offset on, and the cost of the search for it.
     pub fn try_find_counted_at<'h>(
         &self,
         text: &'h str,
@@ -103,7 +103,7 @@ impl Regex {
         Ok((span.map(|span| Match::new(text, span)), cost))
     }
 
-    /// Returns the least offset at which a match ends: where a search knows that there is one.
+    /// Returns the least offset at which a match ends.
     ///
     /// ```
     /// let regex = regex_lite_proved::Regex::new("[0-9]{2,}")?;
@@ -132,16 +132,16 @@ impl Regex {
     }
 }
 
-/// These calls search for all matches. No two of them overlap: a search goes on where the last
+/// These calls search for all matches. No two of them overlap: a search continues where the last
 /// match ended, and no empty match comes directly after another match.
 ///
 /// An iterator fetches 16 matches from the library at first, and then four times as many as before.
-/// So its first item may take as long as 16 matches do; [`Regex::find`] looks for one match alone.
-/// A call that takes a limit fetches no more matches than that at a time.
+/// So its first item may take as long as 16 matches do; [`Regex::find`] searches for a single
+/// match. A call that takes a limit fetches no more matches than that at a time.
 ///
 /// # Panics
 ///
-/// If memory is refused, `next` of an iterator panics. Its `try_` form yields an error instead.
+/// If memory runs out, `next` of an iterator panics. Its `try_` form yields an error instead.
 ///
 /// # Errors
 ///
@@ -165,7 +165,7 @@ impl Regex {
         self.first_matches(text, usize::MAX)
     }
 
-    /// Returns all matches, of which no more than `wanted` are wanted.
+    /// Returns all matches, of which at most `wanted` are wanted.
     pub(super) fn first_matches<'r, 'h>(
         &'r self,
         text: &'h str,
@@ -174,8 +174,8 @@ impl Regex {
         TryMatches(Spans::new(&self.shared, text, wanted))
     }
 
-    /// Returns what stands before the first match, between two, and after the last one: one piece
-    /// more than there are matches. A piece may be empty.
+    /// Returns the pieces before the first match, between two consecutive matches, and after the
+    /// last one: one more piece than matches. A piece may be empty.
     ///
     /// ```
     /// let comma = regex_lite_proved::Regex::new(", *")?;
@@ -186,13 +186,14 @@ impl Regex {
         Unwrapped(self.try_split(text))
     }
 
-    /// Returns what stands before the first match, between two, and after the last one.
+    /// Returns the pieces before the first match, between two consecutive matches, and after the
+    /// last one.
     pub fn try_split<'r, 'h>(&'r self, text: &'h str) -> TrySplit<'r, 'h> {
         TrySplit::new(self.try_find_iter(text))
     }
 
-    /// Returns at most `limit` pieces, of which the last is all that is left of the text. A limit
-    /// of 0 gives none.
+    /// Returns at most `limit` pieces, the last of which is the rest of the text. With a limit of 0
+    /// there are none.
     ///
     /// ```
     /// let colon = regex_lite_proved::Regex::new(": *")?;
@@ -204,7 +205,7 @@ impl Regex {
         Unwrapped(self.try_splitn(text, limit))
     }
 
-    /// Returns at most `limit` pieces, of which the last is all that is left of the text.
+    /// Returns at most `limit` pieces, the last of which is the rest of the text.
     pub fn try_splitn<'r, 'h>(&'r self, text: &'h str, limit: usize) -> TrySplitN<'r, 'h> {
         let matches = self.first_matches(text, limit.saturating_sub(1));
         TrySplitN {
@@ -213,12 +214,12 @@ impl Regex {
         }
     }
 
-    /// Returns the first match in each of some texts, which are copied first. The searches share
-    /// their memory, and what one learns of the pattern speeds up the next.
+    /// Returns the first match in each of several texts, which are copied first. The searches share
+    /// their memory and the transitions that they cache.
     ///
     /// # Panics
     ///
-    /// If memory is refused.
+    /// If memory runs out.
     ///
     /// ```
     /// let level = regex_lite_proved::Regex::new("WARN|ERROR")?;
@@ -232,7 +233,7 @@ impl Regex {
         unwrap(self.try_find_each(texts))
     }
 
-    /// Returns the first match in each of some texts, or [`Error::OutOfMemory`].
+    /// Returns the first match in each of several texts, or [`Error::OutOfMemory`].
     pub fn try_find_each<'h>(&self, texts: &[&'h str]) -> Result<Vec<Option<Match<'h>>>, Error> {
         let joined = texts.concat();
         let lens: Vec<_> = texts.iter().map(|text| text.len()).collect();

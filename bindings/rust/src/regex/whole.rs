@@ -1,15 +1,15 @@
-//! Searches for whole matches: those of the whole text.
+//! Searches for whole matches: matches of the whole text.
 
 use crate::error::{unwrap, Error};
 use crate::raw::Where;
 use crate::{Captures, Match, Regex};
 
-/// These calls find only a match of the whole text, also where the pattern prefers a shorter one:
-/// what the pattern between `\A(?:` and `)\z` would match.
+/// These calls find only a match of the whole text, even if the pattern prefers a shorter one: what
+/// the pattern between `\A(?:` and `)\z` would match.
 ///
 /// # Panics
 ///
-/// A call that returns no [`Result`] panics if memory is refused.
+/// A call that returns no [`Result`] panics if memory runs out.
 ///
 /// # Errors
 ///
@@ -45,8 +45,7 @@ impl Regex {
         Ok(span.map(|span| Match::new(text, span)))
     }
 
-    /// Returns the groups of the match of the whole text: of the ways to match it, those of the one
-    /// that the pattern prefers.
+    /// Returns the groups of the match of the whole text, as the pattern prefers them.
     #[track_caller]
     pub fn full_captures<'h>(&self, text: &'h str) -> Option<Captures<'h>> {
         unwrap(self.try_full_captures(text))

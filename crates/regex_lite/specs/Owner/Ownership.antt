@@ -1,6 +1,7 @@
--- What a counted owner has. The owners of a block and their count follow the library's protocol for
--- `Rc`, which lets its user choose how a count is stored. Here a count below the top is the word
--- that is stored. A word at the top says nothing of the count, and the value is leaked.
+-- The separation logic of counted owners. The owners of a block and their count follow the
+-- library's protocol for `Rc`, which lets its user choose how a count is stored. Here a count below
+-- the top is the stored word. A word at the top says nothing about the count, and the value is
+-- leaked.
 use Rattle.std.specs.Prelude.{ℕ, ◌^◌, ◌-◌, ◌<◌, ◌≡◌, Bool, true, false, []}
 use base.Fraction.{full_share}
 use base.Fml.{Lft, Fml, ftrue, fsep, fex, fwand}
@@ -25,12 +26,12 @@ frees layout place = fex Global (λ alloc. ghosts.dealloc_token alloc layout pla
 abbrev pub lent_static : (R : RattleType) → (place : Ptr) → R.Denot → Fml
 lent_static R place value = lent_at R place value []
 
--- where a count stays
+-- the word at which a count stays
 abbrev pub top : ℕ
 top = 2 ^ 64 - 1
 
--- what a stored word says where there are n owners: their number, below the top, or, at the top,
--- that the value is leaked
+-- the meaning of a stored word with n owners: below the top it is their number, and at the top the
+-- value is leaked
 abbrev pub stands_for : (leaked : Fml) → (n word : ℕ) → (below : Bool) → Fml
 stands_for leaked n word true = fex ((word ≡ n) × (n < top)) (λ _. ftrue)
 stands_for leaked n word false = fex (word ≡ top) (λ _. leaked)
@@ -43,7 +44,7 @@ abbrev pub count_at : Ptr → (leaked : Fml) → (n : ℕ) → Fml
 count_at place leaked n =
     fex ℕ (λ word. fsep (counter_at place 0 word) (is_stored leaked n word))
 
--- no owner is a weak one: all of them are counted together as one
+-- there are no weak owners: the strong ones count as one weak owner together
 abbrev pub only_one : ℕ → Fml
 only_one weak = fex (weak ≡ 1) (λ _. ftrue)
 
@@ -51,19 +52,19 @@ module _ (R : RattleType) (place : Ptr) (value : R.Denot) where
   abbrev pub Whole : RattleType
   Whole = the_row R
 
-  -- the block with its first owner
+  -- the block, with its first owner
   abbrev pub whole : Whole.Denot
   whole = record { count = 1; value = value }
 
   abbrev pub value_place : Ptr
   value_place = place +ₚ up (align (lone R.mir)) 8
 
-  -- what each owner has for a time: the value, borrowed
+  -- each owner has the value borrowed for a lifetime
   abbrev pub lends : Lft → Fml
   lends = lent_at R value_place value
 
-  -- what the last owner has besides the value: the right to free the block, and that the count of
-  -- one and the value make the block again
+  -- besides the value, the last owner has the right to free the block, and can make the block again
+  -- from the count of one and the value
   abbrev pub block_back : Fml
   block_back =
       fsep (frees (raw (lone Whole.mir)) place)
@@ -73,7 +74,7 @@ module _ (R : RattleType) (place : Ptr) (value : R.Denot) where
   abbrev pub owned : Fml
   owned = fsep (lies_at R full_share value_place value) block_back
 
-  -- of an owner by value, and of one by reference
+  -- what an owner owns by value, and what a reference to one owns
   abbrev pub owner_owns : Fml
   owner_owns =
       rc_cell_owns 64 (block_of place, count_of place) (count_at place (lends [])) only_one

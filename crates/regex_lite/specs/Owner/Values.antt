@@ -1,4 +1,4 @@
--- The value that an owner has a part in.
+-- The value that an owner shares.
 use Rattle.regex_lite.specs.declared.owner.shared.Owner.{Owner}
 use Rattle.regex_lite.specs.declared.owner.shared.Owner.TheVariants.{Counted, Uncounted}
 

@@ -1,4 +1,4 @@
-//! The owners that are counted.
+//! Counted owners.
 ghost use Rattle.std.specs.Prelude.{◌≡◌, IfSome, MatchResult};
 ghost use Rattle.regex_lite.specs.Owner.Ownership.{owner_owns, owner_shares};
 
@@ -6,7 +6,7 @@ use crate::owner::unboxed::Unboxed;
 use std::alloc::Global;
 use std::marker::Model;
 
-/// What the owners of a value share: how many they are, and the value.
+/// What the owners of a value share: their count and the value.
 ///
 /// A count that has reached 2^64 - 1 stays there.
 #[derive(Drop)]
@@ -37,7 +37,7 @@ impl<T> Counted<T> {
         Counted { ptr }
     }
 
-    /// One more owner. If the count is full, or becomes full, the value is leaked and borrowed for
+    /// Another owner. If the count is full, or becomes full, the value is leaked and borrowed for
     /// `'static`.
     pub(super) fn another(&self) -> Result<Counted<T>, &'static T>
     where
@@ -64,7 +64,7 @@ impl<T> Counted<T> {
         unsafe { &(*self.ptr).value }
     }
 
-    /// One owner less. The last one gets the block back, unless the value is leaked.
+    /// Gives up one ownership. The last owner gets the block back, unless the value is leaked.
     pub(super) fn release(self, alloc: Global) -> Option<Unboxed<Block<T>, Global>>
         ensures { IfSome result (λ block. block.value.value ≡ self.value) }
     {

@@ -1,13 +1,13 @@
-//! The owners that aren't counted.
+//! Owners that aren't counted.
 ghost use Rattle.std.specs.Prelude.{◌≡◌};
 ghost use Rattle.regex_lite.specs.Owner.Ownership.{lent_static};
 
 use std::marker::Model;
 
-/// Where a leaked value is.
+/// A pointer to a leaked value.
 ///
-/// It is a `&'static` to the value, as a pointer: the borrow checker has no cover for what hands on
-/// a value with a `'static` in it together with other lifetimes.
+/// It stands for a `&'static` to the value. It is a pointer since the borrow checker rejects
+/// passing on a value that holds a `'static` together with other lifetimes.
 #[derive(Drop)]
 pub(super) struct Lasting<T> {
     ptr: *const T,

@@ -8,7 +8,7 @@ use std::alloc::{AllocError, AllocFailed, Global};
 use std::marker::Model;
 use std::ops::Deref;
 
-/// An owner that is counted, or one that came when the count was full.
+/// A counted owner, or one that was created when the count was full.
 enum Owner<T: 'static> {
     Counted(Counted<T>),
     Uncounted(Lasting<T>),
@@ -16,7 +16,7 @@ enum Owner<T: 'static> {
 
 /// An owner of a value on the heap, whose clones own it too.
 ///
-/// The value is dropped with its last owner. Where it has had 2^64 - 1 owners at once, it is never
+/// The value is dropped with its last owner. If it ever had 2^64 - 1 owners at once, it is never
 /// dropped.
 pub(crate) struct Shared<T: 'static> {
     alloc: Global,
@@ -32,7 +32,7 @@ impl<T: 'static> Model for Shared<T> {
 }
 
 impl<T: Drop + 'static> Shared<T> {
-    /// The only owner of this value. Refused, the value is handed back.
+    /// The only owner of this value. On an error the value is returned.
     pub(crate) fn new(alloc: Global, value: T) -> Result<Shared<T>, AllocFailed<T>>
         ensures ok { IfOk result (λ shared. shared ≡ value) }
         ensures refused { IfErr result (λ failed. failed.value ≡ value) }
@@ -79,7 +79,7 @@ impl<T: 'static> Deref for Shared<T> {
     }
 }
 
-/// One more owner of the same value. It takes no memory, and is never refused.
+/// Another owner of the same value. It needs no memory, and never fails.
 impl<T: Drop + 'static> Clone for Shared<T> {
     ghost use Rattle.std.specs.Prelude.{⊤};
 

@@ -1,16 +1,16 @@
-//! A value on the heap whose box was taken apart.
+//! A value on the heap without its box.
 ghost use Rattle.std.specs.Prelude.{◌≡◌};
 ghost use Rattle.std.specs.Box.Ownership.{box_owns};
 
 use std::alloc::Allocator;
 use std::marker::Model;
 
-/// The place of a value on the heap, and the right to free it. It stands for the value's box while
-/// there is none, as where C holds the place.
+/// A pointer to a value on the heap, and the right to free it. It replaces the value's box, for
+/// instance while C holds the pointer.
 pub struct Unboxed<T, A: Allocator> {
-    /// Where the value is.
+    /// A pointer to the value.
     pub ptr: *mut T,
-    /// What frees the place.
+    /// The allocator that frees the value's memory.
     pub alloc: A,
     /// The value.
     pub ghost value: { T },

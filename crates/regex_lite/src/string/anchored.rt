@@ -1,4 +1,4 @@
-//! Anchored searches: for the match that starts where the search does.
+//! Anchored searches: they find a match that starts where the search starts.
 ghost use Rattle.std.specs.Prelude.{◌≡◌, ◌↔◌, None, IfOk, IfErr, IfSome, IsTrue, length};
 ghost use Rattle.regex_lite_syntax.specs.Errors.{out_of_memory};
 ghost use Rattle.regex_lite.specs.Anchored.{TellsAnswerAt, TellsGroupsAt, TellsLocationsAt};
@@ -17,10 +17,10 @@ use regex_lite_meta::{search_anchored, search_any_anchored};
 use regex_lite_syntax::Error;
 
 impl Regex {
-    /// Whether a match starts at this offset.
+    /// Whether the pattern matches at this offset.
     ///
-    /// Looks see the whole haystack: `^` doesn't match at the start of the search, only at that of
-    /// the haystack. At a start above the length no match starts.
+    /// Looks see the whole haystack: `^` matches at the haystack's start, not at the start of the
+    /// search. If the start is above the haystack's length, the result is `false`.
     ///
     /// Condition: the start is above the haystack's length or on a character boundary.
     ///
@@ -38,12 +38,12 @@ impl Regex {
         Ok(found)
     }
 
-    /// The match that starts at this offset: of several, the one that the pattern prefers.
+    /// The match that starts at this offset. If several start there, it is the one that the pattern
+    /// prefers.
     ///
-    /// It is the match that [`Regex::find_at`] returns where that starts at this offset. But the
-    /// search goes no further than matches that start here can: where none does, it doesn't go
-    /// over the rest of the haystack. Looks see the whole haystack, as they do in
-    /// [`Regex::is_match_anchored_at`].
+    /// It is the match of [`Regex::find_at`], if that starts at this offset. The search stops as
+    /// soon as no match that starts here can continue, and doesn't scan the rest of the haystack.
+    /// Looks see the whole haystack, as they do in [`Regex::is_match_anchored_at`].
     ///
     /// Condition: the start is above the haystack's length or on a character boundary.
     ///
@@ -72,7 +72,7 @@ impl Regex {
 
     /// The groups of the match that [`Regex::find_anchored_at`] returns.
     ///
-    /// For a group that takes part more than once, the last time counts. Looks see the whole
+    /// A group that takes part more than once has the span of the last time. Looks see the whole
     /// haystack, as they do in [`Regex::is_match_anchored_at`].
     ///
     /// Condition: the start is above the haystack's length or on a character boundary.
@@ -93,8 +93,8 @@ impl Regex {
         self.groups_anchored::<false>(haystack, start)
     }
 
-    /// The match that starts at this offset, with WHOLE the one that the pattern prefers of those
-    /// that end where the haystack does.
+    /// The match that starts at this offset. If WHOLE, it is the one that the pattern prefers among
+    /// those that end where the haystack ends.
     ///
     /// # Errors
     ///
@@ -118,7 +118,7 @@ impl Regex {
         Ok(Some(found))
     }
 
-    /// The groups of that match.
+    /// The groups of the match that `match_anchored` returns.
     ///
     /// # Errors
     ///
@@ -146,7 +146,7 @@ impl Regex {
 }
 
 impl<'r> RegexSearcher<'r> {
-    /// [`Regex::is_match_anchored_at`], which is never refused here.
+    /// [`Regex::is_match_anchored_at`], but it never fails.
     ///
     /// Condition: the start is above the haystack's length or on a character boundary.
     pub fn is_match_anchored_at(&mut self, haystack: &str, start: usize) -> bool
@@ -157,7 +157,7 @@ impl<'r> RegexSearcher<'r> {
         self.matches.is_match_anchored::<false>(haystack, start)
     }
 
-    /// [`Regex::find_anchored_at`], which is never refused here.
+    /// [`Regex::find_anchored_at`], but it never fails.
     ///
     /// Condition: the start is above the haystack's length or on a character boundary.
     pub fn find_anchored_at<'h>(&mut self, haystack: &'h str, start: usize) -> Option<Match<'h>>
@@ -169,10 +169,9 @@ impl<'r> RegexSearcher<'r> {
     }
 
     /// The match that [`Regex::find_anchored_at`] returns, with its groups written to the
-    /// locations. It is never refused.
+    /// locations. It never fails.
     ///
-    /// As many groups are written as the locations have. Without a match the locations stay as they
-    /// were.
+    /// It writes as many groups as the locations have. Without a match the locations are unchanged.
     ///
     /// Conditions: the locations have no more groups than the regex. The start is above the
     /// haystack's length or on a character boundary.

@@ -58,8 +58,8 @@ impl RegexBuilder {
     ///
     /// # Errors
     ///
-    /// `Memory` where there is no room for a copy of the pattern. The pattern itself isn't looked
-    /// at before `build`.
+    /// `Memory` if there is no memory for a copy of the pattern. The pattern isn't read before
+    /// `build`.
     pub fn new(alloc: Global, pattern: &str) -> Result<RegexBuilder, Error>
         ensures ok { IfOk result (λ builder. builder ≡ default_settings pattern.now) }
         ensures refused { IfErr result (λ error. error ≡ out_of_memory) }
@@ -75,9 +75,9 @@ impl RegexBuilder {
 
     /// Whether letters match in either case: the flag `i`.
     ///
-    /// A letter here is one of `A` to `Z` and `a` to `z`; no other character has a second case. A
-    /// letter, also one that is written as an escape, then matches both of its cases. A class in
-    /// brackets takes in both cases of the letters that it lists: `[^x]` leaves out `X` too.
+    /// Only the ASCII letters `A` to `Z` and `a` to `z` have a second case. A letter, even one that
+    /// is written as an escape, then matches in both cases. A bracketed class contains both cases
+    /// of each letter that it lists, so `[^x]` excludes `X` too.
     ///
     /// ```
     /// let regex = RegexBuilder::new(alloc, "fro[c-e]o")?.case_insensitive(true).build()?;
@@ -96,8 +96,9 @@ impl RegexBuilder {
 
     /// Whether `^` and `$` match at every line: the flag `m`.
     ///
-    /// `^` then matches also after the end of a line, and `$` also before it. Without the flag `^`
-    /// matches only at the haystack's start and `$` only at its end, as `\A` and `\z` always do.
+    /// With the flag `^` also matches after a line end, and `$` also before one. Without the flag
+    /// `^` matches only at the haystack's start and `$` only at its end, as `\A` and `\z` always
+    /// do.
     ///
     /// ```
     /// let regex = RegexBuilder::new(alloc, "^sam$")?.multi_line(true).build()?;
@@ -116,7 +117,7 @@ impl RegexBuilder {
 
     /// Whether `.` matches every character: the flag `s`.
     ///
-    /// Without the flag it leaves out the line feed and, where `crlf` is on, the carriage return.
+    /// Without the flag it excludes the line feed and, if `crlf` is on, the carriage return.
     pub fn dot_matches_new_line(&mut self, yes: bool) -> &mut RegexBuilder
         ensures same_reference { result.ghost_name ≡ self.entry.ghost_name }
         ensures value { result.now ≡
@@ -126,12 +127,12 @@ impl RegexBuilder {
         self
     }
 
-    /// Whether a carriage return ends a line too: the flag `R`.
+    /// Whether a carriage return ends a line as well: the flag `R`.
     ///
     /// Without the flag a line ends with a line feed. With it a line ends with a line feed, with a
     /// carriage return or with the two in this order: `\r\n`. Between these two neither `^` nor `$`
-    /// matches. Both look for lines only where `multi_line` is on. `.` leaves out both characters
-    /// even where that is off, unless `dot_matches_new_line` is on.
+    /// matches. `^` and `$` match at lines only if `multi_line` is on. `.` excludes both characters
+    /// even if that is off, unless `dot_matches_new_line` is on.
     pub fn crlf(&mut self, yes: bool) -> &mut RegexBuilder
         ensures same_reference { result.ghost_name ≡ self.entry.ghost_name }
         ensures value { result.now ≡
@@ -143,8 +144,8 @@ impl RegexBuilder {
 
     /// Whether greedy and lazy operators are swapped: the flag `U`.
     ///
-    /// `*`, `+` and `?` then prefer fewer passes, and `*?`, `+?` and `??` more. That never changes
-    /// whether a pattern matches somewhere.
+    /// With the flag `*`, `+` and `?` prefer fewer passes, and `*?`, `+?` and `??` more. This
+    /// changes which match is found, but not whether there is one.
     pub fn swap_greed(&mut self, yes: bool) -> &mut RegexBuilder
         ensures same_reference { result.ghost_name ≡ self.entry.ghost_name }
         ensures value { result.now ≡
@@ -154,10 +155,10 @@ impl RegexBuilder {
         self
     }
 
-    /// Whether white space and comments are left out of the pattern: the flag `x`.
+    /// Whether white space and comments in the pattern are ignored: the flag `x`.
     ///
-    /// White space then stands for itself only where it is escaped, and so does `#`, which begins a
-    /// comment that ends with the next line feed. Both are left out inside a class in brackets too.
+    /// With the flag only escaped white space stands for itself. An unescaped `#` begins a comment,
+    /// which ends with the next line feed. Both are ignored in bracketed classes too.
     ///
     /// ```
     /// let mut builder = RegexBuilder::new(alloc, "sam (?:wise)?  # of many")?;
@@ -175,7 +176,7 @@ impl RegexBuilder {
         self
     }
 
-    /// How deep a pattern may nest.
+    /// How deeply a pattern may nest.
     ///
     /// The limit bounds both how deeply groups are nested and how deeply nodes of the pattern's
     /// tree are nested below its root. With 0 a pattern may be one character, class or look, or
@@ -196,12 +197,12 @@ impl RegexBuilder {
         self
     }
 
-    /// How large a pattern may become.
+    /// How large a compiled pattern may become.
     ///
-    /// The size is that of the pattern written out as places with arrows. A place counts 32, an
-    /// arrow that leaves a choice 4, and a range of a set 8. A counted operator multiplies these:
-    /// `a{100}` has the size 3312. Each of the `captures_len` groups counts 16, and a name 4 and
-    /// its bytes, however often its group is written out.
+    /// The size is that of the NFA. A state (a place) counts 32, a transition (an arrow) out of a
+    /// choice 4, and a range of a character set 8. A counted operator multiplies these: `a{100}`
+    /// has the size 3312. Each of the `captures_len` groups counts 16. A group's name counts 4 plus
+    /// its length in bytes, once.
     ///
     /// ```
     /// let mut builder = RegexBuilder::new(alloc, "a")?;
@@ -218,21 +219,21 @@ impl RegexBuilder {
         self
     }
 
-    /// The regex of the pattern. The builder can build again.
+    /// Builds the regex. The builder can be used again.
     ///
-    /// The limits are tested before the pattern is written out, so a refused pattern takes no
-    /// memory for it.
+    /// The limits are checked before the pattern is compiled, so a rejected pattern takes no memory
+    /// for its NFA.
     ///
     /// # Errors
     ///
-    /// `Syntax` where the grammar gives the pattern no tree, `Nesting` where the pattern nests
-    /// deeper than the nest limit, `Groups` where it has more capture groups than can be numbered,
-    /// `Size` where its size is above the size limit, `Places` where it has more places than can be
-    /// numbered, `Slots` where a group's slots can't be numbered, and `Memory` if memory runs out.
-    /// If several of `Size`, `Places` and `Slots` apply, any of them may be returned.
+    /// `Syntax` if the grammar gives the pattern no tree, `Nesting` if it nests deeper than the
+    /// nest limit, `Groups` if it has more capture groups than can be numbered, `Size` if its size
+    /// is above the size limit, `Places` if it has more places than can be numbered, `Slots` if a
+    /// group's slots can't be numbered, and `Memory` if memory runs out. If several of `Size`,
+    /// `Places` and `Slots` apply, any of them may be returned.
     ///
-    /// Reading stops at the first fault. So a pattern without a tree can also be refused by
-    /// `Nesting` or `Groups`, but only if it holds so many `(` that it could exceed that limit.
+    /// The parser stops at the first fault. So a pattern without a tree can also give `Nesting` or
+    /// `Groups`, but only if it has so many `(` that it could exceed that limit.
     pub fn build(&self) -> Result<Regex, Error>
         ensures { Builds self.now result }
     {
@@ -260,7 +261,7 @@ impl RegexBuilder {
         Hir::parse(self.alloc, config, self.pattern.as_str())
     }
 
-    /// The tree of the pattern, which exceeds no limit, with its counts.
+    /// The tree of the pattern, with its counts, if it exceeds no limit.
     pub(super) fn accepted_hir(&self) -> Result<Measured, Error>
         ensures accepted { IfOk result (λ hir. IsAcceptedAs self.now (tree_of hir)) }
         ensures refused { IfErr result (λ error. IsDue self.now error) }

@@ -1,4 +1,4 @@
-//! The names of a regex's groups, one after another.
+//! An iterator over the names of a regex's groups.
 ghost use Rattle.std.specs.Prelude.{◌≡◌, Some, IfSome, length, map, option_map, ⊤};
 ghost use Rattle.std.specs.Iterator.{YieldsFirstBy, UpTo, item_count};
 ghost use Rattle.std.specs.Iterator.SizeHint.{IsWithinCount};
@@ -8,9 +8,9 @@ use std::alloc::AllocError;
 use std::iter::FusedIterator;
 use std::rc::RcStr;
 
-/// The names of a regex's groups by index, from group 0 on: `None` for a group that has no name.
+/// The names of a regex's groups by index, from group 0 on. A group without a name has `None`.
 ///
-/// How many are left is known exactly. A clone goes on from the same name, and takes no memory.
+/// The number of names left is exact. A clone continues from the same name, and needs no memory.
 #[derive(Debug, Drop)]
 pub struct CaptureNames<'r> {
     names: &'r [Option<RcStr>],

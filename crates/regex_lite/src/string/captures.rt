@@ -13,9 +13,9 @@ use std::fmt;
 use std::marker::Model;
 use std::ops::Deref;
 
-/// The groups of a match: where each matched last, if it took part.
+/// The groups of a match: the last span of each group that took part.
 ///
-/// It borrows the haystack alone, and shares the names of the groups with the regex, or the list of
+/// It borrows only the haystack, and shares the names of the groups with the regex, or the list of
 /// patterns, that found it.
 ///
 /// ```
@@ -43,7 +43,7 @@ impl<'h> Model for Captures<'h> {
     ghost view = { λ caps. caps.inner };
 }
 
-/// What [`CapturesIn::extract`] is called through.
+/// Gives access to [`CapturesIn::extract`].
 impl<'h> Deref for Captures<'h> {
     type Target = CapturesIn<&'h str>;
 
@@ -59,7 +59,7 @@ impl<'h> Deref for Captures<'h> {
 impl<'h> Captures<'h> {
     ghost use Rattle.regex_lite.specs.MatchViews.{haystack_of_match, span_of_match};
 
-    /// The groups in these slots, of the pattern that the source names.
+    /// The groups with these slots. The source has their names.
     pub(super) fn new(haystack: &'h str, slots: Vec<Option<usize>>, source: Source) -> Captures<'h>
         requires { AreGroups (groups_of haystack.now slots.items source) }
         ensures { result ≡ groups_of haystack.now slots.items source }
@@ -69,7 +69,7 @@ impl<'h> Captures<'h> {
         }
     }
 
-    /// The slots, and what is shared with what found them.
+    /// The slots and the source of the names.
     pub(super) fn into_parts(self) -> (Vec<Option<usize>>, Source)
         ensures names { names_of result.1 ≡ self.entry.names }
         ensures static_captures { result.1.static_captures_len ≡ self.entry.static_captures_len }
@@ -77,8 +77,8 @@ impl<'h> Captures<'h> {
         self.inner.into_parts()
     }
 
-    /// What the group with this index matched last: `None` if there is no such group or it took no
-    /// part. Group 0 is the whole match.
+    /// The last match of the group with this index, or `None` if there is no such group or it took
+    /// no part. Group 0 is the whole match.
     pub fn get(&self, i: usize) -> Option<Match<'h>>
         ensures span { option_map span_of_match result ≡ group_span self.now i }
         ensures haystack { IfSome result (λ m. haystack_of_match m ≡ self.now.haystack) }
@@ -87,8 +87,8 @@ impl<'h> Captures<'h> {
         Some(Match::new(self.inner.haystack, start, end))
     }
 
-    /// What the group with this name matched last: `None` if there is no such group or it took no
-    /// part.
+    /// The last match of the group with this name, or `None` if there is no such group or it took
+    /// no part.
     ///
     /// ```
     /// let regex = Regex::new(alloc, "(?<first>[a-z])(?<second>[0-9])?")?;
@@ -108,8 +108,8 @@ impl<'h> Captures<'h> {
         self.get(i)
     }
 
-    /// What each group matched last, from the whole match on: [`Captures::get`] of each index below
-    /// [`Captures::len`].
+    /// The last match of each group, beginning with the whole match: [`Captures::get`] of each
+    /// index below [`Captures::len`].
     pub fn iter<'c>(&'c self) -> SubCaptureMatches<'c, 'h>
         ensures haystack { result.groups ≡ self.now }
         ensures groups { result.spans ≡ self.now.spans }
@@ -117,7 +117,7 @@ impl<'h> Captures<'h> {
         SubCaptureMatches::new(self)
     }
 
-    /// How many groups there are, the whole match among them: the `captures_len` of the pattern.
+    /// The number of groups, including the whole match: the `captures_len` of the pattern.
     pub fn len(&self) -> usize
         ensures { result ≡ length self.now.spans }
     {
@@ -126,7 +126,7 @@ impl<'h> Captures<'h> {
 
     /// The text of the group with this index.
     ///
-    /// Condition: the group is there and took part, as [`Captures::get`] shows.
+    /// Condition: the group exists and took part, as [`Captures::get`] shows.
     ///
     /// ```
     /// let regex = Regex::new(alloc, "(a+)(b+)?")?;
@@ -151,7 +151,7 @@ impl<'h> Captures<'h> {
 
     /// The text of the group with this name.
     ///
-    /// Condition: the group is there and took part, as [`Captures::name`] shows.
+    /// Condition: the group exists and took part, as [`Captures::name`] shows.
     ///
     /// ```
     /// let regex = Regex::new(alloc, "(?<key>[a-z]+)=")?;
@@ -173,7 +173,7 @@ impl<'h> Captures<'h> {
         }
     }
 
-    /// Writes the groups to the locations, as many as those have.
+    /// Writes as many groups as the locations have to them.
     pub(super) fn write(&self, locs: &mut CaptureLocations)
         requires { length locs.old ≤ length self.now.spans }
         ensures spans { locs.new ≡ take (length locs.old) self.now.spans }
@@ -183,7 +183,7 @@ impl<'h> Captures<'h> {
     }
 }
 
-/// Writes what each group matched.
+/// Writes the match of each group.
 impl<'h> fmt::Debug for Captures<'h> {
     fn fmt<W: fmt::Write>(&self, f: &mut fmt::Formatter<W>) -> fmt::Result {
         f.debug_list().entries(self.iter()).finish()

@@ -1,4 +1,4 @@
-//! The groups of a match, in a haystack of any type of text.
+//! The groups of a match, generic over the type of the haystack.
 ghost use Rattle.std.specs.Prelude.{◌≡◌, ◌+◌, ◌<◌, ◌≤◌, ◌∷◌, ℕ, List, Some, IfSome};
 ghost use Rattle.std.specs.Prelude.{length, map, option_map, slice_range, take};
 ghost use Rattle.std.specs.Rc.{rc_str_bytes};
@@ -11,14 +11,14 @@ use crate::string::source::Source;
 use std::marker::Model;
 use std::rc::RcStr;
 
-/// A text from which parts can be taken: what [`CapturesIn`] needs of a haystack.
+/// A text that can be sliced, as [`CapturesIn`] requires of a haystack.
 pub trait Text: Copy {
     /// The bytes of the text.
     ghost bytes: { Self → List ℕ };
 
     /// The part from one offset to another.
     ///
-    /// Condition: the two are in order, in the text and on character boundaries.
+    /// Condition: the offsets are in order, in the text and on character boundaries.
     fn part(self, start: usize, end: usize) -> Self
         requires { LiesIn (bytes self) (start, end) }
         ensures { bytes result ≡ slice_range (bytes self) start end };
@@ -57,7 +57,7 @@ impl<T: Text> Model for CapturesIn<T> {
 }
 
 impl<T: Text> CapturesIn<T> {
-    /// The groups in these slots, of the pattern that the source names.
+    /// The groups with these slots. The source has their names.
     pub(super) fn new(haystack: T, slots: Vec<Option<usize>>, source: Source) -> Self
         requires { AreGroups (groups_of (T.bytes haystack) slots.items source) }
         ensures { result ≡ groups_of (T.bytes haystack) slots.items source }
@@ -69,7 +69,7 @@ impl<T: Text> CapturesIn<T> {
         }
     }
 
-    /// The slots, and what is shared with what found them.
+    /// The slots and the source of the names.
     pub(super) fn into_parts(self) -> (Vec<Option<usize>>, Source)
         ensures names { names_of result.1 ≡ self.names }
         ensures static_captures { result.1.static_captures_len ≡ self.static_captures_len }
@@ -78,7 +78,8 @@ impl<T: Text> CapturesIn<T> {
         (slots, source)
     }
 
-    /// The text of the whole match, and those of the first N other groups that took part, by index.
+    /// The text of the whole match, and the texts of the first N other groups that took part, in
+    /// the order of their indices.
     ///
     /// Condition: `static_captures_len` of the regex says that at least N + 1 groups take part in
     /// each of its matches.
@@ -141,7 +142,7 @@ impl<T: Text> CapturesIn<T> {
         self.source.capture_names().len()
     }
 
-    /// Where the group with this index starts and ends, if it is there and took part.
+    /// The span of the group with this index, if there is such a group and it took part.
     pub(super) fn span(&self, k: usize) -> Option<(usize, usize)>
         ensures span { result ≡ group_span self.now k }
         ensures inside { IfSome result (LiesIn self.now.haystack) }
@@ -149,7 +150,7 @@ impl<T: Text> CapturesIn<T> {
         span_in(self.slots.as_slice(), k)
     }
 
-    /// Where the whole match starts and ends.
+    /// The span of the whole match.
     pub(super) fn whole_span(&self) -> (usize, usize)
         ensures span { result ≡ whole_span self.now }
         ensures inside { LiesIn self.now.haystack result }
@@ -173,7 +174,7 @@ impl<T: Text> CapturesIn<T> {
         None
     }
 
-    /// Writes the groups to the locations, as many as those have.
+    /// Writes as many groups as the locations have to them.
     pub(super) fn write(&self, locs: &mut CaptureLocations)
         requires { length locs.old ≤ length self.now.spans }
         ensures spans { locs.new ≡ take (length locs.old) self.now.spans }
@@ -183,7 +184,7 @@ impl<T: Text> CapturesIn<T> {
     }
 }
 
-/// Whether this is the group's name.
+/// Whether the group has this name.
 fn is_named(own: &Option<RcStr>, name: &str) -> bool
     ensures { result ≡ is_named name.now (option_map rc_str_bytes own.now) }
 {

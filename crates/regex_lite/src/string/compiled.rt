@@ -1,4 +1,4 @@
-//! What is built of a pattern.
+//! The compiled form of a pattern.
 use regex_lite_engine::Graph;
 use regex_lite_syntax::Flags;
 use std::fmt;
@@ -30,7 +30,7 @@ impl fmt::Debug for Pattern {
     }
 }
 
-/// What the clones of a regex share.
+/// The compiled pattern, which the clones of a regex share.
 #[derive(Drop)]
 pub(super) struct Compiled {
     pub(super) pattern: Pattern,

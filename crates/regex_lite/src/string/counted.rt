@@ -1,4 +1,4 @@
-//! Searches that return their cost.
+//! Searches that also return their cost.
 ghost use Rattle.std.specs.Prelude.{◌≡◌, ◌<◌, ◌↔◌, IfOk, IfErr, IfSome, IsTrue};
 ghost use Rattle.regex_lite_syntax.specs.Errors.{out_of_memory};
 ghost use Rattle.regex_lite.specs.Searches.{AreOfMatch, CanStartAt, IsWithinCost};
@@ -12,13 +12,12 @@ use regex_lite_engine::Steps;
 use regex_lite_meta::{search, search_any, search_shortest};
 use regex_lite_syntax::Error;
 
-/// The number of places of the written-out pattern that a search tries is at most one more than its
-/// arrows, times one more than the characters from the start to the haystack's end. The number that
-/// it enters is at most that of the places, times one more than those characters. [`Regex::places`]
-/// and [`Regex::arrows`] return how many there are. A search from above the length tries none, and
-/// one that finds something has entered a place.
+/// Let n be the number of characters from the start to the haystack's end, [`Regex::places`] the
+/// number of NFA states (places) and [`Regex::arrows`] the number of transitions (arrows). A search
+/// tries at most (arrows + 1) × (n + 1) places, and enters at most places × (n + 1). A search from
+/// above the length tries none. One that finds a match has entered a place.
 impl Regex {
-    /// [`Regex::is_match_at`], and what the search cost.
+    /// [`Regex::is_match_at`], and the cost of the search.
     ///
     /// Condition: the start is above the haystack's length or on a character boundary.
     ///
@@ -38,7 +37,7 @@ impl Regex {
         Ok(told)
     }
 
-    /// [`Regex::find_at`], and what the search cost.
+    /// [`Regex::find_at`], and the cost of the search.
     ///
     /// Condition: the start is above the haystack's length or on a character boundary.
     ///
@@ -65,7 +64,7 @@ impl Regex {
         Ok((Some(found), steps))
     }
 
-    /// [`Regex::captures_at`], and what the search cost.
+    /// [`Regex::captures_at`], and the cost of the search.
     ///
     /// Condition: the start is above the haystack's length or on a character boundary.
     ///
@@ -95,7 +94,7 @@ impl Regex {
         Ok((Some(caps), steps))
     }
 
-    /// [`Regex::shortest_match_at`], and what the search cost.
+    /// [`Regex::shortest_match_at`], and the cost of the search.
     ///
     /// Condition: the start is above the haystack's length or on a character boundary.
     ///

@@ -1,4 +1,4 @@
-//! Texts as patterns.
+//! Escaping: a pattern that matches a given text.
 ghost use Rattle.std.specs.Prelude.{◌≡◌, IfErr, IfOk, string_bytes};
 ghost use Rattle.regex_lite_syntax.specs.Errors.{out_of_memory};
 ghost use Rattle.regex_lite_syntax.specs.Escaped.{is_meta_character};
@@ -7,11 +7,11 @@ ghost use Rattle.regex_lite.specs.Escapes.{escaped_pattern};
 use regex_lite_syntax::Error;
 use std::alloc::Global;
 
-/// A pattern that means this text and nothing else.
+/// A pattern that matches exactly this text.
 ///
 /// It is the text with a `\` before each of `\ . + * ? ( ) | [ ] { } ^ $ # & - ~`. Every other
-/// character stays as it is, white space and letters too: so under `ignore_whitespace` the pattern
-/// loses its white space, and under `case_insensitive` it matches in either case.
+/// character is unchanged, including white space and letters. So under `ignore_whitespace` its
+/// white space is ignored, and under `case_insensitive` it matches in either case.
 ///
 /// ```
 /// let pattern = escape(alloc, "3.5 (or so)")?; // r"3\.5 \(or so\)"
@@ -39,7 +39,7 @@ pub fn escape(alloc: Global, pattern: &str) -> Result<String, Error>
     Ok(escaped)
 }
 
-/// Whether a backslash is put before the character.
+/// Whether the character is escaped by a backslash.
 fn is_meta_character(c: char) -> bool
     ensures { result ≡ is_meta_character c }
 {

@@ -1,4 +1,4 @@
-//! Templates, expanded by the groups of a match.
+//! Templates that are expanded with the groups of a match.
 ghost use Rattle.std.specs.Prelude.{◌≡◌, ◌++◌, IfErr, IfOk, string_bytes};
 ghost use Rattle.regex_lite_syntax.specs.Errors.{out_of_memory};
 ghost use Rattle.regex_lite_engine.specs.Interpolation.{piece_text};
@@ -10,12 +10,12 @@ use regex_lite_engine::interpolate::{Piece, next_piece};
 use regex_lite_syntax::Error;
 
 impl<'h> Captures<'h> {
-    /// Appends the template with its references replaced by the groups' texts: `$name` and
-    /// `${name}` refer to the group with this name, or with this index if it is digits alone.
-    /// Without braces a name is as long as it can be. `$$` gives a `$`. The section on templates in
-    /// docs/SYNTAX.md says more.
+    /// Appends the template with its references replaced by the groups' texts. `$name` and
+    /// `${name}` refer to the group with this name or, if it consists of digits, with this index.
+    /// Without braces a name is as long as possible. `$$` gives a `$`. See the section on templates
+    /// in docs/SYNTAX.md.
     ///
-    /// A reference to a group that doesn't exist, or that took no part, gives nothing.
+    /// A reference to a group that doesn't exist or took no part gives the empty text.
     ///
     /// ```
     /// let regex = Regex::new(alloc, "(?<first>[a-z]+) ([a-z]+)")?;
@@ -29,7 +29,7 @@ impl<'h> Captures<'h> {
     ///
     /// # Errors
     ///
-    /// `Memory` if memory runs out. What was appended by then is a beginning of the text.
+    /// `Memory` if memory runs out. Then a prefix of the expansion has been appended.
     pub fn expand(&self, template: &str, dst: &mut String) -> Result<(), Error>
         ensures ok { IfOk result (λ _. Appends (IsExpansion self.now template.now)
             (string_bytes dst.old) (string_bytes dst.new)) }
@@ -45,7 +45,7 @@ impl<'h> Captures<'h> {
         Ok(())
     }
 
-    /// Appends what the piece gives.
+    /// Appends the expansion of the piece.
     fn push_piece(&self, piece: Piece<'_>, dst: &mut String) -> Result<(), Error>
         ensures ok { IfOk result (λ _. string_bytes dst.new
             ≡ string_bytes dst.old ++ piece_text (texts_of self.now) (piece_of piece.entry)) }

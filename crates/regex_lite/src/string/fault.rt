@@ -1,4 +1,4 @@
-//! Where in a pattern its first fault stands.
+//! The place of the first fault in a pattern.
 ghost use Rattle.std.specs.Prelude.{◌≡◌, ◌≤◌, length, chars, IfOk, IfErr, MatchOption};
 ghost use Rattle.std.specs.Prelude.{IfSome, option_map};
 ghost use Rattle.regex_lite_syntax.specs.Errors.{kind_of};
@@ -10,26 +10,26 @@ use crate::string::builder::RegexBuilder;
 use crate::string::iter::scan::next_offset;
 use regex_lite_syntax::{Error, FaultPlace, fault_at};
 
-/// Where a fault stands in a pattern, as offsets in bytes.
+/// The place of a fault in a pattern, as byte offsets.
 #[derive(Clone, Copy, PartialEq, Eq, Debug)]
 pub struct FaultSpan {
-    /// Where the part of the pattern begins that can't be read.
+    /// The start of the part of the pattern that can't be parsed.
     pub start: usize,
-    /// The least number of bytes, past the start, with which no accepted pattern begins. `None` if
-    /// some accepted pattern begins with the whole pattern, so that there may be more to come.
+    /// The end of the shortest prefix, longer than `start`, with which no accepted pattern begins.
+    /// `None` if some accepted pattern begins with the whole pattern, which may then be incomplete.
     pub end: Option<usize>,
 }
 
 impl RegexBuilder {
-    /// Where the first fault of the pattern stands, or `None` if the grammar gives the pattern a
-    /// tree. The limits of the builder don't count.
+    /// The place of the first fault in the pattern, or `None` if the grammar gives the pattern a
+    /// tree. The builder's limits don't matter.
     ///
-    /// The fault starts where the part of the pattern begins at which reading stops: a class, an
-    /// escape, an operator, a directive, or a group with a faulty head. Of a pattern that ends with
-    /// groups open it is where the innermost of them begins. The fault ends where the shortest
-    /// prefix ends with which no accepted pattern begins, and has no end exactly if some accepted
-    /// pattern begins with this one. An editor can mark the text between the two offsets, and wait
-    /// if there is no end.
+    /// The fault starts with the part of the pattern at which the parser stops: a class, an escape,
+    /// an operator, a directive, or a group with a faulty head. If the pattern ends while groups
+    /// are open, the fault starts with the innermost of them. It ends at the end of the shortest
+    /// prefix with which no accepted pattern begins, and has no end exactly if some accepted
+    /// pattern begins with this one. An editor can mark the text between the two offsets. If there
+    /// is no end, it can wait for more input.
     ///
     /// ```
     /// let builder = RegexBuilder::new(alloc, r"sam|\qwise")?;
@@ -40,8 +40,8 @@ impl RegexBuilder {
     ///
     /// # Errors
     ///
-    /// `Groups` where the pattern has more capture groups than can be numbered, and `Memory` if
-    /// memory runs out.
+    /// `Groups` if the pattern has more capture groups than can be numbered, and `Memory` if memory
+    /// runs out.
     pub fn fault_at(&self) -> Result<Option<FaultSpan>, Error>
         ensures found { IfOk result (λ found. MatchOption found (HasTreeUnder self.now)
             (λ span. IsFaultSpan self.now span × (HasTreeUnder self.now → ⊥))) }
@@ -73,7 +73,7 @@ fn span_of(pattern: &str, place: FaultPlace) -> FaultSpan
     }
 }
 
-/// The offset of a position of the text.
+/// The byte offset of a position in the text.
 fn offset_of(text: &str, position: usize) -> usize
     requires { position ≤ length (chars text.now) }
     ensures { IsOffset (chars text.now) position result }

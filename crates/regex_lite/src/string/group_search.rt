@@ -24,7 +24,7 @@ use regex_lite_syntax::Error;
 impl Regex {
     /// The groups of the match that [`Regex::find`] returns.
     ///
-    /// For a group that takes part more than once, the last time counts.
+    /// A group that takes part more than once has the span of the last time.
     ///
     /// ```
     /// let regex = Regex::new(alloc, "([a-z]+)(?:=([0-9]+))?")?;
@@ -73,8 +73,8 @@ impl Regex {
 
     /// The match that [`Regex::find`] returns, with its groups written to the locations.
     ///
-    /// As many groups are written as the locations have. Without a match, or on an error, the
-    /// locations stay as they were.
+    /// It writes as many groups as the locations have. Without a match, or on an error, the
+    /// locations are unchanged.
     ///
     /// Condition: the locations have no more groups than the regex.
     ///
@@ -110,9 +110,8 @@ impl Regex {
 
     /// The match that [`Regex::find_at`] returns, with its groups written to the locations.
     ///
-    /// As many groups are written as the locations have. Without a match, or on an error, the
-    /// locations stay as they were. Looks see the whole haystack, as they do in
-    /// [`Regex::is_match_at`].
+    /// It writes as many groups as the locations have. Without a match, or on an error, the
+    /// locations are unchanged. Looks see the whole haystack, as they do in [`Regex::is_match_at`].
     ///
     /// Conditions: the locations have no more groups than the regex. The start is above the
     /// haystack's length or on a character boundary.
@@ -144,8 +143,8 @@ impl Regex {
         Ok(found)
     }
 
-    /// The groups of the match that a search of this haystack has found. If the search kept no
-    /// slots, `whole` is room for those of the whole match.
+    /// The groups of the match that a search of this haystack found. If the search kept no slots,
+    /// `whole` has room for the two slots of the whole match.
     ///
     /// # Errors
     ///
@@ -172,7 +171,7 @@ impl Regex {
         Ok(Captures::new(haystack, slots, source))
     }
 
-    /// Locations with as many groups as the regex has, none of which took part in a match yet.
+    /// Locations for the groups of the regex. None of them has taken part in a match yet.
     ///
     /// # Errors
     ///

@@ -1,4 +1,4 @@
-//! Searches for the groups of matches, one after another, in the same memory.
+//! A searcher for the groups of matches, which reuses its memory.
 ghost use Rattle.std.specs.Prelude.{◌≡◌, ◌≤◌, ◌/◌, ℕ, Some, IfOk, IfErr, length, take};
 ghost use Rattle.regex_lite_syntax.specs.Errors.{out_of_memory};
 ghost use Rattle.regex_lite_engine.specs.Search.Outcomes.{IsSpanOutcome};
@@ -12,7 +12,7 @@ use regex_lite_meta::SlotSearcher;
 use regex_lite_syntax::Error;
 use std::marker::Model;
 
-/// A regex, and the memory in which the slots of its matches are searched for.
+/// A regex, and the memory of the searches for the slots of its matches.
 #[derive(Drop)]
 pub(super) struct GroupSearcher<'r> {
     regex: HeldRegex<'r>,
@@ -34,7 +34,7 @@ impl<'r> Model for GroupSearcher<'r> {
 }
 
 impl<'r> GroupSearcher<'r> {
-    /// The regex, with memory for searches for matches that have `slots` slots.
+    /// A searcher of this regex, for matches with `slots` slots.
     pub fn new(regex: HeldRegex<'r>, slots: usize) -> Result<GroupSearcher<'r>, Error>
         ensures regex { IfOk result (λ searcher. searcher.regex ≡ regex.entry.pattern) }
         ensures slots { IfOk result (λ searcher. length searcher.slots ≡ slots) }
@@ -44,10 +44,10 @@ impl<'r> GroupSearcher<'r> {
         Ok(GroupSearcher { regex, inner })
     }
 
-    /// Finds the slots of the match with this span, and writes its groups to the locations.
+    /// Finds the groups of the match with this span, and writes them to the locations.
     ///
     /// Conditions: a search from some offset finds a match with this span. The locations have no
-    /// more groups than there are slots for.
+    /// more groups than the searcher has slots for.
     pub fn read(&mut self, haystack: &str, span: (usize, usize), locs: &mut CaptureLocations)
         requires known { OfTree self.old.regex
             (λ tree. (start : ℕ) × FindsSpan tree haystack.now start span) }

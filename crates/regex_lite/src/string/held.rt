@@ -1,4 +1,4 @@
-//! A regex that a searcher holds: borrowed from a caller, or its own.
+//! A regex that a searcher borrows from a caller or owns.
 //!
 //! The searchers of `regex_lite_meta` don't hold their graph, and each of their calls is given it
 //! under the condition that they were made for it: a struct can't borrow from itself, so a searcher
@@ -17,21 +17,20 @@ use regex_lite_engine::Graph;
 use std::alloc::{AllocError, Global};
 use std::marker::Model;
 
-/// Who owns what was built.
+/// Whether a searcher borrows or owns the compiled pattern.
 enum Held<'r> {
     Lent(&'r Shared<Compiled>),
     Own(Shared<Compiled>),
 }
 
-/// What a regex is made of, which a searcher holds for as long as it lives.
+/// The parts of a regex, which a searcher holds as long as it lives.
 #[derive(Drop)]
 pub(super) struct HeldRegex<'r> {
     alloc: Global,
     compiled: Held<'r>,
 }
 
-/// This is written out, so that the proof has one call, and not two paths, where a searcher is
-/// dropped.
+/// Written by hand, so that dropping a searcher is one call in a proof, not two paths.
 impl<'r> Drop for Held<'r> {
     fn drop(self) {
         match self {
@@ -55,7 +54,7 @@ impl<'r> Model for HeldRegex<'r> {
 }
 
 impl HeldRegex<'static> {
-    /// This regex, which is the searcher's own from now on.
+    /// Holds a regex that the searcher owns.
     pub fn own(regex: Regex) -> HeldRegex<'static>
         ensures { result.pattern ≡ regex }
     {
@@ -68,7 +67,7 @@ impl HeldRegex<'static> {
 }
 
 impl<'r> HeldRegex<'r> {
-    /// This regex, which stays its owner's.
+    /// Holds a regex that the searcher borrows.
     pub fn lent(regex: &'r Regex) -> HeldRegex<'r>
         ensures { result.pattern ≡ regex.now }
     {
@@ -78,12 +77,12 @@ impl<'r> HeldRegex<'r> {
         }
     }
 
-    /// What gives memory for the searches.
+    /// The allocator for the searches.
     pub fn alloc(&self) -> Global {
         self.alloc
     }
 
-    /// An owner of what was built.
+    /// The owner of the compiled pattern.
     fn owner(&self) -> &Shared<Compiled>
         ensures same { result.now ≡ self.now }
         ensures built { IsBuilt self.now }
@@ -94,12 +93,12 @@ impl<'r> HeldRegex<'r> {
         }
     }
 
-    /// What was built.
+    /// The compiled pattern.
     pub fn compiled(&self) -> &Compiled {
         self.owner()
     }
 
-    /// The graph to search.
+    /// The graph (the NFA) to search.
     pub fn graph(&self) -> &Graph
         ensures same { result.now ≡ self.now.graph }
         ensures built { IsBuilt self.now }
@@ -107,7 +106,7 @@ impl<'r> HeldRegex<'r> {
         &self.owner().graph
     }
 
-    /// Where the names of the groups of matches are found.
+    /// The source of the names of the groups.
     pub fn source(&self) -> Result<Source, AllocError>
         ensures { IfOk result (SharesGroups self.now.pattern) }
     {
@@ -122,8 +121,7 @@ impl<'r> Clone for HeldRegex<'r> {
 
     ghost is_infallible = { λ _. ⊤ };
 
-    /// The same regex, of which this searcher's is borrowed or shared. It takes no memory, and is
-    /// never refused.
+    /// The same regex, borrowed or shared. It needs no memory, and never fails.
     fn clone(&self) -> Result<HeldRegex<'r>, AllocError> {
         let compiled = match &self.compiled {
             Held::Lent(compiled) => Held::Lent(compiled),

@@ -1,4 +1,4 @@
-//! The iterators: from match to match, with or without groups, and from piece to piece.
+//! Iterators over matches, over the groups of matches, and over the pieces between matches.
 pub(super) mod captures_iter;
 pub(crate) mod cursor;
 pub(super) mod find_iter;

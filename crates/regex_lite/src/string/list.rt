@@ -1,4 +1,4 @@
-//! Several patterns that are searched for at once.
+//! Lists of patterns that are searched for in one pass.
 ghost use Rattle.std.specs.Prelude.{◌≡◌, ◌↔◌, ◌≤◌, ◌<◌, ◌*◌, ◌^◌, [], ℕ, IsTrue};
 ghost use Rattle.std.specs.Prelude.{length, map, option_map, slice_get, ⊤};
 ghost use Rattle.regex_lite_syntax.specs.Tree.{Tree};
@@ -37,17 +37,17 @@ use std::alloc::{AllocError, Global};
 use std::fmt;
 use std::marker::Model;
 
-/// Several patterns that are ready to be searched for at once. They are numbered from 0 on, in
-/// their order.
+/// A compiled list of patterns, which are searched for in one pass. They are numbered in order,
+/// from 0 on.
 ///
 /// A search goes over the haystack once, whatever the number of patterns. It finds the match that
 /// starts first and, among the patterns that match there, the one with the lowest number. Only
-/// [`RegexList::matches`], which returns for each pattern whether it matches, may go over it once
-/// for each: it does so for fewer than 16 patterns, and where patterns may start so often that one
-/// pass for all of them doesn't pay. A search for one pattern alone, such as
-/// [`RegexList::captures_of`], is given its number.
+/// [`RegexList::matches`], which returns for each pattern whether it matches, may make one pass per
+/// pattern: for fewer than 16 patterns, or if patterns can start at so many positions that a single
+/// pass would be slower. A search for one pattern alone, such as [`RegexList::captures_of`], takes
+/// the pattern's number.
 ///
-/// Clones share what was built, so a clone costs little. It always succeeds.
+/// Clones share the compiled patterns, so cloning is cheap. It always succeeds.
 #[derive(Drop)]
 pub struct RegexList {
     alloc: Global,
@@ -67,8 +67,8 @@ impl Model for RegexList {
 }
 
 impl RegexList {
-    /// The list of these patterns, each under the default settings. It may be empty, and a pattern
-    /// may stand in it twice.
+    /// Compiles a list of these patterns, each under the default settings. The list may be empty,
+    /// and a pattern may occur in it more than once.
     ///
     /// ```
     /// let list = RegexList::new(alloc, &["samwise", "sam"])?;
@@ -80,10 +80,10 @@ impl RegexList {
     ///
     /// # Errors
     ///
-    /// Those of [`Regex::new`](crate::Regex::new) for the first pattern that is refused by itself.
-    /// Each pattern has the size limit for itself. Where none is refused, `Places` if they have
-    /// 2^32 places or more together. `Memory` if memory runs out. All patterns are read and their
-    /// places counted before any is written out.
+    /// Those of [`Regex::new`](crate::Regex::new) for the first pattern that is rejected by itself.
+    /// The size limit applies to each pattern by itself. If none is rejected, `Places` if they have
+    /// 2^32 or more places together. `Memory` if memory runs out. All patterns are parsed and their
+    /// places counted before any is compiled.
     pub fn new(alloc: Global, patterns: &[&str]) -> Result<RegexList, Error>
         ensures { BuildsList
             (map (λ pattern. default_settings pattern.now) patterns.now) result }
@@ -92,7 +92,7 @@ impl RegexList {
         RegexList::build(alloc, &builders)
     }
 
-    /// How many patterns there are.
+    /// The number of patterns.
     pub fn len(&self) -> usize
         ensures { result ≡ length self.now }
     {
@@ -115,8 +115,8 @@ impl RegexList {
         Some(pattern.text.as_str())
     }
 
-    /// Whether the pattern with this number may match the empty text, as far as it tells by itself:
-    /// what [`Regex::may_be_empty`](crate::Regex::may_be_empty) returns for it.
+    /// Whether the pattern with this number may match the empty text: what
+    /// [`Regex::may_be_empty`](crate::Regex::may_be_empty) returns for it.
     ///
     /// Condition: the list has more patterns than this number.
     pub fn may_be_empty(&self, number: usize) -> bool
@@ -126,8 +126,7 @@ impl RegexList {
         !self.compiled.graph.reads(number)
     }
 
-    /// How many places the patterns have together when they are written out. They are fewer than
-    /// 2^32.
+    /// The number of places (NFA states) of the compiled patterns together. It is less than 2^32.
     pub fn places(&self) -> usize
         ensures counted { OfTrees self.now (λ trees. result ≡ places_of_all trees) }
         ensures bounded { result < 2 ^ 32 }
@@ -135,8 +134,8 @@ impl RegexList {
         self.compiled.graph.places()
     }
 
-    /// How many arrows lead from place to place in the patterns written out. They are at most twice
-    /// the places.
+    /// The number of arrows (transitions) of the compiled patterns together. It is at most twice
+    /// the number of places.
     pub fn arrows(&self) -> usize
         ensures counted { OfTrees self.now (λ trees. result ≡ arrows_of_all trees) }
         ensures few { (places : ℕ) → OfTrees self.now (λ trees. places ≡ places_of_all trees)
@@ -148,14 +147,14 @@ impl RegexList {
 }
 
 impl RegexList {
-    /// How many slots a search for groups keeps.
+    /// The number of slots that a search for groups keeps.
     fn kept_slots(&self) -> usize
         ensures { OfTrees self.now (λ trees. result ≡ kept_slots (most_captures trees)) }
     {
         self.compiled.kept_slots
     }
 
-    /// How many slots the groups of the pattern with this number have: two each.
+    /// The number of slots of the groups of the pattern with this number: two for each group.
     fn slots_of(&self, number: usize) -> usize
         requires { number < length self.now }
         ensures { OfTrees self.now (λ trees. (tree : Tree) → HasTree trees number tree
@@ -170,7 +169,7 @@ impl Clone for RegexList {
 
     ghost is_infallible = { λ _. ⊤ };
 
-    /// An equal list. It takes no memory, and is never refused.
+    /// An equal list. Cloning needs no memory, and never fails.
     fn clone(&self) -> Result<RegexList, AllocError> {
         Ok(RegexList {
             alloc: self.alloc,

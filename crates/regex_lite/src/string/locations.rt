@@ -1,4 +1,4 @@
-//! Where groups matched, without their haystack.
+//! The spans of groups, without their haystack.
 ghost use Rattle.std.specs.Prelude.{◌≡◌, ◌<◌, IfOk, IfErr, length};
 ghost use Rattle.regex_lite_syntax.specs.Errors.{out_of_memory};
 ghost use Rattle.regex_lite.specs.Groups.{resized, span_at, spans_of};
@@ -8,16 +8,16 @@ use std::alloc::Global;
 use std::fmt;
 use std::marker::Model;
 
-/// Where the groups of a match start and end, for many searches in turn.
+/// The spans of the groups of a match, reusable for many searches.
 ///
 /// [`Regex::capture_locations`](crate::Regex::capture_locations) makes them, and
-/// [`Regex::captures_read`](crate::Regex::captures_read) writes them. They hold no haystack and no
-/// names, and take no memory after they are made.
+/// [`Regex::captures_read`](crate::Regex::captures_read) writes to them. They hold neither haystack
+/// nor names, and need no more memory once they are made.
 ///
-/// [`RegexList::capture_locations`](crate::RegexList::capture_locations) makes those for several
-/// patterns, with room for the pattern that has the most groups, and a
-/// [`RegexListSearcher`](crate::RegexListSearcher) writes them. They then hold the groups of the
-/// pattern that was found, by their indices there.
+/// [`RegexList::capture_locations`](crate::RegexList::capture_locations) makes locations for
+/// several patterns, with room for the pattern that has the most groups, and a
+/// [`RegexListSearcher`](crate::RegexListSearcher) writes to them. Then they hold the groups of the
+/// pattern that was found, by their indices in that pattern.
 ///
 /// ```
 /// let regex = Regex::new(alloc, "(a)(b)?")?;
@@ -46,16 +46,16 @@ impl Model for CaptureLocations {
 }
 
 impl CaptureLocations {
-    /// Where the group with this index starts and ends: `None` if there is no such group, here or
-    /// in the pattern that was found, or if it took no part in the match that was written last.
+    /// The span of the group with this index. It is `None` if there is no such group, here or in
+    /// the pattern that was found, or if the group took no part in the match that was written last.
     pub fn get(&self, i: usize) -> Option<(usize, usize)>
         ensures { result ≡ span_at self.now i }
     {
         span_in(self.slots.as_slice(), i)
     }
 
-    /// How many groups there are, the whole match among them. No search changes it, even where the
-    /// pattern that was found has fewer.
+    /// The number of groups, including the whole match. No search changes it, even if the pattern
+    /// that was found has fewer.
     pub fn len(&self) -> usize
         ensures len { result ≡ length self.now }
         ensures some { 0 < result }
@@ -63,7 +63,7 @@ impl CaptureLocations {
         self.slots.len() / 2
     }
 
-    /// Equal locations, of their own.
+    /// Equal locations in memory of their own.
     ///
     /// # Errors
     ///
@@ -76,7 +76,7 @@ impl CaptureLocations {
         Ok(CaptureLocations { slots })
     }
 
-    /// Writes as many of these groups as there are here, and nothing for those that are missing.
+    /// Writes as many of these groups as the locations have, and `None` for those that are missing.
     pub(super) fn write(&mut self, slots: &[Option<usize>])
         ensures spans { self.new ≡ resized (length self.old) (spans_of slots.now) }
         ensures len { length self.new ≡ length self.old }
@@ -88,7 +88,7 @@ impl CaptureLocations {
     }
 }
 
-/// Writes where each group starts and ends.
+/// Writes the span of each group.
 impl fmt::Debug for CaptureLocations {
     fn fmt<W: fmt::Write>(&self, f: &mut fmt::Formatter<W>) -> fmt::Result {
         f.debug_struct("CaptureLocations")

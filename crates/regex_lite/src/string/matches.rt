@@ -1,4 +1,4 @@
-//! A part of a haystack that the pattern fits.
+//! A match: a part of a haystack that a pattern matches.
 ghost use Rattle.std.specs.Prelude.{◌≡◌, ◌-◌, ◌↔◌, IsTrue};
 ghost use Rattle.regex_lite.specs.Groups.{LiesIn};
 
@@ -7,8 +7,8 @@ use std::ops::Range;
 
 /// A match: a part of the haystack, from one offset to another.
 ///
-/// It borrows the haystack alone, and outlives the regex that found it. Two matches are equal if
-/// the texts of their haystacks, their starts and their ends are.
+/// It borrows only the haystack, so it can outlive the regex that found it. Two matches are equal
+/// if the texts of their haystacks, their starts and their ends are equal.
 #[derive(Clone, Copy)]
 pub struct Match<'h> {
     haystack: &'h str,
@@ -22,7 +22,7 @@ impl<'h> Match<'h> {
 
     /// The match from one offset of the haystack to another.
     ///
-    /// Condition: the two are in order, in the haystack and on character boundaries.
+    /// Condition: the offsets are in order, in the haystack and on character boundaries.
     pub(super) fn new(haystack: &'h str, start: usize, end: usize) -> Match<'h>
         requires { LiesIn haystack.now (start, end) }
         ensures span { span_of_match result ≡ (start, end) }
@@ -35,42 +35,42 @@ impl<'h> Match<'h> {
         }
     }
 
-    /// The offset of its first byte.
+    /// The offset of the match's first byte.
     pub fn start(&self) -> usize
         ensures { result ≡ (span_of_match self.now).0 }
     {
         self.start
     }
 
-    /// The offset after its last byte.
+    /// The offset after the match's last byte.
     pub fn end(&self) -> usize
         ensures { result ≡ (span_of_match self.now).1 }
     {
         self.end
     }
 
-    /// Whether it starts where it ends.
+    /// Whether the match is empty.
     pub fn is_empty(&self) -> bool
         ensures { IsTrue result ↔ ((span_of_match self.now).0 ≡ (span_of_match self.now).1) }
     {
         self.start == self.end
     }
 
-    /// How many bytes it has.
+    /// The length of the match in bytes.
     pub fn len(&self) -> usize
         ensures { result ≡ (span_of_match self.now).1 - (span_of_match self.now).0 }
     {
         self.end - self.start
     }
 
-    /// Its two offsets.
+    /// The range from the match's start to its end.
     pub fn range(&self) -> Range<usize>
         ensures { span_of_match self.now ≡ (result.start, result.end) }
     {
         self.start..self.end
     }
 
-    /// What matched, as a part of the haystack.
+    /// The text of the match, as a part of the haystack.
     ///
     /// ```
     /// let regex = Regex::new(alloc, "[0-9]+")?;
@@ -97,7 +97,7 @@ impl<'h> PartialEq for Match<'h> {
 
     ghost laws = { Prim.search (comparing, rules) };
 
-    /// Whether the haystacks are the same text, and the offsets are equal.
+    /// Whether the haystacks have the same text and the offsets are equal.
     fn eq(&self, other: &Match<'h>) -> bool {
         self.haystack == other.haystack && self.start == other.start && self.end == other.end
     }
@@ -110,7 +110,7 @@ impl<'h> Eq for Match<'h> {
     ghost laws = { Prim.search (comparing, rules) };
 }
 
-/// Writes the two offsets and what matched.
+/// Writes the two offsets and the text of the match.
 impl<'h> fmt::Debug for Match<'h> {
     fn fmt<W: fmt::Write>(&self, f: &mut fmt::Formatter<W>) -> fmt::Result {
         f.debug_struct("Match")
@@ -126,7 +126,7 @@ impl<'h> From<Match<'h>> for &'h str {
 
     ghost from_gives = { λ found text. text.now ≡ text_of_match found };
 
-    /// What matched.
+    /// The text of the match.
     fn from(m: Match<'h>) -> &'h str {
         m.as_str()
     }
@@ -137,7 +137,7 @@ impl<'h> From<Match<'h>> for Range<usize> {
 
     ghost from_gives = { λ found range. span_of_match found ≡ (range.start, range.end) };
 
-    /// The two offsets.
+    /// The range from the match's start to its end.
     fn from(m: Match<'h>) -> Range<usize> {
         m.range()
     }

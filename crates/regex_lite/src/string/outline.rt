@@ -1,4 +1,4 @@
-//! A pattern part by part.
+//! The outline of a pattern: the nodes of its tree.
 ghost use Rattle.std.specs.Prelude.{◌≡◌, ◌≤◌, IfOk, IfErr};
 ghost use Rattle.regex_lite_syntax.specs.Errors.{out_of_memory};
 ghost use Rattle.regex_lite_syntax.specs.Limits.{depth};
@@ -11,14 +11,13 @@ use regex_lite_syntax::{Error, Hir, Part};
 use std::alloc::{AllocError, Global};
 
 impl RegexBuilder {
-    /// The parts of the pattern in its order: those of the tree that the grammar gives it, as
-    /// `build` reads it. Each part stands right before those that it has, which are one level below
+    /// The parts of the pattern: the nodes of the tree that the grammar gives it, in preorder, and
+    /// the ranges of its classes. The parts of a node follow it directly and are one level below
     /// it.
     ///
-    /// An editor can say by them what a pattern means. What only holds a part together, such as
-    /// `(?:` and `)`, is no part of its own, and nor is a flag: the parts are those that the flags
-    /// make of the pattern. `a{1}` is the part `a`, and `a{0}` the empty text. A group's name is
-    /// told by `Regex::capture_names`.
+    /// An editor can explain a pattern with them. Neither groups that don't capture nor flags are
+    /// parts: the parts are those of the pattern under its flags. `a{1}` is the part `a`, and
+    /// `a{0}` the empty text. `Regex::capture_names` returns the names of groups.
     ///
     /// ```
     /// let builder = RegexBuilder::new(alloc, "(?:[a-z]|_)+")?;
@@ -33,10 +32,10 @@ impl RegexBuilder {
     ///
     /// # Errors
     ///
-    /// Those of `build` that come before the pattern is written out: `Syntax` where the grammar
-    /// gives the pattern no tree, `Nesting` where the pattern nests deeper than the nest limit,
-    /// `Groups` where it has more capture groups than can be numbered, and `Memory` if memory runs
-    /// out. The size limit doesn't count.
+    /// Those that `build` returns before the pattern is compiled: `Syntax` if the grammar gives the
+    /// pattern no tree, `Nesting` if it nests deeper than the nest limit, `Groups` if it has more
+    /// capture groups than can be numbered, and `Memory` if memory runs out. The size limit doesn't
+    /// matter.
     pub fn outline(&self) -> Result<Vec<Part>, Error>
         ensures parts { IfOk result (λ parts. AreParts self.now parts.items) }
         ensures refused { IfErr result (λ error. IsDueOnReading self.now error) }
@@ -48,7 +47,7 @@ impl RegexBuilder {
     }
 }
 
-/// The parts of a tree that is no deeper than this limit.
+/// The parts of a tree whose depth is within this limit.
 fn parts_of(alloc: Global, hir: &Hir, nest_limit: u32) -> Result<Vec<Part>, AllocError>
     requires { depth (tree_of hir.now) ≤ nest_limit }
     ensures { IfOk result (λ parts. parts.items ≡ outline (tree_of hir.now)) }

@@ -1,4 +1,4 @@
-//! What a regex says of its groups and of its pattern written out.
+//! Properties of a regex: its groups, and the size of the compiled pattern.
 ghost use Rattle.std.specs.Prelude.{◌≡◌, ◌*◌, ◌^◌, ◌<◌, ℕ};
 ghost use Rattle.regex_lite_syntax.specs.Tree.Properties.{captures_len, nullable};
 ghost use Rattle.regex_lite_syntax.specs.Tree.Properties.{static_captures_len};
@@ -13,8 +13,8 @@ use crate::string::regex::Regex;
 impl Regex {
     /// The number of groups of a match, including the whole match.
     ///
-    /// This is one more than the greatest index of a group that is left: groups under `{0}` are
-    /// numbered, but left out.
+    /// This is one more than the greatest index of a group that remains: groups under `{0}` are
+    /// numbered, but removed.
     ///
     /// ```
     /// Regex::new(alloc, "(a)(?<x>b)")?.captures_len(); // 3
@@ -29,7 +29,7 @@ impl Regex {
 
     /// The names of the groups by index, `None` for a group without a name.
     ///
-    /// The whole match, which comes first, has none, and neither have groups under `{0}`.
+    /// The whole match, which comes first, has no name, and neither have groups under `{0}`.
     ///
     /// ```
     /// let regex = Regex::new(alloc, "(a)(?<x>b)")?;
@@ -44,12 +44,12 @@ impl Regex {
         CaptureNames::new(self.compiled.graph.capture_names())
     }
 
-    /// How many groups at least take part in every match, the whole match among them, where that is
-    /// known.
+    /// The least number of groups that take part in every match, including the whole match, if it
+    /// is known.
     ///
-    /// It is `None` if a repetition that may make no pass has a group in it, or if branches differ
-    /// in how many of their groups take part. More groups may take part: `(?:(a)|(b)){2}` has 2,
-    /// and in a match of `ab` all three do.
+    /// It is `None` if a repetition that may make no pass contains a group, or if branches differ
+    /// in the number of their groups that take part. More groups may take part: `(?:(a)|(b)){2}`
+    /// has 2, and in a match of `ab` all three do.
     pub fn static_captures_len(&self) -> Option<usize>
         ensures known { OfTree self.now (λ tree. result ≡ static_captures_len tree) }
         ensures told { IsStaticNumber self.now result }
@@ -57,11 +57,11 @@ impl Regex {
         self.compiled.graph.static_captures_len()
     }
 
-    /// Whether the pattern may match the empty text, as far as it tells by itself: its looks, such
-    /// as `^` and `\b`, are taken to hold.
+    /// Whether the pattern may match the empty text if its looks, such as `^` and `\b`, are assumed
+    /// to hold.
     ///
-    /// Where this is `false`, each match reads a character, so none is empty. Where it is `true`
-    /// there may still be no empty match, as of `\b\B`.
+    /// If this is `false`, no match is empty. If it is `true`, there may still be no empty match,
+    /// as for `\b\B`.
     ///
     /// ```
     /// Regex::new(alloc, "a*")?.may_be_empty(); // true
@@ -75,7 +75,7 @@ impl Regex {
         !self.compiled.graph.reads()
     }
 
-    /// How many places the pattern has when it is written out. They are fewer than 2^32.
+    /// The number of places (NFA states) of the compiled pattern. It is less than 2^32.
     pub fn places(&self) -> usize
         ensures counted { OfTree self.now (λ tree. result ≡ whole_places tree) }
         ensures bounded { result < 2 ^ 32 }
@@ -83,8 +83,8 @@ impl Regex {
         self.compiled.graph.places()
     }
 
-    /// How many arrows lead from place to place in the pattern written out. They are fewer than
-    /// twice the places.
+    /// The number of arrows (transitions) of the compiled pattern. It is less than twice the number
+    /// of places.
     pub fn arrows(&self) -> usize
         ensures counted { OfTree self.now (λ tree. result ≡ whole_arrows tree) }
         ensures few { (places : ℕ) → OfTree self.now (λ tree. places ≡ whole_places tree)

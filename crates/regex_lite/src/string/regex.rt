@@ -1,4 +1,4 @@
-//! A regex: how one is made, cloned and printed.
+//! A regex, and how it is built, cloned and printed.
 ghost use Rattle.std.specs.Prelude.{◌≡◌, Some, string_bytes, ⊤};
 ghost use Rattle.regex_lite.specs.Settings.{default_settings};
 ghost use Rattle.regex_lite.specs.Expression.{Builds};
@@ -11,9 +11,9 @@ use std::alloc::{AllocError, Global};
 use std::fmt;
 use std::marker::Model;
 
-/// A pattern that is ready to be searched for.
+/// A compiled pattern.
 ///
-/// Clones share what was built, so a clone costs little. It always succeeds.
+/// Clones share the compiled pattern, so cloning is cheap. It always succeeds.
 #[derive(Drop)]
 pub struct Regex {
     pub(super) alloc: Global,
@@ -33,7 +33,7 @@ impl Model for Regex {
 }
 
 impl Regex {
-    /// The regex of a pattern under the default settings.
+    /// Compiles a pattern under the default settings.
     ///
     /// ```
     /// let regex = Regex::new(alloc, "a+")?;
@@ -44,18 +44,17 @@ impl Regex {
     ///
     /// # Errors
     ///
-    /// `Syntax` where the grammar gives the pattern no tree, `Nesting` where the pattern nests
-    /// deeper than 50, `Groups` where it has more capture groups than can be numbered, `Size` where
-    /// its size is above 10485760, and `Memory` if memory runs out. A pattern with too many places
-    /// or slots is above that size too, and may be refused for them. [`RegexBuilder::build`] says
-    /// more.
+    /// `Syntax` if the grammar gives the pattern no tree, `Nesting` if it nests deeper than 50,
+    /// `Groups` if it has more capture groups than can be numbered, `Size` if its size is above
+    /// 10485760, and `Memory` if memory runs out. A pattern with too many places or slots is above
+    /// that size too, and may give `Places` or `Slots` instead. See [`RegexBuilder::build`].
     pub fn new(alloc: Global, pattern: &str) -> Result<Regex, Error>
         ensures { Builds (default_settings pattern.now) result }
     {
         RegexBuilder::new(alloc, pattern)?.build()
     }
 
-    /// The regex of a pattern under the default settings, with the errors of [`Regex::new`].
+    /// Compiles a pattern under the default settings, with the errors of [`Regex::new`].
     ///
     /// ```
     /// let regex = Regex::from_str(alloc, "(a)")?;
@@ -69,7 +68,7 @@ impl Regex {
         Regex::new(alloc, s)
     }
 
-    /// The regex of a pattern under the default settings, with the errors of [`Regex::new`].
+    /// Compiles a pattern under the default settings, with the errors of [`Regex::new`].
     ///
     /// ```
     /// let regex = Regex::try_from(alloc, "(a)")?;
@@ -83,8 +82,8 @@ impl Regex {
         Regex::from_str(alloc, s)
     }
 
-    /// The regex of an owned pattern under the default settings, with the errors of
-    /// [`Regex::new`]. A refused pattern is dropped.
+    /// Compiles an owned pattern under the default settings, with the errors of [`Regex::new`]. A
+    /// rejected pattern is dropped.
     ///
     /// ```
     /// let regex = Regex::try_from_string(alloc, String::from_str(alloc, "(a)")?)?;
@@ -98,7 +97,7 @@ impl Regex {
         Regex::new(alloc, s.as_str())
     }
 
-    /// The pattern.
+    /// The text of the pattern.
     pub fn as_str(&self) -> &str
         ensures { result.now ≡ self.now.pattern }
     {
@@ -111,7 +110,7 @@ impl Clone for Regex {
 
     ghost is_infallible = { λ _. ⊤ };
 
-    /// An equal regex. It takes no memory, and is never refused.
+    /// An equal regex. Cloning needs no memory, and never fails.
     fn clone(&self) -> Result<Regex, AllocError> {
         Ok(Regex {
             alloc: self.alloc,

@@ -1,4 +1,4 @@
-//! A searcher that callers keep, for one haystack after another.
+//! A searcher, which callers keep to search many haystacks.
 //!
 //! It has two memories: one without slots and, if the regex has groups, one with slots for them. A
 //! filter asks for matches far more often than for groups. Without slots a search copies no rows
@@ -26,15 +26,15 @@ use regex_lite_syntax::Error;
 use std::fmt;
 use std::marker::Model;
 
-/// How many bytes the haystacks are taken to have together: there may always be another one.
+/// The assumed length of all haystacks together, in bytes: there may always be another one.
 pub(crate) const ENDLESS: usize = usize::MAX;
 
-/// A regex, and the memory for its searches: for many haystacks, one after another.
+/// A searcher runs a regex over many haystacks: the regex, and the memory of its searches.
 ///
 /// [`Regex::searcher`] makes one that borrows the regex, and [`Regex::into_searcher`] one that owns
-/// it. Each call returns what the call of the same name returns for the regex, whatever was searched
-/// before. But no call needs memory, so none is refused, and what the searches of one haystack learn
-/// of the pattern speeds up those of the next.
+/// it. Each call returns what the regex's call of the same name returns, whatever was searched
+/// before. But no call needs memory, so none fails, and searches reuse the transitions that earlier
+/// searches have cached.
 ///
 /// ```
 /// let regex = Regex::new(alloc, "warn|error")?;
@@ -47,7 +47,7 @@ pub(crate) const ENDLESS: usize = usize::MAX;
 #[derive(Drop)]
 pub struct RegexSearcher<'r> {
     pub(super) matches: Searcher<'r>,
-    /// Finds the slots of all groups, where there are more than the whole match.
+    /// Finds the slots of all groups, if there are groups besides the whole match.
     groups: Option<GroupSearcher<'r>>,
 }
 
@@ -63,11 +63,11 @@ impl<'r> Model for RegexSearcher<'r> {
 }
 
 impl Regex {
-    /// A searcher of this regex, which callers keep for many haystacks.
+    /// A searcher of this regex for many haystacks.
     ///
-    /// All memory for its searches is requested here, also for their groups, and for what they
-    /// remember of the pattern where that pays: unless each match begins with one of a few
-    /// characters and nothing branches in the pattern.
+    /// It allocates all memory that its searches need, including the memory for groups and for
+    /// cached transitions. It has no such cache if each match begins with one of a few characters
+    /// and nothing in the pattern branches.
     ///
     /// # Errors
     ///
@@ -79,11 +79,11 @@ impl Regex {
         RegexSearcher::of(HeldRegex::lent(self), self.slots())
     }
 
-    /// A searcher that owns this regex: it borrows from nobody, so it can be stored, or returned,
-    /// where its regex can't be kept beside it.
+    /// A searcher that owns this regex. It borrows nothing, so it can be stored or returned without
+    /// the regex.
     ///
-    /// It is otherwise that of [`Regex::searcher`]. A clone of the regex costs little, for callers
-    /// that need both.
+    /// Otherwise it is like [`Regex::searcher`]. A caller that needs both can clone the regex,
+    /// which is cheap.
     ///
     /// ```
     /// fn warnings(alloc: Global) -> Result<RegexSearcher<'static>, Error> {
@@ -98,7 +98,7 @@ impl Regex {
     ///
     /// # Errors
     ///
-    /// `Memory` if memory runs out. The regex is then dropped.
+    /// `Memory` if memory runs out. Then the regex is dropped.
     pub fn into_searcher(self) -> Result<RegexSearcher<'static>, Error>
         ensures regex { IfOk result (λ searcher. searcher ≡ self) }
         ensures refused { IfErr result (λ error. error ≡ out_of_memory) }
@@ -108,8 +108,8 @@ impl Regex {
     }
 }
 
-/// What finds the groups of this regex's matches, which have `slots` slots, where there are more
-/// than the whole match.
+/// The searcher for the groups of this regex's matches, which have `slots` slots, if there are
+/// groups besides the whole match.
 fn searcher_of_groups<'r>(
     regex: &HeldRegex<'r>,
     slots: usize,
@@ -126,7 +126,7 @@ fn searcher_of_groups<'r>(
 }
 
 impl<'r> RegexSearcher<'r> {
-    /// A searcher of a regex that it holds, whose matches have `slots` slots.
+    /// A searcher of a held regex whose matches have `slots` slots.
     fn of(regex: HeldRegex<'r>, slots: usize) -> Result<RegexSearcher<'r>, Error>
         requires { OfTree regex.pattern (λ tree. slots ≡ 2 * captures_len tree) }
         ensures regex { IfOk result (λ searcher. searcher ≡ regex.entry.pattern) }
@@ -137,7 +137,7 @@ impl<'r> RegexSearcher<'r> {
         Ok(RegexSearcher { matches, groups })
     }
 
-    /// [`Regex::is_match`], which is never refused here.
+    /// [`Regex::is_match`], but it never fails.
     pub fn is_match(&mut self, haystack: &str) -> bool
         ensures found { IsTrue result ↔ MatchesFrom self.old haystack.now 0 }
         ensures same { self.new ≡ self.old }
@@ -145,7 +145,7 @@ impl<'r> RegexSearcher<'r> {
         self.matches.is_match(haystack)
     }
 
-    /// [`Regex::find`], which is never refused here.
+    /// [`Regex::find`], but it never fails.
     pub fn find<'h>(&mut self, haystack: &'h str) -> Option<Match<'h>>
         ensures found { TellsMatch self.old haystack.now 0 result }
         ensures same { self.new ≡ self.old }
@@ -153,7 +153,7 @@ impl<'r> RegexSearcher<'r> {
         self.find_at(haystack, 0)
     }
 
-    /// [`Regex::find_at`], which is never refused here.
+    /// [`Regex::find_at`], but it never fails.
     ///
     /// Condition: the start is above the haystack's length or on a character boundary.
     pub fn find_at<'h>(&mut self, haystack: &'h str, start: usize) -> Option<Match<'h>>
@@ -165,10 +165,9 @@ impl<'r> RegexSearcher<'r> {
         Some(found)
     }
 
-    /// [`Regex::captures_read`], which is never refused here.
+    /// [`Regex::captures_read`], but it never fails.
     ///
-    /// As many groups are written as the locations have. Without a match the locations stay as they
-    /// were.
+    /// It writes as many groups as the locations have. Without a match the locations are unchanged.
     ///
     /// Condition: the locations have no more groups than the regex.
     ///
@@ -198,10 +197,9 @@ impl<'r> RegexSearcher<'r> {
         self.captures_read_at(locs, haystack, 0)
     }
 
-    /// [`Regex::captures_read_at`], which is never refused here.
+    /// [`Regex::captures_read_at`], but it never fails.
     ///
-    /// As many groups are written as the locations have. Without a match the locations stay as they
-    /// were.
+    /// It writes as many groups as the locations have. Without a match the locations are unchanged.
     ///
     /// Conditions: the locations have no more groups than the regex. The start is above the
     /// haystack's length or on a character boundary.
@@ -224,7 +222,8 @@ impl<'r> RegexSearcher<'r> {
         Some(found)
     }
 
-    /// Writes the groups of a match in the haystack to the locations: as many as those have.
+    /// Writes the groups of a match in the haystack to the locations, as many as the locations
+    /// have.
     pub(super) fn read<'h>(
         &mut self,
         haystack: &'h str,

@@ -1,4 +1,4 @@
-//! Haystacks with their matches replaced.
+//! Replacing matches.
 ghost use Rattle.std.specs.Prelude.{◌≡◌, ◌⊎◌, None, IfOk, IfErr, chars};
 ghost use Rattle.std.specs.Cow.{IsOwnedStr, cow_str_bytes};
 ghost use Rattle.regex_lite_syntax.specs.Errors.{out_of_memory};
@@ -15,7 +15,7 @@ use std::borrow::CowStr;
 impl Regex {
     /// The haystack with its first match replaced.
     ///
-    /// [`Regex::replacen`] says more.
+    /// See [`Regex::replacen`].
     ///
     /// ```
     /// let regex = Regex::new(alloc, "[0-9]+")?;
@@ -39,7 +39,7 @@ impl Regex {
 
     /// The haystack with all its matches replaced.
     ///
-    /// [`Regex::replacen`] says more.
+    /// See [`Regex::replacen`].
     ///
     /// ```
     /// let regex = Regex::new(alloc, "(?<first>[a-z]+) (?<last>[a-z]+)")?;
@@ -65,12 +65,12 @@ impl Regex {
         self.replacen(haystack, 0, rep)
     }
 
-    /// The haystack with its first matches replaced, as many as the limit says; a limit of 0
-    /// stands for all. The matches are those of [`Regex::find_iter`].
+    /// The haystack with its first `limit` matches replaced; a limit of 0 means all. The matches
+    /// are those of [`Regex::find_iter`].
     ///
-    /// The replacer is asked for a fixed text once, before the first match is looked for. Where it
-    /// has none, it is asked to append a text for each match. Without a match the haystack itself
-    /// is returned, and with one a new text.
+    /// The replacer is asked for a fixed text once, before the first search. If it has none, it is
+    /// asked to append a text for each match. Without a match the haystack itself is returned,
+    /// otherwise a new text.
     ///
     /// ```
     /// let regex = Regex::new(alloc, " +")?;
@@ -79,15 +79,15 @@ impl Regex {
     ///
     /// The test `examples::replacing::replaced_within` in tests/unit runs this example.
     ///
-    /// Condition: the replacer can append, which its ghost member `can_append` says. A
-    /// [`ReplaceBy`](crate::ReplaceBy) can where its closure may be called on any groups, a
+    /// Condition: the replacer can append, as its ghost member `can_append` states. A
+    /// [`ReplaceBy`](crate::ReplaceBy) can if its closure may be called on any groups, a
     /// [`ReplacerRef`](crate::ReplacerRef) if the replacer that it borrows can, and a text or a
-    /// [`NoExpand`](crate::NoExpand) always.
+    /// [`NoExpand`](crate::NoExpand) always can.
     ///
     /// # Errors
     ///
-    /// `Memory` if memory runs out, and the error that the replacer returns for one of the matches
-    /// that are replaced. It may have been asked for some of them by then.
+    /// `Memory` if memory runs out, and the error that the replacer returns for one of the matches.
+    /// By then it may have been asked to replace earlier ones.
     pub fn replacen<'h, R: Replacer>(
         &self,
         haystack: &'h str,

@@ -1,4 +1,4 @@
-//! Haystacks with their matches replaced, and how many were. The other replacements call these.
+//! Replacing matches and counting them. The other replacements call these functions.
 ghost use Rattle.std.specs.Prelude.{◌≡◌, ◌⊎◌, None, IfOk, IfErr, chars};
 ghost use Rattle.std.specs.Cow.{IsOwnedStr, cow_str_bytes};
 ghost use Rattle.regex_lite_syntax.specs.Errors.{out_of_memory};
@@ -19,9 +19,9 @@ use regex_lite_syntax::Error;
 use std::borrow::CowStr;
 
 impl Regex {
-    /// The haystack with all its matches replaced, and how many were replaced.
+    /// The haystack with all its matches replaced, and their number.
     ///
-    /// [`Regex::replacen_counted`] says more.
+    /// See [`Regex::replacen_counted`].
     ///
     /// ```
     /// let regex = Regex::new(alloc, "[0-9]+")?;
@@ -52,11 +52,11 @@ impl Regex {
         self.replacen_counted(haystack, 0, rep)
     }
 
-    /// The haystack with its first matches replaced, as many as the limit says, and how many were
-    /// replaced; a limit of 0 stands for all. The text is that of [`Regex::replacen`].
+    /// The haystack with its first `limit` matches replaced, and the number of matches that were
+    /// replaced; a limit of 0 means all. The text is that of [`Regex::replacen`].
     ///
-    /// The replacer is lent, and is as its last call leaves it: it is asked for a fixed text once
-    /// and, where it has none, to append a text for each match that is replaced.
+    /// The replacer is borrowed, and keeps the state in which its last call leaves it. It is asked
+    /// for a fixed text once and, if it has none, to append a text for each match that is replaced.
     ///
     /// ```
     /// let regex = Regex::new(alloc, " +")?;
@@ -66,12 +66,12 @@ impl Regex {
     ///
     /// The test `examples::replacing::replaced_within_and_counted` in tests/unit runs this example.
     ///
-    /// Condition: the replacer can append, as for [`Regex::replacen`]. It can again afterwards.
+    /// Condition: the replacer can append, as for [`Regex::replacen`]. Afterwards it still can.
     ///
     /// # Errors
     ///
-    /// `Memory` if memory runs out, and the error that the replacer returns for one of the matches
-    /// that are replaced. The replacer is as its last call leaves it then too.
+    /// `Memory` if memory runs out, and the error that the replacer returns for one of the matches.
+    /// Then too the replacer keeps the state in which its last call leaves it.
     pub fn replacen_counted<'h, R: Replacer>(
         &self,
         haystack: &'h str,
@@ -185,7 +185,7 @@ impl Regex {
     }
 }
 
-/// How many matches may be replaced, where not all may.
+/// The greatest number of matches to replace, if it is limited.
 fn limit_of_matches(limit: usize) -> Option<usize>
     ensures { result ≡ limit_of limit }
 {

@@ -1,4 +1,4 @@
-//! What replaces a match.
+//! Replacers: what a match is replaced by.
 ghost use Rattle.std.specs.Prelude.{◌≡◌, ◌++◌, ℕ, List, Option, None};
 ghost use Rattle.std.specs.Prelude.{Some, ⊤, string_bytes, option_map};
 ghost use Rattle.std.specs.Borrow.{sem};
@@ -8,28 +8,30 @@ ghost use Rattle.regex_lite.specs.Replacing.{Answer, IsAppendedResult, IsAppende
 use crate::string::captures::Captures;
 use regex_lite_syntax::Error;
 
-/// What replaces each match: [`Regex::replacen`](crate::Regex::replacen) asks it for a fixed text
-/// once and, if it has none, for what to append for the groups of each match.
+/// A replacer gives the texts that replace matches. [`Regex::replacen`](crate::Regex::replacen)
+/// asks it for a fixed text once and, if it has none, to append a text for the groups of each
+/// match.
 ///
-/// Texts are replacers, and stand for themselves as templates, as [`Captures::expand`] reads them.
-/// [`NoExpand`] is a text that is no template, and [`ReplaceBy`] a closure.
+/// Texts are replacers: each is a template, as [`Captures::expand`] reads it. [`NoExpand`] is a
+/// text that isn't read as a template, and [`ReplaceBy`] wraps a closure.
 pub trait Replacer: Drop {
-    /// In which states it may be asked.
+    /// The states in which the replacer may be asked.
     ghost can_append: { Self → Type 0 } = { λ _. ⊤ };
 
-    /// What it may append for groups and return, from its state before to that after.
+    /// What it may append and return for groups, between its states before and after the call.
     ghost appends: { Self → Groups → List ℕ → Answer → Self → Type 0 };
 
-    /// What it may return if it is asked for a fixed text, from its state before to that after.
+    /// What it may return if it is asked for a fixed text, between its states before and after the
+    /// call.
     ghost fixed: { Self → Option (List ℕ) → Self → Type 0 };
 
-    /// Appends what replaces the match with these groups. What was there before stays, even on an
-    /// error.
+    /// Appends the text that replaces the match with these groups. The text before it is unchanged,
+    /// even on an error.
     ///
     /// # Errors
     ///
-    /// Those of the replacer: the provided ones return only `Memory`, if memory runs out, and a
-    /// [`ReplaceBy`] returns that of its closure.
+    /// Those of the replacer. The replacers of this library return only `Memory`, if memory runs
+    /// out, except that a [`ReplaceBy`] returns the error of its closure.
     fn replace_append(&mut self, caps: &Captures<'_>, dst: &mut String) -> Result<(), Error>
         requires { can_append self.old }
         ensures appended { (text : List ℕ)
@@ -54,7 +56,7 @@ pub trait Replacer: Drop {
     }
 }
 
-/// A borrowed replacer: [`Replacer::by_ref`] makes it.
+/// A borrowed replacer: [`Replacer::by_ref`] returns it.
 #[derive(Debug, Drop)]
 pub struct ReplacerRef<'a, R>(&'a mut R);
 
@@ -75,7 +77,7 @@ impl<'a, R: Replacer> Replacer for ReplacerRef<'a, R> {
     }
 }
 
-/// A text that is no template: it replaces each match as it is.
+/// A text that isn't read as a template: it replaces each match as it is.
 ///
 /// ```
 /// let regex = Regex::new(alloc, "(?<sum>[0-9]+) dollars")?;
@@ -101,7 +103,7 @@ impl<'t> Replacer for NoExpand<'t> {
     }
 }
 
-/// A closure that makes the text for each match from its groups, or returns an error.
+/// A replacer by a closure, which returns the text for each match from its groups, or an error.
 ///
 /// ```
 /// let regex = Regex::new(alloc, "[a-z]+")?;

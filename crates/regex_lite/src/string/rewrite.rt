@@ -1,4 +1,4 @@
-//! The new text for a haystack whose matches are replaced.
+//! Building the new text of a haystack whose matches are replaced.
 ghost use Rattle.std.specs.Prelude.{◌≡◌, ◌≤◌, ◌+◌, ◌++◌, ◌⊎◌, ℕ, List, [], Some, None, Ok, Err};
 ghost use Rattle.std.specs.Prelude.{IfOk, IfErr, MatchOption, IsCharBoundary, drop, string_bytes};
 ghost use Rattle.std.specs.Prelude.{unwrap_or};
@@ -15,8 +15,8 @@ use regex_lite_syntax::Error;
 use std::alloc::Global;
 use std::borrow::CowStr;
 
-/// A haystack, the new text for what stands before the end of the last match, and how many matches
-/// were replaced.
+/// A haystack, the new text up to the end of the last match, and the number of matches that were
+/// replaced.
 #[derive(Drop)]
 pub(super) struct Rewrite<'h> {
     haystack: &'h str,
@@ -31,7 +31,7 @@ impl<'h> Rewrite<'h> {
     ghost use Rattle.regex_lite.specs.MatchViews.{haystack_of_match, span_of_match};
     ghost use Rattle.regex_lite.specs.Rewriting.{text_up_to};
 
-    /// Where all matches are still to come.
+    /// A rewrite of the haystack before its first match.
     pub fn start(alloc: Global, haystack: &'h str) -> Rewrite<'h>
         ensures haystack { result.haystack ≡ haystack.entry }
         ensures text { string_bytes result.text ≡ [] }
@@ -46,7 +46,7 @@ impl<'h> Rewrite<'h> {
         }
     }
 
-    /// Replaces the next match by this text.
+    /// Replaces the next match with this text.
     pub fn replace(&mut self, found: &Match<'h>, text: &str) -> Result<(), Error>
         requires haystack { haystack_of_match found.now ≡ self.old.haystack.now }
         requires onward { IsOnward self.old.ended (span_of_match found.now) }
@@ -62,7 +62,7 @@ impl<'h> Rewrite<'h> {
         Ok(())
     }
 
-    /// Replaces the next match, which has these groups, by what the replacer appends.
+    /// Replaces the next match, which has these groups, with what the replacer appends.
     pub fn replace_with<R: Replacer>(
         &mut self,
         caps: &Captures<'h>,
@@ -86,8 +86,8 @@ impl<'h> Rewrite<'h> {
         rep.replace_append(caps, &mut self.text)
     }
 
-    /// The new text with the rest of the haystack, or the haystack where nothing was replaced, and
-    /// how many matches were replaced.
+    /// The new text with the rest of the haystack, or the haystack if nothing was replaced, and the
+    /// number of matches that were replaced.
     pub fn finish(mut self) -> Result<(CowStr<'h>, usize), Error>
         ensures ok { IfOk result (λ new. MatchOption self.entry.ended
             (new.0 ≡ CowStr.Borrowed self.entry.haystack)
@@ -104,7 +104,7 @@ impl<'h> Rewrite<'h> {
         Ok((CowStr::Owned(self.text), self.replaced))
     }
 
-    /// Appends what stands before the next match, and goes on after it.
+    /// Appends the text before the next match, and moves past that match.
     fn pass(&mut self, start: usize, end: usize) -> Result<(), Error>
         requires lies_in { LiesIn self.old.haystack.now (start, end) }
         requires onward { IsOnward self.old.ended (start, end) }
@@ -115,7 +115,7 @@ impl<'h> Rewrite<'h> {
         ensures refused { IfErr result (λ error. error ≡ out_of_memory) }
     {
         let from = self.ended.unwrap_or(0);
-        // At the first match this is room for the whole haystack.
+        // At the first match this reserves room for the whole haystack.
         self.text.reserve(self.haystack.len() - from)?;
         self.text.push_str(&self.haystack[from..start])?;
         self.ended = Some(end);

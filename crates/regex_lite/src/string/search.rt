@@ -1,4 +1,4 @@
-//! Searches: whether and where a regex matches in a haystack.
+//! Searches for whether and where a regex matches.
 ghost use Rattle.std.specs.Prelude.{◌≡◌, ◌↔◌, IfOk, IfErr, IsTrue};
 ghost use Rattle.regex_lite_syntax.specs.Errors.{out_of_memory};
 ghost use Rattle.regex_lite.specs.Searches.{CanStartAt, MatchesFrom, TellsEnd, TellsMatch};
@@ -10,7 +10,7 @@ use regex_lite_syntax::Error;
 impl Regex {
     /// Whether the pattern matches somewhere in the haystack.
     ///
-    /// The search is over at the first match that it comes to, whichever it is.
+    /// The search stops at the first match that it can confirm.
     ///
     /// ```
     /// let regex = Regex::new(alloc, "a??b")?;
@@ -32,8 +32,8 @@ impl Regex {
 
     /// Whether the pattern matches somewhere from this offset on.
     ///
-    /// Looks see the whole haystack: `^` doesn't match at the start of the search, only at that of
-    /// the haystack. From a start above the length nothing matches.
+    /// Looks see the whole haystack: `^` matches at the haystack's start, not at the start of the
+    /// search. If the start is above the haystack's length, the result is `false`.
     ///
     /// Condition: the start is above the haystack's length or on a character boundary.
     ///
@@ -50,8 +50,7 @@ impl Regex {
         Ok(found)
     }
 
-    /// The match that starts first: of the matches that start there the one that the pattern
-    /// prefers.
+    /// The match that starts first. If several start there, it is the one that the pattern prefers.
     ///
     /// An alternation prefers its earlier branches. A greedy operator prefers one more pass to
     /// stopping, and a lazy one stopping to one more pass.
@@ -76,7 +75,7 @@ impl Regex {
         self.find_at(haystack, 0)
     }
 
-    /// [`Regex::find`] among the matches that start at or after this offset.
+    /// The match that starts first, at this offset or later.
     ///
     /// Looks see the whole haystack, as they do in [`Regex::is_match_at`].
     ///
@@ -94,7 +93,7 @@ impl Regex {
         Ok(found)
     }
 
-    /// The offset at which a match can be known first: the least end of any match.
+    /// The least offset at which any match ends.
     ///
     /// It needn't be the end of the match that [`Regex::find`] returns.
     ///

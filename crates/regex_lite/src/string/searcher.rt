@@ -1,4 +1,4 @@
-//! Searches, one after another, in the same memory.
+//! A searcher, which reuses its memory.
 ghost use Rattle.std.specs.Prelude.{◌≡◌, ◌↔◌, IfOk, IfErr, IfSome, IsTrue, chars, length};
 ghost use Rattle.regex_lite_syntax.specs.Errors.{out_of_memory};
 ghost use Rattle.regex_lite_engine.specs.Search.AnswerAt.{HasMatchAt};
@@ -20,7 +20,7 @@ use regex_lite_syntax::Error;
 use std::fmt;
 use std::marker::Model;
 
-/// A regex, and the memory in which it is searched for, search after search.
+/// A regex, and the memory of its searches.
 #[derive(Drop)]
 pub(crate) struct Searcher<'r> {
     regex: HeldRegex<'r>,
@@ -42,8 +42,8 @@ impl<'r> Model for Searcher<'r> {
 }
 
 impl<'r> Searcher<'r> {
-    /// The regex, with memory for searches in haystacks of about `bytes` bytes, whose matches have
-    /// `slots` slots.
+    /// A searcher of this regex, for haystacks of about `bytes` bytes and matches with `slots`
+    /// slots.
     pub fn new(regex: &'r Regex, slots: usize, bytes: usize) -> Result<Searcher<'r>, Error>
         ensures regex { IfOk result (λ searcher. searcher.regex ≡ regex.now) }
         ensures slots { IfOk result (λ searcher. length searcher.slots ≡ slots) }
@@ -52,8 +52,9 @@ impl<'r> Searcher<'r> {
         Searcher::of(HeldRegex::lent(regex), slots, bytes)
     }
 
-    /// The same for a regex that the searcher holds.
-    // Inlined, so that a searcher, which is large, is copied less often where it is made.
+    /// A searcher of a held regex, for haystacks of about `bytes` bytes and matches with `slots`
+    /// slots.
+    // Inlined, so that the searcher, which is large, is copied less often.
     #[inline(always)]
     pub fn of(regex: HeldRegex<'r>, slots: usize, bytes: usize) -> Result<Searcher<'r>, Error>
         ensures regex { IfOk result (λ searcher. searcher.regex ≡ regex.entry.pattern) }
@@ -65,7 +66,7 @@ impl<'r> Searcher<'r> {
         Ok(Searcher { regex, inner })
     }
 
-    /// What was built of the regex.
+    /// The compiled pattern.
     pub fn compiled(&self) -> &Compiled {
         self.regex.compiled()
     }
@@ -79,7 +80,8 @@ impl<'r> Searcher<'r> {
         self.inner.search_any(self.regex.graph(), haystack, 0)
     }
 
-    /// Whether a match starts at this offset, with WHOLE one that ends where the haystack does.
+    /// Whether a match starts at this offset. If WHOLE, only matches that end where the haystack
+    /// ends count.
     pub fn is_match_anchored<const WHOLE: bool>(&mut self, haystack: &str, start: usize) -> bool
         requires { CanStartAt haystack.now start }
         ensures found { OfTree self.old.regex (λ tree. IsTrue result
@@ -92,8 +94,8 @@ impl<'r> Searcher<'r> {
             .search_any_anchored::<WHOLE>(graph, haystack, start)
     }
 
-    /// The match that starts at this offset, with WHOLE the one that the pattern prefers of those
-    /// that end where the haystack does.
+    /// The match that starts at this offset. If WHOLE, it is the one that the pattern prefers among
+    /// those that end where the haystack ends.
     pub fn find_anchored<'h, const WHOLE: bool>(
         &mut self,
         haystack: &'h str,
@@ -110,7 +112,8 @@ impl<'r> Searcher<'r> {
         Some(Match::new(haystack, from, to))
     }
 
-    /// Those of the spare groups, or new ones with room for the slots that are kept.
+    /// The slots and the source of the spare groups, or new ones with room for the slots that are
+    /// kept.
     fn parts<'h>(&self, spare: Option<Captures<'h>>) -> Result<(Vec<Option<usize>>, Source), Error>
         requires { IfSome spare (AreOfRegex self.now.regex) }
         ensures ok { IfOk result (λ parts. SharesGroups self.now.regex parts.1) }
@@ -155,13 +158,13 @@ impl<'r> Finds for Searcher<'r> {
 
     ghost slots = { λ searcher. searcher.slots };
 
-    /// [`Regex::find_at`], which is never refused here.
+    /// [`Regex::find_at`], but it never fails.
     fn find_at(&mut self, haystack: &str, start: usize) -> Option<((), (usize, usize))> {
         let span = self.inner.search(self.regex.graph(), haystack, start)?;
         Some(((), span))
     }
 
-    /// The groups, in the memory of the spare ones where there are some.
+    /// The groups, in the memory of the spare groups if there are any.
     fn captures<'h>(
         &self,
         haystack: &'h str,

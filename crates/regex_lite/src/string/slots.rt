@@ -1,4 +1,4 @@
-//! The slots of a match: how many a search keeps for its groups, and all of them.
+//! The slots of a match: those that a search keeps for its groups, and all of them.
 ghost use Rattle.std.specs.Prelude.{◌≡◌, ◌*◌, [], ◌∷◌, ℕ, Some, IfOk, length};
 ghost use Rattle.regex_lite_syntax.specs.Tree.Properties.{captures_len};
 ghost use Rattle.regex_lite.specs.Expression.{OfTree};
@@ -8,15 +8,15 @@ use crate::string::regex::Regex;
 use std::alloc::{AllocError, Global};
 
 impl Regex {
-    /// How many slots the groups have: two each.
+    /// The number of slots of the groups: two for each.
     pub(super) fn slots(&self) -> usize
         ensures { OfTree self.now (λ tree. result ≡ 2 * captures_len tree) }
     {
         2 * self.compiled.graph.capture_names().len()
     }
 
-    /// How many slots a search for the groups keeps. If the whole match is the only group, its span
-    /// is enough: then the search keeps none, and takes no longer than one for the match.
+    /// The number of slots that a search for the groups keeps. If the whole match is the only
+    /// group, its span suffices: the search keeps no slots, and is as fast as one for the match.
     pub(super) fn kept_slots(&self) -> usize
         ensures { OfTree self.now (λ tree. result ≡ kept_slots (captures_len tree)) }
     {
@@ -24,15 +24,15 @@ impl Regex {
     }
 }
 
-/// How many of this number of slots a search keeps for the groups that have them: none if they are
-/// those of the whole match alone.
+/// The number of slots that a search keeps for groups with this many slots: none if they are those
+/// of the whole match alone.
 pub(super) fn kept_of(slots: usize) -> usize
     ensures { (groups : ℕ) → slots ≡ 2 * groups → result ≡ kept_slots groups }
 {
     if slots == 2 { 0 } else { slots }
 }
 
-/// Room for the slots of the whole match, where a search keeps none for its groups.
+/// Room for the slots of the whole match, if a search keeps none for its groups.
 pub(super) fn whole_slots(alloc: Global, kept: usize) -> Result<Vec<Option<usize>>, AllocError>
     ensures { IfOk result (λ whole. kept ≡ 0 → length whole.items ≡ 2) }
 {
@@ -40,8 +40,8 @@ pub(super) fn whole_slots(alloc: Global, kept: usize) -> Result<Vec<Option<usize
     vec![in alloc; None; count]
 }
 
-/// The slots of all groups of a match with this span, of which a search kept these. Those of the
-/// whole match stand in the room that was made for them before the search.
+/// The slots of all groups of a match with this span, of which a search kept these. If it kept
+/// none, the slots of the whole match go to the room that was allocated before the search.
 pub(super) fn slots_with(
     kept: Vec<Option<usize>>,
     mut whole: Vec<Option<usize>>,
@@ -58,8 +58,8 @@ pub(super) fn slots_with(
     whole
 }
 
-/// The slots of all groups of a match, of which a search kept these: where it kept none, those of
-/// the whole match.
+/// The slots of all groups of a match, of which a search kept these: the two of the whole match if
+/// it kept none.
 pub(super) fn or_whole<'s>(
     kept: &'s [Option<usize>],
     whole: &'s [Option<usize>],

@@ -1,4 +1,4 @@
-//! What the groups of a match share with the regex, or with the list of patterns, that found it.
+//! What the groups of a match share with the regex or the list of patterns that found it.
 ghost use Rattle.std.specs.Prelude.{◌≡◌, ◌*◌, ◌<◌, length};
 ghost use Rattle.regex_lite.specs.Compiled.{stored_groups};
 ghost use Rattle.regex_lite.specs.CompiledList.{groups_at};
@@ -9,19 +9,19 @@ use crate::string::list::compiled::CompiledList;
 use std::marker::Model;
 use std::rc::RcStr;
 
-/// What found a match: a regex, or the pattern of a list that has this number.
+/// What found a match: a regex, or the pattern with this number in a list.
 enum Finder {
     Regex(Shared<Compiled>),
     Listed(Shared<CompiledList>, usize),
 }
 
-/// Where the names of the groups of one pattern are found.
+/// The source of the names of one pattern's groups.
 #[derive(Drop)]
 pub(super) struct Source {
     finder: Finder,
 }
 
-/// Written out, so that where groups are dropped the proof has one call and not two paths.
+/// Written by hand, so that dropping groups is one call in a proof, not two paths.
 impl Drop for Finder {
     fn drop(self) {
         match self {
@@ -43,7 +43,7 @@ impl Model for Source {
 }
 
 impl Source {
-    /// That of a regex.
+    /// The source for matches of a regex.
     pub fn of_regex(compiled: Shared<Compiled>) -> Source
         ensures { result ≡ stored_groups compiled }
     {
@@ -52,7 +52,7 @@ impl Source {
         }
     }
 
-    /// That of the pattern with this number.
+    /// The source for matches of the pattern with this number.
     pub fn of_listed(list: Shared<CompiledList>, number: usize) -> Source
         requires { number < length list.graph.groups }
         ensures { result ≡ groups_at list.graph.groups number }
@@ -62,7 +62,7 @@ impl Source {
         }
     }
 
-    /// The names of the groups by index, group 0 first.
+    /// The names of the groups by index, from group 0 on.
     pub fn capture_names(&self) -> &[Option<RcStr>]
         ensures { result.now ≡ self.now.capture_names }
     {
@@ -72,7 +72,7 @@ impl Source {
         }
     }
 
-    /// How many slots the groups have: two each.
+    /// The number of slots of the groups: two for each.
     pub fn slots(&self) -> usize
         ensures { result ≡ 2 * length self.now.capture_names }
     {

@@ -1,4 +1,4 @@
-//! The groups of a match, one after another.
+//! An iterator over the groups of a match.
 ghost use Rattle.std.specs.Prelude.{◌≡◌, Some, IfSome, length, option_map, ⊤};
 ghost use Rattle.std.specs.Iterator.{YieldsFirstBy, UpTo, item_count};
 ghost use Rattle.std.specs.Iterator.SizeHint.{IsWithinCount};
@@ -10,10 +10,10 @@ use std::fmt;
 use std::iter::FusedIterator;
 use std::marker::Model;
 
-/// What each group of a match matched last, by index, from the whole match on: `None` for a group
-/// that took no part.
+/// An iterator over the last match of each group by index, beginning with the whole match. A group
+/// that took no part has `None`.
 ///
-/// How many are left is known exactly. A clone goes on from the same group, and takes no memory.
+/// The number of groups left is exact. A clone continues from the same group, and needs no memory.
 #[derive(Drop)]
 pub struct SubCaptureMatches<'c, 'h> {
     captures: &'c Captures<'h>,
@@ -33,7 +33,7 @@ impl<'c, 'h> Model for SubCaptureMatches<'c, 'h> {
 }
 
 impl<'c, 'h> SubCaptureMatches<'c, 'h> {
-    /// All groups of these.
+    /// An iterator over all of these groups.
     pub(super) fn new(captures: &'c Captures<'h>) -> SubCaptureMatches<'c, 'h>
         ensures haystack { result.groups ≡ captures.now }
         ensures groups { result.spans ≡ captures.now.spans }
@@ -94,7 +94,7 @@ impl<'c, 'h> ExactSizeIterator for SubCaptureMatches<'c, 'h> {
 
 impl<'c, 'h> FusedIterator for SubCaptureMatches<'c, 'h> {}
 
-/// Writes the match's groups.
+/// Writes the groups of the match.
 impl<'c, 'h> fmt::Debug for SubCaptureMatches<'c, 'h> {
     fn fmt<W: fmt::Write>(&self, f: &mut fmt::Formatter<W>) -> fmt::Result {
         f.debug_tuple("SubCaptureMatches")

@@ -83,7 +83,7 @@ impl<'c, 't> Replacer for &'c CowStr<'t> {
     }
 }
 
-/// The text, if it has no `$`: then it stands for itself.
+/// The text, if it has no `$` and so is its own expansion.
 fn fixed_text(text: &str) -> Option<&str>
     ensures { IsFixedText text.now (option_map (λ fixed. fixed.now) result) }
 {
@@ -94,7 +94,7 @@ fn fixed_text(text: &str) -> Option<&str>
     }
 }
 
-/// Appends what the template gives for the groups.
+/// Appends the expansion of the template for the groups.
 fn append_template(template: &str, caps: &Captures<'_>, dst: &mut String) -> Result<(), Error>
     ensures { (text : List ℕ) × (string_bytes dst.new ≡ string_bytes dst.old ++ text)
         × IsAppendedTemplate template.now caps.now text result }

@@ -1,4 +1,4 @@
-//! Whole matches: those that start where the haystack does, and end there too.
+//! Whole matches: matches that start and end where the haystack does.
 ghost use Rattle.std.specs.Prelude.{◌≡◌, ◌↔◌, IfOk, IfErr, IsTrue, length};
 ghost use Rattle.regex_lite_syntax.specs.Errors.{out_of_memory};
 ghost use Rattle.regex_lite.specs.Anchored.{TellsWholeGroups, TellsWholeMatch};
@@ -14,8 +14,8 @@ use regex_lite_syntax::Error;
 impl Regex {
     /// Whether the pattern matches the whole haystack.
     ///
-    /// It asks what `\A(?:..)\z` around the pattern would ask. So a pattern that prefers a shorter
-    /// match may match the whole haystack too: `a|ab` matches all of "ab".
+    /// It is what a search with `\A(?:..)\z` around the pattern would return. So even a pattern
+    /// that prefers a shorter match may match the whole haystack: `a|ab` matches all of "ab".
     ///
     /// # Errors
     ///
@@ -30,7 +30,7 @@ impl Regex {
         Ok(found)
     }
 
-    /// The match of the whole haystack, if the pattern matches the whole of it.
+    /// The match of the whole haystack, if there is one.
     ///
     /// ```
     /// let regex = Regex::new(alloc, "[0-9]+|[0-9]+px")?;
@@ -50,10 +50,10 @@ impl Regex {
         self.match_anchored::<true>(haystack, 0)
     }
 
-    /// The groups of the match of the whole haystack, if the pattern matches the whole of it.
+    /// The groups of the match of the whole haystack, if there is one.
     ///
-    /// Of the ways in which the pattern matches the whole haystack, the groups are those of the one
-    /// that the pattern prefers. For a group that takes part more than once, the last time counts.
+    /// If the pattern matches the whole haystack in several ways, the groups are those of the
+    /// preferred one. A group that takes part more than once has the span of the last time.
     ///
     /// # Errors
     ///
@@ -67,7 +67,7 @@ impl Regex {
 }
 
 impl<'r> RegexSearcher<'r> {
-    /// [`Regex::is_full_match`], which is never refused here.
+    /// [`Regex::is_full_match`], but it never fails.
     pub fn is_full_match(&mut self, haystack: &str) -> bool
         ensures found { IsTrue result
             ↔ MatchesSpan self.old haystack.now (0, length haystack.now) }
@@ -76,7 +76,7 @@ impl<'r> RegexSearcher<'r> {
         self.matches.is_match_anchored::<true>(haystack, 0)
     }
 
-    /// [`Regex::full_match`], which is never refused here.
+    /// [`Regex::full_match`], but it never fails.
     pub fn full_match<'h>(&mut self, haystack: &'h str) -> Option<Match<'h>>
         ensures found { TellsWholeMatch self.old haystack.now result }
         ensures same { self.new ≡ self.old }

@@ -1,4 +1,4 @@
-//! Anchored searches for several patterns: for the match that starts at the offset.
+//! Anchored searches for several patterns: they find a match that starts at the offset.
 ghost use Rattle.std.specs.Prelude.{◌≡◌, ◌≢◌, ◌↔◌, IfSome, None};
 ghost use Rattle.regex_lite.specs.MatchOffsets.{SomeMatchesAt};
 ghost use Rattle.regex_lite_c.specs.Anchored.{FindsListSpanAt, TellsListSpanAt};
@@ -51,7 +51,7 @@ impl<'r> Search for Anchored<'r, RegexList> {
     }
 }
 
-/// Whether a match of one of the patterns starts at this offset: 1 or 0.
+/// Whether one of the patterns matches at this offset: 1 or 0.
 #[unsafe(no_mangle)]
 pub extern "C" fn regex_lite_list_is_match_anchored(
     alloc: Global,
@@ -98,8 +98,8 @@ pub extern "C" fn regex_lite_list_find_anchored(
 }
 
 /// The groups of the match that `regex_lite_list_find_anchored` finds: 1 with their spans written,
-/// from the whole match on, or 0. With a match, the number of its pattern and how many groups that
-/// has are written either way.
+/// beginning with the whole match, or 0. With a match, the number of its pattern and the number of
+/// that pattern's groups are written either way.
 #[unsafe(no_mangle)]
 pub extern "C" fn regex_lite_list_captures_anchored(
     alloc: Global,

@@ -1,4 +1,4 @@
-//! Lists of patterns: how one is built and freed.
+//! Building and freeing lists of patterns.
 ghost use Rattle.std.specs.Prelude.{◌≡◌, ◌++◌, ◌∷◌, [], None, Err};
 ghost use Rattle.std.specs.Prelude.{IfErr, IfOk, MatchOption, length, map};
 ghost use Rattle.regex_lite_syntax.specs.Errors.{out_of_memory};
@@ -16,24 +16,24 @@ use crate::list::types::{ListPattern, ListRefusal};
 use regex_lite::{Error, ErrorKind, RegexList, RegexListBuilder};
 use std::alloc::Global;
 
-/// Why patterns are refused.
+/// The reason why patterns are rejected.
 #[derive(Drop)]
 pub(crate) enum Refused {
     /// The pattern with this number isn't valid UTF-8.
     NotText(usize),
-    /// The pattern with this number is refused by itself, for this reason. If it is the number of
-    /// patterns, no single one is refused.
+    /// The pattern with this number is rejected by itself, with this error. If the number is that
+    /// of all patterns, no single pattern is rejected.
     By(usize, Error),
 }
 
-/// Builds a list of patterns, whose bytes come one after another: 1, and the handle holds it;
-/// otherwise why not, and it holds nothing.
+/// Builds a list of patterns, whose bytes are concatenated: 1, and the handle holds it. Otherwise
+/// the reason, and the handle holds nothing.
 ///
-/// What was held before is freed. The number of the refused pattern is written, or the number of
-/// patterns where no single one is refused. The text of a refusal is written to the room for a
+/// What was held before is freed. The number of the rejected pattern is written, or the number of
+/// patterns if no single one is rejected. The text of an error is written to the room for a
 /// message, if that is large enough. Its length is written either way, and is 0 if there is no
-/// text. The lengths of the patterns have to add up to that of the bytes; otherwise a bad offset is
-/// reported.
+/// text. The lengths of the patterns have to add up to that of the bytes; otherwise the answer is
+/// that of a bad offset.
 #[unsafe(no_mangle)]
 pub extern "C" fn regex_lite_list_new(
     alloc: Global,
@@ -63,7 +63,7 @@ pub extern "C" fn regex_lite_list_new(
     }
 }
 
-/// Frees what is held, if anything is.
+/// Frees the list, if one is held.
 #[unsafe(no_mangle)]
 pub extern "C" fn regex_lite_list_free(alloc: Global, handle: &mut ListHandle)
     ensures { handle.new.value ≡ None }
@@ -132,8 +132,8 @@ fn push(builder: &mut RegexListBuilder, source: &PatternSource<'_>) -> Result<()
     builder.push(source.text)
 }
 
-/// Why these patterns, which can't be built for this reason, are refused. If one is refused by
-/// itself, it is named.
+/// The reason why these patterns, which can't be built because of this error, are rejected. If one
+/// of them is rejected by itself, it has that pattern's number.
 fn why_refused(alloc: Global, sources: &[PatternSource<'_>], error: Error) -> Refused
     requires texts { AreTexts (map settings_of_source sources.now) }
     requires refused { BuildsList (map settings_of_source sources.now) (Err error) }
@@ -145,8 +145,8 @@ fn why_refused(alloc: Global, sources: &[PatternSource<'_>], error: Error) -> Re
     }
 }
 
-/// The number of the first pattern that is refused by itself, and why; or the number of patterns,
-/// if memory runs out before that.
+/// The number and the error of the first pattern that is rejected by itself; or the number of
+/// patterns, if memory runs out before that.
 fn lowest_refused(alloc: Global, sources: &[PatternSource<'_>]) -> Option<(usize, Error)>
     ensures { MatchOption result (IsEachAccepted (map settings_of_source sources.now))
         (λ told. IsDueAt (map settings_of_source sources.now) told.0 told.1
@@ -161,7 +161,7 @@ fn lowest_refused(alloc: Global, sources: &[PatternSource<'_>]) -> Option<(usize
     None
 }
 
-/// The number of a pattern that is refused; or the number of patterns, if memory ran out.
+/// The number of a pattern that is rejected, or the number of patterns if memory ran out.
 fn number_for(error: &Error, number: usize, count: usize) -> usize
     ensures memory { error.now ≡ out_of_memory → result ≡ count }
     ensures refused { (error.now ≡ out_of_memory → ⊥) → result ≡ number }
@@ -172,7 +172,7 @@ fn number_for(error: &Error, number: usize, count: usize) -> usize
     }
 }
 
-/// Writes why patterns are refused, and returns its number.
+/// Writes the reason why patterns are rejected, and returns its number.
 fn tell(refused: &Refused, message: &mut [u8], told: &mut ListRefusal) -> u32
     requires { told.old.message_len ≡ 0 }
     ensures { IsTold refused.now result told.new message.old message.new }

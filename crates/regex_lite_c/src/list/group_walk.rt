@@ -1,4 +1,4 @@
-//! The groups of all matches of several patterns in a text, some at a time.
+//! The groups of all matches of several patterns in a text, in batches.
 ghost use Rattle.std.specs.Prelude.{◌≡◌, IfSome, None};
 ghost use Rattle.regex_lite_c.specs.GroupWalks.{IsListGroupWalkAnswer, list_group_room};
 
@@ -10,14 +10,15 @@ use crate::types::{MatchWalk, Span};
 use std::alloc::Global;
 
 /// The groups of the next matches of the patterns in a text, as many as there is room for: 1 with
-/// the spans of each match in a row, from the whole match on, or 0 where none is left. For each
-/// match the number of its pattern and how many groups that has are written too, and how many
-/// matches these are. The walk goes on after the last of them.
+/// the spans of the groups of each match, beginning with the whole match, one match after another,
+/// or 0 if none is left. For each match the number of its pattern and the number of that pattern's
+/// groups are written too, and so is the number of these matches. The walk moves past the last of
+/// them.
 ///
 /// They are the matches of `regex_lite_list_find_all`. 1 means that no further match would have
-/// fitted: none is left, or there is no room for the number of the next or for its groups. Where
-/// memory runs out, the number tells how many matches were written before, and the walk goes on
-/// after them. With too little room for the first match, only the number of its groups is written,
+/// fitted: none is left, or there is no room for the number of the next or for its groups. If
+/// memory runs out, the number is that of the matches that were written before, and the walk moves
+/// past them. With too little room for the first match, only the number of its groups is written,
 /// instead of the number of matches.
 #[unsafe(no_mangle)]
 pub extern "C" fn regex_lite_list_captures_all(

@@ -1,4 +1,4 @@
-//! The groups of a match of one of several patterns, in spans of the caller.
+//! The groups of a match of one of several patterns, written to the caller's spans.
 ghost use Rattle.std.specs.Prelude.{◌≡◌, IfSome, None};
 ghost use Rattle.regex_lite_c.specs.GroupAnswers.{IsListGroupsAnswer};
 
@@ -9,9 +9,9 @@ use crate::list::types::ListGroups;
 use crate::types::Span;
 use std::alloc::Global;
 
-/// The groups of the match that `regex_lite_list_find` finds: 1 with their spans written, from the
-/// whole match on, or 0. With a match, the number of its pattern and how many groups that has are
-/// written either way.
+/// The groups of the match that `regex_lite_list_find` finds: 1 with their spans written, beginning
+/// with the whole match, or 0. With a match, the number of its pattern and the number of that
+/// pattern's groups are written either way.
 #[unsafe(no_mangle)]
 pub extern "C" fn regex_lite_list_captures(
     alloc: Global,

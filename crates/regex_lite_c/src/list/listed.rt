@@ -1,4 +1,4 @@
-//! Searches for one pattern of a list, which is given by its number.
+//! Searches for one pattern of a list, given by its number.
 ghost use Rattle.std.specs.Prelude.{◌≡◌, ◌≢◌, ◌↔◌, IfSome, MatchOption, None, slice_get};
 ghost use Rattle.regex_lite.specs.Searches.{MatchesFrom};
 ghost use Rattle.regex_lite_c.specs.Answers.{IsSearchAnswer};
@@ -130,9 +130,9 @@ fn find_of(list: &RegexList, number: usize, text: &[u8], start: usize, span: &mu
     find(&Listed { list, number }, text, start, span)
 }
 
-/// The groups of the match that `regex_lite_list_find_of` finds, by their own pattern's indices: 1
-/// with their spans written, from the whole match on, or 0. With a match, the number of groups is
-/// written either way.
+/// The groups of the match that `regex_lite_list_find_of` finds, by the pattern's own indices: 1
+/// with their spans written, beginning with the whole match, or 0. With a match, the number of
+/// groups is written either way.
 #[unsafe(no_mangle)]
 pub extern "C" fn regex_lite_list_captures_of(
     alloc: Global,

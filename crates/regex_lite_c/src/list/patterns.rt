@@ -1,4 +1,4 @@
-//! The patterns of a list, which a caller passes one after another.
+//! The patterns of a list, as a caller passes them.
 ghost use Rattle.std.specs.Prelude.{◌≡◌, ◌↔◌, IfOk, IfErr, IsTrue, map};
 ghost use Rattle.regex_lite_c.specs.ListBuilding.{AreAllBytes, AreTexts, IsRefusedAs};
 ghost use Rattle.regex_lite_c.specs.ListBuilding.{settings_of_all, settings_of_source};
@@ -18,7 +18,7 @@ pub(crate) struct PatternSource<'a> {
     pub(crate) options: &'a Options,
 }
 
-/// Whether the patterns have this number of bytes together.
+/// Whether the patterns' lengths add up to that of the bytes.
 pub(crate) fn are_all_bytes(patterns: &[ListPattern], bytes: &[u8]) -> bool
     ensures { IsTrue result ↔ AreAllBytes patterns.now bytes.now }
 {
@@ -32,7 +32,7 @@ pub(crate) fn are_all_bytes(patterns: &[ListPattern], bytes: &[u8]) -> bool
     left == 0
 }
 
-/// The patterns, of which each is UTF-8.
+/// The patterns, if each is valid UTF-8.
 pub(crate) fn sources<'a>(
     alloc: Global,
     bytes: &'a [u8],

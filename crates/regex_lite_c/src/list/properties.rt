@@ -1,4 +1,4 @@
-//! What a list of patterns says of its patterns.
+//! Properties of a list of patterns.
 ghost use Rattle.std.specs.Prelude.{◌≡◌, IfSome, MatchOption, None, cond, length, slice_get};
 ghost use Rattle.regex_lite_syntax.specs.Tree.Properties.{nullable};
 ghost use Rattle.regex_lite.specs.Expression.{OfTree};
@@ -12,7 +12,7 @@ use crate::room;
 use regex_lite::RegexList;
 use std::alloc::Global;
 
-/// How many patterns the list has; 0 where nothing is held.
+/// The number of patterns in the list; 0 if the handle is empty.
 #[unsafe(no_mangle)]
 pub extern "C" fn regex_lite_list_len(alloc: Global, handle: &mut ListHandle) -> usize
     ensures same { handle.new.value ≡ handle.old.value }
@@ -21,7 +21,7 @@ pub extern "C" fn regex_lite_list_len(alloc: Global, handle: &mut ListHandle) ->
     ask(alloc, handle, 0, |list| list.len())
 }
 
-/// Writes the pattern with this number to the room: 1, or 0 where there is none.
+/// Writes the pattern with this number to the room: 1, or 0 if there is none.
 #[unsafe(no_mangle)]
 pub extern "C" fn regex_lite_list_pattern_at(
     alloc: Global,
@@ -45,8 +45,8 @@ pub extern "C" fn regex_lite_list_pattern_at(
     )
 }
 
-/// Whether the pattern with this number may match the empty text, as far as it tells by itself,
-/// which takes its looks to hold: 1 or 0. With 0 each of its matches reads a character.
+/// Whether the pattern with this number may match the empty text if its looks are assumed to hold:
+/// 1 or 0. With 0 none of its matches is empty.
 #[unsafe(no_mangle)]
 pub extern "C" fn regex_lite_list_may_be_empty(
     alloc: Global,
@@ -73,7 +73,7 @@ fn may_be_empty(list: &RegexList, number: usize) -> u32
     answer_of(list.may_be_empty(number))
 }
 
-/// How many places the patterns have together when they are written out; 0 where nothing is held.
+/// The number of places (NFA states) of the compiled patterns together; 0 if the handle is empty.
 #[unsafe(no_mangle)]
 pub extern "C" fn regex_lite_list_places(alloc: Global, handle: &mut ListHandle) -> usize
     ensures same { handle.new.value ≡ handle.old.value }
@@ -83,7 +83,7 @@ pub extern "C" fn regex_lite_list_places(alloc: Global, handle: &mut ListHandle)
     ask(alloc, handle, 0, |list| list.places())
 }
 
-/// How many arrows lead from place to place in the patterns written out; 0 where nothing is held.
+/// The number of arrows (transitions) of the compiled patterns together; 0 if the handle is empty.
 #[unsafe(no_mangle)]
 pub extern "C" fn regex_lite_list_arrows(alloc: Global, handle: &mut ListHandle) -> usize
     ensures same { handle.new.value ≡ handle.old.value }

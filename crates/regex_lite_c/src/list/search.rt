@@ -30,8 +30,8 @@ pub extern "C" fn regex_lite_list_is_match(
     ask(alloc, handle, NOTHING_HELD, say)
 }
 
-/// The match that starts first from this offset on, of those the one of the pattern with the lowest
-/// number: 1 with the number and the span written, or 0.
+/// The match that starts first from this offset on, of the pattern with the lowest number that
+/// matches there: 1 with the number and the span written, or 0.
 #[unsafe(no_mangle)]
 pub extern "C" fn regex_lite_list_find(
     alloc: Global,
@@ -55,7 +55,7 @@ pub extern "C" fn regex_lite_list_find(
     answer
 }
 
-/// The same, and writes what the search cost, if there is an answer.
+/// `regex_lite_list_find`, which also writes the cost of the search if the answer is 1 or 0.
 #[unsafe(no_mangle)]
 pub extern "C" fn regex_lite_list_find_counted(
     alloc: Global,

@@ -1,4 +1,4 @@
-//! Several patterns are searched for.
+//! Several patterns as what is searched for.
 
 use crate::answer::OUT_OF_MEMORY;
 use crate::group_walk::fill_groups;

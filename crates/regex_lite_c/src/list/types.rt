@@ -1,4 +1,4 @@
-//! What a caller passes besides texts, and what is returned, for several patterns.
+//! The types that calls for several patterns take and return besides texts.
 ghost use Rattle.std.specs.Prelude.{◌≡◌};
 ghost use Rattle.regex_lite.specs.MatchViews.{span_of_match};
 ghost use Rattle.regex_lite_c.specs.ListSpans.{list_span_of};
@@ -6,25 +6,24 @@ ghost use Rattle.regex_lite_c.specs.ListSpans.{list_span_of};
 use crate::types::Options;
 use regex_lite::Match;
 
-/// One of several patterns, whose bytes come one after another: how many of them are its own, and
-/// its settings.
+/// One of several patterns, whose bytes are concatenated: its length and its settings.
 #[repr(C)]
 #[derive(Drop)]
 pub struct ListPattern {
-    /// How many bytes it has.
+    /// The length of the pattern in bytes.
     pub len: usize,
-    /// The settings under which it is built.
+    /// The settings under which the pattern is built.
     pub options: Options,
 }
 
-/// What is returned of several patterns that are refused.
+/// Why several patterns are rejected.
 #[repr(C)]
 #[derive(Clone, Copy)]
 pub struct ListRefusal {
-    /// The number of the pattern that is refused. It is the number of patterns where no single one
-    /// is refused.
+    /// The number of the pattern that is rejected, or the number of patterns if no single one is
+    /// rejected.
     pub number: usize,
-    /// How long the message is.
+    /// The length of the message in bytes.
     pub message_len: usize,
 }
 
@@ -36,7 +35,7 @@ pub struct ListSpan {
     pub number: usize,
     /// The offset of the match's first byte.
     pub start: usize,
-    /// The offset after its last byte.
+    /// The offset after the match's last byte.
     pub end: usize,
 }
 
@@ -53,12 +52,12 @@ impl ListSpan {
     }
 }
 
-/// Which pattern a match is of, and how many groups that has.
+/// The pattern of a match, and the number of its groups.
 #[repr(C)]
 #[derive(Clone, Copy)]
 pub struct ListGroups {
     /// The number of the pattern.
     pub number: usize,
-    /// How many groups it has, the whole match among them.
+    /// The number of its groups, including the whole match.
     pub count: usize,
 }

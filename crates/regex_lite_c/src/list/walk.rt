@@ -1,4 +1,4 @@
-//! All matches of several patterns in a text, some at a time.
+//! All matches of several patterns in a text, in batches.
 ghost use Rattle.std.specs.Prelude.{◌≡◌, IfSome, None};
 ghost use Rattle.regex_lite_c.specs.Walks.{IsListWalkAnswer, walk_room};
 
@@ -10,12 +10,12 @@ use crate::walk::find_all;
 use std::alloc::Global;
 
 /// The next matches of the patterns in a text, as many as there is room for: 1 with their numbers
-/// and spans written, or 0 where none is left. How many matches were written is stored too, and the
-/// walk goes on after the last of them.
+/// and spans written, or 0 if none is left. The number of these matches is written too, and the
+/// walk moves past the last of them.
 ///
-/// They are the matches of one text from left to right, of which no two overlap: after a match the
-/// next is looked for where it ended, whichever pattern that was of, and where that would be an
-/// empty match at that very place, one character further on.
+/// They are the matches in the text from left to right, and no two overlap. The search for the next
+/// match, for all patterns, starts where the last one ended; if it finds an empty match right
+/// there, it starts one character later instead.
 #[unsafe(no_mangle)]
 pub extern "C" fn regex_lite_list_find_all(
     alloc: Global,

@@ -1,4 +1,4 @@
-//! Which of several patterns match, in bytes of the caller.
+//! Which of several patterns match, written to the caller's bytes.
 ghost use Rattle.std.specs.Prelude.{◌≡◌, ◌<◌, ◌≤◌, IfSome, None, length};
 ghost use Rattle.regex_lite.specs.RegexListSearches.{TellsWhichMatch};
 ghost use Rattle.regex_lite_c.specs.Answers.{IsSaid};
@@ -12,8 +12,8 @@ use regex_lite::{RegexList, SetMatches};
 use std::alloc::Global;
 
 /// Which of the patterns match somewhere from this offset on: 1 with a byte written for each
-/// pattern by its number, 1 for one that matches and 0 for one that doesn't. The number of patterns
-/// is written too, even if there is too little room for as many bytes.
+/// pattern by its number, 1 if it matches and 0 if it doesn't. The number of patterns is written
+/// even if there is too little room for the bytes.
 #[unsafe(no_mangle)]
 pub extern "C" fn regex_lite_list_matches(
     alloc: Global,
@@ -40,7 +40,7 @@ pub extern "C" fn regex_lite_list_matches(
     }
 }
 
-/// Which of these patterns match, or why that isn't known.
+/// Which of these patterns match, or the answer that says why the search failed.
 fn matches(list: &RegexList, text: &[u8], start: usize) -> Result<SetMatches, u32>
     ensures { IsSaid text.now start (TellsWhichMatch list.now text.now start) result }
 {
@@ -48,8 +48,8 @@ fn matches(list: &RegexList, text: &[u8], start: usize) -> Result<SetMatches, u3
     list.matches_at(text, start).map_err(|_| OUT_OF_MEMORY)
 }
 
-/// Writes for each pattern whether it matches, or nothing where there is too little room, and how
-/// many patterns there are.
+/// Writes for each pattern whether it matches, or nothing if there is too little room, and writes
+/// the number of patterns.
 fn write_flags(set: &SetMatches, matched: &mut [u8], count: &mut usize) -> u32
     ensures count { count.new ≡ length set.now }
     ensures written { count.new ≤ length matched.old → (result ≡ YES)

@@ -1,4 +1,4 @@
-//! Whole matches of several patterns: those of the whole text.
+//! Whole matches of several patterns: matches of the whole text.
 ghost use Rattle.std.specs.Prelude.{◌≡◌, ◌≢◌, ◌↔◌, IfSome, None};
 ghost use Rattle.regex_lite.specs.MatchOffsets.{SomeMatchesWhole};
 ghost use Rattle.regex_lite_c.specs.Answers.{IsSearchAnswer};
@@ -95,9 +95,10 @@ pub extern "C" fn regex_lite_list_full_match(
     answer
 }
 
-/// The groups of the way that this pattern prefers of those that match the whole text: 1 with their
-/// spans written, from the whole match on, or 0. With a match, the number of its pattern and how
-/// many groups that has are written either way.
+/// The groups of the match that `regex_lite_list_full_match` finds, of the preferred way in which
+/// the pattern matches the whole text: 1 with their spans written, beginning with the whole match,
+/// or 0. With a match, the number of its pattern and the number of that pattern's groups are
+/// written either way.
 #[unsafe(no_mangle)]
 pub extern "C" fn regex_lite_list_full_captures(
     alloc: Global,

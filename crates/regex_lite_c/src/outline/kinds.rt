@@ -1,4 +1,4 @@
-//! The numbers of what parts of a pattern are, and of looks.
+//! The numbers of the kinds of parts of a pattern, and of looks.
 ghost use Rattle.std.specs.Prelude.{◌≡◌};
 ghost use Rattle.regex_lite_c.specs.Outlines.{number_of_look};
 
@@ -13,7 +13,7 @@ pub(crate) const CHAR: u32 = 1;
 /// A character of a set.
 pub(crate) const CLASS: u32 = 2;
 
-/// One of the runs of a class.
+/// A range of a class.
 pub(crate) const RANGE: u32 = 3;
 
 /// A look.
@@ -25,10 +25,10 @@ pub(crate) const REPETITION: u32 = 5;
 /// A group.
 pub(crate) const CAPTURE: u32 = 6;
 
-/// Parts one after another.
+/// A concatenation.
 pub(crate) const CONCAT: u32 = 7;
 
-/// One of several parts.
+/// An alternation.
 pub(crate) const ALTERNATION: u32 = 8;
 
 /// The number of a look, from 1 on.

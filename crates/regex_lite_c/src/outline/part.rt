@@ -1,4 +1,4 @@
-//! What is written of a part of a pattern.
+//! Parts of a pattern, as they are written.
 ghost use Rattle.std.specs.Prelude.{◌≡◌};
 ghost use Rattle.regex_lite_c.specs.Outlines.{part_of_kind, written_part};
 
@@ -7,13 +7,13 @@ use crate::outline::kinds::{
 };
 use regex_lite::{Part, PartKind};
 
-/// A part of a pattern. What a part of its kind doesn't have is 0, or false.
+/// A part of a pattern. A field that parts of its kind don't have is 0 or false.
 #[repr(C)]
 #[derive(Clone, Copy)]
 pub struct WrittenPart {
-    /// This many parts have it, one in another.
+    /// The depth of the part in the tree.
     pub depth: usize,
-    /// What it is: one of the numbers in `kinds`.
+    /// The kind of the part: one of the numbers in `kinds`.
     pub kind: u32,
     /// The first character of a range, or the only one.
     pub first: u32,
@@ -23,9 +23,9 @@ pub struct WrittenPart {
     pub look: u32,
     /// The index of a group.
     pub index: u32,
-    /// How many passes of a repetition there are at least.
+    /// The least number of passes of a repetition.
     pub least: u32,
-    /// How many there are at most, where there is a limit.
+    /// The greatest number of passes, if there is a limit.
     pub most: u32,
     /// Whether there is a limit.
     pub has_most: bool,
@@ -34,7 +34,7 @@ pub struct WrittenPart {
 }
 
 impl WrittenPart {
-    /// What is written of this part.
+    /// This part as it is written.
     pub(crate) fn of(part: &Part) -> WrittenPart
         ensures { result ≡ written_part part.now }
     {
@@ -76,7 +76,7 @@ impl WrittenPart {
         }
     }
 
-    /// A part of this kind, of which nothing else is told.
+    /// A part of this kind, with all other fields 0 or false.
     fn of_kind(depth: usize, kind: u32) -> WrittenPart
         ensures { result ≡ part_of_kind depth kind }
     {
@@ -95,12 +95,12 @@ impl WrittenPart {
     }
 }
 
-/// What is told of the parts of a pattern besides these.
+/// The number of parts of a pattern, and the length of the message.
 #[repr(C)]
 #[derive(Clone, Copy)]
 pub struct Outlined {
-    /// How many parts the pattern has.
+    /// The number of parts of the pattern.
     pub count: usize,
-    /// How long the message is.
+    /// The length of the message in bytes.
     pub message_len: usize,
 }

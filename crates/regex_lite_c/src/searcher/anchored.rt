@@ -14,7 +14,7 @@ use crate::searcher::search::write_match;
 use crate::types::Span;
 use std::alloc::Global;
 
-/// Whether a match of the pattern starts at this offset: 1 or 0.
+/// Whether the pattern matches at this offset: 1 or 0.
 #[unsafe(no_mangle)]
 pub extern "C" fn regex_lite_searcher_is_match_anchored(
     alloc: Global,
@@ -34,8 +34,8 @@ pub extern "C" fn regex_lite_searcher_is_match_anchored(
     answer
 }
 
-/// The match that starts at this offset, of several the one that the pattern prefers: 1 with its
-/// span written, or 0.
+/// The match that starts at this offset, the one that the pattern prefers if there are several: 1
+/// with its span written, or 0.
 #[unsafe(no_mangle)]
 pub extern "C" fn regex_lite_searcher_find_anchored(
     alloc: Global,
@@ -58,8 +58,8 @@ pub extern "C" fn regex_lite_searcher_find_anchored(
 }
 
 /// The groups of the match that `regex_lite_searcher_find_anchored` finds: 1 with their spans
-/// written, from the whole match on, or 0. With a match, the number of groups is written either
-/// way.
+/// written, beginning with the whole match, or 0. With a match, the number of groups is written
+/// either way.
 #[unsafe(no_mangle)]
 pub extern "C" fn regex_lite_searcher_captures_anchored(
     alloc: Global,
@@ -155,7 +155,7 @@ impl TextSearcher {
         write_match(self.searcher.find_anchored_at(text, start), span)
     }
 
-    /// The groups of that match.
+    /// The groups of the match that starts at this offset.
     fn captures_anchored(&mut self, start: usize, spans: &mut [Span], count: &mut usize) -> u32
         ensures answer { IsSpansAnswerAt self.old start spans.old spans.new count.old count.new
             result }

@@ -1,4 +1,4 @@
-//! How a searcher is made, given a text, and freed.
+//! Making a searcher, giving it a text, and freeing it.
 ghost use Rattle.std.specs.Prelude.{◌≡◌, [], None, Some, IfErr, IfOk, IfSome};
 ghost use Rattle.regex_lite_syntax.specs.Errors.{out_of_memory};
 ghost use Rattle.regex_lite_c.specs.SearcherAnswers.{IsMoveAnswer, IsReadAnswer};
@@ -9,8 +9,8 @@ use crate::searcher::TextSearcher;
 use regex_lite::{Error, Regex};
 use std::alloc::Global;
 
-/// Makes a searcher of the regex that the other handle holds, which then holds nothing: 1. Where
-/// memory runs out, that handle holds what it did, and this one holds nothing.
+/// Makes a searcher of the regex that the other handle holds, and empties that handle: 1. If memory
+/// runs out, that handle is unchanged, and this one is empty.
 ///
 /// What this one held before is freed. Until a text is read, the text is empty.
 #[unsafe(no_mangle)]
@@ -49,7 +49,7 @@ fn boxed(alloc: Global, regex: &Regex) -> Result<Box<TextSearcher, Global>, Erro
     Ok(Box::new(alloc, searcher)?)
 }
 
-/// Frees what is held, if anything is: the regex, the memory and the text.
+/// Frees the searcher, if one is held: the regex, the memory and the text.
 #[unsafe(no_mangle)]
 pub extern "C" fn regex_lite_searcher_free(alloc: Global, handle: &mut SearcherHandle)
     ensures { handle.new.value ≡ None }
@@ -57,8 +57,8 @@ pub extern "C" fn regex_lite_searcher_free(alloc: Global, handle: &mut SearcherH
     drop(handle.take(alloc));
 }
 
-/// Reads these bytes as the text that is searched from now on, and keeps a copy of them: 1.
-/// Otherwise the text is the one before.
+/// Makes a copy of these bytes the text that is searched from now on: 1. Otherwise the text is
+/// unchanged.
 #[unsafe(no_mangle)]
 pub extern "C" fn regex_lite_searcher_read(
     alloc: Global,
@@ -78,7 +78,7 @@ pub extern "C" fn regex_lite_searcher_read(
     answer
 }
 
-/// Has the searcher read these bytes.
+/// Makes the searcher's text a copy of these bytes.
 fn read(searcher: &mut TextSearcher, bytes: &[u8]) -> u32
     ensures { IsReadAnswer searcher.old bytes.now (Some searcher.new) result }
 {

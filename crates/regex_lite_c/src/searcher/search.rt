@@ -52,8 +52,8 @@ pub extern "C" fn regex_lite_searcher_find(
     answer
 }
 
-/// The groups of the match that `regex_lite_searcher_find` finds: 1 with their spans written, from
-/// the whole match on, or 0. With a match, the number of groups is written either way.
+/// The groups of the match that `regex_lite_searcher_find` finds: 1 with their spans written,
+/// beginning with the whole match, or 0. With a match, the number of groups is written either way.
 #[unsafe(no_mangle)]
 pub extern "C" fn regex_lite_searcher_captures(
     alloc: Global,
@@ -104,7 +104,7 @@ impl TextSearcher {
         write_match(self.searcher.find_at(text, start), span)
     }
 
-    /// The groups of that match.
+    /// The groups of the match that starts first from this offset on.
     fn captures(&mut self, start: usize, spans: &mut [Span], count: &mut usize) -> u32
         ensures answer { IsSpansAnswer self.old start spans.old spans.new count.old count.new
             result }

@@ -1,4 +1,4 @@
-//! A regex is searched for.
+//! A regex as what is searched for.
 
 use crate::answer::OUT_OF_MEMORY;
 use crate::group_walk::fill_groups;

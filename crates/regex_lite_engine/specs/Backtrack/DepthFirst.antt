@@ -1,7 +1,7 @@
--- A depth-first walk over a graph: what it has recorded, and the ways that it has still to follow.
--- A start puts its position in front of each way from it, and the starts are offered in order, one
--- when nothing is left of those before it. Below n and m are nodes, w and v the ways to them, i the
--- position of a start, and k the number of an arrow.
+-- A depth-first walk over a graph: the ways that it has recorded, and those that are pending (the
+-- offers). The position of a start is put in front of each way from it. The starts are offered in
+-- order, each when nothing is left of those before it. Below n and m are nodes, w and v the ways to
+-- them, i the position of a start, and k the number of an arrow.
 use Rattle.std.specs.Prelude.{◌≡◌, ◌<◌, ◌≤◌, ◌⊎◌, ℕ, Bool, IsTrue}
 use Rattle.std.specs.Prelude.{List, [], ◌∷◌, ◌++◌, Option, Some, None}
 use Rattle.regex_lite_engine.specs.Search.Explored.{NotAfter, StartsAt, IsAnswered, IsGrown, IsDead}
@@ -9,8 +9,8 @@ use Rattle.regex_lite_engine.specs.Search.Offers.{Offer, In, Ordered, StartsBelo
 
 module _ (N : Type 0) (step : N → ℕ → Option N) (start : ℕ → N) (is_end : N → Bool)
     (first last : ℕ) where
-  -- No match is complete yet. What is offered are the ways of `offers`, the next first. The starts
-  -- below `from` were offered, or lead to no end
+  -- No match is complete yet; the pending ways are `offers`, the next first; the starts below
+  -- `from` were offered, or lead to no end
   pub record IsDepthFirst (from : ℕ) (recorded : N → Option (List ℕ)) (offers : List (Offer N))
       : Type 0 where
     -- each way is a start alone, or a recorded way and one arrow
@@ -18,7 +18,7 @@ module _ (N : Type 0) (step : N → ℕ → Option N) (start : ℕ → N) (is_en
         → IsGrown N step is_end (StartsAt start first last) recorded None n w
     pub offers_grown : (n : N) (w : List ℕ) → In N n w offers
         → IsGrown N step is_end (StartsAt start first last) recorded None n w
-    -- nothing is forgotten
+    -- no way is lost: what isn't recorded is pending, or leads to no end
     pub starts : (i : ℕ) → first ≤ i → i ≤ last → i < from
         → (IsAnswered N step is_end (StartsAt start first last) recorded None (start i) (i ∷ [])
         ⊎ In N (start i) (i ∷ []) offers)
@@ -32,6 +32,6 @@ module _ (N : Type 0) (step : N → ℕ → Option N) (start : ℕ → N) (is_en
     pub ordered : Ordered N offers
     pub ahead : (n : N) (w : List ℕ) (m : N) (v : List ℕ) → In N n w offers → recorded m ≡ Some v
         → NotAfter v w
-    -- where ways start
+    -- all ways start below `from`
     pub offers_below : (n : N) (w : List ℕ) → In N n w offers → StartsBelow from w
     pub recorded_below : (m : N) (v : List ℕ) → recorded m ≡ Some v → StartsBelow from v

@@ -1,4 +1,4 @@
--- What entering a place does to what is held: the row of slots, and what is left to do.
+-- The effect of entering a place on what the walk holds: the row of slots, and the stack.
 use Rattle.std.specs.Prelude.{◌≡◌, ◌+◌, ◌≤◌, ◌<◌, ◌⊎◌, ℕ, Bool, true, false}
 use Rattle.std.specs.Prelude.{List, ◌∷◌, ◌++◌, length, map, Option, Some}
 use Rattle.std.specs.Prelude.{None, slice_set, slice_index_or, if◌then◌else◌}
@@ -14,19 +14,19 @@ use Rattle.regex_lite_engine.specs.Backtrack.Machine.{Frame, explore, restore, H
 use Rattle.regex_lite_engine.specs.Backtrack.Machine.{completes}
 
 module _ (at : ℕ) where
-  -- where a character of the set comes next, the walk goes on after it
+  -- if a character of the set comes next, the walk continues after it
   abbrev pub read_on : Set → (next : Option ℕ) → (to : ℕ) → List Frame → List Frame
   read_on set None to frames = frames
   read_on set (Some c) to frames =
       if set c then explore to (at + len_utf8 c) ∷ frames else frames
 
-  -- what comes next says so
+  -- the continuation is to read on if a character of the set comes next
   abbrev pub IsReadOn : Set → (next : Option ℕ) → (to : ℕ) → Continuation → Type 0
   IsReadOn set next to told =
       ((frames : List Frame) → onto told frames ≡ read_on set next to frames)
       × (completes told ≡ false)
 
-  -- the slot holds the offset, until the way is abandoned. A slot after the row is not kept
+  -- the slot holds the offset, until the path is abandoned; a slot beyond the row is not kept
   abbrev pub SlotMarked : (slot to : ℕ) → (held held' : Held) → Type 0
   SlotMarked slot to held held' =
       ((slot < length held.row)
@@ -38,7 +38,7 @@ module _ (at : ℕ) where
       × (held' ≡ record held { frames = explore to at ∷ held.frames }))
 
 module _ (haystack : Text) (p at : ℕ) where
-  -- what is held after the place is entered at this position, which has the offset. `done` says
+  -- what is held after the place is entered at this position, which has the offset; `done` says
   -- that a match is complete there
   abbrev pub Enters : Place → (held held' : Held) → (done : Bool) → Type 0
   Enters (stored.Empty to) held held' done =

@@ -1,4 +1,4 @@
--- What a depth-first search keeps.
+-- The state of the bounded backtracker.
 use Rattle.std.specs.Prelude.{◌+◌, ◌-◌, ◌*◌, ℕ, Bool, true, false, List}
 use Rattle.std.specs.Prelude.{◌∷◌, Option, Some, None, slice_index_or, if◌then◌else◌}
 use Rattle.regex_lite_engine.specs.declared.backtrack.frame.Frame as code
@@ -8,7 +8,7 @@ use Rattle.regex_lite_engine.specs.declared.backtrack.enter.Continuation.TheVari
 use Rattle.regex_lite_engine.specs.declared.backtrack.enter.Continuation.TheVariants.{Complete}
 use Rattle.regex_lite_engine.specs.Search.Rows.{Row}
 
--- What is left to do: to explore a place at an offset, or to restore what a slot held
+-- A frame of the stack: to explore a place at an offset, or to restore the content of a slot
 pub data Frame : Type 0 where
   explore : (place at : ℕ) → Frame
   restore : (slot : ℕ) → (old : Option ℕ) → Frame
@@ -18,7 +18,7 @@ frame_of (stored.Explore place at) = explore place at
 frame_of (stored.Clear slot) = restore slot None
 frame_of (stored.Restore slot at) = restore slot (Some at)
 
--- what is left to do, the place that comes next as the first
+-- the stack, with the next place on top
 abbrev pub onto : Continuation → List Frame → List Frame
 onto (To place at) frames = explore place at ∷ frames
 onto Back frames = frames
@@ -30,17 +30,17 @@ completes (To place at) = false
 completes Back = false
 completes Complete = true
 
--- where a match that is complete at the offset ends
+-- the end of a match that is complete at the offset
 abbrev pub end_at : (at : ℕ) → Continuation → Option ℕ
 end_at at told = if completes told then Some at else None
 
--- the pairs of a place and an offset, of this many places, from the first offset on
+-- the pairs of a place and an offset, for this many places, from the first offset on
 pub record Pairs : Type 0 where
-  -- whether each was entered
+  -- whether each pair was entered
   pub entered : List Bool
   pub places : ℕ
   pub first : ℕ
-  -- how many pairs there may be
+  -- the greatest number of pairs
   pub room : ℕ
 
 -- the number of a pair
@@ -52,11 +52,11 @@ abbrev pub was_entered : Pairs → (place at : ℕ) → Bool
 was_entered pairs place at =
     slice_index_or pairs.entered (pair_number pairs.places pairs.first place at) false
 
--- the way that is followed, and the others
+-- what the walk holds: the row of the current path, and the stack
 pub record Held : Type 0 where
-  -- what is left to do, in that order
+  -- the stack, the top frame first
   pub frames : List Frame
-  -- what the slots hold along the way
+  -- the contents of the slots along the path
   pub row : Row
-  -- how many frames there may be
+  -- the greatest number of frames
   pub room : ℕ

@@ -1,4 +1,4 @@
--- How it is kept which pairs were entered: by bits in words or by stamps.
+-- The representations of the set of entered pairs: bits in words, or stamps.
 use Rattle.std.specs.Prelude.{ℕ, ◌*◌, ◌≤◌, ◌==◌, Bool, List, length, map, slice_index_or}
 use Rattle.std.specs.Prelude.{vec_capacity}
 use Rattle.std.specs.List.{range_with_len}
@@ -18,13 +18,13 @@ entered_of (Few words) count = bits_of words count
 entered_of (Many words) count = bits_of words.items count
 entered_of (Stamps stamps generation) count = stamped stamps.items generation count
 
--- for how many pairs there is room
+-- the number of pairs for which there is room
 abbrev pub room_of : PairMap → ℕ
 room_of (Few words) = 64 * length words
 room_of (Many words) = 64 * vec_capacity words
 room_of (Stamps stamps generation) = vec_capacity stamps
 
--- what is kept of each of the first pairs is there, or counts as 0 where it isn't
+-- each of the first pairs has a bit or a stamp, or counts as 0
 abbrev pub HasEach : PairMap → (count : ℕ) → Type 0
 HasEach (Few words) count = Unit {0}
 HasEach (Many words) count = Unit {0}

@@ -1,4 +1,4 @@
--- The working memory suffices for what is left to do, and what is left bounds the counts.
+-- The working memory suffices for the stack, and what is left to do bounds the counts.
 use Rattle.std.specs.Prelude.{◌≡◌, ◌+◌, ◌-◌, ◌*◌, ◌^◌, ◌≤◌, ◌<◌, ℕ, zero, suc}
 use Rattle.std.specs.Prelude.{Bool, false, List, [], ◌∷◌, length, chars, Option, Some, None}
 use Rattle.std.specs.Prelude.{IsCharBoundary, slice_index_or, if◌then◌else◌}
@@ -24,12 +24,12 @@ explores [] = 0
 explores (explore place at ∷ frames) = explores frames + 1
 explores (restore slot old ∷ frames) = explores frames
 
--- the same walk with these frames to come
+-- the same walk with this stack
 abbrev pub with_frames : Backtracker → List Frame → Backtracker
 with_frames walk frames = record walk { stack = record walk.stack { frames = frames } }
 
 module _ (table : List (Place ℕ)) (haystack : List ℕ) where
-  -- the same over n positions from p on
+  -- the sum over the places that were not entered, at n positions from p on
   abbrev pub left_from : (Place ℕ → ℕ) → Pairs → (p n : ℕ) → ℕ
   left_from measure pairs p zero = 0
   left_from measure pairs p (suc n) =
@@ -37,13 +37,13 @@ module _ (table : List (Place ℕ)) (haystack : List ℕ) where
       (pair_number pairs.places pairs.first 0 (offset (chars haystack) p)) table
       + left_from measure pairs (suc p) n
 
-  -- over all positions of the search
+  -- the sum over the places that were not entered, at all positions of the search
   abbrev pub left_of : (Place ℕ → ℕ) → Pairs → ℕ
   left_of measure pairs =
       left_from measure pairs (position_at haystack pairs.first)
       (characters_left (chars haystack) (position_at haystack pairs.first) + 1)
 
-  -- the frames lead to pairs of the search, and to slots of a row of this width
+  -- the frames have pairs of the search, and slots of a row of this width
   abbrev pub FramesBelow : (first width : ℕ) → List Frame → Type 0
   FramesBelow first width [] = Unit {0}
   FramesBelow first width (explore place at ∷ frames) =
@@ -52,7 +52,7 @@ module _ (table : List (Place ℕ)) (haystack : List ℕ) where
   FramesBelow first width (restore slot old ∷ frames) =
       (slot < width) × FramesBelow first width frames
 
-  -- how often the search has come to a place, or may still come to one from what is left
+  -- the number of tries so far, and of those that the stack may still cause
   abbrev pub due_tries : Backtracker → ℕ
   due_tries walk =
       walk.steps.tried + (explores walk.stack.frames + left_of arrow_count walk.visited)
@@ -60,7 +60,7 @@ module _ (table : List (Place ℕ)) (haystack : List ℕ) where
   abbrev pub due_entries : Backtracker → ℕ
   due_entries walk = walk.steps.entered + left_of lone walk.visited
 
-  -- how much is left to do from this start
+  -- a bound on what is left to do from this start
   abbrev pub work : Backtracker → ℕ
   work walk = length walk.stack.frames + left_of weight walk.visited
 
@@ -70,7 +70,7 @@ module _ (table : List (Place ℕ)) (haystack : List ℕ) where
     pub boundary : IsCharBoundary haystack pairs.first
     pub all : length pairs.entered ≡ length table * (length haystack - pairs.first + 1)
 
-  -- of what is left to do the first needs no room on the stack
+  -- the top frame needs no further room on the stack
   pub record IsFit (walk : Backtracker) : Type 0 where
     pub all : AreAll walk.visited
     pub below : FramesBelow walk.visited.first (length walk.stack.row) walk.stack.frames
@@ -85,7 +85,7 @@ module _ (table : List (Place ℕ)) (haystack : List ℕ) where
   abbrev pub HasRoom : Backtracker → List Frame → Type 0
   HasRoom walk frames = IsFit (with_frames walk frames)
 
-  -- what a walk leaves as it is
+  -- what a walk doesn't change
   pub record Keeps (walk walk' : Backtracker) : Type 0 where
     pub places : walk'.visited.places ≡ walk.visited.places
     pub first : walk'.visited.first ≡ walk.visited.first
@@ -102,7 +102,8 @@ module _ (table : List (Place ℕ)) (haystack : List ℕ) where
     i = start;
   }
 
-  -- what is known of a walk stays known, or a match that ends there is complete: it is the answer
+  -- the invariant of the walk still holds, or a match that ends at `end` is complete and is the
+  -- answer
   abbrev pub IsWalkingOrDone : (entry first from start : ℕ) → Backtracker → (end : Option ℕ)
       → Type 0
   IsWalkingOrDone entry first from start walk None =
@@ -110,21 +111,21 @@ module _ (table : List (Place ℕ)) (haystack : List ℕ) where
   IsWalkingOrDone entry first from start walk (Some end) =
       IsNumberedOutcome table (chars haystack) entry first (Some (start, end, walk.stack.row))
 
-  -- from one state of a walk to a later one, or to a match that ends there
+  -- a walk leads from one state to a later one, or to a match that ends at `end`
   abbrev pub WalksTo : (walk walk' : Backtracker) → (end : Option ℕ) → Type 0
   WalksTo walk walk' end =
       (entry from start : ℕ)
       → IsWalkingOrDone entry (position_at haystack walk.visited.first) from start walk None
       → IsWalkingOrDone entry (position_at haystack walk.visited.first) from start walk' end
 
-  -- a walk went on, or up to a match that ends there
+  -- a walk continued, or ended with a match that ends at `end`
   pub record GoesOn (walk walk' : Backtracker) (end : Option ℕ) : Type 0 where
     pub walks : WalksTo walk walk' end
     pub kept : Keeps walk walk'
     pub spent : due_tries walk' ≤ due_tries walk
     pub spent_entries : due_entries walk' ≤ due_entries walk
 
-  -- a frame was popped, or a match that ends there is complete
+  -- a frame was popped, or a match that ends at `end` is complete
   pub record Went (walk walk' : Backtracker) (end : Option ℕ) : Type 0 where
     pub on : GoesOn walk walk' end
     pub fit : end ≡ None → IsFit walk'
@@ -132,7 +133,7 @@ module _ (table : List (Place ℕ)) (haystack : List ℕ) where
     pub entered_tried : walk'.steps.entered ≤ walk'.steps.tried
     pub looked_entered : walk'.steps.looked ≤ walk'.steps.entered
 
-  -- the same with these frames to come
+  -- the same walks with these stacks
   abbrev pub TakesFrame : Backtracker → List Frame → Backtracker → List Frame → (end : Option ℕ)
       → Type 0
   TakesFrame walk frames walk' frames' end =

@@ -1,4 +1,4 @@
--- A depth-first search, start by start.
+-- A search of the bounded backtracker, from start to start.
 use Rattle.std.specs.Prelude.{◌≡◌, ◌+◌, ◌-◌, ◌*◌, ◌≤◌, ◌<◌, ℕ, false, List, [], ◌∷◌, length, chars}
 use Rattle.std.specs.Prelude.{replicate, slice_set, Option, Some, None, sum_by}
 use Rattle.regex_lite_engine.specs.declared.backtrack.walk.Backtracker.{Backtracker}
@@ -18,7 +18,7 @@ SlotsBelow width [] = Unit {0}
 SlotsBelow width (explore place at ∷ frames) = SlotsBelow width frames
 SlotsBelow width (restore slot old ∷ frames) = (slot < width) × SlotsBelow width frames
 
--- frames are popped, up to the first that has a place to explore
+-- frames are popped up to the first that explores a place
 abbrev pub Unwinds : Row → List Frame → (next : Option (ℕ × ℕ)) → Row → List Frame → Type 0
 Unwinds row [] next row' frames' = (next ≡ None) × (row' ≡ row) × (frames' ≡ [])
 Unwinds row (explore place at ∷ frames) next row' frames' =
@@ -37,7 +37,7 @@ module _ (table : List (Place ℕ)) (haystack : List ℕ) where
     pub looked_entered : walk'.steps.looked ≤ walk'.steps.entered
 
   module _ (start : ℕ) where
-    -- there is room for what all pairs leave for later
+    -- there is room for the frames of all pairs
     abbrev pub HasRoomForAll : Backtracker → Type 0
     HasRoomForAll walk =
         sum_by (kept_back_with (length walk.stack.row)) table * (length haystack - start + 1)
@@ -56,8 +56,8 @@ module _ (table : List (Place ℕ)) (haystack : List ℕ) where
       pub entered : walk.steps.entered ≡ 0
       pub looked : walk.steps.looked ≡ 0
 
-    -- all ways from the starts below position p were followed. Those that are left are counted with
-    -- what is due
+    -- all ways from the starts below position p were followed, and the counts are within the bounds
+    -- for them
     pub record IsUnderWay (entry p : ℕ) (walk : Backtracker) : Type 0 where
       pub low : position_at haystack start ≤ p
       pub first : walk.visited.first ≡ start

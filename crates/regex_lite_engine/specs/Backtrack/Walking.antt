@@ -1,4 +1,4 @@
--- What a depth-first search keeps true of the ways that it follows.
+-- The invariants of the bounded backtracker.
 use Rattle.std.specs.Prelude.{◌≡◌, ◌≤◌, ◌<◌, ℕ, true, List, []}
 use Rattle.std.specs.Prelude.{◌∷◌, length, slice_set, Option, Some}
 use Rattle.regex_lite_syntax.specs.Text.{Text}
@@ -22,8 +22,8 @@ module _ (table : List (Place ℕ)) (haystack : Text) (entry : ℕ) where
       × Leads Node (numbered_step table haystack) (entry, from) arrows node
       × HasSlots haystack row (marks_along haystack (place_with table) (Some (entry, from)) arrows)
 
-  -- The frames hold the offers, the first on top. The row of each is the one that stands when its
-  -- frame is popped, and when all have been popped no slot is marked
+  -- The frames hold the offers, the first on top. The row of each is the row when its frame is
+  -- popped, and once all have been popped no slot is marked
   abbrev pub FramesHold : (start : ℕ) → Row → List Frame → List (Offer Node) → Type 0
   FramesHold start row [] offers = (offers ≡ []) × IsBlank row
   FramesHold start row (explore place at ∷ frames) offers =
@@ -33,8 +33,8 @@ module _ (table : List (Place ℕ)) (haystack : Text) (entry : ℕ) where
   FramesHold start row (restore slot old ∷ frames) offers =
       FramesHold start (slice_set row slot old) frames offers
 
--- A search from position `first` on, for the pattern that is entered at this place. The starts
--- below position `from` were offered, and the ways of the start at the offset i are followed
+-- A search from position `first` on, for the pattern with this entry. The starts below position
+-- `from` were offered, and the ways from the start at the offset i are followed
 pub record SearchFrom : Type 0 where
   pub haystack : Text
   pub entry : ℕ
@@ -42,7 +42,7 @@ pub record SearchFrom : Type 0 where
   pub from : ℕ
   pub i : ℕ
 
--- what is left to do leads to the offers of that start
+-- the stack holds the offers of that start
 pub record IsWalking (table : List (Place ℕ)) (search : SearchFrom) (pairs : Pairs) (held : Held)
     : Type 0 where
   pub recorded : Node → Option (List ℕ)
@@ -50,7 +50,7 @@ pub record IsWalking (table : List (Place ℕ)) (search : SearchFrom) (pairs : P
   pub depth_first : IsDepthFirst Node (numbered_step table search.haystack)
       (λ p. (search.entry, p)) (is_end table search.haystack) search.first
       (length search.haystack) search.from recorded offers
-  -- just the pairs with a record were entered
+  -- exactly the pairs with a recorded way were entered
   pub seen : (place p : ℕ) (way : List ℕ) → recorded (place, p) ≡ Some way
       → was_entered pairs place (offset search.haystack p) ≡ true
   pub met : (place p : ℕ) → place < length table → search.first ≤ p → IsPosition search.haystack p

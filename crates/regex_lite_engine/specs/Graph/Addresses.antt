@@ -12,11 +12,11 @@ Address = List ℕ
 abbrev pub part : Address → ℕ → Address
 part pre k = pre ++ suc k ∷ []
 
--- the address of its own place k
+-- the address of the tree's own place k
 abbrev pub own : Address → ℕ → Address
 own pre k = pre ++ zero ∷ k ∷ []
 
--- where a repetition is entered: at its body, where a pass is needed
+-- the entry of a repetition: the body's, if a pass is required
 abbrev pub repetition_entry : Address → (enter : Address → Address) → (least : ℕ) → Address
 repetition_entry pre enter zero = own pre 0
 repetition_entry pre enter (suc n) = enter (part pre 0)
@@ -33,7 +33,7 @@ abbrev mutual
   entry (concat parts) pre = chain_entry parts pre 0 (own pre 0)
   entry (alternation branches) pre = own pre 0
 
-  -- the first place of the parts from part k on, or else what follows them
+  -- the first place of the parts from part k on, or what follows them if there is none
   pub chain_entry : Trees → Address → ℕ → (exit : Address) → Address
   chain_entry none pre k exit = exit
   chain_entry (more a rest) pre k exit = entry a (part pre k)

@@ -3,7 +3,7 @@ use Rattle.std.specs.Prelude.{◌≡◌, ℕ, List, [], ◌∷◌, Some, slice_g
 use Rattle.regex_lite_engine.specs.Graph.Places.{Arrow, Place, Condition, complete, with_arrows}
 use Rattle.regex_lite_engine.specs.Graph.Places.{free, holding, reading}
 
--- the condition isn't that a look holds
+-- the condition isn't a look
 abbrev pub IsNoLook : Condition → Type 0
 IsNoLook free = Unit {0}
 IsNoLook (holding test) = ⊥
@@ -15,12 +15,12 @@ module _ {A : Type 0} where
   RequireNoLook [] = Unit {0}
   RequireNoLook (arrow ∷ arrows) = IsNoLook arrow.condition × RequireNoLook arrows
 
-  -- none of the place's arrows does
+  -- none of the place's arrows requires a look
   abbrev pub RequiresNoLook : Place A → Type 0
   RequiresNoLook complete = Unit {0}
   RequiresNoLook (with_arrows arrows) = RequireNoLook arrows
 
--- no place of the table requires one
+-- no place of the table requires a look
 abbrev pub HasNoLooks : List (Place ℕ) → Type 0
 HasNoLooks table =
     (q : ℕ) (place : Place ℕ) → slice_get table q ≡ Some place → RequiresNoLook place

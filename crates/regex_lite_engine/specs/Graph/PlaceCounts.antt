@@ -1,4 +1,4 @@
--- How many places and arrows a pattern has when it is written out, by cases on the tree.
+-- The numbers of places and arrows of a pattern that is written out, by cases on the tree.
 use Rattle.std.specs.Prelude.{ℕ, zero, suc, ◌+◌, ◌-◌, ◌*◌, Bool, true, false}
 use Rattle.std.specs.Prelude.{List, [], ◌∷◌, length, Option, Some, None}
 use Rattle.regex_lite_syntax.specs.declared.class.ClassRange.{ClassRange}
@@ -6,15 +6,15 @@ use Rattle.regex_lite_syntax.specs.Tree.{Tree, Trees, empty, character, class, l
 use Rattle.regex_lite_syntax.specs.Tree.{repetition, capture, concat, alternation, none, more}
 use Rattle.regex_lite_syntax.specs.Tree.Properties.{nullable}
 
--- how many copies of its body a repetition has
+-- the number of copies of its body that a repetition has
 abbrev pub copies : (least : ℕ) → (most : Option ℕ) → ℕ
 copies zero None = 1
 copies (suc n) None = suc n
 copies least (Some most) = least + (most - least)
 
--- the places besides the copies, by the least number and what the most is above it: none in {n}, an
--- empty place in {0}, choice and join in {0,1}, and otherwise the choices and the join, with an
--- empty place where no copy stands before them
+-- the places besides the copies, by the least number and the difference between the most and the
+-- least: none in {n}, an empty place in {0}, choice and join in {0,1}, and otherwise the choices
+-- and the join, with an empty place if no copy comes before them
 abbrev pub bounded_places : (least above : ℕ) → ℕ
 bounded_places zero zero = 1
 bounded_places (suc n) zero = 0
@@ -43,14 +43,14 @@ own_arrows zero None false = 2
 own_arrows (suc n) None nullable_body = 2
 own_arrows least (Some most) nullable_body = bounded_arrows least (most - least)
 
--- those of them that leave a choice, two in each
+-- the number of these arrows that leave a choice, two for each choice
 abbrev pub own_choice_arrows : (least : ℕ) → (most : Option ℕ) → (nullable_body : Bool) → ℕ
 own_choice_arrows zero None true = 4
 own_choice_arrows zero None false = 2
 own_choice_arrows (suc n) None nullable_body = 2
 own_choice_arrows least (Some most) nullable_body = 2 * (most - least)
 
--- the arrow that reads a character of the set. An empty set has none
+-- the arrow that reads a character of the set; an empty set has none
 abbrev pub class_arrows : List ClassRange → ℕ
 class_arrows [] = 0
 class_arrows (range ∷ rest) = 1
@@ -81,7 +81,7 @@ abbrev mutual
       copies least most * arrows body + own_arrows least most (nullable body)
   arrows (capture index name body) = arrows body + 2
   arrows (concat parts) = arrows_in parts
-  -- one to each branch and one after the join
+  -- one arrow to each branch, and one after the join
   arrows (alternation branches) = arrows_in branches + count branches + 1
 
   pub arrows_in : Trees → ℕ
@@ -110,7 +110,7 @@ abbrev mutual
   choice_arrows_in (more a rest) = choice_arrows a + choice_arrows_in rest
 
 abbrev mutual
-  -- the places that read a character. That of an empty set reads none
+  -- the places that read a character; that of an empty set reads none
   pub reading_places : Tree → ℕ
   reading_places empty = 0
   reading_places (character c) = 1

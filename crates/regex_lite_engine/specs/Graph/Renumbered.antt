@@ -1,4 +1,4 @@
--- A table of numbered places as what stands at addresses, and the graph of a tree: the tree's
+-- Tables of numbered places that stand for places at addresses, and the graph of a tree: its
 -- written-out pattern with numbers instead of addresses.
 use Rattle.std.specs.Prelude.{◌≡◌, ◌<◌, ℕ, List, map, option_map, length}
 use Rattle.std.specs.Prelude.{slice_get, slice_index_or, Some, None, sum_by}
@@ -12,7 +12,7 @@ use Rattle.regex_lite_engine.specs.Graph.WrittenOut.{written_out, start_address}
 use Rattle.regex_lite_engine.specs.Graph.PlaceCounts.{whole_places, whole_arrows}
 use Rattle.regex_lite_engine.specs.Graph.Stored.{StoredGraph, LeadsBelow, table_of}
 
--- how many arrows the places have
+-- the number of arrows of the places
 abbrev pub arrow_count : {A : Type 0} → Place A → ℕ
 arrow_count complete = 0
 arrow_count (with_arrows arrows) = length arrows
@@ -20,8 +20,8 @@ arrow_count (with_arrows arrows) = length arrows
 abbrev pub arrows_of : {A : Type 0} → List (Place A) → ℕ
 arrows_of places = sum_by arrow_count places
 
--- The table has the places that stand at addresses. Number q stands for the address `name q`, each
--- address with a place has just one number, and arrows lead to numbers of places
+-- The table has the places of the addresses. Number q stands for the address `name q`, each address
+-- with a place has just one number, and arrows lead to numbers of places
 pub record IsRenumbered (content : Address → Content) (name : ℕ → Address)
     (table : List (Place ℕ)) : Type 0 where
   pub apart : (p q : ℕ) → p < length table → q < length table → name p ≡ name q → p ≡ q
@@ -38,7 +38,8 @@ pub record IsNumberOf (name : ℕ → Address) (table : List (Place ℕ)) (a : A
   pub inside : q < length table
   pub same : name q ≡ a
 
--- what a search needs: the graph is that of the tree, and has as many places and arrows as it says
+-- the precondition of searches: the graph is that of the tree, and has as many places and arrows as
+-- it says
 pub record IsGraphOf (tree : Tree) (graph : StoredGraph) : Type 0 where
   pub name : ℕ → Address
   pub written : IsRenumbered (written_out tree) name (table_of graph)

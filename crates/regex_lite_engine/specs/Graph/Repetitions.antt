@@ -3,7 +3,7 @@ use Rattle.std.specs.Prelude.{ℕ, zero, suc, ◌-◌, Bool, true, false, [], �
 use Rattle.regex_lite_engine.specs.Graph.Places.{Place, with_arrows, go, choice}
 use Rattle.regex_lite_engine.specs.Graph.Addresses.{Address, part, own}
 
--- what stands at an address inside a tree, if a place does
+-- the place at an address inside a tree, if there is one
 abbrev pub Content : Type 0
 Content = Option (Place Address)
 
@@ -11,12 +11,12 @@ Content = Option (Place Address)
 -- and `exit` is what follows.
 module _ (pre : Address) (greedy : Bool) (enter : Address → Address)
     (inside : Address → (exit : Address) → Address → Content) where
-  -- the entry of copy k where one more is left, or else what follows
+  -- the entry of copy k if another copy is left, or else what follows
   abbrev pub next_copy : (left k : ℕ) → (exit : Address) → Address
   next_copy zero k exit = exit
   next_copy (suc left) k exit = enter (part pre k)
 
-  -- copies in a row from copy k on, each leading to the next. After them `rest` goes on
+  -- copies from copy k on, each leading to the next, and then `rest`
   abbrev pub in_copies : (left k : ℕ) → (exit : Address) → (rest : ℕ → Address → Content)
       → ℕ → Address → Content
   in_copies zero k exit rest c a = rest c a
@@ -55,19 +55,19 @@ module _ (pre : Address) (greedy : Bool) (enter : Address → Address)
   at_least_row n exit (suc c ∷ a) = in_copies (suc n) 0 (own pre 0) no_place c a
   at_least_row n exit a = None
 
-  -- {n}. With no copy there is an empty place
+  -- {n}; without a copy there is an empty place
   abbrev pub exactly_row : (n : ℕ) → (exit : Address) → Address → Content
   exactly_row zero exit (zero ∷ zero ∷ []) = Some (with_arrows (go exit ∷ []))
   exactly_row n exit (suc c ∷ a) = in_copies n 0 exit no_place c a
   exactly_row n exit a = None
 
-  -- choice j of those that are left, the first of which stands before copy k
+  -- choice j of those that are left, the first of which comes before copy k
   abbrev pub choice_at : (left k j : ℕ) → Content
   choice_at zero k j = None
   choice_at (suc left) k zero = Some (choice greedy (enter (part pre k)) (own pre 1))
   choice_at (suc left) k (suc j) = choice_at left (suc k) j
 
-  -- choice j where one more is left, or else the join
+  -- choice j if another choice is left, or else the join
   abbrev pub next_choice : (left j : ℕ) → Address
   next_choice zero j = own pre 1
   next_choice (suc left) j = own pre (suc (suc j))
@@ -86,7 +86,7 @@ module _ (pre : Address) (greedy : Bool) (enter : Address → Address)
   between_row m d exit (suc c ∷ a) = in_copies m 0 (own pre 2) (in_choices (suc d) m 0) c a
   between_row m d exit a = None
 
-  -- by the least number and what the most is above it
+  -- the rows by the least number and the difference between the most and the least
   abbrev pub bounded_row : (least above : ℕ) → (exit : Address) → Address → Content
   bounded_row least zero = exactly_row least
   bounded_row zero (suc zero) = optional_row

@@ -13,7 +13,7 @@ use Rattle.regex_lite_engine.specs.Graph.WrittenOut.{written_out, start_address,
 use Rattle.regex_lite_engine.specs.Graph.Renumbered.{IsNumberOf}
 use Rattle.regex_lite_engine.specs.Graph.PlaceCounts.{whole_places, whole_arrows}
 
--- what stands at an address in the pattern with this number, which has this tree, if it is there
+-- the place at an address in the pattern with this number and this tree, if there is one
 abbrev pub in_pattern : (number : ℕ) → Option Tree → Address → Content
 in_pattern number None a = None
 in_pattern number (Some tree) a = option_map (renamed (λ b. number ∷ b)) (written_out tree a)
@@ -22,7 +22,7 @@ abbrev pub side_by_side : List Tree → Address → Content
 side_by_side trees [] = None
 side_by_side trees (number ∷ a) = in_pattern number (slice_get trees number) a
 
--- the place at an address. Where there is none, it has no arrow
+-- the place at an address; if there is none, a place without arrows
 abbrev pub place_of_patterns : List Tree → Address → Place Address
 place_of_patterns trees a = unwrap_or (side_by_side trees a) (with_arrows [])
 
@@ -30,7 +30,7 @@ place_of_patterns trees a = unwrap_or (side_by_side trees a) (with_arrows [])
 abbrev pub HasTree : List Tree → (number : ℕ) → Tree → Type 0
 HasTree trees number tree = slice_get trees number ≡ Some tree
 
--- where the pattern with this number is entered, and where its match is complete
+-- the addresses where the pattern with this number is entered, and where its match is complete
 abbrev pub start_of : (number : ℕ) → Address
 start_of number = number ∷ start_address
 
@@ -48,18 +48,18 @@ abbrev pub AreRegularPatterns : List Tree → Type 0
 AreRegularPatterns trees =
     (number : ℕ) (tree : Tree) → slice_get trees number ≡ Some tree → IsRegular tree
 
--- how many places and arrows all patterns have together
+-- the numbers of places and arrows of all patterns together
 abbrev pub places_of_all : List Tree → ℕ
 places_of_all trees = sum_by whole_places trees
 
 abbrev pub arrows_of_all : List Tree → ℕ
 arrows_of_all trees = sum_by whole_arrows trees
 
--- how often a search may come to a place at one position: by each arrow, and to enter each pattern
+-- a bound on the tries at one position: by each arrow, and to enter each pattern
 abbrev pub tries_of_all : List Tree → ℕ
 tries_of_all trees = sum_by (λ tree. whole_arrows tree + 1) trees
 
--- the patterns of these trees, in their order, are entered at these numbers of places
+-- the patterns of these trees, in their order, are entered at the places with these numbers
 pub record AreEntries (trees : List Tree) (name : ℕ → Address) (table : List (Place ℕ))
     (entries : List ℕ) : Type 0 where
   pub each : (number : ℕ) (tree : Tree) → slice_get trees number ≡ Some tree

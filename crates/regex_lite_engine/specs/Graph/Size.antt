@@ -1,4 +1,4 @@
--- The size of a pattern, and the limits on what is written out.
+-- The size of a pattern, and the limits on the NFA.
 use Rattle.std.specs.Prelude.{◌+◌, ◌*◌, ◌^◌, ◌<◌, ◌≤◌, ℕ, Option, Some, None, sum_by}
 use Rattle.std.specs.Char.{len_utf8}
 use Rattle.regex_lite_syntax.specs.declared.error.ErrorKind.{ErrorKind}
@@ -10,13 +10,13 @@ use Rattle.regex_lite_syntax.specs.Tree.{repetition, capture, concat, alternatio
 use Rattle.regex_lite_syntax.specs.Tree.Properties.{greatest_index, captures_len}
 use Rattle.regex_lite_engine.specs.Graph.PlaceCounts.{whole_places, choice_arrows, ranges}
 
--- what a name takes: 4, and its bytes
+-- the size of a name: 4, and its bytes
 abbrev pub name_size : Option Text → ℕ
 name_size None = 0
 name_size (Some name) = 4 + sum_by len_utf8 name
 
 abbrev mutual
-  -- what the names of groups take, each once
+  -- the size of the names of groups, each counted once
   pub names_size : Tree → ℕ
   names_size empty = 0
   names_size (character c) = 0
@@ -45,14 +45,14 @@ PassesPlaces tree = 2 ^ 32 ≤ whole_places tree
 abbrev pub PassesSlots : Tree → Type 0
 PassesSlots tree = 2 ^ 31 ≤ greatest_index tree
 
--- none of the limits on what is written out is exceeded
+-- none of the limits on the NFA is exceeded
 pub record Fits (size_limit : ℕ) (tree : Tree) : Type 0 where
   pub size_fits : size tree ≤ size_limit
   pub places_fit : whole_places tree < 2 ^ 32
   pub slots_fit : greatest_index tree < 2 ^ 31
 
--- a refusal of this kind is due to a tree that is to be written out. That memory ran out is due to
--- any
+-- an error of this kind is due for a tree that is to be written out; that memory ran out is due for
+-- any tree
 abbrev pub IsDueToTree : (size_limit : ℕ) → Tree → ErrorKind → Type 0
 IsDueToTree size_limit tree Size = size_limit < size tree
 IsDueToTree size_limit tree Places = PassesPlaces tree

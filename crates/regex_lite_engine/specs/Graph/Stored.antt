@@ -1,4 +1,4 @@
--- Graphs as they are stored: a table of numbered places, and what is known of it.
+-- Graphs as they are stored: a table of numbered places, and its properties.
 use Rattle.std.specs.Prelude.{◌≡◌, ℕ, ◌^◌, ◌<◌, Bool, List, [], ◌∷◌, map}
 use Rattle.std.specs.Prelude.{length, slice_get, sum_by, Option, Some}
 use Rattle.std.specs.declared.alloc.Global.{Global}
@@ -13,7 +13,7 @@ use Rattle.regex_lite_engine.specs.declared.nfa.kept_back.KeptBack.{KeptBack}
 -- the table of a graph as callers see it
 pub record StoredTable : Type 0 where
   pub places : List code.Place
-  -- how many arrows the places have
+  -- the number of arrows of the places
   pub arrows : ℕ
 
 -- the graph of one pattern as callers see it
@@ -21,15 +21,15 @@ pub record StoredGraph : Type 0 where
   pub places : List code.Place
   -- the number of the place where a search starts
   pub start : ℕ
-  -- how many arrows the places have
+  -- the number of arrows of the places
   pub arrows : ℕ
-  -- by index
+  -- the names of groups by index
   pub capture_names : List (Option (RcStr Global))
   pub static_captures_len : Option ℕ
-  -- whether each match reads a character, as far as the tree tells without a haystack
+  -- whether each match reads a character, if looks are assumed to hold
   pub reads : Bool
 
--- the place that is stored
+-- the place that a stored place stands for
 abbrev pub place_of : code.Place → Place ℕ
 place_of (stored.Empty to) = with_arrows (go to ∷ [])
 place_of (stored.Char c to) = one_char c to
@@ -53,35 +53,35 @@ abbrev pub LeadBelow : ℕ → List (Arrow ℕ) → Type 0
 LeadBelow n [] = Unit {0}
 LeadBelow n (arrow ∷ arrows) = (arrow.to < n) × LeadBelow n arrows
 
--- those of the place do
+-- the place's arrows lead to numbers below this one
 abbrev pub LeadsBelow : ℕ → Place ℕ → Type 0
 LeadsBelow n complete = Unit {0}
 LeadsBelow n (with_arrows arrows) = LeadBelow n arrows
 
--- the arrows lead to such numbers
+-- the arrows lead to numbers in the part
 abbrev pub LeadInto : (Part : ℕ → Type 0) → List (Arrow ℕ) → Type 0
 LeadInto Part [] = Unit {0}
 LeadInto Part (arrow ∷ arrows) = Part arrow.to × LeadInto Part arrows
 
--- those of the place do
+-- the place's arrows lead to numbers in the part
 abbrev pub LeadsInto : (Part : ℕ → Type 0) → Place ℕ → Type 0
 LeadsInto Part complete = Unit {0}
 LeadsInto Part (with_arrows arrows) = LeadInto Part arrows
 
--- the arrows of these places lead to one of them
+-- the arrows of these places lead to these places
 abbrev pub LeadInside : List code.Place → Type 0
 LeadInside places =
     (q : ℕ) (place : code.Place) → slice_get places q ≡ Some place
     → LeadsBelow (length places) (place_of place)
 
--- what a search keeps back that enters each of these places once, without slots and with them
+-- the stack bound of a search that enters each of these places once, without slots and with them
 pub record IsKeptBackOf (table : List (Place ℕ)) (kept : KeptBack) : Type 0 where
   pub without_slots : kept.without_slots ≡ sum_by (kept_back_with 0) table
   pub with_slots : kept.with_slots ≡ kept_back_of table
 
--- a search is led to places of the table, and neither places nor arrows are more than can be
--- numbered. This many of the places read a character, and a search keeps back less than there are
--- places. A table of no pattern has none
+-- all arrows lead to places of the table, and its places and arrows can be numbered; this many of
+-- the places read a character, and the stack bound is less than the number of places; the table of
+-- an empty list has no place
 pub record IsClosed (places : List code.Place) (arrows reading : ℕ) : Type 0 where
   pub each_inside : LeadInside places
   pub few_places : length places < 2 ^ 32

@@ -15,8 +15,8 @@ use Rattle.regex_lite_engine.specs.Graph.SideBySide.{AreEntries, arrows_of_all}
 use Rattle.regex_lite_engine.specs.Graph.SideBySide.{places_of_all, side_by_side}
 use Rattle.regex_lite_engine.specs.Graph.Stored.{place_of}
 
--- what is stored of the groups of one pattern: their names by index, and how many at least take
--- part in every match, where that is known
+-- what is stored of the groups of one pattern: their names by index, and the least number of groups
+-- that take part in every match, if it is known
 pub record StoredGroups : Type 0 where
   pub capture_names : List (Option (RcStr Global))
   pub static_captures_len : Option ℕ
@@ -24,20 +24,21 @@ pub record StoredGroups : Type 0 where
 -- the graph of several patterns as callers see it
 pub record StoredList : Type 0 where
   pub places : List code.Place
-  -- where each pattern is entered, by its number
+  -- the place at which each pattern is entered, by its number
   pub entries : List ℕ
-  -- how many arrows the places have
+  -- the number of arrows of the places
   pub arrows : ℕ
-  -- by the number of the pattern
+  -- the groups of each pattern, by its number
   pub groups : List StoredGroups
-  -- of each pattern, by its number, whether each of its matches reads a character
+  -- whether each match of a pattern reads a character, by the pattern's number
   pub reads : List Bool
 
 -- the places of the graph
 abbrev pub table_of_list : StoredList → List (Place ℕ)
 table_of_list list = map place_of list.places
 
--- what a search needs: the graph is that of the trees, and has as many places and arrows as it says
+-- the precondition of searches: the graph is that of the trees, and has as many places and arrows
+-- as it says
 pub record IsGraphOfList (trees : List Tree) (list : StoredList) : Type 0 where
   pub name : ℕ → Address
   pub written : IsRenumbered (side_by_side trees) name (table_of_list list)

@@ -1,4 +1,4 @@
--- Ways in a graph with ordered arrows: `step n k` is where arrow k of the node n leads.
+-- Ways in a graph with ordered arrows: `step n k` is the node to which arrow k of the node n leads.
 use Rattle.std.specs.Prelude.{◌≡◌, ℕ, List, [], ◌∷◌, ◌++◌, Option, Some}
 
 module _ (N : Type 0) (step : N → ℕ → Option N) where
@@ -7,11 +7,11 @@ module _ (N : Type 0) (step : N → ℕ → Option N) where
   Leads n [] m = n ≡ m
   Leads n (k ∷ ks) m = (l : N) × (step n k ≡ Some l) × Leads l ks m
 
-  -- no node comes twice along the arrows from n
+  -- no node is visited twice along the arrows from n
   abbrev pub NoneTwice : N → List ℕ → Type 0
   NoneTwice n ks =
       (us vs ws : List ℕ) (m : N) → ks ≡ us ++ (vs ++ ws) → Leads n us m → Leads m vs m → vs ≡ []
 
-  -- they do so, and no node comes twice
+  -- the arrows lead from n to m, and no node is visited twice
   abbrev pub IsWay : N → List ℕ → N → Type 0
   IsWay n ks m = Leads n ks m × NoneTwice n ks

@@ -11,7 +11,7 @@ use Rattle.regex_lite_engine.specs.Graph.Addresses.{Address, part, own, entry}
 use Rattle.regex_lite_engine.specs.Graph.Addresses.{chain_entry, branch_entries}
 use Rattle.regex_lite_engine.specs.Graph.Repetitions.{Content, repetition_row}
 
--- a tree of one place
+-- the row of a tree with a single place
 abbrev pub leaf_row : Place Address → Address → Content
 leaf_row place (zero ∷ zero ∷ []) = Some place
 leaf_row place a = None
@@ -42,7 +42,7 @@ concat_row inside (suc c ∷ a) = inside c a
 concat_row inside a = None
 
 abbrev mutual
-  -- what stands at the address `pre ++ a`, where the tree is at `pre` and `exit` follows it
+  -- the place at the address `pre ++ a`, if the tree is at `pre` and `exit` follows it
   pub place_at : Tree → (pre exit a : Address) → Content
   place_at empty pre exit a = leaf_row (with_arrows (go exit ∷ [])) a
   place_at (character c) pre exit a = leaf_row (one_char c exit) a
@@ -57,7 +57,7 @@ abbrev mutual
       alternation_row (branch_entries branches pre 0) (place_in_branch branches pre 0 (own pre 1))
       exit a
 
-  -- in part c of the parts, which are numbered from k on
+  -- the place at an address in part c of the parts, which are numbered from k on
   pub place_in_chain : Trees → Address → ℕ → (exit : Address) → ℕ → Address → Content
   place_in_chain none pre k exit c a = None
   place_in_chain (more t rest) pre k exit zero a =
@@ -69,7 +69,7 @@ abbrev mutual
   place_in_branch (more t rest) pre k exit zero a = place_at t (part pre k) exit a
   place_in_branch (more t rest) pre k exit (suc c) a = place_in_branch rest pre (suc k) exit c a
 
--- the whole is group 0 around the tree, which stands at 1, and after it the place at 0 where the
+-- the whole pattern is group 0 around the tree, which is at 1, followed by the place at 0 where the
 -- match is complete
 abbrev pub whole : Tree → Tree
 whole tree = capture 0 None tree
@@ -85,12 +85,12 @@ written_out tree (zero ∷ []) = Some complete
 written_out tree (suc zero ∷ a) = place_at (whole tree) (1 ∷ []) end_address a
 written_out tree a = None
 
--- the place at an address. Where there is none, it has no arrow
+-- the place at an address; if there is none, a place without arrows
 abbrev pub place_of_pattern : Tree → Address → Place Address
 place_of_pattern tree a = unwrap_or (written_out tree a) (with_arrows [])
 
--- a way from position i to position j: the number of the arrow that is taken at each place. No
--- place comes twice at one position
+-- a way, an accepting path of the NFA, from position i to position j: the number of the arrow that
+-- is taken at each place; no place is visited twice at one position
 abbrev pub IsWayThrough : Tree → Text → ℕ → (arrows : List ℕ) → ℕ → Type 0
 IsWayThrough tree haystack i arrows j =
     IsWay (Address × ℕ) (step haystack (place_of_pattern tree)) (start_address, i) arrows

@@ -1,4 +1,4 @@
--- The pieces of the code as those of a template.
+-- The code's pieces as pieces of a template.
 use Rattle.regex_lite_engine.specs.Interpolation as template
 use Rattle.regex_lite_engine.specs.declared.interpolate.Piece.{Piece}
 use Rattle.regex_lite_engine.specs.declared.interpolate.Piece.TheVariants as stored

@@ -10,11 +10,11 @@ use Rattle.regex_lite_engine.specs.Graph.Places.{go_holding, one_char, one_of}
 use Rattle.regex_lite_engine.specs.Nfa.Fragments.{Fragment, alone, before}
 use Rattle.regex_lite_engine.specs.Nfa.Repetitions.{repetition_layout}
 
--- these places were added to the table, and are entered there
+-- these places were added to the table, and are entered at `entry`
 abbrev pub IsAdded : (old new : List (Place ℕ)) → (entry : ℕ) → Fragment → Type 0
 IsAdded old new entry written = (entry ≡ written.1) × (new ≡ old ++ written.0)
 
--- the place that closes the group, the body, the place that opens it
+-- the layout of a group: the place that closes it, the body, the place that opens it
 abbrev pub capture_layout : (index : ℕ) → (body : ℕ → ℕ → Fragment) → (base exit : ℕ) → Fragment
 capture_layout index body base exit =
     let inner = body (base + 1) base in (
@@ -23,7 +23,7 @@ capture_layout index body base exit =
       base + 1 + length inner.0,
     )
 
--- the join, the branches, the choice
+-- the layout of an alternation: the join, the branches, the choice
 abbrev pub alternation_layout : (branches : ℕ → ℕ → List (Place ℕ) × List ℕ)
     → (base exit : ℕ) → Fragment
 alternation_layout branches base exit =
@@ -45,14 +45,14 @@ abbrev mutual
   layout (alternation branches) base exit =
       alternation_layout (branches_layout branches) base exit
 
-  -- the last part first
+  -- the layout of a concatenation: the last part first
   pub chain_layout : Trees → (base exit : ℕ) → Fragment
   chain_layout none base exit = ([], exit)
   chain_layout (more a rest) base exit =
       let later = chain_layout rest base exit in
       before later (layout a (base + length later.0) later.1)
 
-  -- the branches in order, and where each is entered
+  -- the branches in order, and the places at which they are entered
   pub branches_layout : Trees → (base exit : ℕ) → List (Place ℕ) × List ℕ
   branches_layout none base exit = ([], [])
   branches_layout (more a rest) base exit =
@@ -67,13 +67,13 @@ pattern_layout tree base = capture_layout 0 (layout tree) (base + 1) base
 abbrev pub pattern_table : Tree → (base : ℕ) → List (Place ℕ)
 pattern_table tree base = complete ∷ (pattern_layout tree base).0
 
--- patterns one after another
+-- the places of the patterns, one pattern after another
 abbrev pub patterns_table : List Tree → (base : ℕ) → List (Place ℕ)
 patterns_table [] base = []
 patterns_table (tree ∷ trees) base =
     pattern_table tree base ++ patterns_table trees (base + whole_places tree)
 
--- where each is entered
+-- the places at which the patterns are entered
 abbrev pub patterns_entries : List Tree → (base : ℕ) → List ℕ
 patterns_entries [] base = []
 patterns_entries (tree ∷ trees) base =

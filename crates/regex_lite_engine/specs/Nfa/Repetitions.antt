@@ -6,7 +6,7 @@ use Rattle.regex_lite_engine.specs.Graph.Places.{with_arrows, go, choice}
 use Rattle.regex_lite_engine.specs.Nfa.Fragments.{Fragment, alone, before}
 
 module _ (body : ℕ → ℕ → Fragment) where
-  -- this many copies in a row
+  -- this many copies, one after another
   abbrev pub copies_layout : ℕ → (base exit : ℕ) → Fragment
   copies_layout zero base exit = ([], exit)
   copies_layout (suc n) base exit =
@@ -17,14 +17,14 @@ module _ (body : ℕ → ℕ → Fragment) where
   exactly_layout zero base exit = alone (with_arrows (go exit ∷ [])) base
   exactly_layout (suc n) base exit = copies_layout (suc n) base exit
 
-  -- what stands before this many choices
+  -- the places before this many choices
   abbrev pub needed_layout : (least choices : ℕ) → (base exit : ℕ) → Fragment
   needed_layout zero (suc zero) base exit = ([], exit)
   needed_layout zero choices base exit = alone (with_arrows (go exit ∷ [])) base
   needed_layout (suc n) choices base exit = copies_layout (suc n) base exit
 
 module _ (greedy : Bool) (body : ℕ → ℕ → Fragment) where
-  -- this many times a body and the choice before it
+  -- a body and the choice before it, this many times
   abbrev pub choices_layout : ℕ → (base join : ℕ) → Fragment
   choices_layout zero base join = ([], join)
   choices_layout (suc d) base join =
@@ -63,7 +63,7 @@ module _ (greedy : Bool) (body : ℕ → ℕ → Fragment) where
       let needed = needed_layout body least choices (base + 1 + length turns.0) turns.1 in
       (with_arrows (go exit ∷ []) ∷ (turns.0 ++ needed.0), needed.1)
 
-  -- by the least number and what the most is above it
+  -- the layouts by the least number and the difference between the most and the least
   abbrev pub bounded_layout : (least above : ℕ) → (base exit : ℕ) → Fragment
   bounded_layout least zero = exactly_layout body least
   bounded_layout least (suc d) = between_layout least (suc d)

@@ -1,4 +1,4 @@
--- What is counted of a tree before anything is written: numbers that saturate.
+-- The counts of a tree before anything is written: numbers that saturate.
 use Rattle.std.specs.Prelude.{◌≡◌, ℕ, ◌+◌, ◌-◌, ◌^◌, min}
 use Rattle.regex_lite_syntax.specs.Tree.{Tree}
 use Rattle.regex_lite_syntax.specs.Tree.Properties.{ArePropertiesOf}
@@ -6,7 +6,7 @@ use Rattle.regex_lite_engine.specs.Graph.PlaceCounts as count
 use Rattle.regex_lite_engine.specs.Graph.Size as size
 use Rattle.regex_lite_engine.specs.declared.count.Counts.{Counts}
 
--- the number, or the greatest one that can be stored if that is less
+-- the number, or the greatest number that can be stored if that is less
 abbrev pub saturated : ℕ → ℕ
 saturated n = min n (2 ^ 64 - 1)
 
@@ -20,7 +20,7 @@ pub record AreCountsOf (tree : Tree) (counts : Counts) : Type 0 where
   pub names_size : counts.names_size ≡ saturated (size.names_size tree)
   pub properties : ArePropertiesOf tree counts.properties
 
--- the numbers are the sums of the two
+-- the numbers are the saturated sums of the two
 pub record AreSumsOf (a b sum : Counts) : Type 0 where
   pub places : sum.places ≡ saturated (a.places + b.places)
   pub arrows : sum.arrows ≡ saturated (a.arrows + b.arrows)

@@ -1,16 +1,16 @@
--- What several patterns take together when they are written out.
+-- The total counts of several patterns.
 use Rattle.std.specs.Prelude.{◌≡◌, ◌≤◌, ◌+◌, ◌*◌, ℕ, List, sum_by}
 use Rattle.regex_lite_syntax.specs.Tree.{Tree}
 use Rattle.regex_lite_engine.specs.declared.count.totals.Totals.{Totals}
 use Rattle.regex_lite_engine.specs.Graph.PlaceCounts.{reading_places, whole_arrows, whole_places}
 use Rattle.regex_lite_engine.specs.Graph.SideBySide.{places_of_all, arrows_of_all}
 
--- how many places of all patterns read a character
+-- the number of places of all patterns that read a character
 abbrev pub reading_of_all : List Tree → ℕ
 reading_of_all trees = sum_by reading_places trees
 
--- these are the totals after one more pattern is added. Arrows and places that read stay few
--- compared with the places
+-- these are the totals after one more pattern is added; the numbers of arrows and of places that
+-- read stay bounded by the number of places
 pub record AreTotalsWith (before : Totals) (tree : Tree) (after : Totals) : Type 0 where
   pub places : after.places ≡ before.places + whole_places tree
   pub arrows : after.arrows ≡ before.arrows + whole_arrows tree

@@ -1,5 +1,5 @@
--- A turn that holds again: at another position that looks the same, where something else is known
--- of where the ways began, and no slots are kept.
+-- A transition is independent of the position and of where threads began: it holds at every
+-- position with the same neighbours, whatever is known of the starts, if no slots are kept.
 use Rattle.std.specs.Prelude.{◌≡◌, ℕ, Bool, true, false, List, []}
 use Rattle.std.specs.Prelude.{◌∷◌, map, slice_get, Option, Some, None}
 use Rattle.regex_lite_syntax.specs.Tree.Looks.{holds_between}
@@ -18,7 +18,7 @@ is_met free before after = true
 is_met (holding test) before after = holds_between test before after
 is_met (reading set) before after = reads set after
 
--- the conditions of the arrows are met here where they are met there
+-- the conditions of the arrows are met at one position exactly if they are met at the other
 abbrev pub FitAlike : List (Arrow ℕ) → (here there : Here) → Type 0
 FitAlike [] here there = Unit {0}
 FitAlike (arrow ∷ arrows) here there =
@@ -30,7 +30,7 @@ abbrev pub FitsAlike : Place ℕ → (here there : Here) → Type 0
 FitsAlike complete here there = Unit {0}
 FitsAlike (with_arrows arrows) here there = FitAlike arrows here there
 
--- no place distinguishes the two of those among which searches for these patterns stay
+-- no place that searches for these patterns can reach distinguishes the two positions
 pub record AreAlike (table : List (Place ℕ)) (entries : List ℕ) (here there : Here) : Type 0 where
   pub low : ℕ
   pub len : ℕ
@@ -38,7 +38,7 @@ pub record AreAlike (table : List (Place ℕ)) (entries : List ℕ) (here there 
   pub each : (q : ℕ) (place : Place ℕ) → IsWithin low len q → slice_get table q ≡ Some place
       → FitsAlike place here there
 
--- the thread, of which something else is known
+-- the thread, with something else known of its start
 abbrev pub retold : (Told → Told) → Thread → Thread
 retold tell thread = (thread.0, tell thread.1, [])
 
@@ -48,7 +48,7 @@ all_retold tell threads = map (retold tell) threads
 abbrev pub state_retold : (Told → Told) → State → State
 state_retold tell state = record state { row = []; next = all_retold tell state.next }
 
--- the best match after the turn: that of before, or one that ends at this offset
+-- the best match after the transition: the one before, or one that ends at this offset
 abbrev pub best_again : (Told → Told) → (at : ℕ) → (hit : Bool) → (found before : Best) → Best
 best_again tell at false found before = before
 best_again tell at true None before = before

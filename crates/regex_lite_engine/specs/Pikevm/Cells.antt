@@ -1,4 +1,4 @@
--- How the working memory of a search lies in its cells and rows.
+-- How the working memory of a search is stored in its cells and rows.
 use Rattle.std.specs.Prelude.{◌≡◌, ◌+◌, ◌-◌, ◌*◌, ◌≤◌, ◌<◌, ℕ}
 use Rattle.std.specs.Prelude.{List, [], ◌++◌, take, drop, reverse, replicate}
 use Rattle.std.specs.Prelude.{length, map, None, slice_index, slice_index_or, vec_capacity}
@@ -13,15 +13,15 @@ use Rattle.regex_lite_engine.specs.Search.Beginnings.{Told, untold}
 use Rattle.regex_lite_engine.specs.Pikevm.Machine.{Job, explore, restore, Thread}
 use Rattle.regex_lite_engine.specs.Search.Rows.{Row}
 
--- row k of rows of one width that lie one after the other
+-- row k of rows of one width that are stored one after another
 abbrev pub row_at : (slots : Row) → (width k : ℕ) → Row
 row_at slots width k = take width (drop (k * width) slots)
 
--- slots, of which those after the last one reached hold nothing
+-- the slots, extended with slots that hold nothing
 abbrev pub padded : Row → (size : ℕ) → Row
 padded slots size = slots ++ replicate (size - length slots) None
 
--- there is room for this many rows of this width, of which the first is there
+-- there is room for this many rows of this width, and the first is stored
 pub record AreRows (slots : Row) (capacity width count : ℕ) : Type 0 where
   pub within : length slots ≤ count * width
   pub fitting : count * width ≤ capacity
@@ -34,7 +34,7 @@ rows_in slots width count = map (row_at slots width) (range_with_len 0 count)
 abbrev pub nth_row : List Row → ℕ → Row
 nth_row rows k = slice_index_or rows k []
 
--- what is left to do
+-- the frame that a stored frame stands for
 abbrev pub frame_of : code.Job → Job
 frame_of (stored.Explore place) = explore place
 frame_of (stored.Restore slot old) = restore slot old
@@ -42,7 +42,7 @@ frame_of (stored.Restore slot old) = restore slot old
 abbrev pub frame_in : {S : Type 0} → Cell S → Job
 frame_in cell = frame_of cell.frame
 
--- the frames of the first cells, the last one next
+-- the frames of the first cells, the last one on top
 abbrev pub frames_in : {S : Type 0} → List (Cell S) → (depth : ℕ) → List Job
 frames_in cells depth = reverse (take depth (map frame_in cells))
 
@@ -50,7 +50,7 @@ abbrev pub other : Side → Side
 other First = Second
 other Second = First
 
--- the thread of the one list or the other
+-- the place of the thread in one list or the other
 abbrev pub place_on : {S : Type 0} → Side → Cell S → ℕ
 place_on First cell = cell.first_place
 place_on Second cell = cell.second_place
@@ -65,13 +65,13 @@ with_thread First place start cell =
 with_thread Second place start cell =
     record cell { second_place = place; second_start = start }
 
--- the number of a thread's row: that of the way that is followed is 0, and after it those of both
--- lists take turns, so that few threads need only the first rows
+-- the number of a thread's row: row 0 is that of the current path, and then the rows of both lists
+-- alternate, so that few threads need only the first rows
 abbrev pub row_on : Side → (k : ℕ) → ℕ
 row_on First k = 2 * k + 1
 row_on Second k = 2 * k + 2
 
--- what the thread keeps of where its way began
+-- what the thread keeps of its start
 abbrev pub start_told : {S : Type 0} → (S → Told) → Side → Cell S → Told
 start_told told side cell = told (start_on side cell)
 
@@ -88,7 +88,7 @@ module _ {S : Type 0} (told : S → Told) (side : Side) (cells : List (Cell S)) 
   abbrev pub threads_on : (n : ℕ) → List Thread
   threads_on n = map thread_on (range_with_len 0 n)
 
--- there is room for what is kept, and for a cell for each place
+-- the memory is consistent, and there is room for a cell for each place
 pub record HoldTogether {S : Type 0} (cells : List (Cell S)) (capacity places : ℕ)
     (rows : List Row) (room depth len next_len : ℕ) : Type 0 where
   pub cells_fit : places ≤ capacity
@@ -100,10 +100,10 @@ pub record HoldTogether {S : Type 0} (cells : List (Cell S)) (capacity places : 
   pub room_few : room ≤ places
   pub rows_fit : length rows ≡ 2 * room + 1
 
--- there may be more cells, and those of before are the same
+-- cells may be added, and the cells of before are the same
 pub record Continues {S : Type 0} (before after : List (Cell S)) : Type 0 where
   pub same : take (length before) after ≡ before
 
--- there is room for at least as many as before
+-- there is room for at least as many elements as before
 abbrev pub KeepsCapacity : {X : Type 0} → (before after : Vec X) → Type 0
 KeepsCapacity before after = vec_capacity before ≤ vec_capacity after

@@ -1,5 +1,5 @@
--- What entering a place does to the memory: to the row of slots, to the frames, and to the threads
--- of the next position.
+-- The effect of entering a place on the memory: on the row of slots, the frames, and the threads of
+-- the next position.
 use Rattle.std.specs.Prelude.{◌≡◌, ◌≤◌, ◌<◌, ◌⊎◌, ℕ, Bool, true, false, List, [], ◌∷◌, ◌++◌, length}
 use Rattle.std.specs.Prelude.{map, Option, Some, None, slice_set, slice_index_or, if◌then◌else◌}
 use Rattle.regex_lite_syntax.specs.Ranges.{in_ranges}
@@ -14,7 +14,7 @@ use Rattle.regex_lite_engine.specs.declared.pikevm.enter.Onward.TheVariants as o
 use Rattle.regex_lite_engine.specs.declared.search.here.Here.{Here}
 use Rattle.regex_lite_engine.specs.Pikevm.Machine.{Job, explore, restore, State, Thread}
 
--- what is left to do, the place that comes next as the first
+-- the stack, with the next place on top
 abbrev pub onto : code.Onward → List Job → List Job
 onto (onward.To place) frames = explore place ∷ frames
 onto onward.Back frames = frames
@@ -26,22 +26,22 @@ completes (onward.To place) = false
 completes onward.Back = false
 completes onward.Complete = true
 
--- the next character is one of the set
+-- the next character is in the set
 abbrev pub reads : Set → Option ℕ → Bool
 reads set None = false
 reads set (Some c) = set c
 
--- these frames are to come first
+-- the state with these frames pushed
 abbrev pub pushing : State → List Job → State
 pushing state more = record state { frames = more ++ state.frames }
 
--- where the next character is read, the search goes on with this thread at the next position
+-- if the next character is read, this thread is added to the next position
 abbrev pub reading_on : Bool → State → Thread → State
 reading_on true state thread = record state { next = state.next ++ thread ∷ [] }
 reading_on false state thread = state
 
--- the slot holds the offset until the branch is abandoned, or for good if nothing else is left to
--- do. A slot after the row is not kept
+-- the slot holds the offset until the branch is left, or from now on if the stack is empty; a slot
+-- beyond the row is not kept
 abbrev pub SlotMarked : (at slot to : ℕ) → (before after : State) → Type 0
 SlotMarked at slot to before after =
     ((slot < length before.row)
@@ -57,8 +57,8 @@ SlotMarked at slot to before after =
     ⊎ ((length before.row ≤ slot) × (after ≡ pushing before (explore to ∷ [])))
 
 module _ (whole : Bool) (here : Here) (told : Told) where
-  -- `told` is kept of where the way to the place began; `done` says that a match that is wanted is
-  -- complete there
+  -- `told` is what is kept of the start of the path to the place; `done` says that a match that is
+  -- wanted is complete there
   abbrev pub Enters : Place → (before after : State) → (done : Bool) → Type 0
   Enters (stored.Empty to) before after done =
       (after ≡ pushing before (explore to ∷ [])) × (done ≡ false)

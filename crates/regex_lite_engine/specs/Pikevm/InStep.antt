@@ -1,6 +1,6 @@
--- A walk over a graph that goes from position to position: what it has recorded, and the ways that
--- it has still to follow. Nodes stand at positions, and a way has its start in front. Below n and m
--- are nodes, w and v the ways to them, k the number of an arrow, and b the best way.
+-- A walk over a graph from position to position: the ways that it has recorded, and those that are
+-- pending (the offers). Nodes have positions, and a way has its start in front. Below n and m are
+-- nodes, w and v the ways to them, k the number of an arrow, and b the best way.
 use Rattle.std.specs.Prelude.{◌≡◌, ◌≤◌, ◌⊎◌, ℕ, suc, Bool, IsTrue}
 use Rattle.std.specs.Prelude.{List, [], ◌∷◌, ◌++◌, Option, Some}
 use Rattle.regex_lite_engine.specs.Search.Preference.{IsPreferred}
@@ -9,8 +9,8 @@ use Rattle.regex_lite_engine.specs.Search.Offers.{Offer, In, Ordered, StartsBelo
 
 module _ (N : Type 0) (step : N → ℕ → Option N) (IsStart : (front : List ℕ) → N → Type 0)
     (is_end : N → Bool) (position : N → ℕ) where
-  -- At position p. What is offered there are the ways of `now`, and what is offered at the next
-  -- position so far those of `next`. The starts below `from` were offered, or lead to no end
+  -- The walk at position p: the pending ways there are `now`, and those at the next position so far
+  -- are `next`; the starts below `from` were offered, or lead to no end
   pub record IsInStep (p from : ℕ) (recorded : N → Option (List ℕ)) (now next : List (Offer N))
       (best : Option (List ℕ)) : Type 0 where
     -- each way is a start alone, or a recorded way and one arrow
@@ -20,7 +20,7 @@ module _ (N : Type 0) (step : N → ℕ → Option N) (IsStart : (front : List �
         → IsGrown N step is_end IsStart recorded best n w
     pub next_grown : (n : N) (w : List ℕ) → In N n w next
         → IsGrown N step is_end IsStart recorded best n w
-    -- nothing is forgotten
+    -- no way is lost: what isn't recorded is pending, or leads to no end
     pub starts : (front : List ℕ) (n : N) → IsStart front n → StartsBelow from front
         → (IsAnswered N step is_end IsStart recorded best n front
         ⊎ (In N n front now ⊎ In N n front next))
@@ -28,7 +28,7 @@ module _ (N : Type 0) (step : N → ℕ → Option N) (IsStart : (front : List �
     pub arrows : (n : N) (w : List ℕ) (k : ℕ) (m : N) → recorded n ≡ Some w → step n k ≡ Some m
         → IsAnswered N step is_end IsStart recorded best m (w ++ k ∷ [])
         ⊎ (In N m (w ++ k ∷ []) now ⊎ In N m (w ++ k ∷ []) next)
-    -- the best way is that of the ends which is preferred
+    -- the best way is the preferred one of those that lead to an end
     pub best_ends : (b : List ℕ) → best ≡ Some b
         → (n : N) × IsTrue (is_end n) × (recorded n ≡ Some b)
     pub best_least : (n : N) (w : List ℕ) → IsTrue (is_end n) → recorded n ≡ Some w
@@ -42,7 +42,7 @@ module _ (N : Type 0) (step : N → ℕ → Option N) (IsStart : (front : List �
         → position m ≡ p → NotAfter v w
     pub now_better : (n : N) (w b : List ℕ) → In N n w now → best ≡ Some b → IsPreferred w b
     pub next_better : (n : N) (w b : List ℕ) → In N n w next → best ≡ Some b → IsPreferred w b
-    -- where nodes stand, and where ways start
+    -- the positions of nodes, and the starts of ways
     pub now_stands : (n : N) (w : List ℕ) → In N n w now → position n ≡ p
     pub next_stands : (n : N) (w : List ℕ) → In N n w next → position n ≡ suc p
     pub past : (n : N) (w : List ℕ) → recorded n ≡ Some w → position n ≤ p

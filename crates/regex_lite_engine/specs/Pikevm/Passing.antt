@@ -1,4 +1,4 @@
--- From one position of a search to a later one.
+-- Moving from one position of a search to a later one.
 use Rattle.std.specs.Prelude.{◌≡◌, ◌⊎◌, ◌+◌, ◌-◌, ◌*◌, ◌≤◌, ℕ, Bool, false, List, [], length}
 use Rattle.std.specs.Prelude.{None}
 use Rattle.regex_lite_syntax.specs.Text.{Text}
@@ -14,8 +14,8 @@ use Rattle.regex_lite_engine.specs.Pikevm.Machine.{Thread}
 use Rattle.regex_lite_engine.specs.Pikevm.Turns.{best_of, IsComing, IsComingTo, EndsAt}
 use Rattle.regex_lite_engine.specs.Search.NumberedOutcomes.{Best}
 
--- A search goes on here from position p. Where there is neither a thread nor a match it passes over
--- positions at which no match can start
+-- A search at position p continues here: without thread and match, it skips positions at which no
+-- match can start
 abbrev pub GoesOnAt : List (Place ℕ) → Text → (entries : List ℕ) → List Thread → Best → (p : ℕ)
     → Here → Type 0
 GoesOnAt table haystack entries threads best p here =
@@ -24,8 +24,8 @@ GoesOnAt table haystack entries threads best p here =
     × PassesTo (AreDeadAt table haystack entries) haystack p here)
 
 module _ (table : List (Place ℕ)) (haystack : Text) (starts : List ℕ) (first : ℕ) where
-  -- a search up to position p has cost no more than what is in this part of the table, and goes on
-  -- from no more places than read a character there
+  -- the cost of a search up to position p is within the bounds of this part of the table, and it
+  -- has at most as many threads as places of the part read a character
   pub record HasSpentWithin {S : Type 0} (low len p : ℕ) (cache : Cache S) : Type 0 where
     pub tries :
         cache.walk.steps.tried + length cache.walk.memory.threads
@@ -33,7 +33,7 @@ module _ (table : List (Place ℕ)) (haystack : Text) (starts : List ℕ) (first
     pub entries : cache.walk.steps.entered ≤ len * (p - first)
     pub few : length cache.walk.memory.threads ≤ reading_of (row_of table low len)
 
-  -- a search for matches that are wanted, and start from position `first` to `last`, has come to
+  -- a search for matches that are wanted and start from position `first` to `last` has reached
   -- position p
   pub record IsUnderWayTo {S : Type 0} (whole : Bool) (last p : ℕ) (cache : Cache S)
       : Type 0 where
@@ -45,14 +45,14 @@ module _ (table : List (Place ℕ)) (haystack : Text) (starts : List ℕ) (first
         cache.walk.steps.tried + length cache.walk.memory.threads
         ≤ (arrows_of table + length starts) * (p - first)
     pub entries : cache.walk.steps.entered ≤ length table * (p - first)
-    -- it stays in any part of its own
+    -- the cost is within the bounds of any part that has the patterns
     pub own : (low len : ℕ) → IsOwnPart table starts low len → HasSpentWithin low len p cache
 
-  -- a search for all matches that start from position `first` on has come to position p
+  -- a search for all matches that start from position `first` on has reached position p
   abbrev pub IsUnderWay : {S : Type 0} → (p : ℕ) → Cache S → Type 0
   IsUnderWay p cache = IsUnderWayTo false (length haystack) p cache
 
-  -- it has gone over a position that is not before p
+  -- the search has taken the step at a position that isn't before p
   pub record Passes {S : Type 0} (p : ℕ) (cache cache' : Cache S) (here : Here) : Type 0 where
     pub q : ℕ
     pub later : p ≤ q

@@ -1,4 +1,4 @@
--- How the set of the places that were entered at a position is kept.
+-- The representation of the set of places that were entered at a position.
 use Rattle.std.specs.Prelude.{◌-◌, ◌==◌, ◌≤◌, ◌<◌, ℕ, Bool, List, [], ◌∷◌}
 use Rattle.std.specs.Prelude.{map, slice_index, vec_capacity}
 use Rattle.std.specs.List.{range_with_len}
@@ -6,24 +6,24 @@ use Rattle.regex_lite_engine.specs.Backtrack.Bits.{bits_of}
 use Rattle.regex_lite_engine.specs.declared.pikevm.place_set.Marks.{Marks}
 use Rattle.regex_lite_engine.specs.declared.pikevm.place_set.Marks.TheVariants as marks
 
--- the stamp of a place is that of the round, where `left` is the number of places from it to the
--- last one, itself included
+-- the stamp of a place is that of the round (the generation), if `left` is the number of places
+-- from it to the last one, including both
 abbrev pub is_stamped : (stamps : List ℕ) → (round left : ℕ) → Bool
 is_stamped stamps round left = slice_index stamps (left - 1) == round
 
--- of each place whether it is in the set
+-- whether each place is in the set
 abbrev pub members : Marks → (places : ℕ) → List Bool
 members (marks.Bits bits) places = bits_of (bits ∷ []) places
 members (marks.Stamps kept) places =
     map (λ place. is_stamped kept.stamps.items kept.round (places - place))
     (range_with_len 0 places)
 
--- no stamp is later than the round. That of a place without one counts as 0, so no round is 0
+-- no stamp is later than the round; a missing stamp counts as 0, so no round is 0
 pub record AreStamps (stamps : List ℕ) (round : ℕ) : Type 0 where
   pub some : 0 < round
   pub old : (k : ℕ) → slice_index stamps k ≤ round
 
--- there are bits or stamps for all places
+-- the bits or the stamps suffice for all places
 abbrev pub FitPlaces : Marks → (places : ℕ) → Type 0
 FitPlaces (marks.Bits bits) places = places ≤ 64
 FitPlaces (marks.Stamps kept) places =

@@ -1,4 +1,4 @@
--- The working memory suffices for what is left to do at a position, and what is left bounds the
+-- The working memory suffices for the stack at a position, and what is left to do bounds the
 -- counts.
 use Rattle.std.specs.Prelude.{◌≡◌, ◌+◌, ◌^◌, ◌≤◌, ◌<◌, ℕ, Bool, true, false}
 use Rattle.std.specs.Prelude.{List, [], ◌∷◌, length, Some, if◌then◌else◌}
@@ -37,12 +37,12 @@ FramesBelow places width (restore slot old ∷ frames) =
 abbrev pub ThreadsBelow : (places : ℕ) → List Thread → Type 0
 ThreadsBelow places threads = (k : ℕ) → k < length threads → (thread_at threads k).0 < places
 
--- the same walk with these frames to come
+-- the same walk with this stack
 abbrev pub with_frames : {S : Type 0} → Walk S → List Job → Walk S
 with_frames walk frames = record walk { memory = record walk.memory { frames = frames } }
 
 module _ (table : List (Place ℕ)) where
-  -- how often the search has come to a place, or may still come to one from what is left
+  -- the number of tries so far, and of those that the stack may still cause
   abbrev pub due_tries : {S : Type 0} → Walk S → ℕ
   due_tries walk =
       walk.steps.tried
@@ -54,7 +54,7 @@ module _ (table : List (Place ℕ)) where
   due_entries walk =
       walk.steps.entered + left_of lone walk.memory.entered table
 
-  -- how much is left to do at this position
+  -- a bound on what is left to do at this position
   abbrev pub work : State → ℕ
   work state = length state.frames + left_of weight state.entered table
 
@@ -83,21 +83,22 @@ module _ (table : List (Place ℕ)) where
       → IsWalking table at after told (if done then [] else ways)
       (if done then Some (told, here.at, after.row) else best)
 
-  -- any search for such matches does, in whatever haystack it stands there
+  -- any search for such matches goes from one state to a later one, in every haystack in which it
+  -- is at this position
   abbrev pub WalksTo : (whole : Bool) → Here → (told : Told) → (before after : State)
       → (done : Bool) → Type 0
   WalksTo whole here told before after done =
       (at : SearchAt) → at.whole ≡ whole → WalksAt at here told before after done
 
-  -- a search for all matches does the same from wherever it looks the same, with something else
-  -- kept
+  -- a search for all matches goes on in the same way at every position with the same neighbours,
+  -- with something else kept of the starts
   abbrev pub WalksAgain : Here → (told : Told) → (before after : State) → (done : Bool) → Type 0
   WalksAgain here told before after done =
       (tell : Told → Told) (there : Here) (at : SearchAt) → at.whole ≡ false
       → AreAlike table at.entries here there
       → WalksAt at there (tell told) (state_retold tell before) (state_retold tell after) done
 
-  -- a walk went on, up to a complete match where it is done
+  -- a walk continued, up to a complete match if it is done
   pub record GoesOn {S : Type 0} (whole : Bool) (here : Here) (told : Told) (walk walk' : Walk S)
       (done : Bool) : Type 0 where
     pub walks : WalksTo whole here told walk.memory walk'.memory done
@@ -113,7 +114,7 @@ module _ (table : List (Place ℕ)) where
     pub less : done ≡ false → work walk'.memory < work walk.memory
     pub cleared : done ≡ true → walk'.memory.frames ≡ []
 
-  -- The same with these frames to come
+  -- Definitions for a walk with these stacks
 
   abbrev pub HasRoom : {S : Type 0} → Walk S → List Job → Type 0
   HasRoom walk frames = IsFit (with_frames walk frames)
@@ -129,7 +130,7 @@ module _ (table : List (Place ℕ)) where
   Explores whole here told walk walk' frames done =
       GoesOn whole here told (with_frames walk frames) (with_frames walk' []) done
 
--- what a walk over the position leaves as it is
+-- what the step at a position doesn't change
 pub record KeepsPosition (memory memory' : State) : Type 0 where
   pub threads : memory'.threads ≡ memory.threads
   pub room : memory'.room ≡ memory.room

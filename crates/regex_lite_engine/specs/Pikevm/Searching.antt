@@ -1,4 +1,4 @@
--- What a search works in, as one value.
+-- The working memory of a search as one value.
 use Rattle.std.specs.Prelude.{◌≡◌, ◌+◌, ◌^◌, ◌≤◌, ◌<◌, ℕ, Bool, true, false, List, [], None, length}
 use Rattle.regex_lite_syntax.specs.Text.{Text}
 use Rattle.regex_lite_engine.specs.declared.search.here.Here.{Here}
@@ -20,23 +20,23 @@ use Rattle.regex_lite_engine.specs.Pikevm.Turns.{IsComing, StepsAt, StepsTo, IsR
 use Rattle.regex_lite_engine.specs.Pikevm.Walking.{SearchAt}
 use Rattle.regex_lite_engine.specs.Search.NumberedOutcomes.{Best}
 
--- the ways that are followed at a position: its threads, and its own starts
+-- the threads that are followed at a position: its threads, and then its own starts
 abbrev pub ways_at : {S : Type 0} → List Start → (told : ℕ → Told) → Cache S → List Thread
 ways_at starts told cache =
     with_starts starts told (best_of cache.best) (length cache.walk.memory.row)
     cache.walk.memory.threads
 
--- there is a match that was complete there, or that of before
+-- the match was complete at this position, or is the one of before
 abbrev pub IsHit : (hit : Bool) → (before after : Best) → Type 0
 IsHit true before after = after ≡ None → ⊥
 IsHit false before after = after ≡ before
 
 module _ (table : List (Place ℕ)) where
-  -- between two positions
+  -- the search is between two positions
   abbrev pub IsBetween : {S : Type 0} → Cache S → Type 0
   IsBetween cache = IsReady table cache.walk.memory cache.best cache.walk.steps
 
-  -- before these ways are followed
+  -- the search is at a position, before these threads are followed
   pub record IsPlaced {S : Type 0} (ways : List Thread) (cache : Cache S) : Type 0 where
     pub stack_empty : cache.walk.memory.frames ≡ []
     pub stack_room : kept_back_of table < length table
@@ -44,7 +44,7 @@ module _ (table : List (Place ℕ)) where
     pub best_width : length cache.best.row ≡ length cache.walk.memory.row
     pub budget : due_tries table cache.walk + length ways < 2 ^ 127
 
-  -- these ways were followed
+  -- these threads were followed
   pub record Follows {S : Type 0} (whole : Bool) (here : Here) (ways : List Thread)
       (cache cache' : Cache S) : Type 0 where
     pub steps : StepsTo table whole here cache.walk.memory ways (best_of cache.best)
@@ -55,8 +55,8 @@ module _ (table : List (Place ℕ)) where
     pub kept : KeepsPosition cache.walk.memory cache'.walk.memory
     pub best_width : length cache'.best.row ≡ length cache.best.row
 
-  -- a search for all matches would follow them wherever it looks the same, whatever is kept of
-  -- where the ways began
+  -- a search for all matches would follow these threads in the same way at every position with the
+  -- same neighbours, whatever is kept of their starts
   abbrev pub FollowsAgain : {S : Type 0} → Here → (ways : List Thread) → Cache S → Cache S
       → (hit : Bool) → Type 0
   FollowsAgain here ways cache cache' hit =
@@ -66,8 +66,8 @@ module _ (table : List (Place ℕ)) where
       (state_retold tell cache'.walk.memory) []
       (best_again tell there.at hit (best_of cache'.best) best)
 
-  -- a turn holds again wherever it looks the same and the same starts suffice, as long as there is
-  -- a match in both or in neither
+  -- a transition holds at every position with the same neighbours at which the same starts suffice,
+  -- as long as there is a match in both searches or in neither
   abbrev pub TurnsAgain : {S : Type 0} → List Start → Here → (told : ℕ → Told) → Cache S → Cache S
       → (hit : Bool) → Type 0
   TurnsAgain starts here told cache cache' hit =
@@ -83,7 +83,7 @@ module _ (table : List (Place ℕ)) where
       (all_retold tell cache'.walk.memory.threads)
       (best_again tell there.at hit (best_of cache'.best) best)
 
-  -- a position has cost no more than what is in this part of the table, and this many starts
+  -- the cost of a position is within the bounds of this part of the table and this many starts
   pub record SpendsWithin {S : Type 0} (low len starts : ℕ) (cache cache' : Cache S) : Type 0 where
     pub tries :
         cache'.walk.steps.tried + length cache'.walk.memory.threads
@@ -92,7 +92,7 @@ module _ (table : List (Place ℕ)) where
     pub entries : cache'.walk.steps.entered ≤ cache.walk.steps.entered + len
     pub few : length cache'.walk.memory.threads ≤ reading_of (row_of table low len)
 
--- a search from position s on has not begun. There may have been others
+-- a search from position s on has not begun; there may have been others before
 pub record IsFresh {S : Type 0} (table : List (Place ℕ)) (cache : Cache S) : Type 0 where
   pub between : IsBetween table cache
   pub none : best_of cache.best ≡ None
@@ -100,7 +100,7 @@ pub record IsFresh {S : Type 0} (table : List (Place ℕ)) (cache : Cache S) : T
   pub no_tries : cache.walk.steps.tried ≡ 0
   pub no_entries : cache.walk.steps.entered ≡ 0
 
--- searches for the patterns of the graph go on in this cache. Without a pattern none is begun
+-- the cache serves searches for the patterns of the graph; an empty list needs none
 abbrev pub GoesOnIn : {S : Type 0} → StoredList → Cache S → Type 0
 GoesOnIn list cache =
     0 < length list.entries

@@ -1,4 +1,4 @@
--- Where a search stands when it stops, and why it stops there.
+-- The position at which a search stops, and the reason.
 use Rattle.std.specs.Prelude.{◌≡◌, ◌⊎◌, ◌+◌, ◌≤◌, ℕ, Bool, true, false, List, length}
 use Rattle.std.specs.Prelude.{Option, Some, None}
 use Rattle.regex_lite_syntax.specs.Text.{Text}
@@ -14,14 +14,14 @@ use Rattle.regex_lite_engine.specs.Search.Offsets.{offset}
 use Rattle.regex_lite_engine.specs.Search.Standing.{IsHere}
 
 module _ (table : List (Place ℕ)) (haystack : Text) (entries : List ℕ) (first : ℕ) where
-  -- no match was complete before position p, and if there is one it ends there
+  -- no match was complete before position p, and if there is a match it ends at p
   pub record EndsFirst (p : ℕ) (best : Best) : Type 0 where
     pub threads : List Thread
     pub none : IsComing table haystack entries first (length haystack) p threads None
     pub ends : EndsAt (offset haystack p) None best
 
-  -- a search is over after position p. That is the last position, or there is a match, and either
-  -- the least end is asked for or no thread is left
+  -- a search is over after position p: it is the last position, or there is a match, and either the
+  -- least end is asked for or no thread is left
   pub record IsDone (earliest : Bool) (p : ℕ) (threads : List Thread) (best : Best) : Type 0 where
     pub low : first ≤ p
     pub inside : IsPosition haystack p
@@ -30,14 +30,14 @@ module _ (table : List (Place ℕ)) (haystack : Text) (entries : List ℕ) (firs
         ⊎ ((best ≡ None → ⊥) × (earliest ≡ false → length threads ≡ 0))
     pub ends : earliest ≡ true → EndsFirst p best
 
-  -- it stops before position q, where it stands since it may go no further, or since it is over
+  -- the search stops before position q, since its budget is used up or it is over
   abbrev pub StopsBefore : (earliest : Bool) → (q : ℕ) → List Thread → Best → Option Here → Type 0
   StopsBefore earliest q threads best (Some here) =
       IsHere haystack q here × (earliest ≡ true → best ≡ None)
   StopsBefore earliest q threads best None =
       (p : ℕ) × (q ≡ p + 1) × IsDone earliest p threads best
 
-  -- it went on from position p until it stopped
+  -- the search continued from position p until it stopped
   pub record Stops {S : Type 0} (earliest : Bool) (p : ℕ) (cache cache' : Cache S)
       (stands : Option Here) : Type 0 where
     pub q : ℕ

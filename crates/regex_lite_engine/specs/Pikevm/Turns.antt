@@ -1,4 +1,4 @@
--- The threads of one position, and from one position to the next.
+-- The step at one position: from its threads to those of the next position.
 use Rattle.std.specs.Prelude.{◌≡◌, ◌≤◌, ◌<◌, ◌⊎◌, ℕ, Bool, false, List, [], ◌∷◌, ◌++◌, length}
 use Rattle.std.specs.Prelude.{replicate, Option, Some, None}
 use Rattle.regex_lite_syntax.specs.Text.{Text}
@@ -20,35 +20,36 @@ use Rattle.regex_lite_engine.specs.Pikevm.Room.{ThreadsBelow}
 abbrev pub best_of : BestState → Best
 best_of best = best_at best.found best.row
 
--- at a later position each way starts below it, as long as there is no match
+-- as long as there is no match, all starts below p were offered
 abbrev pub FromIs : (p from : ℕ) → Best → Type 0
 FromIs p from None = from ≡ p
 FromIs p from (Some best) = Unit {0}
 
--- the best match afterwards is that of before, or ends at the offset
+-- the best match afterwards is the one before, or ends at the offset
 abbrev pub EndsAt : (at : ℕ) → (before after : Best) → Type 0
 EndsAt at before after =
     (after ≡ before) ⊎ ((told : Told) × (row : Row) × (after ≡ Some (told, at, row)))
 
 module _ (table : List (Place ℕ)) where
-  -- nothing is on the stack
+  -- the stack is empty
   abbrev pub Between : SearchAt → State → (ways : List Thread) → Best → Type 0
   Between at state ways best =
       IsWalking table at (record state { row = []; frames = [] }) untold ways best
 
-  -- a search follows some of the ways
+  -- a search follows some of the threads
   abbrev pub StepsAt : SearchAt → Here → (before : State) → (ways : List Thread) → Best
       → (after : State) → (left : List Thread) → Best → Type 0
   StepsAt at here before ways best after left best' =
       IsHere at.haystack at.p here → Between at before ways best → Between at after left best'
 
-  -- any search for such matches does
+  -- any search for such matches follows some of the threads
   abbrev pub StepsTo : (whole : Bool) → Here → (before : State) → (ways : List Thread) → Best
       → (after : State) → (left : List Thread) → Best → Type 0
   StepsTo whole here before ways best after left best' =
       (at : SearchAt) → at.whole ≡ whole → StepsAt at here before ways best after left best'
 
-  -- all below position p is done; what is offered at p are the threads, without its own start
+  -- everything before position p is done; the pending ways at p are the threads, without its own
+  -- starts
   pub record IsComingTo (haystack : Text) (entries : List ℕ) (whole : Bool) (first last p : ℕ)
       (threads : List Thread) (best : Best) : Type 0 where
     pub recorded : Node → Option (List ℕ)
@@ -61,7 +62,7 @@ module _ (table : List (Place ℕ)) where
     pub best_holds : BestHolds table haystack entries best way
     pub from_is : FromIs p from best
 
-  -- of a search for all matches
+  -- a search for all matches comes to position p
   abbrev pub IsComing : (haystack : Text) → (entries : List ℕ) → (first last p : ℕ)
       → (threads : List Thread) → Best → Type 0
   IsComing haystack entries = IsComingTo haystack entries false
@@ -80,7 +81,8 @@ module _ (table : List (Place ℕ)) where
     pub looked_entered : counts.looked ≤ counts.entered
     pub match_entered : (best_of best ≡ None → ⊥) → 0 < counts.entered
 
--- the threads that begin at a position, of which this is kept by the number of the pattern
+-- the threads that begin at a position; `told` says what is kept of the start, by the number of the
+-- pattern
 abbrev pub begun : (told : ℕ → Told) → Row → List Start → List Thread
 begun told blank [] = []
 begun told blank (start ∷ starts) =

@@ -1,4 +1,4 @@
--- What a search over a table of numbered places keeps true while it goes over one position.
+-- The invariants of the PikeVM at one position.
 use Rattle.std.specs.Prelude.{◌≡◌, ℕ, suc, Bool, IsTrue, List, [], ◌∷◌, ◌++◌}
 use Rattle.std.specs.Prelude.{Option, Some, None, slice_set, slice_index_or, true, false}
 use Rattle.regex_lite_syntax.specs.Text.{Text}
@@ -18,8 +18,8 @@ use Rattle.regex_lite_engine.specs.Search.Offers.{Offer, Node}
 
 module _ (table : List (Place ℕ)) (haystack : Text) where
   module _ (entries : List ℕ) where
-    -- the way leads to the node from where a pattern is entered, of which this is told, and the row
-    -- has what it marks. It begins with the position there, and then the pattern's number
+    -- the way leads to the node from the entry of a pattern, `told` agrees with its start, and the
+    -- row has what it marks; the way begins with the start's position and the pattern's number
     abbrev pub WayTold : (told : Told) → Row → Node → (way : List ℕ) → Type 0
     WayTold told row node way =
         (from : ℕ) × (number : ℕ) × (entry : ℕ) × (arrows : List ℕ)
@@ -29,8 +29,8 @@ module _ (table : List (Place ℕ)) (haystack : Text) where
         × HasSlots haystack row
         (marks_along haystack (place_with table) (Some (entry, from)) arrows)
 
-    -- the frames hold the offers at position p, the first on top. The row of each is the one that
-    -- stands when its frame is popped
+    -- the frames hold the offers at position p, the first on top; the row of each is the row when
+    -- its frame is popped
     abbrev pub FramesHold : (p : ℕ) → (told : Told) → Row → List Job → List (Offer Node) → Type 0
     FramesHold p told row [] offers = offers ≡ []
     FramesHold p told row (explore place ∷ frames) offers =
@@ -63,9 +63,9 @@ module _ (table : List (Place ℕ)) (haystack : Text) where
           IsInStep Node (numbered_step table haystack) (StartsOf entries first last)
           (is_wanted_end table haystack whole) (λ node. node.1)
 
--- a search at position p: for the patterns that are entered at these places, by ways that start
--- from `first` to `last`; with `whole` for matches that end where the haystack does. Starts below
--- `from` were offered
+-- a search at position p: for the patterns with these entries, by ways that start from `first` to
+-- `last`; if `whole`, for matches that end where the haystack ends; starts below `from` were
+-- offered
 pub record SearchAt : Type 0 where
   pub haystack : Text
   pub entries : List ℕ
@@ -75,8 +75,8 @@ pub record SearchAt : Type 0 where
   pub p : ℕ
   pub from : ℕ
 
--- The frames belong to a thread of whose start this is told. Left are the frames, then these ways;
--- at the next position there are so far the threads of `next`
+-- The frames belong to a thread of whose start `told` is kept. The frames are pending, and then
+-- these ways; so far the threads of the next position are those of `next`
 pub record IsWalking (table : List (Place ℕ)) (at : SearchAt) (state : State) (told : Told)
     (ways : List Thread) (best : Best) : Type 0 where
   pub recorded : Node → Option (List ℕ)
@@ -86,7 +86,7 @@ pub record IsWalking (table : List (Place ℕ)) (at : SearchAt) (state : State) 
   pub way : Option (List ℕ)
   pub in_step : InStep table at.haystack at.entries at.whole at.first at.last at.p at.from
       recorded (under ++ later) coming way
-  -- just the places with a record at the position are in the set of those entered
+  -- exactly the places with a recorded way at the position are in the set of entered places
   pub seen : (place : ℕ) (own : List ℕ) → recorded (place, at.p) ≡ Some own
       → slice_index_or state.entered place false ≡ true
   pub met : (place : ℕ) → slice_index_or state.entered place false ≡ true

@@ -17,13 +17,13 @@ pub record IsMatchFrom (tree : Tree) (haystack : Text) (s i j : ℕ) : Type 0 wh
 abbrev pub HasMatchFrom : Tree → Text → (s : ℕ) → Type 0
 HasMatchFrom tree haystack s = (i : ℕ) × (j : ℕ) × IsMatchFrom tree haystack s i j
 
--- where a match starts and ends, and what it marks
+-- the start and the end of a match, and its marks
 pub record Found : Type 0 where
   pub start : ℕ
   pub end : ℕ
   pub marks : Marks
 
--- a way leads from where the match starts to where it ends, and marks what is found
+-- a way leads from the match's start to its end, and has its marks
 pub record IsOfWay (tree : Tree) (haystack : Text) (found : Found) : Type 0 where
   pub inside : IsPosition haystack found.start
   pub way : List ℕ
@@ -51,7 +51,7 @@ pub record IsLeastEnd (tree : Tree) (haystack : Text) (s j : ℕ) : Type 0 where
   pub is_match : IsMatchFrom tree haystack s start j
   pub least : (i k : ℕ) → IsMatchFrom tree haystack s i k → j ≤ k
 
--- what a search for the shortest match answers
+-- the answer of a search for the least end
 abbrev pub IsShortest : Tree → Text → (s : ℕ) → Option ℕ → Type 0
 IsShortest tree haystack s None = HasMatchFrom tree haystack s → ⊥
 IsShortest tree haystack s (Some j) = IsLeastEnd tree haystack s j

@@ -1,5 +1,5 @@
--- The answer of an anchored search, whose matches start where the search does. With `whole` they
--- end where the haystack does.
+-- The answer of an anchored search, whose matches start where the search starts. If `whole`, they
+-- end where the haystack ends.
 use Rattle.std.specs.Prelude.{◌≡◌, ◌≤◌, ◌⊎◌, ℕ, Bool, true, false, List, Option, Some, None, length}
 use Rattle.regex_lite_syntax.specs.Text.{Text}
 use Rattle.regex_lite_syntax.specs.Tree.{Tree}
@@ -14,13 +14,13 @@ abbrev pub MayEndAt : (whole : Bool) → Text → (j : ℕ) → Type 0
 MayEndAt false haystack j = Unit {0}
 MayEndAt true haystack j = j ≡ length haystack
 
--- the tree matches from position s to one at which a match may end
+-- the tree matches from position s to a position at which a match may end
 abbrev pub HasMatchAt : (whole : Bool) → Tree → Text → (s : ℕ) → Type 0
 HasMatchAt whole tree haystack s =
     IsPosition haystack s
     × ((j : ℕ) × MayEndAt whole haystack j × Matches haystack tree s j)
 
--- a way from position s to where a match may end, preferred to each other such way
+-- a way from position s to a position at which a match may end, preferred to each other such way
 pub record IsFoundAt (whole : Bool) (tree : Tree) (haystack : Text) (s : ℕ) (found : Found)
     : Type 0 where
   pub start : found.start ≡ s

@@ -30,7 +30,7 @@ abbrev pub IsAnswerOfList : List Tree → Text → (s : ℕ) → Option (ℕ × 
 IsAnswerOfList trees haystack s None = AnyMatchesFrom trees haystack s → ⊥
 IsAnswerOfList trees haystack s (Some told) = IsFoundInList trees haystack s told.0 told.1
 
--- for each pattern, in the order of their numbers, whether it matches from a position at or after s
+-- whether each pattern, in the order of the numbers, matches from a position at or after s
 pub record TellsWhich (trees : List Tree) (haystack : Text) (s : ℕ) (told : List Bool)
     : Type 0 where
   pub all : length told ≡ length trees

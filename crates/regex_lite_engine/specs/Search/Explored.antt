@@ -1,11 +1,11 @@
--- What a search of a graph with ordered arrows records: a way at each node that it enters. A way
--- here is a list of numbers: first those that stand for its start, then those of its arrows. So the
--- ways from an earlier start come first.
+-- The records of a search of a graph with ordered arrows: a way at each node that it enters. Here a
+-- way is a list of numbers: first those of its start, then those of its arrows. So ways from an
+-- earlier start come first.
 use Rattle.std.specs.Prelude.{◌≡◌, ◌<◌, ◌≤◌, ◌⊎◌, ℕ, Bool, IsTrue}
 use Rattle.std.specs.Prelude.{List, [], ◌∷◌, ◌++◌, Option, Some}
 use Rattle.regex_lite_engine.specs.Graph.Ways.{Leads}
 
--- where they first differ, the one has the smaller number, or it ends there
+-- where the two first differ, the first has the smaller number, or ends
 abbrev pub Before : List ℕ → List ℕ → Type 0
 Before a [] = ⊥
 Before [] (y ∷ b) = Unit {0}
@@ -19,7 +19,7 @@ module _ (N : Type 0) (step : N → ℕ → Option N) (is_end : N → Bool) wher
   abbrev pub IsDead : N → Type 0
   IsDead n = (arrows : List ℕ) (end : N) → IsTrue (is_end end) → Leads N step n arrows end → ⊥
 
-  -- which nodes are starts, by the numbers that stand for them, and what is recorded
+  -- `IsStart` says which nodes are starts, by the numbers of the start, and `recorded` has the ways
   module _ (IsStart : (front : List ℕ) → N → Type 0) (recorded : N → Option (List ℕ))
       (best : Option (List ℕ)) where
     -- no later way is recorded at the node, or the best is before this way
@@ -35,7 +35,7 @@ module _ (N : Type 0) (step : N → ℕ → Option N) (is_end : N → Bool) wher
         ⊎ ((m : N) × (other : List ℕ) × (k : ℕ) × (recorded m ≡ Some other)
         × (step m k ≡ Some n) × (way ≡ other ++ k ∷ []))
 
--- there is a start at each position from the first to the last; its position stands for it
+-- there is a start at each position from the first to the last; its number is its position
 abbrev pub StartsAt : {N : Type 0} → (start : ℕ → N) → (first last : ℕ) → (front : List ℕ) → N
     → Type 0
 StartsAt start first last front n =

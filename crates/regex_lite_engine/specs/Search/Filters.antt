@@ -1,4 +1,5 @@
--- Where matches of one pattern can begin, as a search takes it and as a list keeps it.
+-- What the filter of one pattern says about where matches can begin, for the filter that searches
+-- take and the one that a list keeps.
 use Rattle.std.specs.Prelude.{ℕ, None, false}
 use Rattle.regex_lite_syntax.specs.Prefilter.StartFacts.{StartFacts}
 use Rattle.regex_lite_engine.specs.declared.search.own_filter.OwnFilter.{OwnFilter}
@@ -10,7 +11,7 @@ use Rattle.regex_lite_engine.specs.declared.search.pattern_filter.PatternFilter.
 }
 use Rattle.regex_lite_engine.specs.Search.Prefixes.{prefix_heads}
 
--- two characters with which each match begins
+-- each match begins with these two characters
 abbrev pub prefix_facts : (first second : ℕ) → StartFacts
 prefix_facts first second = record {
   heads = prefix_heads first second;
@@ -19,12 +20,12 @@ prefix_facts first second = record {
   needed = None;
 }
 
--- what a search's filter tells
+-- the facts that the filter of a search states
 abbrev pub facts_of : PatternFilter → StartFacts
 facts_of (Literal prefix) = prefix_facts prefix.first prefix.second
 facts_of (Whole filter) = filter.now
 
--- and what the filter of a list's pattern tells
+-- the facts that the filter of a list's pattern states
 abbrev pub own_facts_of : OwnFilter → StartFacts
 own_facts_of (own.Literal prefix) = prefix_facts prefix.first prefix.second
 own_facts_of (own.Whole filter) = filter.value

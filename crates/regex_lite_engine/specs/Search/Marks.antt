@@ -1,4 +1,4 @@
--- What a way marks: for each slot the last position at which it marked it, or nothing.
+-- The marks of a way: for each slot the last position at which the way marked it, or nothing.
 use Rattle.std.specs.Prelude.{ℕ, zero, suc, ◌*◌, ◌+◌, ◌==◌, List, [], ◌∷◌, Option}
 use Rattle.std.specs.Prelude.{Some, None, is_some, if◌then◌else◌, slice_get}
 use Rattle.std.specs.Option.{option_or, option_zip}
@@ -23,12 +23,12 @@ marked (Some own) i slot = if own == slot then Some i else None
 abbrev pub over : (later earlier : Marks) → Marks
 over later earlier slot = option_or (later slot) (earlier slot)
 
--- where the group with this index began and ended last, if it took part: slot 2k is marked where
--- group k begins, and slot 2k + 1 where it ends
+-- the last span of the group with this index, if it took part: slot 2k is marked where group k
+-- begins, and slot 2k + 1 where it ends
 abbrev pub span : Marks → (index : ℕ) → Option (ℕ × ℕ)
 span marks index = option_zip (marks (2 * index)) (marks (2 * index + 1))
 
--- how many of this many groups from this index on took part
+-- the number of groups that took part, of this many from this index on
 abbrev pub taking_part : Marks → (first count : ℕ) → ℕ
 taking_part marks first zero = 0
 taking_part marks first (suc count) =
@@ -45,7 +45,8 @@ module _ {A : Type 0} where
   mark_of (with_arrows arrows) k = mark_of_arrow (slice_get arrows k)
 
   module _ (haystack : Text) (place : A → Place A) where
-    -- what the arrows with these numbers mark, the first of them taken at this place and position
+    -- the marks of the arrows with these numbers, the first of which is taken at this place and
+    -- position
     abbrev pub marks_along : Option (A × ℕ) → (arrows : List ℕ) → Marks
     marks_along pair [] = no_marks
     marks_along None (k ∷ arrows) = no_marks
@@ -53,7 +54,7 @@ module _ {A : Type 0} where
         over (marks_along (step haystack place pair k) arrows)
         (marked (mark_of (place pair.0) k) pair.1)
 
--- what a way from position i marks
+-- the marks of a way from position i
 abbrev pub marks_of_way : Tree → Text → (i : ℕ) → (way : List ℕ) → Marks
 marks_of_way tree haystack i way =
     marks_along haystack (place_of_pattern tree) (Some (start_address, i)) way

@@ -9,7 +9,7 @@ use Rattle.regex_lite_engine.specs.Search.Marks.{marks_along}
 use Rattle.regex_lite_engine.specs.Search.Preference.{IsPreferred}
 use Rattle.regex_lite_engine.specs.Search.Answer.{Found}
 
--- the place with a number. Where there is none, it has no arrow
+-- the place with a number; if there is none, a place without arrows
 abbrev pub place_with : List (Place ℕ) → ℕ → Place ℕ
 place_with table q = unwrap_or (slice_get table q) (with_arrows [])
 
@@ -17,14 +17,15 @@ abbrev pub is_complete : {A : Type 0} → Place A → Bool
 is_complete complete = true
 is_complete (with_arrows arrows) = false
 
--- whether matches are wanted that end before this: all are or, with `whole`, those before nothing
+-- whether matches that end before this character are wanted: all are or, if `whole`, only those
+-- before no character
 abbrev pub are_wanted_before : (whole : Bool) → (after : Option ℕ) → Bool
 are_wanted_before false next = true
 are_wanted_before true None = true
 are_wanted_before true (Some c) = false
 
 module _ (table : List (Place ℕ)) (haystack : Text) where
-  -- where arrow k leads from a place and position
+  -- the place and position that arrow k leads to
   abbrev pub numbered_step : ℕ × ℕ → ℕ → Option (ℕ × ℕ)
   numbered_step = step haystack (place_with table)
 
@@ -43,7 +44,7 @@ module _ (table : List (Place ℕ)) (haystack : Text) where
       pub is_way : IsWay (ℕ × ℕ) numbered_step (start, i) way (q, j)
       pub ends : IsTrue (is_wanted_end whole (q, j))
 
-    -- it begins at a position at or after s
+    -- such a way that begins at a position at or after s
     pub record IsWantedMatch (s i : ℕ) (way : List ℕ) (q j : ℕ) : Type 0 where
       pub from : s ≤ i
       pub inside : IsPosition haystack i
@@ -61,7 +62,7 @@ module _ (table : List (Place ℕ)) (haystack : Text) where
       pub marks : found.marks
           ≡ marks_along haystack (place_with table) (Some (start, found.start)) way
 
-  -- the same where all matches are wanted
+  -- the definitions above if all matches are wanted
   module _ (start : ℕ) where
     abbrev pub IsNumberedWay : (i : ℕ) → (way : List ℕ) → (q j : ℕ) → Type 0
     IsNumberedWay = IsWantedWay false start

@@ -11,8 +11,8 @@ use Rattle.regex_lite_engine.specs.Search.NumberedAnswer.{IsWantedMatch, IsWante
 abbrev pub IsEntry : (entries : List ℕ) → (number entry : ℕ) → Type 0
 IsEntry entries number entry = slice_get entries number ≡ Some entry
 
--- There is a start of each pattern at each position from the first to the last. It is given by the
--- position, and then by the pattern's number
+-- There is a start of each pattern at each position from the first to the last; its numbers are the
+-- position and the pattern's number
 abbrev pub StartsOf : (entries : List ℕ) → (first last : ℕ) → (front : List ℕ) → ℕ × ℕ → Type 0
 StartsOf entries first last front n =
     (i : ℕ) × (number : ℕ) × (entry : ℕ) × (first ≤ i) × (i ≤ last)
@@ -26,8 +26,8 @@ module _ (table : List (Place ℕ)) (haystack : Text) (entries : List ℕ) where
       pub is_entry : IsEntry entries number entry
       pub is_match : IsWantedMatch table haystack whole entry s i way q j
 
-    -- the pattern's answer, and all these matches of the patterns start further on, or there and
-    -- have no lower number
+    -- the pattern's answer; all such matches of the patterns start later, or start there and have
+    -- no lower number
     pub record IsWantedFoundOf (s number : ℕ) (found : Found) : Type 0 where
       pub entry : ℕ
       pub is_entry : IsEntry entries number entry
@@ -43,7 +43,7 @@ module _ (table : List (Place ℕ)) (haystack : Text) (entries : List ℕ) where
     IsWantedAnswerTo s last (Some told) =
         (told.1.start ≤ last) × IsWantedFoundOf s told.0 told.1
 
-  -- the same where all matches are wanted
+  -- the definitions above if all matches are wanted
   abbrev pub IsMatchOfAny : (s i number : ℕ) → (way : List ℕ) → (q j : ℕ) → Type 0
   IsMatchOfAny = IsWantedOfAny false
 

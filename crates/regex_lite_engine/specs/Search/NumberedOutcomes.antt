@@ -1,4 +1,4 @@
--- What a search over a table of numbered places returns, by offsets.
+-- What a search over a table of numbered places returns, as offsets.
 use Rattle.std.specs.Prelude.{◌≡◌, ◌≤◌, ℕ, Bool, true, false, List, Option, Some, None}
 use Rattle.regex_lite_syntax.specs.Text.{Text}
 use Rattle.regex_lite_engine.specs.declared.pikevm.beginning.Origin.{Origin}
@@ -21,18 +21,18 @@ abbrev pub best_at : {X : Type 0} → Option (X × ℕ) → Row → Option (X ×
 best_at None row = None
 best_at (Some found) row = Some (found.0, found.1, row)
 
--- the match that is returned
+-- the match that an outcome has
 abbrev pub match_told : Option Outcome → Option (ℕ × ℕ × Row)
 match_told None = None
 match_told (Some outcome) = Some (outcome.start, outcome.end, outcome.slots.items)
 
--- the match of which the start is kept
+-- the match, if the start is kept
 abbrev pub with_start_kept : Option (ℕ × ℕ × Row) → Best
 with_start_kept None = None
 with_start_kept (Some found) =
     Some (record { at = Some found.0; number = None }, found.1, found.2)
 
--- the match that is returned of a pattern among several, with the pattern's number
+-- the match that an outcome of several patterns has, with the pattern's number
 abbrev pub numbered_told : Option (ℕ × Outcome) → Option (ℕ × ℕ × ℕ × Row)
 numbered_told None = None
 numbered_told (Some told) = Some (told.0, told.1.start, told.1.end, told.1.slots.items)
@@ -42,24 +42,24 @@ abbrev pub numbered_at : Option (ℕ × (ℕ × ℕ)) → Row → Option (ℕ ×
 numbered_at None row = None
 numbered_at (Some told) row = Some (told.0, told.1.0, told.1.1, row)
 
--- the match of which the number and the start are kept
+-- the match, if the number and the start are kept
 abbrev pub with_origin_kept : Option (ℕ × ℕ × ℕ × Row) → Best
 with_origin_kept None = None
 with_origin_kept (Some (number, start, end, row)) =
     Some (record { at = Some start; number = Some number }, end, row)
 
--- the match of which this is kept of its start, and which ends there
+-- the match with this origin, this end and this row
 abbrev pub best_kept : Option (Origin × ℕ) → Row → Best
 best_kept None row = None
 best_kept (Some found) row =
     Some (record { at = Some found.0.at; number = Some found.0.number }, found.1, row)
 
--- where it starts and ends
+-- the span of a match
 abbrev pub span_of : Option (Origin × ℕ) → Option (ℕ × ℕ)
 span_of None = None
 span_of (Some found) = Some (found.0.at, found.1)
 
--- the best match has the offsets of the answer, its start if that is kept
+-- the best match has the offsets of the answer, and its start if that is kept
 abbrev pub IsBestOutcome : List (Place ℕ) → Text → (start s : ℕ) → Best → Type 0
 IsBestOutcome table haystack start s None = IsNumberedAnswer table haystack start s None
 IsBestOutcome table haystack start s (Some best) =
@@ -67,7 +67,7 @@ IsBestOutcome table haystack start s (Some best) =
     × IsTold best.0.at (offset haystack found.start) × (best.1 ≡ offset haystack found.end)
     × HasSlots haystack best.2 found.marks
 
--- the same of a search for several patterns
+-- the best match has the offsets of the answer to a search for several patterns
 abbrev pub IsBestOutcomeOf : List (Place ℕ) → Text → (entries : List ℕ) → (s : ℕ) → Best → Type 0
 IsBestOutcomeOf table haystack entries s None = IsNumberedAnswerOf table haystack entries s None
 IsBestOutcomeOf table haystack entries s (Some best) =
@@ -76,7 +76,8 @@ IsBestOutcomeOf table haystack entries s (Some best) =
     × TellsStart best.0 (offset haystack found.start) number × (best.1 ≡ offset haystack found.end)
     × HasSlots haystack best.2 found.marks
 
--- the same of a search for matches that are wanted, and start at position `last` at the latest
+-- the best match has the offsets of the answer to a search for matches that are wanted and start at
+-- position `last` at the latest
 abbrev pub IsWantedOutcomeTo : List (Place ℕ) → Text → (entries : List ℕ) → (whole : Bool)
     → (s last : ℕ) → Best → Type 0
 IsWantedOutcomeTo table haystack entries whole s last None =
@@ -87,7 +88,7 @@ IsWantedOutcomeTo table haystack entries whole s last (Some best) =
     × TellsStart best.0 (offset haystack found.start) number × (best.1 ≡ offset haystack found.end)
     × HasSlots haystack best.2 found.marks
 
--- all of them are wanted
+-- such a best match, if all matches are wanted
 abbrev pub IsBestOutcomeTo : List (Place ℕ) → Text → (entries : List ℕ) → (s last : ℕ) → Best
     → Type 0
 IsBestOutcomeTo table haystack entries = IsWantedOutcomeTo table haystack entries false
@@ -98,23 +99,22 @@ abbrev pub IsNumberedOutcome : List (Place ℕ) → Text → (start s : ℕ) →
 IsNumberedOutcome table haystack start s found =
     IsBestOutcome table haystack start s (with_start_kept found)
 
--- the match has the offset of the answer to a search of several patterns for the shortest match,
--- which is where it ends
+-- the match has the offset of the answer to a search of several patterns for the least end
 abbrev pub IsNumberedEndOf : List (Place ℕ) → Text → (entries : List ℕ) → (s : ℕ) → Best → Type 0
 IsNumberedEndOf table haystack entries s None = IsNumberedAnswerOf table haystack entries s None
 IsNumberedEndOf table haystack entries s (Some best) =
     (end : ℕ) × IsNumberedShortestOf table haystack entries s end
     × (best.1 ≡ offset haystack end)
 
--- what is asked for is the most preferred match or, for the least end, a match that ends there,
--- whatever is said of its start
+-- what is found is the most preferred match or, if `earliest`, a match with the least end, whose
+-- start is meaningless
 abbrev pub IsFoundOf : (earliest : Bool) → List (Place ℕ) → Text → (entries : List ℕ) → (s : ℕ)
     → Best → Type 0
 IsFoundOf false table haystack entries s best = IsBestOutcomeOf table haystack entries s best
 IsFoundOf true table haystack entries s best = IsNumberedEndOf table haystack entries s best
 
--- where a match is found it is known that one that is wanted starts at position `last` at the
--- latest, whatever is said of it
+-- a match is found exactly if one that is wanted starts at position `last` at the latest; its
+-- offsets are meaningless
 abbrev pub IsAnyTo : List (Place ℕ) → Text → (entries : List ℕ) → (whole : Bool) → (s last : ℕ)
     → Best → Type 0
 IsAnyTo table haystack entries whole s last None =
@@ -123,8 +123,7 @@ IsAnyTo table haystack entries whole s last (Some best) =
     (i k : ℕ) × (way : List ℕ) × (q j : ℕ) × (i ≤ last)
     × IsWantedOfAny table haystack entries whole s i k way q j
 
--- what is asked of such a search is the most preferred match or, with `earliest`, whether there is
--- one
+-- what is found is the most preferred such match or, if `earliest`, whether there is one
 abbrev pub IsFoundTo : (earliest : Bool) → List (Place ℕ) → Text → (entries : List ℕ)
     → (whole : Bool) → (s last : ℕ) → Best → Type 0
 IsFoundTo false table haystack entries whole s last best =

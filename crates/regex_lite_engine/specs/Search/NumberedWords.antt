@@ -1,4 +1,4 @@
--- Several patterns that are nothing but their words: what a search for them finds.
+-- Several patterns that are plain words: what a search for them finds.
 use Rattle.std.specs.Prelude.{◌↔◌, ℕ, [], List, Option, IsCharBoundary, IsUtf8, chars, length}
 use Rattle.regex_lite_syntax.specs.Text.{Text}
 use Rattle.regex_lite_syntax.specs.Prefilter.NumberedWords.{HavePatterns, IsNextOfPatterns}
@@ -10,8 +10,7 @@ use Rattle.regex_lite_engine.specs.Search.NumberedOutcomes.{IsBestOutcomeOf, num
 use Rattle.regex_lite_engine.specs.Search.NumberedOutcomes.{with_origin_kept}
 use Rattle.regex_lite_engine.specs.Search.Offsets.{position_at}
 
--- wherever a search for the patterns starts that are entered there, what it finds is the next of
--- the words
+-- from each position a search for the patterns with these entries finds the next of the words
 abbrev pub AreAnsweredBy : List (Place ℕ) → (entries : List ℕ) → NumberedWords → Type 0
 AreAnsweredBy table entries words =
     (bytes : List ℕ) (from : ℕ) (told : Option (ℕ × (ℕ × ℕ))) → IsUtf8 bytes
@@ -25,8 +24,8 @@ HasMatchOfNumber table haystack entries s number =
     (i : ℕ) × (way : List ℕ) × (q : ℕ) × (j : ℕ)
     × IsMatchOfAny table haystack entries s i number way q j
 
--- Each word has a pattern, and wherever a search starts those patterns match of which a word
--- stands. Where one matches, a word stands
+-- Each word has a pattern. A pattern matches from a position on exactly if one of its words occurs
+-- from there on, and wherever a match begins a word occurs
 pub record IsEachAnsweredBy (table : List (Place ℕ)) (entries : List ℕ) (words : NumberedWords)
     : Type 0 where
   pub patterns : HavePatterns words (length entries)

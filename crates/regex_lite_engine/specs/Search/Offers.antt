@@ -1,4 +1,4 @@
--- The ways that a walk over a graph has still to follow.
+-- Offers: the pending ways of a walk over a graph.
 use Rattle.std.specs.Prelude.{◌≡◌, ◌<◌, ◌⊎◌, ℕ, List, [], ◌∷◌}
 use Rattle.regex_lite_engine.specs.Search.Preference.{IsPreferred}
 

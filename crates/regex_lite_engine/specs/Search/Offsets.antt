@@ -1,4 +1,4 @@
--- The positions of a haystack in the definitions, and its offsets as calls take and return them.
+-- Positions in a haystack, which the definitions use, and offsets, which calls take and return.
 use Rattle.std.specs.Prelude.{◌≡◌, ◌+◌, ◌-◌, ℕ, List, Option, length, take}
 use Rattle.std.specs.Prelude.{sum_by, chars, option_map, slice_get, Some}
 use Rattle.std.specs.Char.{len_utf8}
@@ -6,20 +6,20 @@ use Rattle.regex_lite_syntax.specs.Text.{Text}
 use Rattle.regex_lite_syntax.specs.Tree.Matches.{IsPosition}
 use Rattle.regex_lite_engine.specs.Search.Marks.{Marks}
 
--- how many bytes lie before the position
+-- the number of bytes before the position
 abbrev pub offset : Text → ℕ → ℕ
 offset haystack p = sum_by len_utf8 (take p haystack)
 
--- it is the offset of this position
+-- this is the offset of the position
 abbrev pub IsOffset : Text → ℕ → ℕ → Type 0
 IsOffset haystack p at = IsPosition haystack p × (at ≡ offset haystack p)
 
--- the position of an offset: how many characters lie before it
+-- the position of an offset: the number of characters before it
 abbrev pub position_at : (bytes : List ℕ) → ℕ → ℕ
 position_at bytes at = length (chars (take at bytes))
 
--- where a search begins that is asked for from this offset on: at its position, and after all
--- positions where the offset is above the length
+-- the position at which a search from this offset begins: after all positions if the offset is
+-- above the length
 abbrev pub search_start : (bytes : List ℕ) → ℕ → ℕ
 search_start bytes at = position_at bytes at + (at - length bytes)
 

@@ -1,4 +1,4 @@
--- What searches tell of one pattern, of a regex or of a list: its match, and what they did.
+-- What searches return for one pattern, of a regex or of a list: its match, and the cost.
 use Rattle.std.specs.Prelude.{◌≡◌, ◌<◌, ◌∷◌, [], ℕ, Bool, IsTrue, List, Option, Some, None, IfSome}
 use Rattle.std.specs.Prelude.{chars, is_some, length}
 use Rattle.regex_lite_engine.specs.declared.search.outcome.Outcome.{Outcome}
@@ -12,14 +12,14 @@ use Rattle.regex_lite_engine.specs.Search.NumberedOutcomes.{IsNumberedOutcome, w
 use Rattle.regex_lite_engine.specs.Search.Offsets.{position_at}
 use Rattle.regex_lite_engine.specs.Search.Rows.{Row}
 
--- a search from an offset on did no more than is allowed in the table
+-- the cost of a search from an offset on is within the bounds of the table
 abbrev pub IsWithinBounds : List (Place ℕ) → (haystack : List ℕ) → (start : ℕ) → StepCounts
     → Type 0
 IsWithinBounds table haystack start steps =
     IsBounded (length table) (arrows_of table) (chars haystack) (position_at haystack start)
     steps.tried steps.entered steps.looked
 
--- the match that a search is for, with this many slots
+-- what a search returns: the match that it is for, with this many slots, and the cost
 pub record TellsOfSearch (IsSought : Option (ℕ × ℕ × Row) → Type 0) (table : List (Place ℕ))
     (haystack : List ℕ) (start width : ℕ) (told : Option Outcome × StepCounts) : Type 0 where
   pub found : IsSought (match_told told.0)
@@ -27,7 +27,7 @@ pub record TellsOfSearch (IsSought : Option (ℕ × ℕ × Row) → Type 0) (tab
   pub cost : IsWithinBounds table haystack start told.1
   pub entered : IfSome told.0 (λ _. 0 < told.1.entered)
 
--- the match of the pattern that is entered there
+-- the match of the pattern with this entry
 abbrev pub TellsOfOne : (table : List (Place ℕ)) → (entry : ℕ) → (haystack : List ℕ)
     → (start width : ℕ) → Option Outcome × StepCounts → Type 0
 TellsOfOne table entry haystack start =
@@ -35,7 +35,7 @@ TellsOfOne table entry haystack start =
     (IsNumberedOutcome table (chars haystack) entry (position_at haystack start)) table haystack
     start
 
--- its match among those that start at the offset and are wanted
+-- the match of the pattern with this entry among those that start at the offset and are wanted
 abbrev pub TellsOfOneAt : (table : List (Place ℕ)) → (entry : ℕ) → (whole : Bool)
     → (haystack : List ℕ) → (start width : ℕ) → Option Outcome × StepCounts → Type 0
 TellsOfOneAt table entry whole haystack start =
@@ -44,7 +44,7 @@ TellsOfOneAt table entry whole haystack start =
     (position_at haystack start) (position_at haystack start) (with_start_kept told))
     table haystack start
 
--- whether there is one
+-- whether the pattern with this entry has such a match
 pub record TellsAnyOfOneAt (table : List (Place ℕ)) (entry : ℕ) (whole : Bool)
     (haystack : List ℕ) (start : ℕ) (told : Bool × StepCounts) : Type 0 where
   pub best : Best
@@ -54,12 +54,12 @@ pub record TellsAnyOfOneAt (table : List (Place ℕ)) (entry : ℕ) (whole : Boo
   pub cost : IsWithinBounds table haystack start told.1
   pub entered : IsTrue told.0 → 0 < told.1.entered
 
--- a match that ends there, of which nothing else is known
+-- a match with this end, of which nothing else is known
 abbrev pub ending_at : Option ℕ → Best
 ending_at None = None
 ending_at (Some end) = Some (untold, end, [])
 
--- the least end of any match of the pattern that is entered there
+-- the least end of any match of the pattern with this entry
 pub record TellsEndOfOne (table : List (Place ℕ)) (entry : ℕ) (haystack : List ℕ) (start : ℕ)
     (told : Option ℕ × StepCounts) : Type 0 where
   pub found : IsNumberedEndOf table (chars haystack) (entry ∷ []) (position_at haystack start)

@@ -1,4 +1,4 @@
--- What a search returns, by offsets.
+-- What a search returns, as offsets.
 use Rattle.std.specs.Prelude.{◌≡◌, ℕ, Bool, List, [], Option, Some, None, chars}
 use Rattle.regex_lite_syntax.specs.Text.{Text}
 use Rattle.regex_lite_syntax.specs.Tree.{Tree}
@@ -25,25 +25,25 @@ IsSpanOf Answers haystack slots None = Answers None
 IsSpanOf Answers haystack slots (Some span) =
     (found : Found) × Answers (Some found) × TellsFound (chars haystack) found span slots
 
--- the answer is that from an offset on
+-- the span and the slots are those of the answer from an offset on
 abbrev pub IsSpanOutcome : Tree → (haystack : List ℕ) → (start : ℕ) → (slots : List (Option ℕ))
     → Option (ℕ × ℕ) → Type 0
 IsSpanOutcome tree haystack start =
     IsSpanOf (IsAnswer tree (chars haystack) (search_start haystack start)) haystack
 
--- or that of an anchored search at an offset
+-- the span and the slots are those of the answer of an anchored search at an offset
 abbrev pub IsSpanOutcomeAt : (whole : Bool) → Tree → (haystack : List ℕ) → (start : ℕ)
     → (slots : List (Option ℕ)) → Option (ℕ × ℕ) → Type 0
 IsSpanOutcomeAt whole tree haystack start =
     IsSpanOf (IsAnswerAt whole tree (chars haystack) (search_start haystack start)) haystack
 
--- the outcome of a search is the answer's
+-- the outcome of a search is that of its answer
 abbrev pub IsOutcome : Tree → (haystack : List ℕ) → (start : ℕ) → Option Outcome → Type 0
 IsOutcome tree haystack start None = IsSpanOutcome tree haystack start [] None
 IsOutcome tree haystack start (Some outcome) =
     IsSpanOutcome tree haystack start outcome.slots.items (Some (outcome.start, outcome.end))
 
--- the outcome of an anchored search is its answer's
+-- the outcome of an anchored search is that of its answer
 abbrev pub IsOutcomeAt : (whole : Bool) → Tree → (haystack : List ℕ) → (start : ℕ)
     → Option Outcome → Type 0
 IsOutcomeAt whole tree haystack start None = IsSpanOutcomeAt whole tree haystack start [] None
@@ -51,7 +51,7 @@ IsOutcomeAt whole tree haystack start (Some outcome) =
     IsSpanOutcomeAt whole tree haystack start outcome.slots.items
     (Some (outcome.start, outcome.end))
 
--- the outcome of a search for the shortest match is the answer's: the offset where it ends
+-- the outcome of a search for the least end is the offset of its answer
 abbrev pub IsEndOutcome : Tree → (haystack : List ℕ) → (start : ℕ) → Option ℕ → Type 0
 IsEndOutcome tree haystack start None =
     IsShortest tree (chars haystack) (search_start haystack start) None
@@ -59,7 +59,7 @@ IsEndOutcome tree haystack start (Some at) =
     (end : ℕ) × IsShortest tree (chars haystack) (search_start haystack start) (Some end)
     × (at ≡ offset (chars haystack) end)
 
--- a search of the tree's graph did no more than is allowed
+-- the cost of a search of the tree's graph is within the bounds
 abbrev pub HasCost : Tree → (haystack : List ℕ) → (start : ℕ) → StepCounts → Type 0
 HasCost tree haystack start steps =
     IsBounded (whole_places tree) (whole_arrows tree) (chars haystack)
@@ -74,20 +74,20 @@ IsNumberedSpanOf Answers haystack slots (Some told) =
     (found : Found) × Answers (Some (told.0, found))
     × TellsFound (chars haystack) found told.1 slots
 
--- the answer is that from an offset on
+-- the number, the span and the slots are those of the answer from an offset on
 abbrev pub IsSpanOutcomeOfList : List Tree → (haystack : List ℕ) → (start : ℕ)
     → (slots : List (Option ℕ)) → Option (ℕ × (ℕ × ℕ)) → Type 0
 IsSpanOutcomeOfList trees haystack start =
     IsNumberedSpanOf (IsAnswerOfList trees (chars haystack) (search_start haystack start)) haystack
 
--- or that of an anchored search at an offset
+-- the number, the span and the slots are those of the answer of an anchored search at an offset
 abbrev pub IsSpanOutcomeAtOfList : (whole : Bool) → List Tree → (haystack : List ℕ)
     → (start : ℕ) → (slots : List (Option ℕ)) → Option (ℕ × (ℕ × ℕ)) → Type 0
 IsSpanOutcomeAtOfList whole trees haystack start =
     IsNumberedSpanOf (IsAnswerAtOfList whole trees (chars haystack) (search_start haystack start))
     haystack
 
--- the outcome of a search for several patterns is the answer's
+-- the outcome of a search for several patterns is that of its answer
 abbrev pub IsOutcomeOfList : List Tree → (haystack : List ℕ) → (start : ℕ) → Option (ℕ × Outcome)
     → Type 0
 IsOutcomeOfList trees haystack start None = IsSpanOutcomeOfList trees haystack start [] None
@@ -95,7 +95,7 @@ IsOutcomeOfList trees haystack start (Some told) =
     IsSpanOutcomeOfList trees haystack start told.1.slots.items
     (Some (told.0, (told.1.start, told.1.end)))
 
--- the outcome of an anchored search for several patterns is its answer's
+-- the outcome of an anchored search for several patterns is that of its answer
 abbrev pub IsOutcomeAtOfList : (whole : Bool) → List Tree → (haystack : List ℕ) → (start : ℕ)
     → Option (ℕ × Outcome) → Type 0
 IsOutcomeAtOfList whole trees haystack start None =
@@ -104,7 +104,7 @@ IsOutcomeAtOfList whole trees haystack start (Some told) =
     IsSpanOutcomeAtOfList whole trees haystack start told.1.slots.items
     (Some (told.0, (told.1.start, told.1.end)))
 
--- a search of the graph of these trees did no more than is allowed
+-- the cost of a search of the graph of these trees is within the bounds
 abbrev pub HasCostOfList : List Tree → (haystack : List ℕ) → (start : ℕ) → StepCounts → Type 0
 HasCostOfList trees haystack start steps =
     IsBoundedBy (places_of_all trees) (tries_of_all trees) (chars haystack)

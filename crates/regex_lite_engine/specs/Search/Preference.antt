@@ -4,8 +4,8 @@ use Rattle.regex_lite_syntax.specs.Text.{Text}
 use Rattle.regex_lite_syntax.specs.Tree.{Tree}
 use Rattle.regex_lite_engine.specs.Graph.WrittenOut.{IsWayThrough}
 
--- Up to where they first differ, two ways from one position lead to one place and position. There
--- the one that is preferred takes the earlier arrow
+-- Up to where they first differ, two ways from one position lead to the same place and position.
+-- There the preferred way takes the earlier arrow
 abbrev pub IsPreferred : (way other : List ℕ) → Type 0
 IsPreferred [] other = ⊥
 IsPreferred (k ∷ way) [] = ⊥

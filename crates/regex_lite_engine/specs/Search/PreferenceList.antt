@@ -1,6 +1,6 @@
--- The matches of a tree from a position in the order of preference, by cases on the tree: where
--- each ends, and what it marks. For trees in which each pass of a repetition without a limit reads
--- a character.
+-- The matches of a tree from a position in the order of preference, by cases on the tree: the end
+-- and the marks of each. It is defined for trees in which each pass of a repetition without a limit
+-- reads a character.
 use Rattle.std.specs.Prelude.{◌≡◌, ℕ, zero, suc, ◌+◌, ◌-◌, ◌*◌, Bool, false, List, []}
 use Rattle.std.specs.Prelude.{◌∷◌, ◌++◌, map, length, Option, Some, None, if◌then◌else◌}
 use Rattle.regex_lite_syntax.specs.Text.{Text, before, after}
@@ -12,7 +12,7 @@ use Rattle.regex_lite_syntax.specs.Tree.Looks.{holds_between}
 use Rattle.regex_lite_syntax.specs.Tree.Properties.{nullable}
 use Rattle.regex_lite_engine.specs.Search.Marks.{Marks, no_marks, marked, over}
 
--- where a match ends, and what it marks
+-- the end of a match, and its marks
 abbrev pub Entry : Type 0
 Entry = ℕ × Marks
 
@@ -20,12 +20,12 @@ Entry = ℕ × Marks
 abbrev pub after_marks : Marks → Entry → Entry
 after_marks marks entry = (entry.0, over entry.1 marks)
 
--- on from the end of each entry in turn
+-- the entries that continue from the end of each entry, in order
 abbrev pub onward : List Entry → (next : ℕ → List Entry) → List Entry
 onward [] next = []
 onward (entry ∷ list) next = map (after_marks entry.1) (next entry.0) ++ onward list next
 
--- the empty match at position i, and that which marks a slot
+-- the empty match at position i, and the empty match that marks a slot
 abbrev pub stop : ℕ → List Entry
 stop i = (i, no_marks) ∷ []
 
@@ -37,21 +37,21 @@ abbrev pub read : Set → ℕ → (next : Option ℕ) → List Entry
 read set i None = []
 read set i (Some c) = if set c then stop (suc i) else []
 
--- this many passes, and then what follows
+-- this many passes, followed by `next`
 abbrev pub passes : (n : ℕ) → (body next : ℕ → List Entry) → ℕ → List Entry
 passes zero body next i = next i
 passes (suc n) body next i = onward (body i) (passes n body next)
 
--- at most this many passes. A greedy repetition prefers one more pass and what follows it to
--- stopping, a lazy one the other way round
+-- at most this many passes; a greedy repetition prefers another pass to stopping, a lazy one
+-- stopping to another pass
 abbrev pub up_to : (n : ℕ) → (greedy : Bool) → (body : ℕ → List Entry) → ℕ → List Entry
 up_to zero greedy body i = stop i
 up_to (suc n) greedy body i =
     if greedy then onward (body i) (up_to n greedy body) ++ stop i
     else stop i ++ onward (body i) (up_to n greedy body)
 
--- the passes past the least number. Where there is no limit each reads a character, so there are at
--- most as many as characters are left
+-- the passes beyond the least number; if there is no limit, each reads a character, so there are at
+-- most as many as characters left
 abbrev pub further : Text → (least : ℕ) → (most : Option ℕ) → (greedy : Bool)
     → (body : ℕ → List Entry) → ℕ → List Entry
 further haystack least None greedy body i = up_to (length haystack - i) greedy body i

@@ -1,10 +1,10 @@
--- Where a match can begin whose first two characters are known.
+-- Where a match with two known first characters can begin.
 use Rattle.std.specs.Prelude.{ℕ, true, false, Some, map, nat_eq}
 use Rattle.std.specs.List.{range_with_len}
 use Rattle.regex_lite_syntax.specs.declared.prefilter.heads.Heads.{Heads}
 use Rattle.regex_lite_syntax.specs.declared.prefilter.starts.Starts.{Starts}
 
--- a match can begin with the ASCII character of this code alone
+-- a match can begin only with the ASCII character of this code
 abbrev pub just_starts : (code : ℕ) → Starts
 just_starts code = record {
   any = true;

@@ -1,4 +1,4 @@
--- What the word of a slot stands for.
+-- The word of a slot, and the offset that it stands for.
 use Rattle.std.specs.Prelude.{◌≡◌, ℕ, zero, suc, refl, Option, Some, None}
 
 -- none, or the offset below it

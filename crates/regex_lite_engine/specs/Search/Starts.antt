@@ -1,4 +1,4 @@
--- Where a match can begin in a graph, and the positions that a search passes over.
+-- Where a match can begin in a graph, and the positions that a search skips.
 use Rattle.std.specs.Prelude.{◌≡◌, ◌≤◌, ◌<◌, ◌^◌, ◌⊎◌, ℕ, suc, Bool, false, true, not, All}
 use Rattle.std.specs.Prelude.{List, [], ◌∷◌, length, map, slice_get, slice_index, slice_index_or}
 use Rattle.std.specs.Prelude.{IfSome, IsCharBoundary, IsTrue, IsUtf8, Option, Some, chars}
@@ -26,44 +26,45 @@ use Rattle.regex_lite_engine.specs.Search.OutcomeOfOne.{ending_at}
 use Rattle.regex_lite_engine.specs.Search.Standing.{IsHere}
 
 module _ (table : List (Place ℕ)) where
-  -- no match of the pattern that is entered at place s can start at the position
+  -- no match of the pattern with entry s can start at the position
   abbrev pub IsDeadAt : Text → (s p : ℕ) → Type 0
   IsDeadAt haystack s p =
       IsDead (ℕ × ℕ) (numbered_step table haystack) (is_end table haystack) (s, p)
 
-  -- none of any pattern can
+  -- no match of any pattern can start at the position
   abbrev pub AreDeadAt : Text → (entries : List ℕ) → (p : ℕ) → Type 0
   AreDeadAt haystack entries p =
       (number entry : ℕ) → IsEntry entries number entry → IsDeadAt haystack entry p
 
--- a pattern that is entered there is one of these
+-- the pattern with this number and entry is one of these starts
 abbrev pub IsAmong : (number entry : ℕ) → List Start → Type 0
 IsAmong number entry [] = ⊥
 IsAmong number entry (start ∷ starts) =
     ((number ≡ start.number) × (entry ≡ start.place)) ⊎ IsAmong number entry starts
 
--- patterns are entered there, in the order of their numbers, from this one on
+-- the starts are those of patterns with these entries, in the order of their numbers, from this
+-- number on
 abbrev pub AreFrom : (entries : List ℕ) → (from : ℕ) → List Start → Type 0
 AreFrom entries from [] = Unit {0}
 AreFrom entries from (start ∷ starts) =
     (from ≤ start.number) × IsEntry entries start.number start.place
     × AreFrom entries (suc start.number) starts
 
--- at position p no match can start but by these
+-- at position p a match can start only by these starts
 pub record AreStartsAt (table : List (Place ℕ)) (haystack : Text) (entries : List ℕ) (p : ℕ)
     (starts : List Start) : Type 0 where
   pub in_order : AreFrom entries 0 starts
   pub each : (number entry : ℕ) → IsEntry entries number entry
       → IsAmong number entry starts ⊎ IsDeadAt table haystack entry p
 
--- up to the last position at which a match may start these are the starts, and there are none after
--- it
+-- up to the last position at which a match may start these are the starts, and after it there are
+-- none
 pub record AreStartsUpTo (table : List (Place ℕ)) (haystack : Text) (entries : List ℕ)
     (last p : ℕ) (starts : List Start) : Type 0 where
   pub up_to : p ≤ last → AreStartsAt table haystack entries p starts
   pub none_after : last < p → starts ≡ []
 
--- each pattern is one of these, in order
+-- each pattern has one of these starts, in order
 pub record AreAllStarts (table : List (Place ℕ)) (entries : List ℕ) (starts : List Start) : Type 0
   where
     pub in_order : AreFrom entries 0 starts
@@ -72,14 +73,15 @@ pub record AreAllStarts (table : List (Place ℕ)) (entries : List ℕ) (starts 
     pub few : length starts ≤ length entries
     pub countable : length starts < 2 ^ 32
 
--- wherever a search starts, what it finds is the next of the words
+-- from each position a search finds the next of the words
 abbrev pub IsAnsweredBy : List (Place ℕ) → (start : ℕ) → (words : List (List Letter)) → Type 0
 IsAnsweredBy table start words =
     (bytes : List ℕ) (from : ℕ) (span : Option (ℕ × ℕ)) → IsUtf8 bytes → IsCharBoundary bytes from
     → IsNextSpan words bytes from span
     → IsNumberedOutcome table (chars bytes) start (position_at bytes from) (best_at span [])
 
--- and what it finds for the least end is where the next word ends, if there is one word alone
+-- from each position a search for the least end finds the end of the next word, if there is a
+-- single word
 abbrev pub IsEndedBy : List (Place ℕ) → (start : ℕ) → (words : List (List Letter)) → Type 0
 IsEndedBy table start words =
     length words ≡ 1 → (bytes : List ℕ) (from : ℕ) (span : Option (ℕ × ℕ)) → IsUtf8 bytes
@@ -93,17 +95,17 @@ pub record AnswerSearches (table : List (Place ℕ)) (start : ℕ) (words : List
   pub found : IsAnsweredBy table start words
   pub ends : IsEndedBy table start words
 
--- if the pattern is nothing but its words, they answer searches
+-- if the pattern is plain words, they answer searches
 abbrev pub DoWordsAnswer : List (Place ℕ) → (start : ℕ) → StartFacts → Type 0
 DoWordsAnswer table start facts =
     IsTrue facts.are_all → IfSome facts.words (AnswerSearches table start)
 
--- no way from the start leads to a complete match where none can begin
+-- no way from the start leads to a complete match if none can begin there
 abbrev pub AreFactsOf : List (Place ℕ) → (start : ℕ) → StartFacts → Type 0
 AreFactsOf table start facts =
     (haystack : Text) (i : ℕ) → NeverStarts facts haystack i → IsDeadAt table haystack start i
 
--- this is known of each of several patterns
+-- the filters of several patterns are right for each of them
 pub record AreFiltersOf (table : List (Place ℕ)) (entries : List ℕ) (filters : List StartFacts)
     : Type 0 where
   pub all : length filters ≡ length entries
@@ -117,36 +119,37 @@ abbrev pub NoneBeginsAtEnd : List (Place ℕ) → (start : ℕ) → Type 0
 NoneBeginsAtEnd table start =
     (haystack : Text) → IsDeadAt table haystack start (length haystack)
 
--- no match of the pattern that is entered at place s can start at the position or later
+-- no match of the pattern with entry s can start at the position or later
 abbrev pub AreDeadFrom : List (Place ℕ) → Text → (s p : ℕ) → Type 0
 AreDeadFrom table haystack s p =
     (i : ℕ) → p ≤ i → i ≤ length haystack → IsDeadAt table haystack s i
 
--- `here` is at position p or a later one, and each position between is one of these
+-- `here` is at position p or later, and each position between has this property
 pub record PassesTo (Passed : ℕ → Type 0) (haystack : Text) (p : ℕ) (here : Here) : Type 0 where
   pub q : ℕ
   pub later : p ≤ q
   pub is : IsHere haystack q here
   pub passed : (i : ℕ) → p ≤ i → i < q → Passed i
 
--- where a search that goes on at this offset stands, it has only passed such positions
+-- a search that continues at this offset has skipped only such positions
 abbrev pub SkipsTo : (Passed : ℕ → Type 0) → (haystack : List ℕ) → (p at : ℕ) → Type 0
 SkipsTo Passed haystack p at =
     (here : Here) → here.at ≡ at → IsHere (chars haystack) (position_at haystack at) here
     → PassesTo Passed (chars haystack) p here
 
--- where the index of several patterns says so, no way from an entry leads to a complete match
+-- if the index of several patterns excludes a pattern, no way from its entry leads to a complete
+-- match
 pub record AreListHeadsOf (table : List (Place ℕ)) (entries : List ℕ) (heads : ListHeads)
     : Type 0 where
   pub count : heads.count ≡ length entries
   pub walkable : IsWalkable heads
-  -- of no pattern where none of all can begin
+  -- none of any pattern, if no pattern can begin
   pub any : (haystack : Text) (p : ℕ) → (MayBegin heads.any haystack p → ⊥)
       → AreDeadAt table haystack entries p
-  -- of none that may not start there
+  -- none of a pattern that may not start there
   pub each : (haystack : Text) (p number entry : ℕ) → IsEntry entries number entry
       → may_start_at heads haystack p number ≡ false → IsDeadAt table haystack entry p
-  -- nor of one that may not go on with the third character
+  -- none of a pattern that may not continue with the third character
   pub third : (haystack : Text) (p number entry : ℕ) → IsEntry entries number entry
       → may_go_on heads.thirds (after haystack (suc (suc p))) number ≡ false
       → IsDeadAt table haystack entry p
@@ -159,20 +162,20 @@ start_numbered entries number = record { number = number; place = slice_index en
 abbrev pub may_be_empty : List Tree → (number : ℕ) → Bool
 may_be_empty trees number = slice_index_or (map nullable trees) number false
 
--- at the haystack's end no match can start but of the patterns with these numbers
+-- at the haystack's end only matches of the patterns with these numbers can start
 pub record AreAllAtEnd (table : List (Place ℕ)) (entries numbers : List ℕ) : Type 0 where
   pub starts : (haystack : Text)
       → AreStartsAt table haystack entries (length haystack) (map (start_numbered entries) numbers)
   pub inside : All (λ number. number < length entries) numbers
   pub few : length numbers ≤ length entries
 
--- it is told of each tree whether all its matches read a character
+-- `reads` says for each tree whether all its matches read a character
 pub record TellReading (trees : List Tree) (reads : List Bool) : Type 0 where
   pub all : length reads ≡ length trees
   pub each : (number : ℕ) (tree : Tree) (told : Bool) → slice_get trees number ≡ Some tree
       → slice_get reads number ≡ Some told → told ≡ not (nullable tree)
 
--- of the patterns of which this is so none matches from the haystack's end
+-- patterns all of whose matches read a character don't match from the haystack's end
 pub record AreReading (table : List (Place ℕ)) (entries : List ℕ) (reads : List Bool) : Type 0 where
   pub all : length reads ≡ length entries
   pub each : (number entry : ℕ) → IsEntry entries number entry

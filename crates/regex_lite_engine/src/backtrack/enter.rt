@@ -1,4 +1,4 @@
-//! Entering a place: where the way goes on, and what is deferred.
+//! Entering a place: how the path continues, and what is pushed onto the stack.
 ghost use Rattle.std.specs.Prelude.{◌≡◌, ◌+◌, ◌-◌, ◌≤◌, ◌++◌, false};
 ghost use Rattle.std.specs.Prelude.{IsCharBoundary, chars, length, map};
 ghost use Rattle.regex_lite_syntax.specs.Ranges.{in_ranges};
@@ -18,18 +18,18 @@ use crate::nfa::place::Place;
 use crate::search::here::{Here, next_char};
 use regex_lite_syntax::Look;
 
-/// How a way goes on from a place.
+/// How the path continues from a place.
 #[derive(Clone, Copy)]
 pub enum Continuation {
     /// To this place at this offset.
     To { place: u32, at: usize },
-    /// To what is left on the stack.
+    /// It backtracks to what is left on the stack.
     Back,
-    /// Not at all: a match is complete.
+    /// It doesn't: a match is complete.
     Complete,
 }
 
-/// Follows the first arrow of the place if it fits at this offset, and defers the others.
+/// Follows the first arrow of the place if it matches at this offset, and pushes the others.
 #[inline(always)]
 pub fn enter(place: &Place, haystack: &str, at: usize, stack: &mut Stack) -> Continuation
     requires boundary { IsCharBoundary haystack.now at }
@@ -65,7 +65,7 @@ pub fn enter(place: &Place, haystack: &str, at: usize, stack: &mut Stack) -> Con
 }
 
 /// Whether the look holds at this offset.
-// Not inlined, since what an inlined one needs is cleared at each place.
+// Not inlined: when inlined, its stack frame is cleared at each place.
 #[inline(never)]
 fn holds_at(look: Look, haystack: &str, at: usize) -> bool
     requires { IsCharBoundary haystack.now at }
@@ -77,7 +77,7 @@ fn holds_at(look: Look, haystack: &str, at: usize) -> bool
     look.holds(here.before, here.after)
 }
 
-/// Goes on after the next character if it is this one.
+/// Reads the next character if it is this one.
 #[inline(always)]
 fn read_char(c: char, to: u32, haystack: &str, at: usize) -> Continuation
     requires { IsCharBoundary haystack.now at }
@@ -93,7 +93,7 @@ fn read_char(c: char, to: u32, haystack: &str, at: usize) -> Continuation
     }
 }
 
-/// Goes on after the next character if it is in the set.
+/// Reads the next character if it is in the set.
 #[inline(always)]
 fn read_class(set: &MappedClass, to: u32, haystack: &str, at: usize) -> Continuation
     requires { IsCharBoundary haystack.now at }
@@ -109,7 +109,7 @@ fn read_class(set: &MappedClass, to: u32, haystack: &str, at: usize) -> Continua
     }
 }
 
-/// Goes on at the first of these places, and defers the others.
+/// Continues at the first of these places, and pushes the others.
 #[inline(always)]
 fn branch(entries: &[u32], at: usize, stack: &mut Stack) -> Continuation
     requires { length stack.old.frames + (length entries.now - 1) ≤ stack.old.room }

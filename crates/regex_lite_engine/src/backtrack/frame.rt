@@ -1,16 +1,16 @@
-//! What is left to do once the current way leads no further.
+//! The frames of the stack: what is left to do when the current path fails.
 use std::mem::size_of;
 
-/// One thing that is left to do.
+/// A frame of the stack.
 #[derive(Clone, Copy)]
 pub enum Frame {
-    /// To explore a place at this offset.
+    /// Explore a place at this offset.
     Explore { place: u32, at: usize },
-    /// To clear a slot again, since the branch that marked it is abandoned.
+    /// Clear a slot again, since the branch that marked it has failed.
     Clear { slot: u32 },
-    /// To set a slot to this offset again.
+    /// Set a slot to this offset again.
     Restore { slot: u32, at: usize },
 }
 
-// There may be one for each place at each position.
+// There may be a frame for each place at each position.
 const _: () = prove!(size_of::<Frame>() == 16);

@@ -1,4 +1,4 @@
-//! A whole search, start by start.
+//! A whole search, from start to start.
 ghost use Rattle.std.specs.Prelude.{◌≡◌, ◌<◌, IfSome, chars, length, true};
 ghost use Rattle.regex_lite_engine.specs.Backtrack.Searching.{IsFresh};
 ghost use Rattle.regex_lite_engine.specs.Graph.Renumbered.{arrows_of};
@@ -13,9 +13,8 @@ use crate::backtrack::walk::Backtracker;
 use crate::search::here::Here;
 use crate::search::one_pattern::OnePattern;
 
-/// Goes from start to start, up to the first from which a way leads to a match. Returns where the
-/// match starts and where it ends; its slots are those of the walk. With COUNTED it counts its
-/// steps.
+/// Tries each start in turn, up to the first from which there is a match. Returns the match's span;
+/// its slots are those of the walk. If COUNTED, the steps are counted.
 pub fn run<const COUNTED: bool>(
     walk: &mut Backtracker,
     pattern: &OnePattern<'_>,

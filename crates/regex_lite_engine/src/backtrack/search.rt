@@ -1,4 +1,4 @@
-//! A depth-first search, from its working memory to its outcome.
+//! A search with the bounded backtracker, from its working memory to its outcome.
 ghost use Rattle.std.specs.Prelude.{◌≡◌, ◌<◌, IfOk, IfSome, IsCharBoundary, length};
 ghost use Rattle.regex_lite_engine.specs.Backtrack.Searching.{IsFresh};
 ghost use Rattle.regex_lite_engine.specs.Graph.Stored.{places_of};
@@ -18,13 +18,13 @@ use std::alloc::{AllocError, Global};
 
 impl<'g> OnePattern<'g> {
     /// The most preferred match from the least start at or after this offset, with this number of
-    /// slots, and what the search did. It goes depth first.
+    /// slots, and the cost of the search. It uses the bounded backtracker.
     ///
     /// Condition: the start is on a character boundary.
     ///
     /// # Errors
     ///
-    /// If memory runs out, which can happen only before the first step.
+    /// If memory runs out, which can happen only before the search begins.
     pub fn search_depth_first(
         &self,
         alloc: Global,
@@ -46,8 +46,8 @@ impl<'g> OnePattern<'g> {
     }
 }
 
-/// All the memory of a search in this table, from this offset, that keeps this number of slots,
-/// asked for before its first step.
+/// All memory of a search in this table, from this offset, that keeps this number of slots. It is
+/// allocated before the search begins.
 fn walk_for(
     table: &Table,
     alloc: Global,
@@ -73,7 +73,7 @@ fn walk_for(
     })
 }
 
-/// The match from and to these offsets, with the slots of the way that led there.
+/// The match with these offsets, with the slots of the path that led there.
 fn outcome_of(found: Option<(usize, usize)>, stack: Stack) -> Option<Outcome>
     ensures told { match_told result ≡ best_at found stack.row }
     ensures slots { IfSome result

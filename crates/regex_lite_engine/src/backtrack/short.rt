@@ -1,4 +1,4 @@
-//! Depth-first searches of short haystacks, all in the same memory.
+//! A bounded backtracker for short haystacks, which reuses its memory.
 ghost use Rattle.std.specs.Prelude.{◌≡◌, ◌+◌, ◌-◌, ◌*◌, ◌<◌, ◌↔◌, None, Some, IfOk, IfSome, IsTrue};
 ghost use Rattle.std.specs.Prelude.{IsCharBoundary, chars, length, max};
 ghost use Rattle.regex_lite_engine.specs.Backtrack.Searching.{IsFresh};
@@ -18,18 +18,19 @@ use crate::search::one_pattern::OnePattern;
 use crate::steps::no_steps;
 use std::alloc::{AllocError, Global};
 
-/// Searches depth first in short haystacks, one after another, in the same memory.
+/// A bounded backtracker for many short haystacks.
 #[derive(Drop)]
 pub struct ShortSearcher {
     walk: Backtracker,
-    /// A search goes over at most this number of offsets, including the end's.
+    /// The greatest number of offsets of a search, including the end.
     offsets: usize,
 }
 
 impl ShortSearcher {
-    /// One for this table, whose matches have this number of slots. A haystack is short if a search
-    /// of it has at most this number of pairs of a place and an offset. All memory for them is
-    /// asked for here. None if the table has so many places that no haystack of a byte is short.
+    /// A searcher of this table, for matches with this number of slots. A haystack is short if a
+    /// search of it has at most `pairs` pairs of a place and an offset. All memory for them is
+    /// allocated here. `None` if the table has so many places that not even a haystack of one byte
+    /// is short.
     ///
     /// # Errors
     ///
@@ -70,8 +71,8 @@ impl ShortSearcher {
         bytes < self.offsets
     }
 
-    /// Returns the start and the end of the match that a search by itself finds from this offset
-    /// on. Its slots are in the row.
+    /// Returns the span of the match that a one-off search finds from this offset on. Its slots are
+    /// in the row.
     ///
     /// Condition: the offset is on a character boundary, the haystack is short enough from there,
     /// and the searcher is one for the table of this pattern.
@@ -95,7 +96,7 @@ impl ShortSearcher {
         run::<false>(&mut self.walk, pattern, haystack, Here::at(haystack, start))
     }
 
-    /// Makes the memory ready for a search from this offset.
+    /// Resets the memory for a search from this offset.
     fn restart(&mut self, table: &Table, haystack: &str, start: usize)
         requires some { 0 < length (places_of table.now) }
         requires boundary { IsCharBoundary haystack.now start }
@@ -113,7 +114,7 @@ impl ShortSearcher {
         self.walk.steps = no_steps();
     }
 
-    /// What the slots hold after a match was found.
+    /// The slots of the match that was found last.
     pub fn row(&self) -> &[Option<usize>]
         ensures { result.now ≡ self.now.walk.stack.row }
     {

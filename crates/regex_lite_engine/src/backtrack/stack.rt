@@ -1,4 +1,4 @@
-//! The way that a search follows, and what it has deferred.
+//! The current path of a search, and its stack.
 ghost use Rattle.std.specs.Prelude.{◌≡◌, ◌+◌, ◌-◌, ◌≤◌, ◌<◌, ◌++◌, ◌⊎◌, [], ◌∷◌};
 ghost use Rattle.std.specs.Prelude.{Some, None, IfOk, MatchOption, length, map};
 ghost use Rattle.std.specs.Prelude.{drop, replicate, slice_set, slice_index_or};
@@ -8,8 +8,8 @@ use crate::backtrack::frame::Frame;
 use std::alloc::{AllocError, Global};
 use std::marker::Model;
 
-/// What the slots hold along the way, and the frames, the next one last. There is room for all that
-/// a search may put there.
+/// The slots of the current path, and the frames, the top one last. There is capacity for all
+/// frames that a search may push.
 #[derive(Drop)]
 pub struct Stack {
     frames: Vec<Frame>,
@@ -30,7 +30,7 @@ impl Model for Stack {
 }
 
 impl Stack {
-    /// No frames, and none of the slots is marked.
+    /// An empty stack, with no slot marked.
     pub fn blank(alloc: Global, room: usize, slots: usize) -> Result<Stack, AllocError>
         ensures frames { IfOk result (λ stack. stack.frames ≡ []) }
         ensures row { IfOk result (λ stack. stack.row ≡ replicate slots None) }
@@ -65,7 +65,7 @@ impl Stack {
         }
     }
 
-    /// Sets a slot to this offset, if it is kept, and pushes a frame that restores what it held.
+    /// Sets a slot to this offset, if it is kept, and pushes a frame that restores its content.
     pub fn mark(&mut self, slot: u32, at: usize)
         requires { slot < length self.old.row → length self.old.frames < self.old.room }
         ensures kept { slot < length self.old.row → self.new ≡ record self.old {
@@ -115,14 +115,14 @@ impl Stack {
         self.row.fill(None);
     }
 
-    /// What the slots hold.
+    /// The contents of the slots.
     pub fn row(&self) -> &[Option<usize>]
         ensures { result.now ≡ self.now.row }
     {
         &self.row
     }
 
-    /// The row by itself.
+    /// The contents of the slots, without the stack.
     pub fn into_row(self) -> Vec<Option<usize>>
         ensures { result.items ≡ self.row }
     {

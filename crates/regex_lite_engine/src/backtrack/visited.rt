@@ -11,32 +11,33 @@ use crate::bits;
 use std::alloc::{AllocError, Global};
 use std::marker::Model;
 
-/// Up to this number of words are held in the value itself, without an allocation.
+/// Up to this number of words are stored inline, without an allocation.
 const FEW: usize = 32;
 
-/// How many words are added when a search goes past the last one.
+/// The number of words that are added when a search goes past the last one.
 const BLOCK: usize = 16;
 
-/// What is kept of the pairs.
+/// The representation of the set.
 #[derive(Drop)]
 enum PairMap {
-    /// A bit for each, in words of 64.
+    /// A bit for each pair, in words of 64.
     Few([u64; FEW]),
-    /// The same, in as many words as a search has reached. There is capacity for all; those after
-    /// the last count as 0.
+    /// A bit for each pair, in as many words as a search has reached. There is capacity for all;
+    /// those after the last count as 0.
     Many(Vec<u64>),
-    /// A byte for each: the generation in which it was entered last. A search is a generation, so
-    /// that next to nothing is cleared between two.
+    /// A byte for each pair: the generation in which it was entered last. Each search is a
+    /// generation, so that hardly anything is cleared between searches.
     Stamps { stamps: Vec<u8>, generation: u8 },
 }
 
-/// Which pairs were entered. It is never cleared: entering a pair again cannot help a search.
+/// The set of pairs that were entered. No pair is removed during a search: entering it again can't
+/// lead to a match.
 #[derive(Drop)]
 pub struct Visited {
     map: PairMap,
     /// The number of pairs.
     count: usize,
-    /// There is memory for this number of pairs.
+    /// The number of pairs for which there is memory.
     room: usize,
     places: usize,
     /// The offset of the first pairs.
@@ -60,8 +61,7 @@ impl PairMap {
         Ok(PairMap::Many(words))
     }
 
-    /// Makes it ready for another search of this number of pairs, none of which is entered. The
-    /// memory is kept.
+    /// Empties the set for another search with this number of pairs. The memory is kept.
     fn restart(&mut self, count: usize)
         requires room { count ≤ room_of self.old }
         requires none_later { NoneLater self.old }
@@ -102,7 +102,7 @@ impl Model for Visited {
 }
 
 impl Visited {
-    /// No pair entered yet, for one search, of this number of places and the offsets from `first`
+    /// An empty set for one search, of pairs of this number of places and the offsets from `first`
     /// to `last`.
     pub fn none(
         alloc: Global,
@@ -127,7 +127,7 @@ impl Visited {
         })
     }
 
-    /// Memory for search after search of at most this number of pairs. None is there yet.
+    /// Memory for many searches with at most this number of pairs each. The set has no pairs yet.
     pub fn with_room(alloc: Global, pairs: usize) -> Result<Visited, AllocError>
         ensures { IfOk result (λ visited. visited.room ≡ pairs) }
     {
@@ -143,8 +143,8 @@ impl Visited {
         })
     }
 
-    /// Goes on with the pairs of this number of places and the offsets from `first` to `last`, none
-    /// of which is entered yet. The memory is kept.
+    /// Empties the set, for pairs of this number of places and the offsets from `first` to `last`.
+    /// The memory is kept.
     ///
     /// Condition: there is memory for them.
     pub fn restart(&mut self, places: usize, first: usize, last: usize)
@@ -194,7 +194,7 @@ fn set_bit(words: &mut [u64], k: usize) -> bool
     bits::set_bit(&mut words[k / 64], k % 64)
 }
 
-/// Like `set_bit`, for words that may end before bit `k`: the missing ones count as 0.
+/// Like `set_bit`, for words that may end before bit `k`: missing words count as 0.
 fn set_bit_beyond(words: &mut Vec<u64>, k: usize) -> bool
     requires { k < 64 * vec_capacity words.old }
     ensures fresh { (count : ℕ) → k < count
@@ -210,7 +210,7 @@ fn set_bit_beyond(words: &mut Vec<u64>, k: usize) -> bool
     set_bit(words, k)
 }
 
-/// Extends the items with blank ones up to this number, if they are fewer. There is capacity for
+/// Extends the items with blank ones to this number, if there are fewer. There is capacity for
 /// them.
 fn fill_to<T: Copy>(items: &mut Vec<T>, end: usize, blank: T)
     requires { end ≤ vec_capacity items.old }
@@ -223,7 +223,7 @@ fn fill_to<T: Copy>(items: &mut Vec<T>, end: usize, blank: T)
     }
 }
 
-/// Sets the stamp of a pair to the generation, and returns whether it was another.
+/// Sets the stamp of a pair to the generation, and returns whether it was different.
 #[inline(always)]
 fn stamp(stamps: &mut Vec<u8>, pair: usize, generation: u8) -> bool
     requires { pair < length stamps.old.items }
@@ -236,7 +236,7 @@ fn stamp(stamps: &mut Vec<u8>, pair: usize, generation: u8) -> bool
     fresh
 }
 
-/// Begins a generation that no pair has been entered in.
+/// Begins a generation in which no pair has been entered.
 fn begin_generation(stamps: &mut Vec<u8>, generation: &mut u8)
     requires { (k : ℕ) → slice_index_or stamps.old.items k 0 ≤ generation.old }
     ensures later { (k : ℕ) → slice_index_or stamps.new.items k 0 < generation.new }

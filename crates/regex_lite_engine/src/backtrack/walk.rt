@@ -1,5 +1,5 @@
-//! The walk from one start: it follows a way to its end, then resumes the most recently deferred
-//! one.
+//! The walk from one start: it follows a path to its end, then backtracks to the top frame of the
+//! stack.
 ghost use Rattle.std.specs.Prelude.{◌≡◌, ◌<◌, ◌+◌, [], ◌∷◌, IfSome, length, true, false};
 ghost use Rattle.regex_lite_engine.specs.Backtrack.Machine.{completes, end_at, explore, onto};
 ghost use Rattle.regex_lite_engine.specs.Backtrack.Room.{HasRoom, TakesFrame};
@@ -13,7 +13,7 @@ use crate::backtrack::visited::Visited;
 use crate::nfa::table::Table;
 use crate::steps::Steps;
 
-/// What a search works in, and what it has counted.
+/// The working memory of a search, and its counts.
 #[derive(Drop)]
 pub struct Backtracker {
     pub visited: Visited,
@@ -24,8 +24,8 @@ pub struct Backtracker {
 impl Backtracker {
     ghost use Rattle.regex_lite_engine.specs.Backtrack.Searching.{Explores, SlotsBelow, Unwinds};
 
-    /// Follows the ways from the start at this offset, the most preferred first. Returns where the
-    /// first of them that is a match ends. With COUNTED it counts its steps.
+    /// Follows the paths from the start at this offset, the most preferred first. Returns the end
+    /// of the first that is a match. If COUNTED, the steps are counted.
     #[inline(always)]
     pub fn explore<const COUNTED: bool>(
         &mut self,
@@ -55,7 +55,7 @@ impl Backtracker {
         }
     }
 
-    /// Visits a place, and enters it if it is new at this offset. With COUNTED this is counted.
+    /// Visits a place, and enters it if it is new at this offset. If COUNTED, this is counted.
     #[inline(always)]
     fn come_to<const COUNTED: bool>(
         &mut self,
@@ -83,7 +83,7 @@ impl Backtracker {
         enter(found, haystack, at, &mut self.stack)
     }
 
-    /// Abandons the current way, and takes up the most recently deferred one.
+    /// Abandons the current path, and backtracks to the top frame of the stack.
     #[inline(always)]
     fn go_back(&mut self) -> Option<(u32, usize)>
         requires { SlotsBelow (length self.old.stack.row) self.old.stack.frames }

@@ -1,10 +1,10 @@
-//! What a repetition is written out as: copies of its body, and further places.
+//! How a repetition is compiled: copies of its body, and further places.
 ghost use Rattle.std.specs.Prelude.{◌≡◌, ◌+◌, ◌*◌, ◌^◌, ◌<◌};
 ghost use Rattle.regex_lite_engine.specs.Graph.PlaceCounts.{copies, own_places, own_arrows};
 ghost use Rattle.regex_lite_engine.specs.Graph.PlaceCounts.{own_choice_arrows};
 ghost use Rattle.regex_lite_engine.specs.Graph.PlaceCounts.{bounded_places, bounded_arrows};
 
-/// How many copies of its body a repetition has.
+/// The number of copies of its body that a repetition has.
 pub(crate) fn copies(least: u32, most: Option<u32>) -> u64
     ensures { result ≡ copies least most }
 {
@@ -23,7 +23,7 @@ pub(crate) struct OwnPlaces {
 }
 
 impl OwnPlaces {
-    /// Those of a repetition with these bounds.
+    /// The own places of a repetition with these bounds.
     pub(crate) fn of(least: u32, most: Option<u32>, nullable_body: bool) -> OwnPlaces
         ensures places { result.choices + result.others ≡ own_places least most nullable_body }
         ensures arrows { 2 * result.choices + result.others ≡ own_arrows least most nullable_body }

@@ -1,4 +1,4 @@
-//! Whether a tree exceeds the limits on what is written out.
+//! Whether a tree exceeds the limits on its NFA.
 ghost use Rattle.std.specs.Prelude.{◌≡◌, ◌+◌, ◌*◌, ◌^◌, ◌<◌, ◌≤◌, ◌↔◌, ℕ, IfOk, IfErr};
 ghost use Rattle.regex_lite_syntax.specs.Errors.{kind_of, passed_limit};
 ghost use Rattle.regex_lite_syntax.specs.Tree.{Tree};
@@ -9,23 +9,23 @@ ghost use Rattle.regex_lite_engine.specs.Nfa.Saturation.{AreCountsOf};
 use crate::count::Counts;
 use regex_lite_syntax::LimitFault;
 
-/// What each place adds to the size of a pattern.
+/// The size of a place.
 const PLACE_SIZE: u128 = 32;
 
-/// What each group adds to it, including the whole match.
+/// The size of a group; the whole match counts as one.
 const GROUP_SIZE: u128 = 16;
 
-/// What each arrow of a choice adds to it.
+/// The size of an arrow of a choice.
 const ARROW_SIZE: u128 = 4;
 
-/// What each range of a set adds to it.
+/// The size of a range of a set.
 const RANGE_SIZE: u128 = 8;
 
 /// The least index of a group whose slots cannot be numbered.
 const FIRST_PAST_SLOTS: u32 = 0x8000_0000;
 
 impl Counts {
-    /// How many places the whole pattern has, if it exceeds none of the limits.
+    /// The number of places of the whole pattern, if it exceeds none of the limits.
     pub(crate) fn within(&self, size_limit: usize) -> Result<u32, LimitFault>
         ensures ok { (tree : Tree) → AreCountsOf tree self.now
             → IfOk result (λ places. (places ≡ whole_places tree) × Fits size_limit tree) }
@@ -44,8 +44,8 @@ impl Counts {
         }
     }
 
-    /// The size of the whole pattern. If a count is saturated, the result may differ from that
-    /// size, but both are above every limit.
+    /// The size of the whole pattern. If a count is saturated, the result may be wrong, but the
+    /// result and the size are both above every limit.
     fn size(&self) -> u128
         ensures { (tree : Tree) (limit : ℕ) → AreCountsOf tree self.now → limit < 2 ^ 64
             → (result ≤ limit) ↔ (size tree ≤ limit) }

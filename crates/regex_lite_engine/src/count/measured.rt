@@ -1,4 +1,4 @@
-//! A tree with what it takes when it is written out.
+//! A tree with its counts.
 ghost use Rattle.std.specs.Prelude.{◌≡◌};
 ghost use Rattle.regex_lite_syntax.specs.Tree.Views.{tree_of};
 ghost use Rattle.regex_lite_engine.specs.Nfa.Saturation.{AreCountsOf};
@@ -7,7 +7,7 @@ use crate::count::Counts;
 use regex_lite_syntax::{AsHir, Hir};
 use std::marker::Model;
 
-/// A tree with its counts, so that it needn't be counted again.
+/// A tree with its counts, so that it is counted only once.
 #[derive(Drop)]
 pub struct Measured {
     hir: Hir,

@@ -1,4 +1,4 @@
-//! What the patterns of a list take together.
+//! The counts of all patterns of a list together.
 ghost use Rattle.std.specs.Prelude.{◌≡◌, ◌^◌, ◌*◌, ◌+◌, ◌≤◌, IfOk, IfErr, map};
 ghost use Rattle.regex_lite_syntax.specs.declared.error.LimitFault.TheVariants.{Places};
 ghost use Rattle.regex_lite_syntax.specs.Tree.{Tree};
@@ -13,28 +13,28 @@ use crate::count::Counts;
 use crate::count::measured::Measured;
 use regex_lite_syntax::LimitFault;
 
-/// What whole patterns take together, where their places can be numbered.
+/// The total counts of whole patterns, if their places can be numbered.
 #[derive(Clone, Copy)]
 pub(crate) struct Totals {
     pub(crate) places: u32,
     pub(crate) arrows: usize,
-    /// The places that read a character.
+    /// The number of places that read a character.
     pub(crate) reading: usize,
 }
 
 impl Totals {
-    /// The totals of no pattern at all.
+    /// The totals of an empty list.
     pub(crate) const NONE: Totals = Totals {
         places: 0,
         arrows: 0,
         reading: 0,
     };
 
-    /// What the patterns of these trees take together.
+    /// The totals of the patterns with these trees.
     ///
     /// # Errors
     ///
-    /// `Places` where they have more places than can be numbered.
+    /// `Places` if they have more places than can be numbered.
     pub(crate) fn of(hirs: &[Measured]) -> Result<Totals, LimitFault>
         requires { AreRegularPatterns (map tree_of hirs.now) }
         ensures ok { IfOk result (λ totals. AreTotalsOf (map tree_of hirs.now) totals) }
@@ -48,11 +48,11 @@ impl Totals {
         Ok(totals)
     }
 
-    /// What these patterns take with one more, which has these counts.
+    /// The totals with one more pattern, which has these counts.
     ///
     /// # Errors
     ///
-    /// `Places` where they have more places than can be numbered.
+    /// `Places` if they have more places than can be numbered.
     fn with(self, counts: &Counts) -> Result<Totals, LimitFault>
         requires counted { (tree : Tree) × IsRegular tree × AreCountsOf tree counts.now }
         requires few_arrows { self.arrows ≤ 2 * self.places }

@@ -1,4 +1,4 @@
-//! Sets of characters in a graph.
+//! Character sets in a graph.
 ghost use Rattle.std.specs.Prelude.{◌≡◌, IfOk};
 ghost use Rattle.regex_lite_syntax.specs.Ranges.{in_ranges, AreRuns};
 
@@ -7,11 +7,11 @@ use std::alloc::AllocError;
 use std::marker::Model;
 use std::rc::Rc;
 
-/// A set of characters with a map of its ASCII characters, so that one of those is looked up in one
-/// step. All places of the set share it.
+/// A character set with a bitmap of its ASCII characters, so that a test of an ASCII character is a
+/// single look-up. All places with the set share it.
 #[derive(Drop)]
 pub struct MappedClass {
-    // Two words, since a `u128` would be aligned to 16 bytes and make each place of a graph longer.
+    // Two words, since a `u128` would be aligned to 16 bytes and make each place of a graph larger.
     ascii: [u64; 2],
     class: Rc<Class>,
 }
@@ -30,7 +30,7 @@ impl Model for MappedClass {
 }
 
 impl MappedClass {
-    /// The set of the class, which it shares.
+    /// The set of the class, which is shared.
     pub(crate) fn new(class: &Rc<Class>) -> Result<MappedClass, AllocError>
         ensures { IfOk result (λ set. set ≡ class.now.value) }
     {
@@ -41,7 +41,7 @@ impl MappedClass {
     }
 
     /// Whether the set holds the character.
-    // Inlined, so that the loop of a search needn't save its registers for an ASCII one.
+    // Inlined, so that the loop of a search needn't save its registers for an ASCII character.
     #[inline(always)]
     pub(crate) fn contains(&self, c: char) -> bool
         ensures { result ≡ in_ranges self.now c }

@@ -1,4 +1,4 @@
-//! What is known of the groups of one pattern.
+//! What is known about the groups of one pattern.
 ghost use Rattle.std.specs.Prelude.{◌≡◌, ◌^◌, ◌<◌, ℕ, length, map};
 ghost use Rattle.std.specs.Prelude.{option_map, slice_index_or, None, IfOk};
 ghost use Rattle.regex_lite_syntax.specs.Tree.Properties.{captures_len, group_name};
@@ -16,7 +16,7 @@ use std::rc::RcStr;
 /// The groups of one pattern.
 #[derive(Drop)]
 pub struct Groups {
-    /// Their names by index, shared with the tree.
+    /// The names by index, shared with the tree.
     capture_names: Vec<Option<RcStr>>,
     static_captures_len: Option<usize>,
 }
@@ -33,9 +33,9 @@ impl Model for Groups {
 }
 
 impl Groups {
-    /// Those of the tree, which has these counts.
+    /// The groups of the tree, which has these counts.
     ///
-    /// Condition: its places can be numbered.
+    /// Condition: the tree's places can be numbered.
     ///
     /// # Errors
     ///
@@ -52,15 +52,15 @@ impl Groups {
         })
     }
 
-    /// The names by index, group 0 first.
+    /// The names by index, from group 0 on.
     pub fn capture_names(&self) -> &[Option<RcStr>]
         ensures { result.now ≡ self.now.capture_names }
     {
         &self.capture_names
     }
 
-    /// How many groups at least take part in every match, the whole match among them, where that is
-    /// known.
+    /// The least number of groups that take part in every match, including the whole match, if it
+    /// is known.
     pub fn static_captures_len(&self) -> Option<usize>
         ensures { result ≡ self.now.static_captures_len }
     {
@@ -68,7 +68,7 @@ impl Groups {
     }
 }
 
-/// The names of the groups by index. Where the tree has none, it is not walked for them.
+/// The names of the groups by index. If the tree has none, it isn't traversed.
 fn capture_names(
     alloc: Global,
     hir: &Hir,

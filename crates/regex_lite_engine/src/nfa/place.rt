@@ -1,4 +1,4 @@
-//! The places of a graph.
+//! The places of a graph: the states of the NFA.
 ghost use Rattle.std.specs.Prelude.{◌≡◌};
 ghost use Rattle.regex_lite_engine.specs.Graph.Places.{kept_back, kept_back_with};
 ghost use Rattle.regex_lite_engine.specs.Graph.Stored.{place_of};
@@ -7,32 +7,32 @@ use crate::nfa::class::MappedClass;
 use regex_lite_syntax::Look;
 use std::mem::size_of;
 
-/// A place of a graph, with the numbers of the places that its arrows lead to.
+/// A place (NFA state) of a graph, with the numbers of the places that its arrows lead to.
 #[derive(Drop)]
 pub enum Place {
-    /// Goes on at once.
+    /// Continues without a condition.
     Empty { to: u32 },
     /// Reads this character.
     Char { c: char, to: u32 },
     /// Reads a character of this set.
     Class { to: u32, set: MappedClass },
-    /// Goes on where the look holds.
+    /// Continues if the look holds.
     Look { look: Look, to: u32 },
     /// Marks the slot with the position.
     Slot { slot: u32, to: u32 },
-    /// Goes on to the first, or else to the second.
+    /// Continues at the first or the second, the first preferred.
     Choice { first: u32, second: u32 },
-    /// Goes on to one of these, the earlier preferred.
+    /// Continues at one of these, the earlier preferred.
     Branches(Vec<u32>),
     /// The match is complete.
     Match,
 }
 
-// As small as it can be with the map of a set inside: a search reads many of them.
+// As small as possible with the bitmap of a set inside: a search reads many places.
 const _: () = prove!(size_of::<Place>() == 32);
 
 impl Place {
-    /// How many arrows it has after the first.
+    /// The number of arrows after the first.
     pub(crate) fn other_arrows(&self) -> usize
         ensures { result ≡ kept_back_with 0 (place_of self.now) }
     {
@@ -43,7 +43,7 @@ impl Place {
         }
     }
 
-    /// How much a search that keeps slots keeps back here.
+    /// The number of frames that a search with slots pushes at this place.
     pub(crate) fn kept_back(&self) -> usize
         ensures { result ≡ kept_back (place_of self.now) }
     {

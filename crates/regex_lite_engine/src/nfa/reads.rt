@@ -5,7 +5,7 @@ use crate::nfa::Graph;
 use crate::nfa::list::GraphList;
 
 impl Graph {
-    /// Whether each match reads a character, as far as the tree tells: looks are taken to hold.
+    /// Whether each match reads a character, if looks are assumed to hold.
     pub fn reads(&self) -> bool
         ensures { result ≡ self.now.reads }
     {
@@ -14,8 +14,8 @@ impl Graph {
 }
 
 impl GraphList {
-    /// Whether each match of the pattern with this number reads a character, as far as its tree
-    /// tells.
+    /// Whether each match of the pattern with this number reads a character, if looks are assumed
+    /// to hold.
     ///
     /// Condition: the list has more patterns than this number.
     pub fn reads(&self, number: usize) -> bool

@@ -1,4 +1,4 @@
-//! Numbered places in a table: what the graph of one pattern and that of several have in common.
+//! The state table: numbered places, for the graph of one pattern or of several.
 ghost use Rattle.std.specs.Prelude.{◌≡◌, ◌+◌, ◌^◌, ◌<◌, if◌then◌else◌, length, map};
 ghost use Rattle.std.specs.Prelude.{slice_get, sum_by, Some};
 ghost use Rattle.regex_lite_engine.specs.Graph.Places.{kept_back_of, kept_back_with, reading_of};
@@ -16,9 +16,9 @@ use std::marker::Model;
 pub struct Table {
     places: Vec<Place>,
     arrows: usize,
-    /// How many of its places read a character.
+    /// The number of places that read a character.
     reading: usize,
-    /// How much a search that enters each of them once keeps back.
+    /// The stack bound of a search that enters each place once.
     kept_back: KeptBack,
 }
 
@@ -61,8 +61,8 @@ impl Table {
         }
     }
 
-    /// What stands at a place, for a search: each call is counted.
-    // Inlined, since each place that is tried passes here.
+    /// The place with this number. Each call is counted.
+    // Inlined, since it is called for each place that is tried.
     #[inline(always)]
     pub(crate) fn look(&self, place: u32, steps: &mut Steps) -> &Place
         requires inside { place < length self.now.places }
@@ -75,7 +75,8 @@ impl Table {
         &self.places[place as usize]
     }
 
-    /// What stands at a place that a search enters. Both are counted, but with COUNTED alone.
+    /// The place with this number, which a search enters. If COUNTED, the entry and the look-up are
+    /// counted.
     #[inline(always)]
     pub(crate) fn look_on_entry<const COUNTED: bool>(&self, place: u32, steps: &mut Steps) -> &Place
         requires inside { place < length self.now.places }
@@ -94,7 +95,7 @@ impl Table {
         &self.places[place as usize]
     }
 
-    /// All places, for what is found out before a search begins: no such reading is counted.
+    /// All places, for analysis before a search begins. Reading them isn't counted.
     pub fn all(&self) -> &[Place]
         ensures same { result.now ≡ self.now.places }
         ensures inside { LeadInside result.now }
@@ -102,7 +103,7 @@ impl Table {
         &self.places
     }
 
-    /// How many places there are.
+    /// The number of places.
     pub fn places(&self) -> usize
         ensures same { result ≡ length self.now.places }
         ensures few { result < 2 ^ 32 }
@@ -112,7 +113,7 @@ impl Table {
         self.places.len()
     }
 
-    /// How many arrows there are.
+    /// The number of arrows.
     pub fn arrows(&self) -> usize
         ensures same { result ≡ self.now.arrows }
         ensures all { result ≡ arrows_of (places_of self.now) }
@@ -121,7 +122,8 @@ impl Table {
         self.arrows
     }
 
-    /// How many places read a character. A search relies on there being few arrows too.
+    /// The number of places that read a character. Searches also rely on the bound on the number of
+    /// arrows.
     pub fn reading(&self) -> usize
         ensures each { result ≡ reading_of (places_of self.now) }
         ensures few { 0 < length self.now.places → result < length self.now.places }
@@ -130,7 +132,7 @@ impl Table {
         self.reading
     }
 
-    /// How much a search with this number of slots keeps back if it enters each place once.
+    /// The stack bound of a search with this number of slots that enters each place once.
     pub(crate) fn kept_back(&self, slots: usize) -> usize
         ensures { result ≡ sum_by (kept_back_with slots) (places_of self.now) }
     {

@@ -1,5 +1,5 @@
-//! Trees written out as a table of places. The last part of each is written first, so that the
-//! number of what follows is known.
+//! The compiler from trees to a table of places. The last part of each tree is written first, so
+//! that the number of the place that follows is known.
 //!
 //! The definitions name a place by its address, a list of numbers that leads into the tree. Here
 //! places are numbered in the order in which they are written, which `specs/Nfa/Layout.antt`
@@ -29,9 +29,9 @@ use std::alloc::{AllocError, Global};
 use std::marker::Model;
 
 /// The table of the tree's places, with those of group 0 around it and the match at number 0, and
-/// the number where it is entered.
+/// the number of the place at which it is entered.
 ///
-/// Condition: `count` is how many places there are, so the table needs memory only once, and each
+/// Condition: `count` is the number of places, so that the table is allocated only once, and each
 /// slot can be numbered.
 ///
 /// # Errors
@@ -54,11 +54,11 @@ pub(crate) fn write_out(
     Ok((writer.places, start))
 }
 
-/// The table of the places of several trees, one tree after another, and the numbers where they
-/// are entered.
+/// The table of the places of several trees, one tree after another, and the numbers of the places
+/// at which they are entered.
 ///
-/// Condition: `count` is how many places they have together, so the table needs memory only once,
-/// and each slot can be numbered.
+/// Condition: `count` is the total number of places, so that the table is allocated only once, and
+/// each slot can be numbered.
 ///
 /// # Errors
 ///
@@ -107,8 +107,8 @@ impl Writer {
         Ok(Writer { alloc, places })
     }
 
-    /// Adds the places of a whole pattern: the one where its match is complete, and then the tree
-    /// with those of group 0 around it. Returns where it is entered.
+    /// Adds the places of a whole pattern: the one where its match is complete, and then those of
+    /// the tree with group 0 around it. Returns the place at which it is entered.
     fn write_pattern(&mut self, hir: &Hir) -> Result<u32, AllocError>
         requires room { length self.old + whole_places (tree_of hir.now) < 2 ^ 32 }
         requires slots { greatest_index (tree_of hir.now) < 2 ^ 31 }
@@ -122,7 +122,8 @@ impl Writer {
         self.write_group(0, hir, end)
     }
 
-    /// Adds the places of whole patterns, one after another. Returns where they are entered.
+    /// Adds the places of whole patterns, one after another. Returns the places at which they are
+    /// entered.
     fn write_patterns(&mut self, hirs: &[Measured]) -> Result<Vec<u32>, AllocError>
         requires room { length self.old + places_of_all (map tree_of hirs.now) < 2 ^ 32 }
         requires slots { All (λ tree. greatest_index tree < 2 ^ 31) (map tree_of hirs.now) }
@@ -140,7 +141,8 @@ impl Writer {
         Ok(entries)
     }
 
-    /// Adds the places of the tree, which lead on to `exit`, and returns where they are entered.
+    /// Adds the places of the tree, which lead on to `exit`, and returns the place at which they
+    /// are entered.
     #[cycle(write)]
     fn write(&mut self, hir: &Hir, exit: u32) -> Result<u32, AllocError>
         requires room { length self.old + places (tree_of hir.now) < 2 ^ 32 }
@@ -223,8 +225,8 @@ impl Writer {
         self.add(Place::Branches(entries))
     }
 
-    /// Writes alternatives in order, each of which leads to the join. Returns where they are
-    /// entered.
+    /// Writes alternatives in order, each of which leads to the join. Returns the places at which
+    /// they are entered.
     #[cycle(write)]
     fn write_branches(&mut self, branches: &[Hir], join: u32) -> Result<Vec<u32>, AllocError>
         requires room { length self.old + places_in (trees (map tree_of branches.now)) < 2 ^ 32 }
@@ -250,7 +252,7 @@ impl Writer {
 fn part_at(parts: &[Hir], i: usize) -> &Hir
     requires { i < length parts.now }
     ensures part { result.now ≡ slice_index_or parts.now i result.now }
-    // It takes no more places than the parts after it leave.
+    // The part needs no more places than the parts after it leave.
     ensures room { places (tree_of result.now)
         + places_in (trees (map tree_of (drop (i + 1) parts.now)))
         ≤ places_in (trees (map tree_of parts.now)) }

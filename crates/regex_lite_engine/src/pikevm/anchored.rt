@@ -1,4 +1,4 @@
-//! An anchored search, position by position: all its ways begin at one start.
+//! An anchored search of the PikeVM: all its threads begin at one start.
 //!
 //! It costs what its longest path costs, wherever the next match is, and its memory depends on the
 //! pattern alone. Where the first character rules a match out, no memory is requested. A lazy DFA
@@ -27,12 +27,12 @@ use crate::pikevm::run::is_done;
 use crate::search::here::Here;
 use crate::search::patterns::Anchored;
 
-/// Goes from position to position until the match that starts at this offset is known: the most
-/// preferred one or, with EARLIEST, any; with WHOLE, of those that end where the haystack does. It
-/// is over as soon as no way is left that began there.
+/// Steps from position to position until the match that starts at this offset is known: the most
+/// preferred one or, if EARLIEST, any. If WHOLE, only matches that end where the haystack ends
+/// count. The search stops when no thread is left.
 ///
-/// Condition: the start is on a character boundary, the cache has just been made for the table of
-/// the patterns or made ready for another search, and no count of the search can be too large.
+/// Condition: the start is on a character boundary, the cache is new, or was reset, and was made
+/// for the table of the patterns, and no count of the search can overflow.
 pub fn run_anchored<S: Beginning, P: Anchored, const EARLIEST: bool, const WHOLE: bool>(
     cache: &mut Cache<S>,
     patterns: &mut P,

@@ -1,4 +1,4 @@
-//! Anchored searches: for the match that starts where the search does.
+//! Anchored searches: they find a match that starts where the search starts.
 ghost use Rattle.std.specs.Prelude.{◌≡◌, ◌<◌, ◌⊎◌, ◌↔◌, List, IfOk, IfSome, IsCharBoundary, IsTrue};
 ghost use Rattle.std.specs.Prelude.{chars, false, length};
 ghost use Rattle.regex_lite_syntax.specs.Tree.{Tree};
@@ -22,14 +22,14 @@ use crate::steps::{Steps, no_steps};
 use std::alloc::{AllocError, Global};
 
 impl<'g> OnePattern<'g> {
-    /// The most preferred match that starts at this offset, with this number of slots, and what the
-    /// search did. With WHOLE it is the most preferred of those that end where the haystack does.
+    /// The most preferred match that starts at this offset, with this number of slots, and the cost
+    /// of the search. If WHOLE, only matches that end where the haystack ends count.
     ///
     /// Condition: the start is on a character boundary.
     ///
     /// # Errors
     ///
-    /// If memory runs out, which can happen only before the first step.
+    /// If memory runs out, which can happen only before the search begins.
     pub fn search_anchored<const WHOLE: bool>(
         &mut self,
         alloc: Global,
@@ -50,14 +50,15 @@ impl<'g> OnePattern<'g> {
         Ok((best.into_outcome(), walk.steps))
     }
 
-    /// Whether a match starts at this offset, with WHOLE one that ends where the haystack does, and
-    /// what the search did. It stops at the first such match that it comes to.
+    /// Whether a match starts at this offset, and the cost of the search. If WHOLE, only matches
+    /// that end where the haystack ends count. The search stops at the first such match that it can
+    /// confirm.
     ///
     /// Condition: the start is on a character boundary.
     ///
     /// # Errors
     ///
-    /// If memory runs out, which can happen only before the first step.
+    /// If memory runs out, which can happen only before the search begins.
     pub fn search_any_anchored<const WHOLE: bool>(
         &mut self,
         alloc: Global,
@@ -77,7 +78,7 @@ impl<'g> OnePattern<'g> {
         Ok((best.end().is_some(), walk.steps))
     }
 
-    /// Whether a match may start at this offset. It is asked before any memory is.
+    /// Whether a match may start at this offset. This is checked before any memory is allocated.
     fn may_start_at(&self, haystack: &str, start: usize) -> bool
         requires { IsCharBoundary haystack.now start }
         ensures { result ≡ false → IsDeadAt (places_of self.now.table.now) (chars haystack.now)
@@ -89,15 +90,15 @@ impl<'g> OnePattern<'g> {
 
 impl GraphList {
     /// The match that starts at this offset, of the pattern with the lowest number that matches
-    /// there: that number, the most preferred match of the pattern, and what the search did. The
-    /// match has this number of slots. With WHOLE only matches that end where the haystack does
+    /// there: that number, the most preferred match of the pattern, and the cost of the search. The
+    /// match has this number of slots. If WHOLE, only matches that end where the haystack ends
     /// count.
     ///
     /// Condition: the start is above the haystack's length or on a character boundary.
     ///
     /// # Errors
     ///
-    /// If memory runs out, which can happen only before the first step.
+    /// If memory runs out, which can happen only before the search begins.
     pub fn search_anchored<const WHOLE: bool>(
         &self,
         alloc: Global,
@@ -124,14 +125,15 @@ impl GraphList {
         Ok((best.into_numbered(), walk.steps))
     }
 
-    /// Whether a match of any pattern starts at this offset, with WHOLE one that ends where the
-    /// haystack does, and what the search did. It stops at the first such match that it comes to.
+    /// Whether a match of any pattern starts at this offset, and the cost of the search. If WHOLE,
+    /// only matches that end where the haystack ends count. The search stops at the first such
+    /// match that it can confirm.
     ///
     /// Condition: the start is above the haystack's length or on a character boundary.
     ///
     /// # Errors
     ///
-    /// If memory runs out, which can happen only before the first step.
+    /// If memory runs out, which can happen only before the search begins.
     pub fn search_any_anchored<const WHOLE: bool>(
         &self,
         alloc: Global,

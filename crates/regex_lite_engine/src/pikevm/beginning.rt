@@ -1,25 +1,25 @@
-//! What a search keeps of where a way began.
+//! What a search keeps about where a thread began.
 ghost use Rattle.std.specs.Prelude.{◌≡◌, ℕ, Some, None};
 ghost use Rattle.regex_lite_engine.specs.Search.Beginnings.{Told, TellsStart, untold};
 
-/// What is kept with a thread of where its way began: the offset, with or without the number of the
-/// pattern, or nothing in a search that is asked only for an end.
+/// The start of a thread as a search keeps it: the offset, with or without the number of the
+/// pattern, or nothing if only the end of a match is asked for.
 pub trait Beginning: Copy {
-    /// What it says of where the way began.
+    /// What it says about the start of a thread.
     ghost told: { Self → Told };
 
-    /// What it says of a way from this offset, of the pattern with this number.
+    /// What it says about a thread that began at this offset, of the pattern with this number.
     ghost told_of: { (at number : ℕ) → Told };
 
-    /// What is kept of a way that begins at this offset, of the pattern with this number.
+    /// The start of a thread that begins at this offset, of the pattern with this number.
     fn at(at: usize, number: u32) -> Self
         ensures { told result ≡ told_of at number };
 
-    /// It says nothing else.
+    /// What it says about such a thread is true.
     ghost tells: { (at number : ℕ) → TellsStart (told_of at number) at number };
 }
 
-// The offset alone is kept, since there is one pattern.
+// Only the offset is kept, since there is one pattern.
 impl Beginning for usize {
     ghost use Rattle.std.specs.Prelude.{refl};
 
@@ -34,7 +34,7 @@ impl Beginning for usize {
     ghost tells = { λ at _. record { start_told = refl; number_told = tt } };
 }
 
-/// The offset, and which of several patterns it is.
+/// The offset, and the number of the pattern.
 #[derive(Clone, Copy)]
 pub struct Origin {
     pub at: usize,
@@ -55,7 +55,7 @@ impl Beginning for Origin {
     ghost tells = { λ at number. record { start_told = refl; number_told = refl } };
 }
 
-/// Nothing is kept: this takes no bytes.
+/// Nothing is kept: this has size 0.
 #[derive(Clone, Copy)]
 pub struct Unkept;
 

@@ -11,7 +11,7 @@ use crate::search::outcome::Outcome;
 use std::alloc::{AllocError, Global};
 use std::marker::Model;
 
-/// What is kept of the best match's start, and its end, with its slots in `row`.
+/// The start of the best match, as far as it is kept, and its end. Its slots are in `row`.
 #[derive(Drop)]
 pub struct Best<S: Beginning> {
     found: Option<(S, usize)>,
@@ -33,7 +33,7 @@ impl<S: Beginning> Model for Best<S> {
 impl<S: Beginning> Best<S> {
     ghost use Rattle.regex_lite_engine.specs.Pikevm.Turns.{best_of};
 
-    /// None yet, with room for a row of `width` slots.
+    /// No match yet, with a row of `width` slots.
     ///
     /// # Errors
     ///
@@ -46,7 +46,7 @@ impl<S: Beginning> Best<S> {
         Ok(Best { found: None, row })
     }
 
-    /// Whether there is none yet.
+    /// Whether there is no match yet.
     pub fn is_none(&self) -> bool
         ensures { IsTrue result ↔ (best_of self.now ≡ None) }
     {
@@ -63,7 +63,7 @@ impl<S: Beginning> Best<S> {
         tell(slots, &mut self.row);
     }
 
-    /// Where it ends.
+    /// The end of the match.
     pub fn end(&self) -> Option<usize>
         ensures { result ≡ option_map (λ best. best.1) (best_of self.now) }
     {
@@ -80,9 +80,9 @@ impl<S: Beginning> Best<S> {
         &self.row
     }
 
-    /// Sets the slots to these, which another search has found.
+    /// Sets the slots to those that another search has found.
     ///
-    /// Condition: there are as many as in the row.
+    /// Condition: there are as many as the row has.
     pub fn set_row(&mut self, row: &[Option<usize>])
         requires { length row.now ≡ length self.old.row }
         ensures { self.new ≡ record self.old { row = row.now } }
@@ -90,7 +90,7 @@ impl<S: Beginning> Best<S> {
         self.row.copy_from_slice(row);
     }
 
-    /// Forgets the match. Its row stays as it is.
+    /// Removes the match. The row is unchanged.
     pub fn clear(&mut self)
         ensures none { best_of self.new ≡ None }
         ensures row { self.new.row ≡ self.old.row }
@@ -104,7 +104,7 @@ impl Best<usize> {
     ghost use Rattle.regex_lite_engine.specs.Search.NumberedOutcomes.{match_told};
     ghost use Rattle.regex_lite_engine.specs.Search.NumberedOutcomes.{with_start_kept};
 
-    /// The match by itself, with its row.
+    /// Turns this into the match, with its row.
     pub fn into_outcome(self) -> Option<Outcome>
         ensures told { best_of self ≡ with_start_kept (match_told result) }
         ensures width { IfSome result (λ outcome. length outcome.slots.items ≡ length self.row) }
@@ -125,21 +125,21 @@ impl Best<Origin> {
     ghost use Rattle.regex_lite_engine.specs.Search.NumberedOutcomes.{numbered_told};
     ghost use Rattle.regex_lite_engine.specs.Pikevm.Turns.{best_of};
 
-    /// Where it starts, with the number of its pattern, and where it ends.
+    /// The start of the match with the number of its pattern, and its end.
     pub fn found(&self) -> Option<(Origin, usize)>
         ensures { best_of self.now ≡ best_kept result self.now.row }
     {
         self.found
     }
 
-    /// The number of its pattern, and where it starts and where it ends.
+    /// The number of the match's pattern, and the match's span.
     pub fn numbered_span(&self) -> Option<(usize, (usize, usize))>
         ensures { best_of self.now ≡ with_origin_kept (numbered_at result self.now.row) }
     {
         numbered(self.found)
     }
 
-    /// The match by itself, with its row and the number of its pattern.
+    /// Turns this into the match, with its row and the number of its pattern.
     pub fn into_numbered(self) -> Option<(usize, Outcome)>
         ensures told { best_of self ≡ with_origin_kept (numbered_told result) }
         ensures width { IfSome result
@@ -155,7 +155,7 @@ impl Best<Origin> {
         Some((origin.number as usize, outcome))
     }
 
-    /// Makes this match the best, or forgets the match if there is none.
+    /// Makes this match the best, or removes the match if this is `None`.
     ///
     /// Condition: no slots are kept.
     pub fn keep(&mut self, found: Option<(Origin, usize)>)
@@ -167,7 +167,7 @@ impl Best<Origin> {
     }
 }
 
-/// Where the match starts and where it ends.
+/// The span of the match.
 pub fn span_of(found: Option<(Origin, usize)>) -> Option<(usize, usize)>
     ensures { result ≡ span_of found }
 {
@@ -175,7 +175,7 @@ pub fn span_of(found: Option<(Origin, usize)>) -> Option<(usize, usize)>
     Some((origin.at, end))
 }
 
-/// The number of the match's pattern, and where it starts and where it ends.
+/// The number of the match's pattern, and the match's span.
 pub fn numbered(found: Option<(Origin, usize)>) -> Option<(usize, (usize, usize))>
     ensures { (row : Row) → best_kept found row ≡ with_origin_kept (numbered_at result row) }
 {
@@ -183,7 +183,7 @@ pub fn numbered(found: Option<(Origin, usize)>) -> Option<(usize, (usize, usize)
     Some((origin.number as usize, (origin.at, end)))
 }
 
-/// Writes what each slot holds.
+/// Writes the content of each slot.
 fn tell(slots: &[Slot], row: &mut [Option<usize>])
     requires { length slots.now ≡ length row.old }
     ensures { row.new ≡ slots.now }

@@ -1,4 +1,4 @@
-//! The working memory of a search by ordered sets, and its best match.
+//! The working memory of the PikeVM, and its best match.
 ghost use Rattle.std.specs.Prelude.{◌≡◌, ◌<◌, List, ℕ, IfOk, length};
 ghost use Rattle.regex_lite_engine.specs.Graph.Places.{Place};
 ghost use Rattle.regex_lite_engine.specs.Graph.Stored.{places_of};
@@ -14,14 +14,14 @@ use crate::pikevm::walk::Walk;
 use crate::steps::no_steps;
 use std::alloc::{AllocError, Global};
 
-/// All that a search works in. Its memory is asked for before the first step.
+/// The working memory of a search. It is allocated before the search begins.
 #[derive(Drop)]
 pub struct Cache<S: Beginning> {
     pub walk: Walk<S>,
     pub best: Best<S>,
 }
 
-/// All the memory of a search that keeps this number of slots, asked for before its first step.
+/// Allocates all memory of a search that keeps this number of slots.
 ///
 /// Condition: the table has a place.
 ///
@@ -39,7 +39,7 @@ pub fn cache_for<S: Beginning>(
     ensures countable { IfOk result (λ _. IsCountable (places_of table.now)) }
 {
     let places = table.places();
-    // A thread comes from a place that reads, or is the position's own start.
+    // Each thread comes from a place that reads, or starts at the position.
     let room = table.reading() + 1;
     let best = Best::with_width(alloc, slots)?;
     let walk = Walk {
@@ -49,8 +49,8 @@ pub fn cache_for<S: Beginning>(
     Ok(Cache { walk, best })
 }
 
-/// The memory of searches for several patterns that keep this number of slots. Without a pattern no
-/// search begins, and no place needs any memory.
+/// The memory of searches for several patterns that keep this number of slots. An empty list is
+/// never searched for, so it needs no memory.
 ///
 /// # Errors
 ///
@@ -74,7 +74,7 @@ pub fn cache_for_list(
     Ok(Cache { walk, best })
 }
 
-/// Makes ready for another search: what the last one left is forgotten.
+/// Resets the cache for another search.
 pub fn restart<S: Beginning>(cache: &mut Cache<S>)
     ensures fresh { (table : List (Place ℕ)) → IsBetween table cache.old → IsFresh table cache.new }
     ensures width { length cache.new.best.row ≡ length cache.old.best.row }

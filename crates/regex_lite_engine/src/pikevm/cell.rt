@@ -1,4 +1,4 @@
-//! What a search keeps for each number.
+//! The cells of the PikeVM's memory.
 ghost use Rattle.std.specs.Prelude.{◌≡◌, ◌≤◌, ◌<◌, length, vec_capacity};
 ghost use Rattle.regex_lite_engine.specs.Pikevm.Cells.{other, place_on, start_on, with_thread};
 ghost use Rattle.regex_lite_engine.specs.Pikevm.Cells.{Continues, KeepsCapacity};
@@ -8,12 +8,12 @@ use crate::pikevm::slot::Slot;
 use std::alloc::AllocError;
 use std::mem::size_of;
 
-/// One thing that is left to do.
+/// A frame of the stack.
 #[derive(Clone, Copy)]
 pub enum Job {
-    /// To explore a place.
+    /// Explore a place.
     Explore(u32),
-    /// To restore what a slot held, since the branch that marked it is abandoned.
+    /// Restore the content of a slot, since the branch that marked it has been left.
     Restore { slot: u32, old: Slot },
 }
 
@@ -24,21 +24,20 @@ pub enum Side {
     Second,
 }
 
-/// What belongs to one number: to the frame and the threads of both lists that have it. These have
-/// nothing else to do with one another, and lie together so that one request gives memory for all
-/// of them.
+/// The frame and the threads of both lists that have the same number. They are otherwise unrelated,
+/// and are stored together so that one allocation suffices.
 #[derive(Copy)]
 pub struct Cell<S: Beginning> {
     /// The frame with this number.
     pub frame: Job,
-    /// What is kept of where the ways of the threads with this number began, and where they go on.
+    /// The starts and the places of the threads with this number.
     first_start: S,
     second_start: S,
     first_place: u32,
     second_place: u32,
 }
 
-// A derived `clone` would copy one field after another.
+// A derived `clone` would copy field by field.
 impl<S: Beginning> Clone for Cell<S> {
     ghost use Rattle.std.specs.Prelude.{⊤};
 
@@ -51,13 +50,13 @@ impl<S: Beginning> Clone for Cell<S> {
     }
 }
 
-// A search has room for one cell for each place.
+// A search has a cell for each place.
 const _: () = prove!(size_of::<Cell<usize>>() == 40);
 
 // A search for several patterns has larger cells.
 const _: () = prove!(size_of::<Cell<Origin>>() == 56);
 
-// A search that is asked only for an end has smaller cells.
+// A search for only an end has smaller cells.
 const _: () = prove!(size_of::<Cell<Unkept>>() == 24);
 
 impl Side {
@@ -73,7 +72,7 @@ impl Side {
 }
 
 impl<S: Beginning> Cell<S> {
-    /// A cell of which nothing is known yet.
+    /// A blank cell.
     fn blank() -> Cell<S> {
         Cell {
             frame: Job::Explore(0),
@@ -84,7 +83,7 @@ impl<S: Beginning> Cell<S> {
         }
     }
 
-    /// Where the thread of this list goes on, and what is kept of where its way began.
+    /// The place of this list's thread, and its start.
     pub fn thread(&self, side: Side) -> (u32, S)
         ensures { result ≡ (place_on side self.now, start_on side self.now) }
     {
@@ -94,7 +93,7 @@ impl<S: Beginning> Cell<S> {
         }
     }
 
-    /// Puts a thread of this list here.
+    /// Stores a thread of this list.
     pub fn put_thread(&mut self, side: Side, place: u32, start: S)
         ensures { self.new ≡ with_thread side place start self.old }
     {
@@ -111,7 +110,7 @@ impl<S: Beginning> Cell<S> {
     }
 }
 
-/// Adds the cell with this number, unless it is there. There is room for it.
+/// Adds the cell with this number, unless it exists. There is capacity for it.
 #[inline(always)]
 pub(super) fn provide<S: Beginning>(cells: &mut Vec<Cell<S>>, k: usize)
     requires next { k ≤ length cells.old.items }

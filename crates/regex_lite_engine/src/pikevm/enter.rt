@@ -1,4 +1,4 @@
-//! Entering a place: what its arrows offer.
+//! Entering a place: following its arrows.
 ghost use Rattle.std.specs.Prelude.{◌≡◌, ◌+◌, ◌^◌, ◌≤◌, ◌<◌, ◌∷◌, ◌++◌, ℕ, length, map};
 ghost use Rattle.std.specs.Prelude.{false, true};
 ghost use Rattle.regex_lite_syntax.specs.Ranges.{in_ranges};
@@ -17,22 +17,22 @@ use crate::pikevm::memory::Memory;
 use crate::pikevm::slot::Slot;
 use crate::search::here::Here;
 
-/// How a walk goes on from a place.
+/// How a walk continues from a place.
 #[derive(Clone, Copy)]
 pub enum Onward {
     /// To this place, without the stack.
     To(u32),
-    /// To what is left on the stack.
+    /// To the next place on the stack.
     Back,
-    /// Not at all: a match is complete.
+    /// It doesn't: a match is complete.
     Complete,
 }
 
-/// Returns the first place that this one offers at this position. The others are pushed onto the
-/// stack, and what it offers at the next position is added to the threads there. With WHOLE a match
-/// is complete only at the haystack's end.
-// Inlined, as the functions of `Walk` are, which try each place: as calls they cost `is_match` by
-// line up to 1.09 times as much.
+/// Returns the first place that this one leads to at this position. The other places are pushed
+/// onto the stack, and a place that it leads to at the next position is added to the threads there.
+/// If WHOLE, a match is complete only at the haystack's end.
+// Inlined, like the functions of `Walk`, which try each place: as calls they made `is_match` by
+// line up to 1.09 times as expensive.
 #[inline(always)]
 pub fn enter<S: Beginning, const WHOLE: bool>(
     place: &Place,
@@ -103,7 +103,7 @@ fn is_in_set(set: &MappedClass, after: Option<char>) -> bool
     }
 }
 
-/// Goes on after the character, if it is read.
+/// Adds a thread at the next position, if the character is read.
 fn read_on<S: Beginning>(reads: bool, to: u32, start: S, memory: &mut Memory<S>)
     requires { length memory.old.next < memory.old.room }
     ensures { memory.new ≡ reading_on reads memory.old (to, S.told start, memory.old.row) }
@@ -113,7 +113,7 @@ fn read_on<S: Beginning>(reads: bool, to: u32, start: S, memory: &mut Memory<S>)
     }
 }
 
-/// Goes on to the first of these places, and pushes the others.
+/// Continues at the first of these places, and pushes the others.
 fn branch<S: Beginning>(entries: &[u32], memory: &mut Memory<S>) -> Onward
     requires { length memory.old.frames + length entries.now ≤ length memory.old.entered }
     ensures onto { onto result memory.new.frames
@@ -141,7 +141,7 @@ fn mark<S: Beginning>(slot: u32, at: usize, memory: &mut Memory<S>)
 {
     let row = memory.row();
     if (slot as usize) < row.len() {
-        // If nothing else is left to do, what the slot held isn't needed again.
+        // If the stack is empty, the content of the slot isn't needed again.
         if !memory.is_done() {
             let old = row[slot as usize];
             memory.push(Job::Restore { slot, old });

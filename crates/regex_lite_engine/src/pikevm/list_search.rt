@@ -22,14 +22,14 @@ use std::alloc::{AllocError, Global};
 
 impl GraphList {
     /// The match that starts first at or after this offset, of the pattern with the lowest number
-    /// that matches there: that number, the most preferred match of the pattern, and what the
-    /// search did. The match has this number of slots.
+    /// that matches there: that number, the most preferred match of the pattern, and the cost of
+    /// the search. The match has this number of slots.
     ///
     /// Condition: the start is above the haystack's length or on a character boundary.
     ///
     /// # Errors
     ///
-    /// If memory runs out, which can happen only before the first step.
+    /// If memory runs out, which can happen only before the search begins.
     pub fn search(
         &self,
         alloc: Global,
@@ -55,14 +55,14 @@ impl GraphList {
         Ok((best.into_numbered(), walk.steps))
     }
 
-    /// Whether any pattern matches from a position at or after this offset, and what the search
-    /// did. It stops at the first match that it comes to.
+    /// Whether any pattern matches from a position at or after this offset, and the cost of the
+    /// search. It stops at the first match that it can confirm.
     ///
     /// Condition: the start is above the haystack's length or on a character boundary.
     ///
     /// # Errors
     ///
-    /// If memory runs out, which can happen only before the first step.
+    /// If memory runs out, which can happen only before the search begins.
     pub fn search_any(
         &self,
         alloc: Global,
@@ -86,7 +86,7 @@ impl GraphList {
         Ok((best.end().is_some(), walk.steps))
     }
     /// The patterns, none of which may start yet, and the memory of a search whose matches have
-    /// this number of slots. All of it is asked for here.
+    /// this number of slots. All of it is allocated here.
     ///
     /// Condition: there is a pattern.
     ///
@@ -107,7 +107,7 @@ impl GraphList {
             (length self.now.entries) (characters_left (chars haystack) s)) }
         ensures width { IfOk result (λ memory. length memory.1.best.row ≡ slots) }
     {
-        // Each has a number of 32 bits, and a place, since there are no more.
+        // Each pattern has a number of 32 bits, and a place, since there are no more patterns.
         let _entries = self.entries();
         let patterns = ListPatterns::new(alloc, self)?;
         let cache = cache_for::<S>(alloc, self.table(), slots)?;

@@ -1,4 +1,4 @@
-//! All that a search works in.
+//! The working memory of a search.
 ghost use Rattle.std.specs.Prelude.{◌≡◌, ◌↔◌, ◌+◌, ◌*◌, ◌≤◌, ◌<◌, [], IfOk, IsTrue, false};
 ghost use Rattle.std.specs.Prelude.{length, replicate, slice_index_or, slice_set, true};
 
@@ -10,21 +10,21 @@ use crate::pikevm::slot::Slot;
 use std::alloc::{AllocError, Global};
 use std::marker::Model;
 
-/// The working memory of a search. It is allocated by one request, or by up to three: if slots are
-/// kept, and if there are many places.
+/// The working memory of a search. It takes one allocation, one more if slots are kept, and one
+/// more if there are many places.
 #[derive(Drop)]
 pub struct Memory<S: Beginning> {
     /// The places that were entered at this position.
     pub(super) entered: PlaceSet,
-    /// Those that a search has needed so far. There is room for one for each place.
+    /// The cells that a search has needed so far. There is capacity for one for each place.
     pub(super) cells: Vec<Cell<S>>,
-    /// The row of the way that is followed, and those of the threads of both lists.
+    /// The row of the current path, and the rows of the threads of both lists.
     pub(super) rows: Rows,
-    /// How many threads each list has room for.
+    /// The capacity of each list of threads.
     pub(super) room: usize,
-    /// How many frames there are. They lie in the first cells, the next one last.
+    /// The number of frames. They lie in the first cells, the top one last.
     pub(super) depth: usize,
-    /// The list of the position's threads. That of the next position's is the other.
+    /// The list of the position's threads. The other list is that of the next position.
     pub(super) side: Side,
     pub(super) len: usize,
     pub(super) next_len: usize,
@@ -83,7 +83,7 @@ impl<S: Beginning> Memory<S> {
         })
     }
 
-    /// Makes ready for another search: forgets the threads and the frames that are left.
+    /// Resets the memory for another search: removes the threads and the frames that are left.
     pub fn restart(&mut self)
         ensures { self.new ≡ record self.old { frames = []; threads = []; next = [] } }
     {
@@ -92,7 +92,7 @@ impl<S: Beginning> Memory<S> {
         self.next_len = 0;
     }
 
-    /// Comes to a position, at which no place was entered yet.
+    /// Begins a position, at which no place was entered yet.
     pub fn begin_position(&mut self)
         ensures { self.new
             ≡ record self.old { entered = replicate (length self.old.entered) false } }
@@ -110,14 +110,14 @@ impl<S: Beginning> Memory<S> {
         self.entered.insert(place)
     }
 
-    /// How many rows there are.
+    /// The number of rows.
     pub fn rows(&self) -> usize
         ensures { result ≡ 2 * self.now.room + 1 }
     {
         self.rows.count()
     }
 
-    /// The row of the way that is followed.
+    /// The row of the current path.
     pub fn row(&self) -> &[Slot]
         ensures { result.now ≡ self.now.row }
     {
@@ -133,7 +133,7 @@ impl<S: Beginning> Memory<S> {
     }
 }
 
-/// Rows of this width for the way that is followed and for the threads of both lists.
+/// Rows of this width for the current path and for the threads of both lists.
 fn rows_for(alloc: Global, room: usize, width: usize) -> Result<Rows, AllocError>
     ensures count { IfOk result (λ rows. length rows ≡ 2 * room + 1) }
     ensures width { IfOk result (λ rows. length (slice_index_or rows 0 []) ≡ width) }

@@ -1,4 +1,4 @@
-//! From position to position, past those at which no match can start.
+//! Stepping from position to position, and skipping those at which no match can start.
 ghost use Rattle.std.specs.Prelude.{◌≡◌, ◌+◌, ◌^◌, ◌≤◌, ◌<◌, ℕ, All, chars, length};
 ghost use Rattle.regex_lite_syntax.specs.Text.{Text};
 ghost use Rattle.regex_lite_engine.specs.Search.Bounds.{StaysCounted, characters_left};
@@ -15,9 +15,10 @@ use crate::search::here::Here;
 use crate::search::patterns::{Patterns, pass_over};
 
 impl<S: Beginning> Cache<S> {
-    /// Goes on from here to the next position at which there is something to do, and over it.
+    /// Moves to the next position at which there is something to do, and takes the step there.
     /// Returns that position.
-    // Inlined with all that it calls, as `turn` is, since several loops go over the same patterns.
+    // Inlined with all that it calls, like `turn`, since several loops use it for the same
+    // patterns.
     #[inline(always)]
     pub fn pass<P: Patterns>(&mut self, patterns: &mut P, haystack: &str, here: Here) -> Here
         requires { (s p : ℕ) × IsHere (chars haystack.now) p here
@@ -41,7 +42,7 @@ impl<S: Beginning> Cache<S> {
         here
     }
 
-    /// Goes over the position, at which these patterns start.
+    /// Takes the step at this position, at which these patterns start.
     #[inline(always)]
     pub fn go_over<P: Patterns, const WHOLE: bool>(&mut self, patterns: &P, here: Here)
         requires on { (haystack : Text) × (s last p : ℕ) × IsHere haystack p here
@@ -64,13 +65,13 @@ impl<S: Beginning> Cache<S> {
         ensures width { length self.new.best.row ≡ length self.old.best.row }
         ensures counts { StaysCounted self.old.walk.steps self.new.walk.steps }
     {
-        // There is room for more ways than there are patterns.
+        // The memory fits more threads than there are patterns.
         let _threads = self.walk.memory.threads();
         self.turn::<_, WHOLE>(patterns, here);
     }
 
-    /// Where the search goes on: where it is while there is a thread or a match, and else at the
-    /// next position at which a match can start, or at the haystack's end.
+    /// The position at which the search continues: where it is if there is a thread or a match, and
+    /// otherwise the next position at which a match can start, or the haystack's end.
     #[inline(always)]
     fn next_start<P: Patterns>(&self, patterns: &P, haystack: &str, here: Here) -> Here
         requires { (p : ℕ) × IsHere (chars haystack.now) p here }

@@ -1,4 +1,4 @@
-//! The places that were entered at the position that a search has come to.
+//! The set of places that were entered at the current position.
 ghost use Rattle.std.specs.Prelude.{◌≡◌, ◌+◌, ◌-◌, ◌≤◌, ◌<◌, ◌↔◌, ℕ, IfOk, IsTrue, false, true};
 ghost use Rattle.std.specs.Prelude.{length, replicate, slice_index, slice_index_or, slice_set};
 ghost use Rattle.std.specs.Prelude.{vec_capacity};
@@ -9,22 +9,21 @@ use crate::bits::set_bit;
 use std::alloc::{AllocError, Global};
 use std::marker::Model;
 
-/// A set of at most this many places is kept in the value itself, which takes no request for
-/// memory.
+/// A set of at most this many places is stored inline, without an allocation.
 const FEW: usize = 64;
 
-/// How many stamps are added at a time, where a search comes to a place that has none.
+/// The number of stamps that are added at a time when a search reaches a place without one.
 const BLOCK: usize = 64;
 
-/// A set of places that is emptied in one step.
+/// A set of places that is emptied in constant time.
 #[derive(Drop)]
 pub struct PlaceSet {
-    /// How many places there are.
+    /// The number of places of the graph.
     places: usize,
     marks: Marks,
 }
 
-/// Which places are in the set.
+/// The representation of the set.
 #[derive(Drop)]
 enum Marks {
     /// A bit for each place.
@@ -35,11 +34,11 @@ enum Marks {
 /// A stamp for each place.
 #[derive(Drop)]
 struct Stamps {
-    /// From the last place down to the first one that a search has come to. There is room for all.
-    /// A graph is written from its end, so that a search begins with the last places, and in a
-    /// short haystack often comes to no others.
+    /// The stamps from the last place down to the first that a search has reached. There is
+    /// capacity for all. A graph is written from its end, so that a search begins with the last
+    /// places, and in a short haystack often reaches no others.
     stamps: Vec<u16>,
-    /// The places with this stamp are in the set.
+    /// The generation: the places with this stamp are in the set.
     round: u16,
 }
 
@@ -56,7 +55,7 @@ impl Model for PlaceSet {
 
 impl PlaceSet {
     /// The empty set, for this number of places.
-    // Inlined, as all that a search does at each place is: a call costs as much as what it does.
+    // Inlined, like everything that a search does at each place: a call costs as much as its body.
     #[inline(always)]
     pub fn empty(alloc: Global, places: usize) -> Result<PlaceSet, AllocError>
         ensures { IfOk result (λ set. set ≡ replicate places false) }
@@ -116,8 +115,8 @@ impl Stamps {
         self.round += 1;
     }
 
-    /// Adds a place, which is given by the number of places from it to the last one, itself
-    /// included. Returns whether it is new.
+    /// Adds a place, given by the number of places from it to the last one, including both. Returns
+    /// whether it is new.
     #[inline(always)]
     fn insert(&mut self, left: usize) -> bool
         requires some { 0 < left }
@@ -143,7 +142,7 @@ impl Stamps {
 }
 
 /// Adds stamps of places that were never in the set, until there are at least this many. There is
-/// room for them.
+/// capacity for them.
 // Not inlined, so that the loop of a search has only the test.
 #[inline(never)]
 fn extend(stamps: &mut Vec<u16>, count: usize)

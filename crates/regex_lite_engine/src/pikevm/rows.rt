@@ -11,8 +11,8 @@ use std::marker::Model;
 /// width is 0.
 #[derive(Drop)]
 pub struct Rows {
-    /// The rows one after the other, up to the last one reached: a search needs few of them, and
-    /// filling the others would cost more than a short search. They count as blank.
+    /// The rows, one after another, up to the last that a search has reached: it needs few of them,
+    /// and filling the others would cost more than a short search. The others count as blank.
     slots: Vec<Slot>,
     width: usize,
     count: usize,
@@ -49,7 +49,7 @@ impl Rows {
         })
     }
 
-    /// How many there are.
+    /// The number of rows.
     pub fn count(&self) -> usize
         ensures { result ≡ length self.now }
     {
@@ -64,7 +64,7 @@ impl Rows {
         &self.slots[..self.width]
     }
 
-    /// Sets a slot of the first row to this.
+    /// Sets a slot of the first row.
     pub fn put(&mut self, slot: u32, held: Slot)
         requires some { 0 < length self.old }
         requires inside { slot < length (slice_index_or self.old 0 []) }
@@ -103,7 +103,7 @@ impl Rows {
         let start = from * self.width;
         let place = to * self.width;
         let end = start.max(place) + self.width;
-        // Two functions, so that the one for most calls keeps no more than it needs.
+        // Two functions, so that the common one saves no more registers than it needs.
         if self.slots.len() < end {
             copy_filled(&mut self.slots, start, place, self.width, end);
         } else {
@@ -123,7 +123,8 @@ impl Rows {
     }
 }
 
-/// Extends the slots with blank ones up to this number, if they are fewer. There is room for them.
+/// Extends the slots with blank ones to this number, if there are fewer. There is capacity for
+/// them.
 fn fill_to(slots: &mut Vec<Slot>, end: usize)
     requires { end ≤ vec_capacity slots.old }
     ensures items { slots.new.items
@@ -135,7 +136,7 @@ fn fill_to(slots: &mut Vec<Slot>, end: usize)
     }
 }
 
-/// Extends the slots up to this end, and copies a row of this width.
+/// Extends the slots to this end, and copies a row of this width.
 #[inline(never)]
 fn copy_filled(slots: &mut Vec<Slot>, from: usize, to: usize, width: usize, end: usize)
     requires room { end ≤ vec_capacity slots.old }

@@ -1,4 +1,4 @@
-//! A whole search, position by position, for a match or for the least end of one.
+//! A whole search of the PikeVM, for a match or for the least end of one.
 ghost use Rattle.std.specs.Prelude.{◌≡◌, ◌+◌, ◌<◌, ◌⊎◌, ℕ, IsCharBoundary, IsTrue, None};
 ghost use Rattle.std.specs.Prelude.{chars, false, length, true};
 ghost use Rattle.regex_lite_engine.specs.Graph.Parts.{IsOwnPart, row_of};
@@ -18,11 +18,11 @@ use crate::pikevm::cache::Cache;
 use crate::search::here::Here;
 use crate::search::patterns::Patterns;
 
-/// Goes from position to position until the match is known: the most preferred one or, with
+/// Steps from position to position until the match is known: the most preferred one or, if
 /// EARLIEST, one that ends at the first position at which any match is complete.
 ///
-/// Condition: the start is on a character boundary, the cache has just been made for the table of
-/// the patterns or made ready for another search, and no count of the search can be too large.
+/// Condition: the start is on a character boundary, the cache is new, or was reset, and was made
+/// for the table of the patterns, and no count of the search can overflow.
 pub fn run<S: Beginning, P: Patterns, const EARLIEST: bool>(
     cache: &mut Cache<S>,
     patterns: &mut P,
@@ -54,12 +54,12 @@ pub fn run<S: Beginning, P: Patterns, const EARLIEST: bool>(
     advance::<_, _, EARLIEST>(cache, patterns, haystack, Here::at(haystack, start), None);
 }
 
-/// Goes on from where a search stands until its match is known: the most preferred one or, with
-/// EARLIEST, one that ends at the first position at which any match is complete. It goes over no
-/// more than this number of positions, if there is one. Returns where the search stands then. None
-/// if it is over.
+/// Continues a search from its position until its match is known: the most preferred one or, if
+/// EARLIEST, one that ends at the first position at which any match is complete. It scans at most
+/// this number of positions, if there is a limit. Returns the search's position then, or `None` if
+/// it is over.
 ///
-/// Condition: no count of the search can be too large, and with EARLIEST there is no match yet.
+/// Conditions: no count of the search can overflow. If EARLIEST, there is no match yet.
 pub fn advance<S: Beginning, P: Patterns, const EARLIEST: bool>(
     cache: &mut Cache<S>,
     patterns: &mut P,
@@ -98,7 +98,7 @@ pub fn advance<S: Beginning, P: Patterns, const EARLIEST: bool>(
     }
 }
 
-/// Counts the next position, if their number is limited. Returns whether none was left.
+/// Counts the next position, if their number is limited. Returns true when the budget is used up.
 fn is_spent(left: &mut Option<u32>) -> bool
     ensures all { left.old ≡ None → (left.new ≡ None) × ¬ IsTrue result }
 {
@@ -112,7 +112,7 @@ fn is_spent(left: &mut Option<u32>) -> bool
     false
 }
 
-/// Whether the match is known after the position, or no position is left.
+/// Whether the match is known after this position, or no position is left.
 pub fn is_done<S: Beginning, const EARLIEST: bool>(here: Here, cache: &Cache<S>) -> bool
     ensures done { IsTrue result → (here.after ≡ None) ⊎ (¬ (best_of cache.now.best ≡ None)
         × (EARLIEST ≡ false → length cache.now.walk.memory.threads ≡ 0)) }

@@ -1,4 +1,4 @@
-//! A search position by position, from its working memory to its outcome.
+//! A search with the PikeVM, from its working memory to its outcome.
 ghost use Rattle.std.specs.Prelude.{IfOk, IsCharBoundary};
 ghost use Rattle.regex_lite_engine.specs.Graph.Stored.{places_of};
 ghost use Rattle.regex_lite_engine.specs.Search.OutcomeOfOne.{TellsOfOne};
@@ -12,13 +12,13 @@ use std::alloc::{AllocError, Global};
 
 impl<'g> OnePattern<'g> {
     /// The most preferred match from the least start at or after this offset, with this number of
-    /// slots, and what the search did. It goes position by position.
+    /// slots, and the cost of the search. It uses the PikeVM.
     ///
     /// Condition: the start is on a character boundary.
     ///
     /// # Errors
     ///
-    /// If memory runs out, which can happen only before the first step.
+    /// If memory runs out, which can happen only before the search begins.
     pub fn search_in_step(
         &mut self,
         alloc: Global,

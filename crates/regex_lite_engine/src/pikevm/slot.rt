@@ -1,9 +1,9 @@
-//! What a row keeps of a slot, in one word.
+//! A slot of a row, in one word.
 ghost use Rattle.std.specs.Prelude.{◌≡◌, ◌+◌, ◌<◌, ◌^◌, None, Some};
 
 use std::marker::Model;
 
-/// The offset that a slot holds, or that it holds none. An `Option` would take two words.
+/// The content of a slot: an offset, or none. An `Option` would take two words.
 #[derive(Clone, Copy)]
 pub struct Slot {
     /// One more than the offset, or 0.
@@ -25,14 +25,14 @@ impl Model for Slot {
 }
 
 impl Slot {
-    /// A slot that holds nothing.
+    /// A slot without an offset.
     pub fn blank() -> Slot
         ensures { result ≡ None }
     {
         Slot { word: 0 }
     }
 
-    /// A slot that holds this offset.
+    /// A slot with this offset.
     pub fn marked(at: usize) -> Slot
         requires { at + 1 < 2 ^ 64 }
         ensures { result ≡ Some at }
@@ -40,7 +40,7 @@ impl Slot {
         Slot { word: at + 1 }
     }
 
-    /// What it holds.
+    /// The offset of the slot.
     pub fn get(self) -> Option<usize>
         ensures { result ≡ self }
     {

@@ -1,4 +1,4 @@
-//! What a walk still has to do at a position, last put first out.
+//! The stack of a walk: what it still has to do at a position.
 ghost use Rattle.std.specs.Prelude.{◌≡◌, ◌↔◌, ◌+◌, ◌≤◌, ◌<◌, ◌++◌, [], ◌∷◌, ℕ};
 ghost use Rattle.std.specs.Prelude.{IsTrue, MatchOption, length, map, true};
 ghost use Rattle.regex_lite_engine.specs.Pikevm.Cells.{frame_of};
@@ -46,8 +46,8 @@ impl<S: Beginning> Memory<S> {
         Some(self.cells[self.depth].frame)
     }
 
-    /// Pops frames, up to the next place, and returns it. Each slot that was marked since then is
-    /// restored.
+    /// Pops frames up to the next place, and returns that place. Each slot that was marked since it
+    /// was pushed is restored.
     pub fn next_place(&mut self) -> Option<u32>
         requires { (places : ℕ) × FramesBelow places (length self.old.row) self.old.frames }
         ensures place { MatchOption result
@@ -67,7 +67,7 @@ impl<S: Beginning> Memory<S> {
         None
     }
 
-    /// Whether nothing is left to do.
+    /// Whether the stack is empty.
     pub fn is_done(&self) -> bool
         ensures { IsTrue result ↔ (self.now.frames ≡ []) }
     {

@@ -1,5 +1,5 @@
-//! Where a search goes on at a position and at the next: places in the order of their preference,
-//! each with where its way began and with a row of slots.
+//! The threads at a position and at the next: places in the order of their preference, each with
+//! its start and a row of slots.
 ghost use Rattle.std.specs.Prelude.{◌≡◌, ◌+◌, ◌^◌, ◌<◌, ◌++◌, [], ◌∷◌};
 ghost use Rattle.std.specs.Prelude.{None, length, replicate, true};
 ghost use Rattle.regex_lite_engine.specs.Pikevm.Cells.{row_on};
@@ -10,7 +10,7 @@ use crate::pikevm::cell::{Side, provide};
 use crate::pikevm::memory::Memory;
 
 impl<S: Beginning> Memory<S> {
-    /// How many threads the position has.
+    /// The number of threads at the position.
     pub fn threads(&self) -> usize
         ensures same { result ≡ length self.now.threads }
         ensures few { result < 2 ^ 63 }
@@ -18,8 +18,8 @@ impl<S: Beginning> Memory<S> {
         self.len
     }
 
-    /// Takes up a thread of the position: its row becomes that of the way that is followed. Returns
-    /// its place, and what is kept of where its way began.
+    /// Loads a thread of the position: its row becomes the row of the current path. Returns its
+    /// place and its start.
     pub fn load(&mut self, k: usize) -> (u32, S)
         requires { k < length self.old.threads }
         ensures thread { thread_at self.old.threads k ≡ (result.0, S.told result.1, self.new.row) }
@@ -30,7 +30,7 @@ impl<S: Beginning> Memory<S> {
         self.cells[k].thread(self.side)
     }
 
-    /// The place of a thread of the position, and what is kept of where its way began.
+    /// The place and the start of a thread of the position.
     ///
     /// Condition: the position has more threads than this number.
     pub fn thread(&self, k: usize) -> (u32, S)
@@ -41,16 +41,16 @@ impl<S: Beginning> Memory<S> {
         self.cells[k].thread(self.side)
     }
 
-    /// Begins a way with nothing marked.
+    /// Clears the row of the current path.
     pub fn clear_row(&mut self)
         ensures { self.new ≡ record self.old { row = replicate (length self.old.row) None } }
     {
         self.rows.clear(0);
     }
 
-    /// Adds a thread to the next position, with the row of the way that is followed.
+    /// Adds a thread to the next position, with the row of the current path.
     ///
-    /// Condition: there is room for one more.
+    /// Condition: there is capacity for one more.
     pub fn push_next(&mut self, place: u32, start: S)
         requires { length self.old.next < self.old.room }
         ensures { self.new ≡ record self.old {
@@ -66,7 +66,7 @@ impl<S: Beginning> Memory<S> {
         self.next_len = k + 1;
     }
 
-    /// Goes on to the next position, whose next has no threads yet.
+    /// Moves to the next position. The one after it has no threads yet.
     pub fn turn_over(&mut self)
         ensures { self.new ≡ record self.old { threads = self.old.next; next = [] } }
     {

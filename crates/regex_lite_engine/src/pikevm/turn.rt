@@ -1,4 +1,5 @@
-//! One position of the haystack: its threads are followed in order, and leave those of the next.
+//! The step at one position of the haystack: from its threads, in order, to those of the next
+//! position.
 ghost use Rattle.std.specs.Prelude.{◌≡◌, ◌+◌, ◌^◌, ◌≤◌, ◌<◌, ◌⊎◌, []};
 ghost use Rattle.std.specs.Prelude.{List, ℕ, All, None, false, length, true};
 ghost use Rattle.regex_lite_engine.specs.Graph.Renumbered.{arrows_of};
@@ -23,13 +24,14 @@ impl<S: Beginning> Cache<S> {
     ghost use Rattle.regex_lite_engine.specs.Pikevm.Searching.{FollowsAgain, IsHit, TurnsAgain};
     ghost use Rattle.regex_lite_engine.specs.Pikevm.Searching.{IsBetween, SpendsWithin};
 
-    /// Goes over the position. Its own starts come last, and only while there is no match. Returns
-    /// whether a match is complete there, which with WHOLE is at the haystack's end alone.
+    /// Takes the step at this position. Its own starts come last, and only while there is no match.
+    /// Returns whether a match is complete there; if WHOLE, a match can be complete only at the
+    /// haystack's end.
     ///
-    /// Condition: no search is under way at a position, each start is a place of the table, and no
-    /// count can be too large.
-    // Inlined with all that it calls, though searches with an automaton call it too: otherwise a
-    // turn costs a quarter more.
+    /// Condition: no other position is being processed, each start is a place of the table, and no
+    /// count can overflow.
+    // Inlined with all that it calls, though searches with a lazy DFA call it too: otherwise a step
+    // costs a quarter more.
     #[inline(always)]
     pub fn turn<P: Patterns, const WHOLE: bool>(&mut self, patterns: &P, here: Here) -> bool
         requires ready { IsBetween (P.table patterns.now) self.old }
@@ -76,8 +78,8 @@ impl<S: Beginning> Cache<S> {
         hit
     }
 
-    /// Follows the threads of the position in order, and its own starts after them, up to the
-    /// first that comes to a match: those after it are less preferred. Returns whether one does.
+    /// Follows the threads of the position in order, and its own starts after them, up to the first
+    /// that reaches a match: those after it are less preferred. Returns whether one does.
     #[inline(always)]
     fn follow<P: Patterns, const WHOLE: bool>(&mut self, patterns: &P, here: Here) -> bool
         requires placed { IsPlaced (P.table patterns.now)
@@ -110,8 +112,8 @@ impl<S: Beginning> Cache<S> {
         false
     }
 
-    /// How many ways are followed: those of the threads and, after them, the position's own
-    /// starts, if there is no match yet.
+    /// The number of threads to follow: those of the position and, if there is no match yet, its
+    /// own starts after them.
     fn ways<P: Patterns>(&self, patterns: &P) -> usize
         requires { length self.now.walk.memory.threads + length (P.starts patterns.now) < 2 ^ 64 }
         ensures { (told : ℕ → Told)

@@ -1,5 +1,4 @@
-//! The walk at one position: from a place to all that its arrows lead to without reading a
-//! character.
+//! The walk at one position: the closure of a place under the arrows that read no character.
 ghost use Rattle.std.specs.Prelude.{◌≡◌, ◌+◌, ◌≤◌, ◌<◌, ◌++◌, [], ◌∷◌};
 ghost use Rattle.std.specs.Prelude.{None, length, replicate, true};
 ghost use Rattle.regex_lite_engine.specs.Graph.Stored.{places_of};
@@ -17,7 +16,7 @@ use crate::search::here::Here;
 use crate::search::patterns::Patterns;
 use crate::steps::Steps;
 
-/// What a walk works in, and what it has counted.
+/// The working memory of a walk, and its counts.
 #[derive(Drop)]
 pub struct Walk<S: Beginning> {
     pub memory: Memory<S>,
@@ -25,9 +24,8 @@ pub struct Walk<S: Beginning> {
 }
 
 impl<S: Beginning> Walk<S> {
-    /// Takes up a thread of the position, or one of its own starts after them: its row becomes that
-    /// of the way that is followed. Returns the place to explore, and what is kept of where the way
-    /// began.
+    /// Loads a thread of the position, or one of its own starts after them: its row becomes the row
+    /// of the current path. Returns the place to explore, and the thread's start.
     #[inline(always)]
     pub fn take_up<P: Patterns>(&mut self, k: usize, patterns: &P, at: usize) -> (u32, S)
         requires { k < length self.old.memory.threads + length (P.starts patterns.now) }
@@ -49,9 +47,9 @@ impl<S: Beginning> Walk<S> {
         (start.place, S::at(at, start.number))
     }
 
-    /// Explores this place and all that is on the stack, the ways of one thread that started at
-    /// `start`. Stops where a match is complete, with WHOLE one that ends where the haystack does,
-    /// and returns whether one is: what is left then is less preferred.
+    /// Explores this place and all that is on the stack, for one thread that began at `start`.
+    /// Stops at a complete match, since what is left then is less preferred, and returns whether
+    /// there is one. If WHOLE, a match is complete only at the haystack's end.
     #[inline(always)]
     pub fn explore<P: Patterns, const WHOLE: bool>(
         &mut self,

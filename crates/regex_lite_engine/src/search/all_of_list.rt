@@ -9,8 +9,8 @@ use crate::search::here::Here;
 use crate::search::list_skip::skip_all;
 use crate::search::patterns::{Patterns, Start};
 
-/// The patterns of a list. All of them start at each position, so that a turn holds wherever it
-/// looks the same.
+/// The patterns of a list. All of them start at each position, so that a transition is independent
+/// of the position.
 #[derive(Clone, Copy)]
 pub struct AllOfList<'g> {
     pub list: &'g GraphList,
@@ -42,7 +42,7 @@ impl<'g> Patterns for AllOfList<'g> {
     }
 
     fn come_to(&mut self, _: &str, _: Here) {
-        // Each has a number of 32 bits, since there are no more.
+        // Pattern numbers have 32 bits, since there are no more patterns.
         let _entries = self.list.entries();
     }
 

@@ -1,4 +1,4 @@
-//! The positions at which a search by itself begins.
+//! The positions at which a one-off search begins.
 ghost use Rattle.std.specs.Prelude.{◌≡◌, ◌+◌, ◌<◌, ◌≤◌, ℕ, IfSome, IsCharBoundary, IsTrue};
 ghost use Rattle.std.specs.Prelude.{None, chars, length};
 ghost use Rattle.regex_lite_syntax.specs.Text.{Text};
@@ -13,8 +13,8 @@ use crate::search::one_pattern::OnePattern;
 use crate::search::patterns::{Patterns, pass_over};
 
 impl<'g> OnePattern<'g> {
-    /// The first position from this offset on at which a match may begin. None if there is none. A
-    /// search from the haystack's end is begun there, since that is its only start.
+    /// The first position from this offset on at which a match may begin. `None` if there is none.
+    /// A search from the haystack's end always begins there, since that is its only start.
     ///
     /// Condition: the offset is on a character boundary.
     // Inlined, since many searches end at their first start.
@@ -34,11 +34,12 @@ impl<'g> OnePattern<'g> {
         self.start_from(haystack, here)
     }
 
-    /// Where a search from this offset on begins that passes over positions by itself: at its
-    /// first start if a prefilter finds that, and else where it is. None if a prefilter finds none.
+    /// The position at which a search from this offset begins that skips positions by itself: its
+    /// first start if a prefilter finds it, and otherwise this offset. `None` if the prefilter
+    /// finds none.
     ///
     /// Condition: the offset is on a character boundary.
-    // Inlined, so that a search without a prefilter costs no more than the test for it.
+    // Inlined, so that a search without a prefilter pays only for the test.
     #[inline(always)]
     pub fn search_start(&self, haystack: &str, start: usize) -> Option<usize>
         requires { IsCharBoundary haystack.now start }
@@ -62,8 +63,8 @@ impl<'g> OnePattern<'g> {
         Some(first)
     }
 
-    /// The first such position after this one.
-    // Inlined, since a depth-first search passes here at each start.
+    /// The first position after this one at which a match may begin.
+    // Inlined, since the bounded backtracker calls it at each start.
     #[inline(always)]
     pub(crate) fn start_after(&self, haystack: &str, here: Here) -> Option<Here>
         requires { (p : ℕ) × IsHere (chars haystack.now) p here }
@@ -80,7 +81,7 @@ impl<'g> OnePattern<'g> {
         self.start_from(haystack, here.next(haystack))
     }
 
-    /// Whether it is known that matches begin at the haystack's start alone.
+    /// Whether it is known that matches begin only at the haystack's start.
     fn begins_at_start_alone(&self) -> bool
         ensures { IsTrue result → (haystack : Text) (i : ℕ) → 0 < i → i ≤ length haystack
             → IsDeadAt (places_of self.now.table.now) haystack self.now.entry i }
@@ -88,7 +89,7 @@ impl<'g> OnePattern<'g> {
         self.reads && self.filter.begins_with_none()
     }
 
-    /// The first such position from here on.
+    /// The first position from here on at which a match may begin.
     #[inline(always)]
     fn start_from(&self, haystack: &str, here: Here) -> Option<Here>
         requires { (p : ℕ) × IsHere (chars haystack.now) p here }

@@ -1,4 +1,4 @@
-//! Where a search stands in the haystack.
+//! Positions in the haystack.
 ghost use Rattle.std.specs.Prelude.{◌≡◌, ◌+◌, ◌^◌, ◌<◌, ℕ, IsSome, MatchOption, None, Some};
 ghost use Rattle.std.specs.Prelude.{IsCharBoundary, chars, drop, slice_get};
 ghost use Rattle.std.specs.Char.{len_utf8};
@@ -11,7 +11,7 @@ pub struct Here {
     pub before: Option<char>,
     pub after: Option<char>,
     pub at: usize,
-    /// The next offset fits too, since no haystack has that many bytes.
+    /// The next offset doesn't overflow, since no haystack is that long.
     pub ghost small: { at + 1 < 2 ^ 64 },
 }
 
@@ -20,7 +20,7 @@ impl Here {
 
     /// The position at this offset.
     ///
-    /// Condition: it is on a character boundary.
+    /// Condition: the offset is on a character boundary.
     pub fn at(haystack: &str, at: usize) -> Here
         requires { IsCharBoundary haystack.now at }
         ensures here { IsHere (chars haystack.now) (position_at haystack.now at) result }
@@ -46,7 +46,7 @@ impl Here {
         let Some(c) = self.after else {
             return self;
         };
-        // The sum fits, since a haystack has no more bytes than can be counted.
+        // The sum doesn't overflow, since the length of a haystack is a `usize`.
         let _bytes = haystack.len();
         let at = self.at + byte_len(c);
         Here {
@@ -57,15 +57,15 @@ impl Here {
     }
 }
 
-/// How many bytes the character has.
+/// The length of the character in bytes.
 pub fn byte_len(c: char) -> usize
     ensures { result ≡ len_utf8 c }
 {
     if c.is_ascii() { 1 } else { wide_len(c) }
 }
 
-/// The same for a character that is not ASCII.
-// Not inlined, so that an ASCII one takes a single test.
+/// The length in bytes of a character that isn't ASCII.
+// Not inlined, so that an ASCII character takes a single test.
 #[inline(never)]
 fn wide_len(c: char) -> usize
     ensures { result ≡ len_utf8 c }
@@ -73,7 +73,7 @@ fn wide_len(c: char) -> usize
     c.len_utf8()
 }
 
-/// The character that begins there.
+/// The character that begins at this offset.
 ///
 /// Condition: the offset is on a character boundary.
 pub fn first_char(haystack: &str, at: usize) -> Option<char>
@@ -100,7 +100,7 @@ pub fn next_char(haystack: &str, at: usize) -> Option<(char, usize)>
     }
 }
 
-/// The character that ends there.
+/// The character that ends at this offset.
 ///
 /// Condition: the offset is on a character boundary.
 pub fn last_char(haystack: &str, at: usize) -> Option<char>

@@ -1,4 +1,4 @@
-//! One pattern, which is searched for by itself.
+//! A single pattern to search for.
 ghost use Rattle.std.specs.Prelude.{◌≡◌, ◌<◌, IfSome, IsTrue, length, true};
 ghost use Rattle.regex_lite_engine.specs.Graph.Stored.{places_of};
 ghost use Rattle.regex_lite_engine.specs.Search.Filters.{facts_of};
@@ -16,16 +16,16 @@ use regex_lite_syntax::prefilter::Words;
 #[derive(Clone, Copy)]
 pub struct OnePattern<'g> {
     pub table: &'g Table,
-    /// Where it is entered.
+    /// The place at which the pattern is entered.
     pub entry: u32,
-    /// Where a match can begin.
+    /// The filter for positions at which a match can begin.
     pub filter: PatternFilter<'g>,
     /// Whether each match reads a character. Then none begins at the haystack's end.
     pub reads: bool,
-    /// At first it may start nowhere.
+    /// Whether the pattern may start at the position reached last; initially it doesn't.
     pub may_start: bool,
-    /// The offset of a start that was looked for already, or one that no haystack has. From there
-    /// nothing is passed over.
+    /// The offset of a start that was found already, or an offset that no haystack has. From there
+    /// nothing is skipped.
     pub first: usize,
     pub ghost inside: { entry < length (places_of table.now) },
     pub ghost facts: { AreFactsOf (places_of table.now) entry (facts_of filter) },
@@ -33,7 +33,8 @@ pub struct OnePattern<'g> {
 }
 
 impl<'g> OnePattern<'g> {
-    /// It, as one that starts everywhere, so that a turn holds wherever it looks the same.
+    /// The pattern as one that starts everywhere, so that a transition is independent of the
+    /// position.
     #[inline(always)]
     pub fn everywhere(&self) -> OnePattern<'g>
         ensures table { result.table.now ≡ self.now.table.now }
@@ -45,8 +46,8 @@ impl<'g> OnePattern<'g> {
         all
     }
 
-    /// The words of the pattern, if each match is one of them, and nothing else. Then the next of
-    /// them is what a search finds.
+    /// The words of the pattern, if its matches are exactly these words. Then a search finds the
+    /// next occurrence of one of them.
     #[inline(always)]
     pub fn whole_words(&self) -> Option<&'g Words>
         requires { DoWordsAnswer (places_of self.now.table.now) self.now.entry
@@ -73,8 +74,8 @@ impl<'g> Patterns for OnePattern<'g> {
         self.table
     }
 
-    // Inlined, and so are the next ones, since each position passes here: as calls they cost
-    // `is_match` by line up to 1.09 times as much.
+    // Inlined, and so are the next ones, since they are called at each position: as calls they made
+    // `is_match` by line up to 1.09 times as expensive.
     #[inline(always)]
     fn skip(&self, haystack: &str, here: Here) -> Option<Here> {
         if here.at == self.first {

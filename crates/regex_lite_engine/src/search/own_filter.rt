@@ -1,4 +1,4 @@
-//! Where a match of one of several patterns can begin, in little memory.
+//! Compact filters for the positions at which a match of one of several patterns can begin.
 //!
 //! Which patterns match is found for one after another, and the index of a list has no prefilter.
 //! So each pattern has a filter of its own. A pattern that begins with two ASCII characters, or
@@ -15,18 +15,18 @@ use regex_lite_syntax::Hir;
 use regex_lite_syntax::prefilter::Filter;
 use std::alloc::{AllocError, Global};
 
-/// Where a match can begin. Most patterns of a long list are words, of which two characters say as
-/// much as a filter, in a twentieth of its memory.
+/// A filter for the positions at which a match can begin. Most patterns of a long list are words.
+/// Two characters of a word filter as well as its whole filter, in a twentieth of the memory.
 #[derive(Drop)]
 pub(crate) enum OwnFilter {
-    /// Each match begins with these characters.
+    /// Each match begins with these two characters.
     Literal(Prefix),
-    /// What the whole tree tells.
+    /// The filter of the whole tree.
     Whole(Box<Filter>),
 }
 
 impl OwnFilter {
-    /// That of the tree.
+    /// The filter of the tree: its prefix if it has one.
     ///
     /// # Errors
     ///
@@ -40,7 +40,7 @@ impl OwnFilter {
         OwnFilter::whole(alloc, hir)
     }
 
-    /// What the whole tree tells.
+    /// The filter of the whole tree.
     ///
     /// # Errors
     ///
@@ -52,7 +52,7 @@ impl OwnFilter {
         Ok(OwnFilter::Whole(filter))
     }
 
-    /// It, as searches take it.
+    /// The filter as searches take it.
     pub(crate) fn view(&self) -> PatternFilter<'_>
         ensures { facts_of result ≡ own_facts_of self.now }
     {

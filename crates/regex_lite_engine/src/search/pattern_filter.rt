@@ -1,4 +1,4 @@
-//! Where a match of one pattern can begin.
+//! Filters for the positions at which a match of one pattern can begin.
 ghost use Rattle.std.specs.Prelude.{◌≡◌, ℕ, IfSome, IsTrue, Some, false, chars, IsCharBoundary};
 ghost use Rattle.regex_lite_syntax.specs.Prefilter.StartFacts.{NeverStarts};
 ghost use Rattle.regex_lite_syntax.specs.Prefilter.Starts.{may_begin};
@@ -12,20 +12,20 @@ use crate::search::prefix::Prefix;
 use crate::search::skip::{first_start, next_start};
 use regex_lite_syntax::prefilter::{Filter, Words};
 
-/// What is known of the positions at which a match of a pattern can begin.
+/// A filter for the positions at which a match of a pattern can begin.
 #[derive(Clone, Copy)]
 pub enum PatternFilter<'g> {
-    /// Each match begins with these characters.
+    /// Each match begins with these two characters.
     Literal(Prefix),
-    /// What the whole tree tells.
+    /// The filter of the whole tree.
     Whole(&'g Filter),
 }
 
 impl<'g> PatternFilter<'g> {
-    /// Whether a match can begin here, judging by the next character. At the haystack's end any
-    /// may.
-    // Inlined, and so are the next ones, since each position passes here: as calls they cost `find`
-    // by line up to 1.57 times as much.
+    /// Whether a match can begin here, judging by the next character. At the haystack's end the
+    /// answer is always yes.
+    // Inlined, and so are the next ones, since they are called at each position: as calls they made
+    // `find` by line up to 1.57 times as expensive.
     #[inline(always)]
     pub(crate) fn may_begin(self, here: Here) -> bool
         ensures { result ≡ false
@@ -39,8 +39,8 @@ impl<'g> PatternFilter<'g> {
         }
     }
 
-    /// Whether a match can begin here, judging by the next character, and by the words of which
-    /// each match begins with one, if there are such words.
+    /// Whether a match can begin here, judging by the next character and, if each match begins with
+    /// one of some words, by those words.
     #[inline(always)]
     pub(crate) fn may_start(self, haystack: &str, here: Here) -> bool
         requires { (p : ℕ) × IsHere (chars haystack.now) p here }
@@ -53,8 +53,8 @@ impl<'g> PatternFilter<'g> {
         self.may_stand(haystack, here)
     }
 
-    /// Whether one of the words may stand here of which each match begins with one, if there are
-    /// such words.
+    /// Whether one of the words occurs here, if each match begins with one of some words; otherwise
+    /// true.
     #[inline(always)]
     fn may_stand(self, haystack: &str, here: Here) -> bool
         requires { (p : ℕ) × IsHere (chars haystack.now) p here }
@@ -83,7 +83,8 @@ impl<'g> PatternFilter<'g> {
         Some(Here::at(haystack, at))
     }
 
-    /// The offset of that position.
+    /// The offset of the next position after this one at which a match can begin, or of the
+    /// haystack's end. `None` if one may begin here.
     #[inline(always)]
     fn next_start(self, haystack: &str, here: Here) -> Option<usize>
         requires { (p : ℕ) × IsHere (chars haystack.now) p here }
@@ -112,7 +113,7 @@ impl<'g> PatternFilter<'g> {
         }
     }
 
-    /// Whether no character begins a match: then none begins after the haystack's start but at its
+    /// Whether no match begins with a character: then matches begin only at the haystack's start or
     /// end.
     #[inline(always)]
     pub(crate) fn begins_with_none(self) -> bool
@@ -124,7 +125,7 @@ impl<'g> PatternFilter<'g> {
         }
     }
 
-    /// The words of the pattern, if each match is one of them, and nothing else.
+    /// The words of the pattern, if its matches are exactly these words.
     #[inline(always)]
     pub(crate) fn whole_words(self) -> Option<&'g Words>
         ensures words { IfSome result (λ words. (facts_of self.entry).words ≡ Some words.now) }
@@ -136,7 +137,7 @@ impl<'g> PatternFilter<'g> {
         }
     }
 
-    /// Whether the positions that are passed over are found many bytes at a time.
+    /// Whether positions are skipped many bytes at a time.
     pub(crate) fn has_prefilter(self) -> bool {
         match self {
             PatternFilter::Whole(filter) => {

@@ -1,4 +1,4 @@
-//! What is searched, and where patterns may start.
+//! The patterns that are searched for, and where they may start.
 ghost use Rattle.std.specs.Prelude.{◌≡◌, ◌≤◌, ◌<◌, ◌^◌, ℕ, List, [], All, IfSome};
 ghost use Rattle.std.specs.Prelude.{chars, length, slice_get, Some};
 ghost use Rattle.regex_lite_engine.specs.Graph.Places.{Place};
@@ -10,7 +10,7 @@ ghost use Rattle.regex_lite_engine.specs.Search.Starts.{AreDeadAt, AreStartsAt};
 use crate::nfa::table::Table;
 use crate::search::here::Here;
 
-/// Where a pattern is entered, with its number.
+/// The place at which a pattern is entered, and the pattern's number.
 #[derive(Clone, Copy)]
 pub struct Start {
     pub number: u32,
@@ -21,31 +21,31 @@ pub struct Start {
 pub trait Patterns {
     ghost use Rattle.regex_lite_engine.specs.declared.search.patterns.Start.{Start};
 
-    /// Their places.
+    /// The places of the patterns.
     ghost table: { Self → List (Place ℕ) };
 
-    /// The places where they are entered, in the order of their numbers.
+    /// The places at which the patterns are entered, in the order of their numbers.
     ghost entries: { Self → List ℕ };
 
-    /// Those that may start at the position reached last.
+    /// The patterns that may start at the position reached last.
     ghost starts: { Self → List Start };
 
-    /// Their places.
+    /// The table of the patterns' places.
     fn table(&self) -> &Table
         ensures { places_of result.now ≡ table self.now };
 
-    /// The next position after this one at which a match can begin, or the haystack's end. Those
-    /// before it are skipped. None if a match may begin here.
+    /// The next position after this one at which a match can begin, or the haystack's end. The
+    /// positions before it are skipped. `None` if a match may begin here.
     fn skip(&self, haystack: &str, here: Here) -> Option<Here>
         requires { (p : ℕ) × IsHere (chars haystack.now) p here }
         ensures { (p : ℕ) → IsHere (chars haystack.now) p here → IfSome result
             (PassesTo (AreDeadAt (table self.now) (chars haystack.now) (entries self.now))
             (chars haystack.now) p) };
 
-    /// Whether the positions that are passed over are found many bytes at a time.
+    /// Whether positions are skipped many bytes at a time.
     fn has_prefilter(&self) -> bool;
 
-    /// Comes to a position: finds the patterns that may start there.
+    /// Moves to a position: finds the patterns that may start there.
     fn come_to(&mut self, haystack: &str, here: Here)
         requires { (p : ℕ) × IsHere (chars haystack.now) p here }
         ensures table { table self.new ≡ table self.old }
@@ -57,19 +57,19 @@ pub trait Patterns {
         ensures few { length (starts self.new) ≤ length (entries self.new) }
         ensures countable { length (entries self.new) < 2 ^ 32 };
 
-    /// How many may start there.
+    /// The number of patterns that may start there.
     fn len(&self) -> usize
         ensures { result ≡ length (starts self.now) };
 
-    /// The one with this number among them, in the order of the patterns.
+    /// The start with this index among them, in the order of the patterns.
     fn start(&self, k: usize) -> Start
         requires { k < length (starts self.now) }
         ensures { slice_get (starts self.now) k ≡ Some result };
 }
 
-/// Patterns that an anchored search may be for: they start at one position alone.
+/// Patterns for anchored searches: they start only at one position.
 pub trait Anchored: Patterns {
-    /// Has no pattern start from here on.
+    /// From here on no pattern may start.
     fn start_no_more(&mut self)
         ensures table { Self.table self.new ≡ Self.table self.old }
         ensures entries { Self.entries self.new ≡ Self.entries self.old }
@@ -77,8 +77,8 @@ pub trait Anchored: Patterns {
 }
 
 /// The next position from here on at which a match of these patterns can begin, or the haystack's
-/// end. Those before it are passed over.
-// Inlined, since each position passes here.
+/// end. The positions before it are skipped.
+// Inlined, since it is called at each position.
 #[inline(always)]
 pub fn pass_over<P: Patterns>(patterns: &P, haystack: &str, here: Here) -> Here
     requires { (p : ℕ) × IsHere (chars haystack.now) p here }

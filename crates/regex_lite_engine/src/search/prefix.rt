@@ -24,8 +24,8 @@ pub struct Prefix {
 }
 
 impl Prefix {
-    /// That of the tree, if it is a row of parts that begins with two such characters, or with the
-    /// boundary of a word before them.
+    /// The prefix of the tree, if it is a concatenation that begins with two such characters, or
+    /// with a word boundary before them.
     pub(super) fn of(hir: &Hir) -> Option<Prefix>
         ensures { IfSome result (λ prefix. AreHeadsOfTree (tree_of hir.now)
             (prefix_heads prefix.first prefix.second)) }
@@ -46,7 +46,7 @@ impl Prefix {
         None
     }
 
-    /// That of two parts in a row, if each of them is an ASCII character.
+    /// The prefix of two consecutive parts, if each of them is an ASCII character.
     fn of_parts(first: &Hir, second: &Hir) -> Option<Prefix>
         ensures first { IfSome result (λ prefix. tree_of first.now ≡ character prefix.first) }
         ensures second { IfSome result (λ prefix. (tree_of second.now ≡ character prefix.second)
@@ -67,7 +67,8 @@ impl Prefix {
         None
     }
 
-    /// Whether a match can begin before this character. At the haystack's end any may.
+    /// Whether a match can begin before this character. At the haystack's end the answer is always
+    /// yes.
     pub(super) fn may_begin(self, after: Option<char>) -> bool
         ensures { result ≡ false → (before : Option ℕ)
             → may_begin (just_starts self.first) before after ≡ false }
@@ -78,9 +79,9 @@ impl Prefix {
         }
     }
 
-    /// The offset of the next position after this one at which both stand, or of the haystack's
-    /// end. None if they stand here.
-    // Inlined, since each position passes here.
+    /// The offset of the next position after this one at which both occur, or of the haystack's
+    /// end. `None` if they occur here.
+    // Inlined, since it is called at each position.
     #[inline(always)]
     pub(super) fn next_start(self, haystack: &str, here: Here) -> Option<usize>
         requires { (p : ℕ) × IsHere (chars haystack.now) p here }
@@ -96,8 +97,8 @@ impl Prefix {
         Some(at)
     }
 
-    /// The first offset from this one on at which both stand, or the end.
-    // Not inlined, since the loop of a search is so large that this one would lose its registers.
+    /// The first offset from this one on at which both occur, or the haystack's end.
+    // Not inlined: in the large loop of a search its variables wouldn't stay in registers.
     #[inline(never)]
     pub(super) fn next_offset(self, bytes: &[u8], from: usize) -> usize
         requires { from ≤ length bytes.now }
@@ -117,7 +118,7 @@ impl Prefix {
         self.next_before(bytes, block, bytes.len())
     }
 
-    /// The first offset from this one on at which both stand, or this end.
+    /// The first offset from this one on at which both occur, or this end.
     fn next_before(self, bytes: &[u8], from: usize, end: usize) -> usize
         requires from { from ≤ end }
         requires end { end ≤ length bytes.now }
@@ -137,7 +138,7 @@ impl Prefix {
         at
     }
 
-    /// Whether both stand at this offset, or the first where the haystack ends.
+    /// Whether both occur at this offset, or only the first if the haystack ends after it.
     fn stands_at(self, bytes: &[u8], at: usize) -> bool
         requires { at < length bytes.now }
         ensures passed { result ≡ false
@@ -148,7 +149,7 @@ impl Prefix {
     }
 }
 
-/// Whether this is the look for the boundary of a word.
+/// Whether this is the look for a word boundary.
 fn is_word_boundary(hir: &Hir) -> bool
     ensures { IsTrue result → tree_of hir.now ≡ look Word }
 {

@@ -1,4 +1,4 @@
-//! Searches for patterns that are nothing but their words.
+//! Searches for patterns that are plain words.
 ghost use Rattle.std.specs.Prelude.{◌≡◌, ◌+◌, ◌<◌, ◌∷◌, [], ℕ, IfSome, IsCharBoundary, List};
 ghost use Rattle.std.specs.Prelude.{chars, length};
 ghost use Rattle.regex_lite_syntax.specs.Tree.{Tree};
@@ -22,7 +22,8 @@ use std::alloc::Global;
 
 impl<'g> OnePattern<'g> {
     /// The most preferred match from the least start at or after this offset, without slots, and
-    /// what the search did: it enters a place for the match. None if the pattern isn't its words.
+    /// the cost of the search: a match counts as one place entered. `None` if the pattern isn't
+    /// plain words.
     ///
     /// Condition: the start is on a character boundary.
     #[inline(always)]
@@ -55,8 +56,8 @@ impl<'g> OnePattern<'g> {
         Some((Some(outcome), steps_of_match()))
     }
 
-    /// The least end of any match that starts at or after this offset, and what the search did: it
-    /// enters a place for the match. None if the pattern isn't one word alone.
+    /// The least end of any match that starts at or after this offset, and the cost of the search:
+    /// a match counts as one place entered. `None` if the pattern isn't a single word.
     ///
     /// Condition: the start is on a character boundary.
     #[inline(always)]
@@ -81,7 +82,8 @@ impl<'g> OnePattern<'g> {
 impl GraphList {
     /// The match that starts first at or after this offset, of the pattern with the lowest number
     /// that matches there, without slots: that number, the most preferred match of the pattern, and
-    /// what the search did, which enters a place for the match. None if a pattern isn't its words.
+    /// the cost of the search: a match counts as one place entered. `None` if a pattern isn't plain
+    /// words.
     ///
     /// Condition: the start is on a character boundary.
     pub fn search_words(
@@ -100,7 +102,7 @@ impl GraphList {
         ensures entered { IfSome result (λ told. IfSome told.0 (λ _. 0 < told.1.entered)) }
     {
         let words = self.words()?;
-        // Each place is one of the graph.
+        // Each entry is a place of the graph.
         let _entries = self.entries();
         match words.find_span(haystack.as_bytes(), start) {
             None => Some((None, no_steps())),
@@ -116,7 +118,7 @@ impl GraphList {
     }
 }
 
-/// What a search by words does that finds a match: it enters a place.
+/// The cost of a search by words that finds a match: one place entered.
 #[inline(always)]
 fn steps_of_match() -> Steps
     ensures { result ≡ record { tried = 1; entered = 1; looked = 0 } }

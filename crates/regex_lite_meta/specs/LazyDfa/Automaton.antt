@@ -1,4 +1,4 @@
--- The states of the lazy automaton, and the turns that lead from one to another.
+-- The lazy DFA: its states, and the transitions (turns of a search) between them.
 use Rattle.std.specs.Prelude.{◌≡◌, ◌+◌, ◌<◌, ◌≤◌, ◌==◌, ℕ, Bool, true, false, List, []}
 use Rattle.std.specs.Prelude.{map, length, slice_get, slice_index, IfSome, Option, Some, None}
 use Rattle.regex_lite_syntax.specs.Text.{Text}
@@ -17,44 +17,45 @@ use Rattle.regex_lite_engine.specs.Search.Standing.{IsHere}
 use Rattle.regex_lite_engine.specs.Pikevm.Turns.{IsComing}
 use Rattle.regex_lite_engine.specs.Search.NumberedOutcomes.{Best}
 
--- what is kept of where a way began: whether at the first start, and the number of its pattern
+-- the origin of a way as a state keeps it: whether it began at the first start, and the number of
+-- its pattern
 pub record KeptOrigin : Type 0 where
   pub first : Bool
   pub number : Option ℕ
 
--- a place to go on from, with where the way to it began
+-- a way: one NFA state (place) of a DFA state, with its origin
 pub record Way : Type 0 where
   pub place : ℕ
   pub origin : KeptOrigin
 
--- what a search goes on with between two characters, whatever the haystack
+-- a state: all that a search depends on between two characters, in any haystack
 pub record State : Type 0 where
   -- the ways, the most preferred first
   pub ways : List Way
   -- whether there is no match yet
   pub searching : Bool
-  -- what looks see of the character before
+  -- the look context of the character before
   pub before : LookContext
-  -- where the way began by which a match was complete at the last position
+  -- the origin of the match that was complete at the last position
   pub hit : Option KeptOrigin
-  -- whether the last position is the first start from there on
+  -- whether the last position is the first start from then on
   pub restarts : Bool
-  -- the numbers of the states that turns lead to, by the class of the next character
+  -- the transitions: the number of the next state, by the class of the next character
   pub next : List ℕ
 
 pub record Automaton : Type 0 where
   pub intervals : Intervals
-  -- how many characters a way reads at most, if that is known
+  -- the greatest number of characters that a path reads, if it is known
   pub reach : Option ℕ
   pub states : List State
-  -- the ways of a state that is to come
+  -- the ways of the next state to be added
   pub pending : List Way
 
--- stands for a turn that isn't remembered
+-- stands for a transition that isn't cached
 abbrev pub unknown : ℕ
 unknown = 65535
 
--- the way with this origin began at start i, if it is the first
+-- the start that is known of a way: i if it began at the first start, otherwise none
 abbrev pub told_if : Bool → (i : ℕ) → Option ℕ
 told_if true i = Some i
 told_if false i = None
@@ -65,11 +66,11 @@ told_by i origin = record { at = told_if origin.first i; number = origin.number 
 abbrev pub thread_of : (i : ℕ) → Way → Thread
 thread_of i way = (way.place, told_by i way.origin, [])
 
--- the threads of a state where the first start is i. Nothing is known of the other starts
+-- the threads of a state if the first start is i; the other starts aren't known
 abbrev pub threads_of : (i : ℕ) → List Way → List Thread
 threads_of i ways = map (thread_of i) ways
 
--- the way began there
+-- the way began at the first start
 abbrev pub began : (first : ℕ) → Option ℕ → Bool
 began first None = false
 began first (Some start) = start == first
@@ -83,40 +84,40 @@ way_of first thread = record { place = thread.0; origin = origin_of first thread
 abbrev pub ways_of : (first : ℕ) → List Thread → List Way
 ways_of first threads = map (way_of first) threads
 
--- where the way began by which the match is complete, if one is
+-- the origin of the match that is complete, if one is
 abbrev pub hit_of : (first : ℕ) → (hit : Bool) → (found : Best) → Option KeptOrigin
 hit_of first false found = None
 hit_of first true None = None
 hit_of first true (Some found) = Some (origin_of first found.0)
 
--- the best match after a position where the first start is i
+-- the best match after a position, if the first start is i
 abbrev pub best_left : Option KeptOrigin → (i at : ℕ) → Best → Best
 best_left None i at best = best
 best_left (Some origin) i at best = Some (told_by i origin, at, [])
 
--- the first start after a turn at the offset, where it was i before
+-- the first start after a transition at the offset, if it was i before
 abbrev pub first_left : (restarts : Bool) → (i at : ℕ) → ℕ
 first_left false i at = i
 first_left true i at = at
 
--- own starts are added until there is a match
+-- starts are added until there is a match
 abbrev pub searching_after : Option KeptOrigin → Bool → Bool
 searching_after None searching = searching
 searching_after (Some origin) searching = false
 
--- there is no match while one is searched for
+-- there is no match yet while starts are added
 abbrev pub Suits : (searching : Bool) → Best → Type 0
 Suits true best = best ≡ None
 Suits false best = best ≡ None → ⊥
 
--- a search in this state sees a character of this class
+-- a search in this state is before a character of this class
 pub record Sees (intervals : Intervals) (before : LookContext) (class : ℕ) (there : Here)
     : Type 0 where
   pub ahead : class_of intervals.boundaries there.after ≡ class
   pub behind : intervals.looks ≡ true → side_of there.before ≡ before
 
--- Wherever a search in state x sees a character of the class, its turn leads to state y. Where
--- there are no ways, the position's own start is the first
+-- Wherever a search in state x is before a character of the class, its transition leads to state y.
+-- If there are no ways, the position itself is the first start
 pub record LeadsOn (table : List (Place ℕ)) (entries : List ℕ) (intervals : Intervals) (x : State)
     (class : ℕ) (y : State) : Type 0 where
   pub on : (there : Here) → Sees intervals x.before class there → (i : ℕ)
@@ -129,7 +130,7 @@ pub record LeadsOn (table : List (Place ℕ)) (entries : List ℕ) (intervals : 
   pub before : intervals.looks ≡ true → (there : Here)
       → class_of intervals.boundaries there.after ≡ class → side_of there.after ≡ y.before
 
--- a state without ways in which a match is searched for after this character
+-- the start state after this character: it has no ways, and there is no match yet
 pub record IsEmptyState (automaton : Automaton) (x : ℕ) (last : Option ℕ) : Type 0 where
   pub state : State
   pub is_state : slice_get automaton.states x ≡ Some state
@@ -137,25 +138,27 @@ pub record IsEmptyState (automaton : Automaton) (x : ℕ) (last : Option ℕ) : 
   pub searching : state.searching ≡ true
   pub sees : automaton.intervals.looks ≡ true → state.before ≡ side_of last
 
--- this many are no more than the places that read a character in any part of the patterns' own
+-- this number is at most the number of places that read a character, in any part that has the
+-- patterns
 abbrev pub FitsOwnParts : List (Place ℕ) → (entries : List ℕ) → (count : ℕ) → Type 0
 FitsOwnParts table entries count =
     (low len : ℕ) → IsOwnPart table entries low len → count ≤ reading_of (row_of table low len)
 
--- the ways lead to places of the table, and are no more than those that read a character
+-- the ways lead to places of the table, and there are at most as many as places that read a
+-- character
 pub record FitsTable (table : List (Place ℕ)) (entries : List ℕ) (ways : List Way) : Type 0 where
   pub below : (k : ℕ) (way : Way) → slice_get ways k ≡ Some way → way.place < length table
   pub few : length ways ≤ reading_of table
   pub own : FitsOwnParts table entries (length ways)
 
--- no way from where a pattern is entered reads more characters than these, whatever the haystack
+-- no path from an entry reads more characters than this, in any haystack
 abbrev pub ReadsAtMost : (table : List (Place ℕ)) → (entries : List ℕ) → (most : ℕ) → Type 0
 ReadsAtMost table entries most =
     (haystack : Text) (number entry i : ℕ) (way : List ℕ) (r j : ℕ)
     → IsEntry entries number entry
     → Leads (ℕ × ℕ) (numbered_step table haystack) (entry, i) way (r, j) → j ≤ i + most
 
--- all turns that are remembered are those of searches in this table
+-- all cached transitions are those of searches in this table
 pub record Remembers (table : List (Place ℕ)) (entries : List ℕ) (automaton : Automaton)
     : Type 0 where
   pub intervals : AreIntervalsFor table entries automaton.intervals

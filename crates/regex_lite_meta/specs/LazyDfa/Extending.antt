@@ -1,4 +1,4 @@
--- How the lazy automaton gets more states.
+-- Adding states to the lazy DFA.
 use Rattle.std.specs.Prelude.{◌≡◌, ◌<◌, ℕ, Bool, List, Option, Some, slice_get, slice_index}
 use Rattle.regex_lite_meta.specs.declared.lazy_dfa.state.LookContext.{LookContext}
 use Rattle.regex_lite_meta.specs.LazyDfa.Automaton.{Automaton, KeptOrigin, State}
@@ -16,7 +16,7 @@ pub record IsState (automaton : Automaton) (y : ℕ) (all : List Way) (goes_on :
   pub hit : state.hit ≡ last
   pub restarts : state.restarts ≡ anew
 
--- all states are still there, and no turn is known from a new one
+-- all states are still there, and a new one has no cached transition
 pub record Extends (old new : Automaton) : Type 0 where
   pub intervals : new.intervals ≡ old.intervals
   pub reach : new.reach ≡ old.reach

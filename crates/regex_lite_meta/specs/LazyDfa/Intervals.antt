@@ -14,7 +14,7 @@ use Rattle.regex_lite_engine.specs.declared.search.here.Here.{Here}
 use Rattle.regex_lite_engine.specs.Graph.Places.{Place}
 use Rattle.regex_lite_engine.specs.Pikevm.Again.{AreAlike}
 
--- where the intervals begin, except the lowest; and whether some place looks at its neighbours
+-- the starts of all intervals except the lowest, and whether some place has a look
 pub record Intervals : Type 0 where
   pub boundaries : List ℕ
   pub looks : Bool
@@ -23,7 +23,7 @@ abbrev pub tick : Bool → ℕ
 tick true = 1
 tick false = 0
 
--- how many of the boundaries lie at the character or below it
+-- the number of boundaries at the character or below it
 abbrev pub interval_of : (boundaries : List ℕ) → (c : ℕ) → ℕ
 interval_of [] c = 0
 interval_of (b ∷ boundaries) c = tick (nat_le b c) + interval_of boundaries c
@@ -33,7 +33,7 @@ abbrev pub class_of : (boundaries : List ℕ) → Option ℕ → ℕ
 class_of boundaries None = suc (length boundaries)
 class_of boundaries (Some c) = interval_of boundaries c
 
--- how many classes there are: one for each interval, and that of the end
+-- the number of classes: one for each interval, and that of the end
 abbrev pub classes_in : Intervals → ℕ
 classes_in intervals = length intervals.boundaries + 2
 
@@ -43,7 +43,7 @@ pub record IsInterval (boundaries : List ℕ) (interval : Interval) : Type 0 whe
       → interval_of boundaries c ≡ interval.class
   pub few : interval.class ≤ length boundaries
 
--- a character of this class begins at the offset, and ends there
+-- a character of this class begins at `at` and ends at `end`
 pub record IsAhead (boundaries bytes : List ℕ) (at class end : ℕ) : Type 0 where
   pub inside : at < length bytes
   pub character : ℕ
@@ -55,14 +55,14 @@ abbrev pub IsBoundary : List ℕ → ℕ → Type 0
 IsBoundary [] b = ⊥
 IsBoundary (x ∷ boundaries) b = (b ≡ x) ⊎ IsBoundary boundaries b
 
--- each range begins at a boundary, and after it is one
+-- each range begins at a boundary, and there is a boundary after it
 abbrev pub AreBounded : (boundaries : List ℕ) → List ClassRange → Type 0
 AreBounded boundaries [] = Unit {0}
 AreBounded boundaries (range ∷ ranges) =
     IsBoundary boundaries range.start × IsBoundary boundaries (range.end + 1)
     × AreBounded boundaries ranges
 
--- the characters that the place reads are those of some intervals
+-- the place reads whole intervals of characters
 abbrev pub IsBoundedPlace : Intervals → code.Place → Type 0
 IsBoundedPlace intervals (stored.Char c to) =
     IsBoundary intervals.boundaries c × IsBoundary intervals.boundaries (c + 1)
@@ -74,23 +74,24 @@ IsBoundedPlace intervals (stored.Choice first second) = Unit {0}
 IsBoundedPlace intervals (stored.Branches entries) = Unit {0}
 IsBoundedPlace intervals stored.Match = Unit {0}
 
--- characters are kept apart from the numbers that aren't characters
+-- the boundaries that separate characters from the numbers that aren't characters
 abbrev pub character_bounds : List ℕ
 character_bounds = 0xD800 ∷ 0xE000 ∷ 0x110000 ∷ []
 
--- what looks distinguish: line feeds, carriage returns, and the runs of word characters
+-- the boundaries of what looks distinguish: line feeds, carriage returns, and the ranges of word
+-- characters
 abbrev pub look_bounds : List ℕ
 look_bounds =
     10 ∷ 11 ∷ 13 ∷ 14 ∷ 48 ∷ 58 ∷ 65 ∷ 91 ∷ 95 ∷ 96 ∷ 97 ∷ 123 ∷ []
 
--- no place of these distinguishes two characters of an interval
+-- none of these places distinguishes two characters of an interval
 pub record AreIntervalsOf (places : List code.Place) (intervals : Intervals) : Type 0 where
   pub each : (q : ℕ) (place : code.Place) → slice_get places q ≡ Some place
       → IsBoundedPlace intervals place
   pub characters : All (IsBoundary intervals.boundaries) character_bounds
   pub sides : intervals.looks ≡ true → All (IsBoundary intervals.boundaries) look_bounds
 
--- what looks see of a neighbour
+-- the look context of a neighbour
 abbrev pub side_of : Option ℕ → LookContext
 side_of c = record {
   is_none = is_none c;
@@ -99,8 +100,8 @@ side_of c = record {
   is_word = is_word c;
 }
 
--- the next characters are of one class, and where there are looks, they see the same of those
--- before
+-- the next characters are of one class, and if there are looks, the characters before have the same
+-- look context
 pub record LooksAlike (intervals : Intervals) (here there : Here) : Type 0 where
   pub ahead : class_of intervals.boundaries here.after ≡ class_of intervals.boundaries there.after
   pub behind : intervals.looks ≡ true → side_of here.before ≡ side_of there.before

@@ -1,4 +1,4 @@
--- What is known of a search whose turns are remembered.
+-- Invariants of a search whose transitions are cached.
 use Rattle.std.specs.Prelude.{◌≡◌, ◌⊎◌, ℕ, Bool, true, List, [], ◌∷◌, slice_get, Option, None}
 use Rattle.std.specs.Prelude.{Some}
 use Rattle.regex_lite_syntax.specs.Text.{Text}
@@ -16,16 +16,17 @@ use Rattle.regex_lite_engine.specs.Pikevm.Turns.{best_of}
 use Rattle.regex_lite_engine.specs.Search.NumberedOutcomes.{Best}
 use Rattle.regex_lite_engine.specs.Search.Starts.{AreStartsAt}
 
--- the first start is the position's own if there is no thread, and otherwise another
+-- the first start is the position itself if there is no thread, and otherwise another offset
 abbrev pub IsFirstStart : (first at : ℕ) → List Thread → Type 0
 IsFirstStart first at [] = first ≡ at
 IsFirstStart first at (thread ∷ threads) = first ≡ at → ⊥
 
--- the first start after a turn at the offset: that of before, or the offset, if there is no match
+-- the first start after a transition at the offset: the one before, or the offset if there is no
+-- match
 abbrev pub IsFirstAfterTurn : (before at : ℕ) → Best → (first : ℕ) → Type 0
 IsFirstAfterTurn before at best first = (first ≡ before) ⊎ ((first ≡ at) × (best ≡ None))
 
--- none of the threads began at the offset, as far as that is told
+-- none of the threads began at the offset, as far as their starts are known
 abbrev pub NoneBegan : (at : ℕ) → List Thread → Type 0
 NoneBegan at [] = Unit {0}
 NoneBegan at (thread ∷ threads) = (thread.1.at ≡ Some at → ⊥) × NoneBegan at threads
@@ -39,7 +40,7 @@ pub record IsIn {S : Type 0} (automaton : Automaton) (x : ℕ) (first : ℕ) (be
   pub suits : Suits state.searching (best_of cache.best)
   pub sees : automaton.intervals.looks ≡ true → side_of before ≡ state.before
 
--- the search that is now in the cache has taken a turn from this state
+-- the search in the cache has taken a step from this state
 pub record HasTurned {S : Type 0} (table : List (Place ℕ)) (entries : List ℕ)
     (automaton : Automaton) (x first : ℕ) (here : Here) (hit : Bool) (now : Cache S) : Type 0 where
   pub before : Cache S
@@ -51,6 +52,6 @@ pub record HasTurned {S : Type 0} (table : List (Place ℕ)) (entries : List ℕ
   pub tells : (number : ℕ) → TellsStart (told number) here.at number
   pub is_first : IsFirstStart first here.at before.walk.memory.threads
   pub earlier : best_of before.best ≡ None → NoneBegan here.at before.walk.memory.threads
-  -- these starts suffice wherever they do
+  -- the starts suffice at every position
   pub suffice : (haystack : Text) (p : ℕ) (there : Here) → IsHere haystack p there
       → AreStartsAt table haystack entries p starts

@@ -1,4 +1,4 @@
--- What a searcher remembers, and what it passes over.
+-- Searchers with a lazy DFA.
 use Rattle.std.specs.Prelude.{◌≡◌, ℕ, List, [], ◌∷◌, Option, IfSome, length, option_map}
 use Rattle.regex_lite_meta.specs.declared.lazy_dfa.list_spans.ListSpanSearcher.{ListSpanSearcher}
 use Rattle.regex_lite_meta.specs.declared.lazy_dfa.spans.SpanSearcher.{SpanSearcher}
@@ -8,19 +8,19 @@ use Rattle.regex_lite_meta.specs.LazyDfa.Automaton.{Automaton, Remembers}
 use Rattle.regex_lite_engine.specs.Search.Counting.{IsCountable}
 use Rattle.regex_lite_engine.specs.Pikevm.Searching.{GoesOnIn, IsBetween}
 
--- all turns are those of searches for these entries of the table
+-- all cached transitions are those of searches for these entries of the table
 pub record RemembersFor (table : List (Place ℕ)) (entries : List ℕ) (automaton : Automaton)
     : Type 0 where
   pub remembers : Remembers table entries automaton
   pub none_pending : automaton.pending ≡ []
 
--- if there is an automaton, then no slots are kept
+-- if there is a lazy DFA, its cache is right, and no slots are kept
 abbrev pub IsRemembering : (table : List (Place ℕ)) → (entries : List ℕ) → (slots : ℕ)
     → Option Automaton → Type 0
 IsRemembering table entries slots automaton =
     IfSome automaton (λ automaton. RemembersFor table entries automaton × (slots ≡ 0))
 
--- searches for matches of the pattern that is entered there go on in its memory, which has no slots
+-- the memory serves searches for the pattern with this entry, and has no slots
 pub record FindsSpansIn (table : List (Place ℕ)) (entry : ℕ) (spans : SpanSearcher)
     : Type 0 where
   pub remembers : IfSome spans.dfa (RemembersFor table (entry ∷ []))
@@ -28,7 +28,7 @@ pub record FindsSpansIn (table : List (Place ℕ)) (entry : ℕ) (spans : SpanSe
   pub width : length spans.cache.walk.memory.row ≡ 0
   pub countable : IsCountable table
 
--- searches for matches of any pattern of the list go on in its memory
+-- the memory serves searches for the patterns of the list
 pub record FindsSpansInList (list : StoredList) (spans : ListSpanSearcher) : Type 0 where
   pub table : table_of_list spans.patterns.list.now ≡ table_of_list list
   pub entries : spans.patterns.list.now.entries ≡ list.entries

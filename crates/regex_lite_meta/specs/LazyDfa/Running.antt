@@ -1,4 +1,4 @@
--- A search that remembers its turns and goes by those that it remembers.
+-- A search with the lazy DFA, step by step.
 use Rattle.std.specs.Prelude.{◌≡◌, ◌+◌, ◌-◌, ◌*◌, ◌≤◌, ℕ, List, []}
 use Rattle.std.specs.Prelude.{MatchOption, Some, false, length}
 use Rattle.regex_lite_syntax.specs.Text.{Text}
@@ -19,13 +19,13 @@ use Rattle.regex_lite_engine.specs.Search.Standing.{IsHere}
 use Rattle.regex_lite_engine.specs.Pikevm.Turns.{best_of, IsComing}
 
 module _ (table : List (Place ℕ)) (haystack : Text) (entries : List ℕ) (s : ℕ) where
-  -- position m is s or a later one, and no match of any pattern from s on starts before it
+  -- position m is s or later, and no match of any pattern from s on starts before it
   pub record NoneStartsBeforeOf (m : ℕ) : Type 0 where
     pub from : s ≤ m
     pub least : (i k : ℕ) (way : List ℕ) (q j : ℕ)
         → IsMatchOfAny table haystack entries s i k way q j → m ≤ i
 
-  -- a search from position s on, which began or began anew at this one, has come to position p
+  -- a search from position s on, which began or began anew at `from`, has reached position p
   pub record IsOnItsWay {S : Type 0} (from p : ℕ) (cache : Cache S) : Type 0 where
     pub low : s ≤ p
     pub after : from ≤ p
@@ -37,11 +37,11 @@ module _ (table : List (Place ℕ)) (haystack : Text) (entries : List ℕ) (s : 
         ≤ (arrows_of table + length entries) * (p - s)
     pub entries_left : cache.walk.steps.entered ≤ length table * (p - s)
     pub width : length cache.walk.memory.row ≡ 0
-    -- it stays in any part of the patterns' own
+    -- its cost is within the bounds of any part that has the patterns
     pub spent : (low len : ℕ) → IsOwnPart table entries low len
         → HasSpentWithin table haystack entries s low len p cache
 
-  -- that is where it stands, and its state, if that is known
+  -- this is the search's position, and its state, if that is known
   pub record Stands {S : Type 0} (automaton : Automaton) (at : Progress) (cache : Cache S)
       : Type 0 where
     pub p : ℕ
@@ -55,7 +55,7 @@ module _ (table : List (Place ℕ)) (haystack : Text) (entries : List ℕ) (s : 
     pub state : MatchOption at.state (Unit {0})
         (λ x. IsIn automaton x at.first at.here.before cache)
 
--- what is kept of the way of this pattern that began at the offset
+-- what a search keeps of a path of this pattern that began at the offset
 abbrev pub started_at : (at number : ℕ) → Told
 started_at at number = record { at = Some at; number = Some number }
 
@@ -63,7 +63,7 @@ started_at at number = record { at = Some at; number = Some number }
 abbrev pub thread_from : (first : ℕ) → StoredWay → Thread
 thread_from first way = (way.place, started_at first way.number, [])
 
--- the memory and the counts are as before, but for what there is to go on from
+-- the memory and the counts are unchanged, except for the threads and the match
 pub record GoesOnWith {S : Type 0} (old new : Cache S) : Type 0 where
   pub steps : new.walk.steps ≡ old.walk.steps
   pub entered : length new.walk.memory.entered ≡ length old.walk.memory.entered
@@ -73,7 +73,7 @@ pub record GoesOnWith {S : Type 0} (old new : Cache S) : Type 0 where
   pub next : new.walk.memory.next ≡ []
   pub best_row : length new.best.row ≡ length old.best.row
 
--- that is where it stands, in the state without ways, if that is known
+-- this is the search's position, in the start state, if that is cached
 pub record StandsIdle (automaton : Automaton) (before at : Progress) : Type 0 where
   pub here_is : at.here ≡ before.here
   pub same : at.anew ≡ before.anew

@@ -1,4 +1,4 @@
--- A search that goes by remembered turns.
+-- Scans: searches that follow cached transitions.
 use Rattle.std.specs.Prelude.{◌≡◌, ◌+◌, ◌≤◌, ◌⊎◌, ℕ, Bool, true, false, List, []}
 use Rattle.std.specs.Prelude.{length, slice_get, Option, None, Some}
 use Rattle.regex_lite_syntax.specs.Text.{Text, after}
@@ -17,7 +17,7 @@ use Rattle.regex_lite_engine.specs.Search.Offsets.{IsOffset}
 use Rattle.regex_lite_engine.specs.Search.Standing.{IsHere}
 use Rattle.regex_lite_engine.specs.Pikevm.Turns.{IsComing}
 
--- the match of which this is known, without slots
+-- the match with this origin and end, without slots
 abbrev pub best_told : Option (Origin × ℕ) → Best
 best_told found = best_kept found []
 
@@ -26,19 +26,19 @@ abbrev pub span_told : Option (ℕ × ℕ) → Best
 span_told found = with_start_kept (best_at found [])
 
 module _ (table : List (Place ℕ)) (entries : List ℕ) (haystack : Text) (low : ℕ) where
-  -- at this offset, at or after position p, there is nothing to go on from, and no match
+  -- at this offset, at or after position p, a search from p on has no thread and no match
   pub record IsIdleAt (p at : ℕ) : Type 0 where
     pub r : ℕ
     pub later : p ≤ r
     pub is : IsOffset haystack r at
     pub coming : IsComing table haystack entries low (length haystack) r [] None
 
-  -- the offset is another one only where there was nothing to go on from, at or after position p
+  -- the offset is unchanged, or one at or after position p without thread and match
   abbrev pub IsSince : (p before idle : ℕ) → Type 0
   IsSince p before idle = (idle ≡ before) ⊎ IsIdleAt p idle
 
   module _ (p : ℕ) (automaton : Automaton) where
-    -- a search from position low on stands at position p
+    -- a scan for a search from position low on is at position p
     pub record IsScanning (at : Standing) : Type 0 where
       pub state : State
       pub is_state : slice_get automaton.states at.state ≡ Some state
@@ -53,7 +53,7 @@ module _ (table : List (Place ℕ)) (entries : List ℕ) (haystack : Text) (low 
       pub coming : IsComing table haystack entries low (length haystack) p
           (threads_of at.first state.ways) (best_told at.best)
 
-    -- the turn from there leads to this state, and to this match
+    -- the transition from this position leads to this state and this match
     pub record LedTo (at : Standing) (to : ℕ) (best : Option (Origin × ℕ)) : Type 0 where
       pub state : State
       pub is_state : slice_get automaton.states to ≡ Some state
@@ -62,8 +62,8 @@ module _ (table : List (Place ℕ)) (entries : List ℕ) (haystack : Text) (low 
       pub coming : IsComing table haystack entries low (length haystack) (p + 1)
           (threads_of (first_left state.restarts at.first at.at) state.ways) (best_told best)
 
-    -- the turn from there leads to this state, and to this match. Where the least end is asked
-    -- for, a turn that completes a match ends the search
+    -- the transition from this position leads to this state and this match; if `earliest`, a
+    -- transition that completes a match ends the search
     abbrev pub EndsOrLeads : (earliest : Bool) → (at : Standing) → (to : ℕ)
         → (best : Option (Origin × ℕ)) → Type 0
     EndsOrLeads false at to best = LedTo at to best
@@ -71,20 +71,20 @@ module _ (table : List (Place ℕ)) (entries : List ℕ) (haystack : Text) (low 
     EndsOrLeads true at to (Some best) =
         IsNumberedEndOf table haystack entries low (best_told (Some best))
 
-  -- from position p it comes to stand there, at that position or a later one. The offset at which
-  -- there was nothing to go on from is this one, or a later one
+  -- a scan reaches this position from position p; the last offset without thread and match is this
+  -- one or a later one
   abbrev pub ComesTo : (p idle : ℕ) → Automaton → (at : Standing) → Type 0
   ComesTo p idle automaton at =
       (q : ℕ) × (p ≤ q) × IsScanning q automaton at × IsSince p idle at.idle_at
 
--- a search goes on from one place to another, at the same position or a later one
+-- a scan goes from one position to another, which is the same or later
 abbrev pub GoesOn : List (Place ℕ) → List ℕ → Text → Automaton → (from at : Standing) → Type 0
 GoesOn table entries haystack automaton from at = (low p : ℕ)
     → IsScanning table entries haystack low p automaton from
     → ComesTo table entries haystack low p from.idle_at automaton at
 
--- a search that goes on from there is over, and this is its match or, where the least end is asked
--- for, one that ends there
+-- a scan that continues from there is over, and this is its match or, if `earliest`, a match that
+-- ends there
 abbrev pub EndsWith : List (Place ℕ) → List ℕ → Text → Automaton → (earliest : Bool)
     → (from : Standing) → Option (Origin × ℕ) → Type 0
 EndsWith table entries haystack automaton earliest from best = (low p : ℕ)

@@ -1,4 +1,4 @@
--- A search that goes by remembered turns from offset to offset, without the characters beside them.
+-- A scan by offsets, without the characters next to them.
 use Rattle.std.specs.Prelude.{◌≡◌, ◌⊎◌, ℕ, true, List, [], Option, None, Some, slice_get}
 use Rattle.regex_lite_syntax.specs.Text.{Text}
 use Rattle.regex_lite_meta.specs.declared.lazy_dfa.scan.Standing.{Standing}
@@ -12,7 +12,8 @@ use Rattle.regex_lite_meta.specs.LazyDfa.Scanning.{IsScanning, best_told}
 use Rattle.regex_lite_meta.specs.LazyDfa.Stored.{HasEffect, is_known}
 use Rattle.regex_lite_meta.specs.LazyDfa.Targets.{IsRowOf}
 
--- a search from position `low` on stands there, at position p, with this first start and last match
+-- a scan for a search from position low on has this spot, at position p, with this first start and
+-- last match
 pub record IsSpotAt (table : List (Place ℕ)) (entries : List ℕ) (haystack : Text) (low p : ℕ)
     (automaton : Automaton) (spot : Spot) (told : Standing) : Type 0 where
   pub x : ℕ
@@ -25,8 +26,8 @@ pub record IsSpotAt (table : List (Place ℕ)) (entries : List ℕ) (haystack : 
     best = told.best;
   })
 
--- wherever a search in state x sees a character of the class of the one at this offset, its turn
--- leads to the target's state, and here to the end of that character
+-- wherever a search in state x is before a character of the class of the one at this offset, its
+-- transition leads to the target's state, and here to the end of that character
 pub record IsTurn (table : List (Place ℕ)) (entries : List ℕ) (automaton : Automaton)
     (bytes : List ℕ) (at x : ℕ) (target : Target) (end : ℕ) : Type 0 where
   pub class : ℕ
@@ -39,15 +40,15 @@ pub record IsTurn (table : List (Place ℕ)) (entries : List ℕ) (automaton : A
   pub leads : LeadsOn table entries automaton.intervals from class to
   pub effect : HasEffect target.effect to
 
--- if the turn from the state with this row is remembered, that is where it leads
+-- if the transition from the state with this row is cached, this is its target
 abbrev pub LeadsIfKnown : List (Place ℕ) → List ℕ → Automaton → (bytes : List ℕ) → (at row : ℕ)
     → Target → (end : ℕ) → Type 0
 LeadsIfKnown table entries automaton bytes at row target end =
     is_known target.effect ≡ true → (x : ℕ) → IsRowOf automaton row x
     → IsTurn table entries automaton bytes at x target end
 
--- after the turn at this offset to the state with this row the search stands at its end, and has
--- something to do
+-- after the transition at this offset to the state with this row the search is at the end of the
+-- character, and isn't over
 pub record IsTaken (at row end : ℕ) (state : State) (before after : Standing) (on : Spot)
     : Type 0 where
   pub ends : on.at ≡ end
@@ -58,25 +59,25 @@ pub record IsTaken (at row end : ℕ) (state : State) (before after : Standing) 
       ⊎ ((state.ways ≡ [] → ⊥) × (after.first ≡ first_left state.restarts before.first at)
       × (after.idle_at ≡ before.idle_at))
 
--- after the turn to this state nothing leads on, and the last match is the answer
+-- after the transition to this state no thread is left, and the last match is the answer
 pub record EndsScan (at : ℕ) (state : State) (before after : Standing) : Type 0 where
   pub none : state.ways ≡ []
   pub best : best_told after.best ≡ best_left state.hit before.first at (best_told before.best)
   pub some : best_told after.best ≡ None → ⊥
   pub same : after ≡ record before { at = after.at; best = after.best }
 
--- nothing is changed but where the scan stands, which is told by its spot
+-- nothing is changed but the scan's position, which its spot has
 abbrev pub Stays : (before after : Standing) → Type 0
 Stays before after = after ≡ record before { at = after.at }
 
--- what comes of the turn at this offset to that state, if it is taken
+-- the outcome of the transition at this offset to this state, if it is taken
 abbrev pub Takes : (at row end : ℕ) → State → (before after : Standing) → Option (Option Spot)
     → Type 0
 Takes at row end state before after (Some (Some on)) = IsTaken at row end state before after on
 Takes at row end state before after (Some None) = EndsScan at state before after
 Takes at row end state before after None = Stays before after
 
--- what comes of a turn after which there is nothing to go on from there
+-- the outcome of a transition to the start state, with this spot
 abbrev pub TakesToNothing : (there : Spot) → (before after : Standing) → Option (Option Spot)
     → Type 0
 TakesToNothing there before after (Some (Some on)) =

@@ -1,5 +1,5 @@
--- A search that goes on at an offset, by the transitions that an automaton knows, and by ordered
--- sets where it knows none.
+-- A search that continues at an offset, with the cached transitions of a lazy DFA, and with the
+-- PikeVM where none is cached.
 use Rattle.std.specs.Prelude.{◌≡◌, ℕ, Bool, false, true, List, [], length, chars}
 use Rattle.std.specs.Prelude.{IfErr, IfOk, IsCharBoundary, Option, None, Result}
 use Rattle.regex_lite_meta.specs.declared.lazy_dfa.run.Progress.{Progress}
@@ -21,7 +21,7 @@ module _ (table : List (Place ℕ)) (entries : List ℕ) (haystack : List ℕ) (
   abbrev pub GoesOnFrom : (s : ℕ) → Type 0
   GoesOnFrom s = SkipsTo (AreDeadAt table (chars haystack) entries) haystack s from
 
-  -- a search that does so can be made in this automaton and in this memory of ordered sets
+  -- such a search can use this lazy DFA and this memory of the PikeVM
   pub record CanGoOn {S : Type 0} (automaton : Automaton) (cache : Cache S) : Type 0 where
     pub remembers : Remembers table entries automaton
     pub none_pending : automaton.pending ≡ []
@@ -31,7 +31,8 @@ module _ (table : List (Place ℕ)) (entries : List ℕ) (haystack : List ℕ) (
         × CanCount table (length entries) (characters_left (chars haystack) s)
     pub width : length cache.walk.memory.row ≡ 0
 
-  -- it has found what a search from each such position finds, or it stands where it gave up
+  -- the search has found what a search from each such position finds, or has given up at this
+  -- position
   pub record HasGoneOn {S : Type 0} (earliest : Bool)
       (result : Result (Option (Origin × ℕ)) Progress) (automaton : Automaton) (cache : Cache S)
       : Type 0 where

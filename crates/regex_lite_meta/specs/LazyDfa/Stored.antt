@@ -1,4 +1,4 @@
--- How the states of the lazy automaton are stored.
+-- How the states of the lazy DFA are stored.
 use Rattle.std.specs.Prelude.{◌≡◌, ◌+◌, ◌*◌, ◌<◌, ◌≤◌, ℕ, Bool, true, false, All, List, [], ◌∷◌}
 use Rattle.std.specs.Prelude.{length, take, drop, map, slice_get, Option, Some, None}
 use Rattle.regex_lite_meta.specs.declared.lazy_dfa.state.Effect as effects
@@ -21,7 +21,7 @@ hit_in stored.Nowhere = None
 hit_in (stored.AtFirst number) = Some (record { first = true; number = Some number })
 hit_in (stored.AtLater number) = Some (record { first = false; number = Some number })
 
--- whether a turn with this effect is remembered
+-- whether a transition with this effect is cached
 abbrev pub is_known : effects.Effect → Bool
 is_known effect.Plain = true
 is_known effect.Completes = true
@@ -35,11 +35,11 @@ abbrev pub number_if : (is_known : Bool) → ℕ → ℕ
 number_if true y = y
 number_if false y = unknown
 
--- the number of the state to which the turn leads
+-- the number of the state to which the transition leads
 abbrev pub number_of : Target → ℕ
 number_of target = number_if (is_known target.effect) target.state
 
--- the state, whose ways lie among those of all, and whose turns lead to these targets
+-- the state, whose ways lie among those of all states, and whose transitions lead to these targets
 abbrev pub state_in : List StoredWay → List Target → StoredState → State
 state_in ways targets state = record {
   ways = map way_in (take state.len (drop state.from ways));
@@ -57,12 +57,12 @@ states_in ways classes targets (state ∷ states) =
     state_in ways (take classes targets) state
     ∷ states_in ways classes (drop classes targets) states
 
--- each state has its ways among the first of these
+-- the ways of each state lie among the first `used` ways
 abbrev pub LieWithin : (used : ℕ) → List StoredState → Type 0
 LieWithin used states = All (λ state. state.from + state.len ≤ used) states
 
--- where the way began by which a turn with this effect completes a match, if it is known that the
--- turn leads to a state with ways
+-- the origin of the match that a transition with this effect completes, if it is known that the
+-- transition leads to a state with ways
 abbrev pub known_hit : effects.Effect → Option (Option KeptOrigin)
 known_hit effect.Plain = Some None
 known_hit effect.Completes = Some (hit_in (stored.AtFirst 0))
@@ -72,7 +72,8 @@ known_hit effect.Restarts = Some None
 known_hit effect.ByState = None
 known_hit effect.Unknown = None
 
--- the same, if it is known that the turn leads to a state without ways
+-- the origin of the match that a transition with this effect completes, if it is known that the
+-- transition leads to a state without ways
 abbrev pub last_hit : effects.Effect → Option (Option KeptOrigin)
 last_hit effect.Plain = None
 last_hit effect.Completes = None
@@ -82,7 +83,7 @@ last_hit effect.Restarts = None
 last_hit effect.ByState = None
 last_hit effect.Unknown = None
 
--- whether the position of a turn with this effect is the first start from there on
+-- whether the position of a transition with this effect is the first start from then on
 abbrev pub is_restarting : effects.Effect → Bool
 is_restarting effect.Plain = false
 is_restarting effect.Completes = false
@@ -92,15 +93,14 @@ is_restarting effect.Restarts = true
 is_restarting effect.ByState = false
 is_restarting effect.Unknown = false
 
--- a turn with this effect can lead to this state
+-- a transition with this effect can lead to this state
 pub record HasEffect (e : effects.Effect) (state : State) : Type 0 where
   pub goes : (hit : Option KeptOrigin) → known_hit e ≡ Some hit
       → (state.ways ≡ [] → ⊥) × (state.hit ≡ hit) × (state.restarts ≡ is_restarting e)
   pub ends : (hit : Option KeptOrigin) → last_hit e ≡ Some hit
       → (state.ways ≡ []) × (state.hit ≡ hit)
 
--- the state with this number has no ways, and this is where the way began by which a match is
--- complete
+-- the state with this number has no ways, and this is the origin of the match that is complete
 pub record HasNoWays (states : List StoredState) (y : ℕ) (hit : Option KeptOrigin)
     : Type 0 where
   pub state : StoredState
@@ -108,8 +108,8 @@ pub record HasNoWays (states : List StoredState) (y : ℕ) (hit : Option KeptOri
   pub none : state.len ≡ 0
   pub same : hit_in state.hit ≡ hit
 
--- the state with this number has ways, and this is where the way began by which a match is complete,
--- and whether the last position is the first start from there on
+-- the state with this number has ways, this is the origin of the match that is complete, and this
+-- is whether the last position is the first start from then on
 pub record HasWays (states : List StoredState) (y : ℕ) (hit : Option KeptOrigin)
     (restarts : Bool) : Type 0 where
   pub state : StoredState
@@ -118,8 +118,8 @@ pub record HasWays (states : List StoredState) (y : ℕ) (hit : Option KeptOrigi
   pub same : hit_in state.hit ≡ hit
   pub first : state.restarts ≡ restarts
 
--- if the turn is remembered, the target names a state and where its row begins; and what is known of
--- its effect is so in its state
+-- if the transition is cached, the target has the number of a state and the start of its row, and
+-- its effect agrees with the state
 pub record Agrees (states : List StoredState) (classes : ℕ) (target : Target) : Type 0 where
   pub row : is_known target.effect ≡ true → target.row ≡ target.state * classes
   pub within : is_known target.effect ≡ true → target.state < length states

@@ -1,4 +1,4 @@
--- The rows of the lazy automaton, and the targets in them.
+-- The transition table of the lazy DFA: its rows, and the targets in them.
 use Rattle.std.specs.Prelude.{◌≡◌, ◌+◌, ◌*◌, ◌<◌, ℕ, true, List, Some, length}
 use Rattle.std.specs.Prelude.{slice_get, slice_index}
 use Rattle.regex_lite_meta.specs.declared.lazy_dfa.state.Target.{Target}
@@ -6,18 +6,18 @@ use Rattle.regex_lite_meta.specs.LazyDfa.Automaton.{Automaton, State, unknown}
 use Rattle.regex_lite_meta.specs.LazyDfa.Intervals.{classes_in}
 use Rattle.regex_lite_meta.specs.LazyDfa.Stored.{HasEffect, is_known, number_of}
 
--- the row of state x begins there
+-- this is the start of the row of state x
 pub record IsRowOf (automaton : Automaton) (row x : ℕ) : Type 0 where
   pub begins : row ≡ x * classes_in automaton.intervals
   pub within : x < length automaton.states
 
--- where the turn leads from state x for characters of this class
+-- this is the target of the transition from state x for characters of this class
 pub record IsTargetOf (automaton : Automaton) (x class : ℕ) (target : Target) : Type 0 where
   pub number : (state : State) → slice_get automaton.states x ≡ Some state
       → slice_index state.next class ≡ number_of target
   pub known : is_known target.effect ≡ true → number_of target ≡ unknown → ⊥
   pub row : is_known target.effect ≡ true → IsRowOf automaton target.row target.state
-  -- what is known of its effect
+  -- what the effect says about the state
   pub effect : is_known target.effect ≡ true → (to : State)
       → slice_get automaton.states target.state ≡ Some to → HasEffect target.effect to
 

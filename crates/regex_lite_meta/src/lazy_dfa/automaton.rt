@@ -1,4 +1,4 @@
-//! What a lazy automaton remembers.
+//! The cache of a lazy DFA.
 ghost use Rattle.std.specs.Prelude.{◌≡◌, ◌+◌, ◌*◌, ◌≤◌, ◌<◌, ◌++◌, ◌∷◌, [], IfOk, IfSome};
 ghost use Rattle.std.specs.Prelude.{Option, Some, length, map, slice_get, slice_index, slice_set};
 ghost use Rattle.std.specs.Prelude.{ℕ, false, true};
@@ -18,29 +18,31 @@ use crate::strategy::BYTES_FOR_ONE;
 use std::alloc::{AllocError, Global};
 use std::marker::Model;
 
-/// Classes of characters, and the states that searches have come to. All its memory is requested at
-/// once. When that is full, nothing more is remembered.
+/// Character classes, and the states that searches have reached. All memory is allocated at once.
+/// When it is full, no more transitions are cached.
 #[derive(Drop)]
 pub(crate) struct LazyDfa {
     pub(super) classes: Classes,
     pub(super) states: Vec<StoredState>,
-    /// Where turns lead: for each state a row, with a target for each class of the next character.
+    /// The transition table: a row for each state, with a target for each class of the next
+    /// character.
     targets: Vec<Target>,
-    /// How many targets a row has.
+    /// The number of targets in a row.
     width: usize,
-    /// The ways of all states, and after them the pending ones: those of a state that is to come.
+    /// The ways (NFA states with their origins) of all states, followed by the pending ways: those
+    /// of the next state to be added.
     ways: Vec<StoredWay>,
-    /// How many of them belong to states.
+    /// The number of ways that belong to states.
     used: usize,
-    /// Where the numbers of states are looked up.
+    /// The hash table of state numbers.
     pub(super) lookup: Lookup,
-    /// Where searches start.
+    /// The start states.
     pub(super) starts: StartStates,
-    /// How many turns have found no room.
+    /// The number of transitions that did not fit the cache.
     pub(super) not_kept: usize,
-    /// Over this number of bytes searches may go without it.
+    /// The number of bytes searched that count towards the give-up limit.
     spare: usize,
-    /// How many characters a match has at most, if that is known.
+    /// The greatest length of a match in characters, if it is known.
     reach: Option<usize>,
 }
 
@@ -68,7 +70,7 @@ impl Model for LazyDfa {
 }
 
 impl LazyDfa {
-    /// One that remembers nothing yet. Searches that go over `spare` bytes don't give it up.
+    /// A lazy DFA with an empty cache. Searches don't give it up within the first `spare` bytes.
     pub(crate) fn new(
         alloc: Global,
         classes: Classes,
@@ -101,8 +103,9 @@ impl LazyDfa {
         })
     }
 
-    /// Whether too many turns have found no room for a search that stands here and began at this
-    /// offset. One that began anew goes on with the automaton, which is that of one pattern.
+    /// Whether a search at this position that began at `from` gives the lazy DFA up: if more than
+    /// one transition in `BYTES_FOR_ONE` bytes did not fit the cache. A search that began anew
+    /// doesn't give up; its lazy DFA is that of one pattern.
     pub(super) fn is_given_up(&self, at: Progress, from: usize) -> bool
         ensures { result ≡ true → at.anew ≡ false }
     {
@@ -110,28 +113,28 @@ impl LazyDfa {
         !at.anew && self.not_kept.saturating_mul(BYTES_FOR_ONE) > self.spare.saturating_add(went)
     }
 
-    /// Counts the bytes that a search has gone over.
+    /// Counts the bytes that a search has scanned.
     pub(crate) fn count_bytes(&mut self, went: usize)
         ensures { self.new ≡ self.old }
     {
         self.spare = self.spare.saturating_add(went);
     }
 
-    /// Whether the graph has looks. Then so does every search for its turns.
+    /// Whether the graph has looks, so that states depend on the character before.
     pub(super) fn has_looks(&self) -> bool
         ensures { result ≡ self.now.intervals.looks }
     {
         self.classes.looks()
     }
 
-    /// How many characters a way reads at most, if that is known.
+    /// The greatest number of characters that a path reads, if it is known.
     pub(super) fn reach(&self) -> Option<usize>
         ensures { result ≡ self.now.reach }
     {
         self.reach
     }
 
-    /// Adds a pending way. Returns whether there was room.
+    /// Adds a pending way. Returns whether it fitted.
     pub(crate) fn push_way(&mut self, way: StoredWay) -> bool
         ensures pushed { result ≡ true → self.new ≡ record self.old {
           pending = self.old.pending ++ way_in way ∷ [];
@@ -147,14 +150,14 @@ impl LazyDfa {
         }
     }
 
-    /// Forgets the pending ways.
+    /// Removes the pending ways.
     pub(crate) fn drop_pending(&mut self)
         ensures { self.new ≡ record self.old { pending = [] } }
     {
         self.ways.truncate(self.used);
     }
 
-    /// Whether there is room for another state.
+    /// Whether another state fits.
     #[tactic(auto, using(crate::proofs::lazy_dfa::StoredStateLemmas::length_states))]
     pub(super) fn has_room(&self) -> bool
         ensures { result ≡ true → length self.now.states < 256 }
@@ -163,7 +166,7 @@ impl LazyDfa {
             && self.targets.len() + self.classes.len() <= self.targets.capacity()
     }
 
-    /// Adds a state with the pending ways and these properties. Returns whether there was memory.
+    /// Adds a state with the pending ways and these properties. Returns whether it fitted.
     pub(super) fn add(
         &mut self,
         searching: bool,
@@ -207,7 +210,7 @@ impl LazyDfa {
         }
     }
 
-    /// Remembers where a turn leads.
+    /// Caches a transition.
     #[tactic(auto, using(crate::proofs::lazy_dfa::StoredStateLemmas::length_states))]
     pub(crate) fn remember(&mut self, x: u16, class: usize, y: u16)
         requires state { x < length self.old.states }
@@ -228,7 +231,7 @@ impl LazyDfa {
         self.targets[cell] = target;
     }
 
-    /// Where the turn from this state leads, if it is remembered.
+    /// The target of the transition from this state, if it is cached.
     #[inline(always)]
     pub(super) fn known_target(&self, x: u16, class: usize) -> Option<Target>
         requires state { x < length self.now.states }
@@ -262,7 +265,7 @@ impl LazyDfa {
         &self.targets
     }
 
-    /// Where the row of this state begins.
+    /// The start of this state's row.
     #[inline(always)]
     pub(super) fn row(&self, x: u16) -> usize
         requires { x < length self.now.states }
@@ -271,7 +274,7 @@ impl LazyDfa {
         x as usize * self.width
     }
 
-    /// The state whose row begins there.
+    /// The state whose row starts there.
     #[inline(always)]
     pub(super) fn state_of(&self, row: usize) -> u16
         requires { (x : ℕ) × IsRowOf self.now row x }

@@ -1,4 +1,4 @@
-//! Searches begin by known transitions: those that end there touch no memory of ordered sets.
+//! Searches begin with cached transitions: those that end there don't touch the PikeVM's memory.
 ghost use Rattle.std.specs.Prelude.{◌≡◌, ℕ, None, chars, true};
 ghost use Rattle.regex_lite_meta.specs.LazyDfa.Scanning.{ComesTo};
 ghost use Rattle.regex_lite_meta.specs.LazyDfa.Starting.{CanGoOn, GoesOnFrom, HasGoneOn};
@@ -14,13 +14,13 @@ use regex_lite_engine::search::here::Here;
 use regex_lite_engine::search::patterns::Patterns;
 
 impl LazyDfa {
-    /// What a search that goes on at this offset finds: the most preferred match or, with EARLIEST,
-    /// one with the least end, whose start says nothing. If too many transitions find no room, it
-    /// returns where it stands.
+    /// The result of a search that continues at this offset: the most preferred match or, if
+    /// EARLIEST, a match with the least end, whose start is meaningless. If too many transitions
+    /// don't fit the cache, the error is the search's position.
     ///
     /// Condition: the offset is on a character boundary.
-    // Inlined, and the two functions that it calls last are not: most searches need neither, and a
-    // call of this one would move the result once more.
+    // Inlined, and the two functions that it calls last are not: most searches need neither, and
+    // calling this one would copy the result once more.
     #[inline(always)]
     pub(super) fn search<P: Patterns, const EARLIEST: bool>(
         &mut self,
@@ -52,7 +52,7 @@ impl LazyDfa {
         self.search_on::<_, EARLIEST>(patterns, cache, haystack, from, at)
     }
 
-    /// Goes on as `search` does, from where `run` stopped.
+    /// Continues as `search` does, from where `run` stopped.
     #[inline(never)]
     fn search_on<P: Patterns, const EARLIEST: bool>(
         &mut self,
@@ -85,7 +85,7 @@ impl LazyDfa {
         self.search_while_it_pays::<_, EARLIEST>(patterns, cache, haystack, at, 0)
     }
 
-    /// Does what `search` does where the state in which it starts isn't known.
+    /// Does what `search` does if its start state isn't cached.
     #[inline(never)]
     fn search_anew<P: Patterns, const EARLIEST: bool>(
         &mut self,

@@ -1,4 +1,4 @@
-//! The characters at which what places read begins and ends.
+//! The boundaries of the character ranges that places read.
 ghost use Rattle.std.specs.Prelude.{◌≡◌, ◌≤◌, ◌<◌, ◌∷◌, ◌++◌, [], All, true, length};
 ghost use Rattle.regex_lite_meta.specs.LazyDfa.Intervals.{AreBounded, IsBoundary, IsBoundedPlace};
 ghost use Rattle.regex_lite_meta.specs.LazyDfa.Intervals.{character_bounds, look_bounds};
@@ -11,22 +11,23 @@ use std::marker::Model;
 /// At most this many boundaries are kept, so that the number of an interval takes few bits.
 const MOST: usize = 125;
 
-/// Numbers that aren't characters, the surrogates and all above the last character, are kept apart
-/// from those that are.
+/// Boundaries that separate characters from surrogates and from numbers above the last character.
 const CHARACTER_BOUNDS: [u32; 3] = [0xD800, 0xE000, 0x11_0000];
 
-/// What looks distinguish: line feeds, carriage returns, and the runs of word characters.
+/// The boundaries of what looks distinguish: line feeds, carriage returns, and the ranges of word
+/// characters.
 const LOOK_BOUNDS: [u32; 12] = [10, 11, 13, 14, 48, 58, 65, 91, 95, 96, 97, 123];
 
-/// Where the intervals begin, except the lowest. They are few enough to need no block of memory.
+/// The starts of all intervals except the lowest. They are few enough for an array.
 #[derive(Drop)]
 pub(crate) struct Boundaries {
-    /// In the order in which they were added, each once. Those before `len` are used.
+    /// The boundaries in the order in which they were added, without duplicates. The first `len`
+    /// cells are used.
     cells: [u32; 125],
     len: usize,
-    /// For each ASCII character the cell of its boundary, if it has one.
+    /// For each ASCII character, the cell of its boundary, if it has one.
     ascii: [u8; 128],
-    /// Whether some place looks at its neighbours.
+    /// Whether some place has a look.
     looks: bool,
 }
 
@@ -62,7 +63,7 @@ impl Boundaries {
         bounds
     }
 
-    /// All of them.
+    /// All boundaries.
     pub(crate) fn all(&self) -> &[u32]
         ensures same { result.now ≡ self.now.boundaries }
         ensures few { length result.now ≤ 125 }
@@ -71,7 +72,7 @@ impl Boundaries {
         &self.cells[..self.len]
     }
 
-    /// How many there are.
+    /// The number of boundaries.
     #[inline(always)]
     pub(crate) fn len(&self) -> usize
         ensures { result ≡ length self.now.boundaries }
@@ -79,14 +80,14 @@ impl Boundaries {
         self.len
     }
 
-    /// Whether some place looks at its neighbours.
+    /// Whether some place has a look.
     pub(crate) fn looks(&self) -> bool
         ensures { result ≡ self.now.looks }
     {
         self.looks
     }
 
-    /// Adds the boundaries of what the place reads. Returns whether there was room for them.
+    /// Adds the boundaries of what the place reads. Returns whether they fitted.
     pub(crate) fn add_place(&mut self, place: &Place) -> bool
         ensures bounded { result ≡ true → IsBoundedPlace self.new place.now }
         ensures grows { Grows self.old self.new }
@@ -113,7 +114,7 @@ impl Boundaries {
         true
     }
 
-    /// Adds the boundaries of what looks distinguish.
+    /// Adds the boundaries of what looks distinguish. Returns whether they fitted.
     fn add_looks(&mut self) -> bool
         ensures looks { result ≡ true → self.new.looks ≡ true }
         ensures grows { Grows self.old self.new }
@@ -127,7 +128,7 @@ impl Boundaries {
         true
     }
 
-    /// Adds a boundary at this number. Returns whether there was room for it.
+    /// Adds a boundary at this number. Returns whether it fitted.
     #[tactic(auto, using(crate::proofs::lazy_dfa::BoundaryLemmas::one_more))]
     fn add(&mut self, bound: u32) -> bool
         ensures added { result ≡ true → IsBoundary self.new.boundaries bound }
@@ -145,7 +146,7 @@ impl Boundaries {
         true
     }
 
-    /// Adds a boundary at this number, for which there is room.
+    /// Adds a boundary at this number, which fits.
     #[tactic(auto, using(crate::proofs::lazy_dfa::BoundaryLemmas::one_more))]
     fn push(&mut self, bound: u32)
         requires { length self.old.boundaries < 125 }
@@ -157,7 +158,7 @@ impl Boundaries {
         self.len += 1;
     }
 
-    /// Keeps in mind that the boundary at this number comes next.
+    /// Records that the next cell has the boundary at this number.
     fn note(&mut self, bound: u32)
         requires { length self.old.boundaries < 125 }
         ensures { self.new ≡ self.old }

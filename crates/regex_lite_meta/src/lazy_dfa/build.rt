@@ -1,4 +1,4 @@
-//! Automata that remember nothing yet.
+//! Building lazy DFAs with empty caches.
 ghost use Rattle.std.specs.Prelude.{◌∷◌, [], IfSome};
 ghost use Rattle.regex_lite_meta.specs.LazyDfa.Remembering.{RemembersFor};
 ghost use Rattle.regex_lite_engine.specs.Graph.Stored.{places_of};
@@ -18,9 +18,9 @@ use regex_lite_engine::search::patterns::Patterns;
 use std::alloc::Global;
 
 impl LazyDfa {
-    /// One for these patterns, each of which starts everywhere. It remembers nothing yet, and its
-    /// classes are those of the places among which searches for the patterns stay. None where there
-    /// are too many classes, or if memory runs out: turns are then taken anew.
+    /// A lazy DFA for these patterns, each of which starts everywhere. Its cache is empty, and its
+    /// classes are those of the places that searches for the patterns can reach. `None` if there
+    /// are too many classes or memory runs out: then transitions are computed each time.
     pub(crate) fn for_patterns<P: Patterns>(alloc: Global, all: &P) -> Option<LazyDfa>
         requires { AreAllStarts (P.table all.now) (P.entries all.now) (P.starts all.now) }
         ensures { IfSome result (RemembersFor (P.table all.now) (P.entries all.now)) }
@@ -39,7 +39,7 @@ impl LazyDfa {
         }
     }
 
-    /// One for this pattern.
+    /// A lazy DFA for this pattern.
     pub(crate) fn for_one(alloc: Global, pattern: &OnePattern<'_>) -> Option<LazyDfa>
         ensures { IfSome result
             (RemembersFor (places_of pattern.now.table.now) (pattern.now.entry ∷ [])) }
@@ -47,11 +47,11 @@ impl LazyDfa {
         LazyDfa::for_patterns(alloc, &pattern.everywhere())
     }
 
-    /// One for all patterns of this list.
+    /// A lazy DFA for all patterns of this list.
     pub(crate) fn for_list(alloc: Global, list: &GraphList) -> Option<LazyDfa>
         ensures { IfSome result (RemembersFor (table_of_list list.now) list.now.entries) }
     {
-        // Each place is one of the graph.
+        // Each entry is a place of the graph.
         let _entries = list.entries();
         LazyDfa::for_patterns(alloc, &AllOfList { list })
     }

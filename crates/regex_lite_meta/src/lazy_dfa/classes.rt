@@ -10,8 +10,8 @@ use regex_lite_engine::nfa::place::Place;
 use regex_lite_engine::search::here::first_char;
 use std::marker::Model;
 
-/// The intervals between the boundaries of all that a graph reads. The end of a haystack is in a
-/// class of its own.
+/// The intervals between the boundaries of all ranges that a graph reads. The end of a haystack has
+/// a class of its own.
 #[derive(Drop)]
 pub(crate) struct Classes {
     boundaries: Boundaries,
@@ -33,7 +33,7 @@ impl Model for Classes {
 }
 
 impl Classes {
-    /// The classes of characters that these places don't distinguish; none if there would be too
+    /// The classes of characters that these places don't distinguish; `None` if there would be too
     /// many.
     pub(crate) fn of(places: &[Place]) -> Option<Classes>
         ensures { IfSome result (AreIntervalsOf places.now) }
@@ -48,14 +48,14 @@ impl Classes {
         Some(Classes { boundaries, ascii })
     }
 
-    /// Whether some place looks at its neighbours.
+    /// Whether some place has a look.
     pub(crate) fn looks(&self) -> bool
         ensures { result ≡ self.now.looks }
     {
         self.boundaries.looks()
     }
 
-    /// How many classes there are.
+    /// The number of classes.
     #[inline(always)]
     pub(crate) fn len(&self) -> usize
         ensures same { result ≡ classes_in self.now }
@@ -64,7 +64,7 @@ impl Classes {
         self.boundaries.len() + 2
     }
 
-    /// The class of the next character, or of the end.
+    /// The class of the next character or of the end.
     pub(crate) fn class(&self, next: Option<char>) -> usize
         ensures same { result ≡ class_of self.now.boundaries next }
         ensures few { result < classes_in self.now }
@@ -99,8 +99,8 @@ impl Classes {
         self.ascii[byte as usize] as usize
     }
 
-    /// The class of the character at this offset, and where the character ends. None at the end of
-    /// the haystack. The interval of one that isn't ASCII is remembered as `near`.
+    /// The class of the character at this offset, and the character's end. `None` at the end of the
+    /// haystack. If the character isn't ASCII, its interval is stored in `near`.
     #[inline(always)]
     #[tactic(auto, using(crate::proofs::lazy_dfa::IntervalLemmas::interval_within))]
     pub(super) fn ahead(
@@ -145,7 +145,7 @@ impl Classes {
     }
 
     /// The class of the character, which is likely to be in this interval. If it isn't, the
-    /// interval is replaced by its own.
+    /// interval is replaced by that of the character.
     #[inline(always)]
     fn class_near(&self, c: u32, near: &mut Interval) -> usize
         requires { IsInterval self.now.boundaries near.old }
@@ -161,8 +161,8 @@ impl Classes {
     }
 }
 
-/// How many bytes the character takes.
-// Most that aren't ASCII take two: one test tells it.
+/// The length of the character in bytes.
+// Most characters that aren't ASCII have two bytes, so that is tested first.
 #[inline(always)]
 fn width_of(c: char) -> usize
     ensures { result ≡ len_utf8 c }
@@ -173,7 +173,7 @@ fn width_of(c: char) -> usize
     c.len_utf8()
 }
 
-/// The intervals of the ASCII characters: a boundary counts for those from it on.
+/// The numbers of the intervals of the ASCII characters: each boundary increases those from it on.
 #[tactic(auto, using(crate::proofs::lazy_dfa::IntervalLemmas::interval_steps))]
 fn ascii_of(boundaries: &[u32]) -> [u8; 128]
     requires { length boundaries.now ≤ 125 }
@@ -188,7 +188,7 @@ fn ascii_of(boundaries: &[u32]) -> [u8; 128]
     ascii
 }
 
-/// Counts one more for each character from this one on.
+/// Adds one for each character from this one on.
 fn count_from(ascii: &mut [u8; 128], from: usize)
     requires { (c : ℕ) → c < 128 → slice_index ascii.old c < 125 }
     ensures { (c : ℕ) → c < 128
@@ -199,7 +199,7 @@ fn count_from(ascii: &mut [u8; 128], from: usize)
     }
 }
 
-/// The characters from `start` on and below `end`, which are all of one class.
+/// The characters from `start` up to, but not including, `end`. All are of one class.
 #[derive(Clone, Copy)]
 pub(super) struct Interval {
     start: u32,
@@ -238,8 +238,8 @@ impl Interval {
         around
     }
 
-    /// Sets it to the interval between these boundaries that contains this number.
-    // Not inlined, so that a character of the same interval takes few steps.
+    /// Sets this to the interval between these boundaries that contains the number.
+    // Not inlined, so that a character of the same interval takes few instructions.
     #[inline(never)]
     pub(super) fn come_to(&mut self, boundaries: &[u32], c: u32)
         requires { length boundaries.now ≤ 125 }
@@ -249,7 +249,7 @@ impl Interval {
         *self = Interval::around(boundaries, c);
     }
 
-    /// Cuts off what this boundary separates from the number.
+    /// Removes from the interval what this boundary separates from the number.
     fn cut(&mut self, bound: u32, c: u32)
         requires { self.old.class < 125 }
         ensures class { self.new.class ≡ tick (nat_le bound c) + self.old.class }
@@ -265,7 +265,7 @@ impl Interval {
         }
     }
 
-    /// Whether the number is in it.
+    /// Whether the number is in the interval.
     #[inline(always)]
     pub(super) fn has(&self, c: u32) -> bool
         ensures { result ≡ true → (self.now.start ≤ c) × (c < self.now.end) }

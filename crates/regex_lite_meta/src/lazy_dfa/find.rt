@@ -1,4 +1,5 @@
-//! A whole search that remembers its turns, and goes by those that it remembers.
+//! A whole search with the lazy DFA: it follows cached transitions, and computes and caches the
+//! others.
 ghost use Rattle.std.specs.Prelude.{◌≡◌, ◌+◌, ◌≤◌, [], ℕ, IfErr, IfOk, IfSome, MatchOption, None};
 ghost use Rattle.std.specs.Prelude.{chars, false, length, true, ◌<◌, ◌⊎◌, All, IsCharBoundary};
 ghost use Rattle.regex_lite_meta.specs.LazyDfa.Automaton.{Remembers};
@@ -28,12 +29,12 @@ use regex_lite_engine::search::here::Here;
 use regex_lite_engine::search::patterns::Patterns;
 
 impl LazyDfa {
-    /// Where the most preferred match starts and ends, from the least start at or after this
-    /// offset, with the number of its pattern. With EARLIEST it is a match with the least end of
-    /// all that start there or later, and its start and number say nothing.
+    /// The most preferred match from the least start at or after this offset: its span, and the
+    /// number of its pattern. If EARLIEST, it is a match with the least end of all that start there
+    /// or later, and its start and number are meaningless.
     ///
     /// Condition: the offset is on a character boundary.
-    // Inlined, since most searches are soon over.
+    // Inlined, since most searches are short.
     #[inline(always)]
     pub(crate) fn find<P: Patterns + Copy, const EARLIEST: bool>(
         &mut self,
@@ -68,10 +69,10 @@ impl LazyDfa {
         }
     }
 
-    /// The most preferred match or, with EARLIEST, one with the least end, from where a search
-    /// stands, unless too many turns find no room: then it returns where the search stands. No turn
-    /// is looked up before the search has entered this many places, none or one: before the first
-    /// turn, a new automaton has none.
+    /// The most preferred match or, if EARLIEST, one with the least end, of a search that continues
+    /// from this position. If too many transitions don't fit the cache, the error is the search's
+    /// position. No transition is looked up before the search has entered `least` places, 0 or 1: a
+    /// new lazy DFA has no cached transition before the first step.
     pub(crate) fn search_while_it_pays<P: Patterns, const EARLIEST: bool>(
         &mut self,
         patterns: &P,
@@ -143,9 +144,9 @@ impl LazyDfa {
         }
     }
 
-    /// Goes by turns that are remembered, if the search has entered this many places. Returns the
-    /// answer where they lead to it: the most preferred match or, with EARLIEST, one with the
-    /// least end. Else the search goes on where they end, or where it was.
+    /// Follows cached transitions, if the search has entered `least` places. Returns the answer if
+    /// they lead to it: the most preferred match or, if EARLIEST, one with the least end. Otherwise
+    /// the search continues where they end, or where it was.
     #[inline(always)]
     fn look_ahead<P: Patterns, const EARLIEST: bool>(
         &self,
@@ -193,9 +194,9 @@ impl LazyDfa {
         None
     }
 
-    /// Goes on where remembered turns end, if all ways there began at the first start, and no match
-    /// was found or a place was entered before; otherwise after the last position at which there
-    /// was nothing to go on from, or where the search was.
+    /// Continues where cached transitions end, if all threads there began at the first start, and
+    /// no match was found or a place was entered before. Otherwise it continues after the last
+    /// position without thread and match, or where the search was.
     #[inline(always)]
     pub(super) fn resume<P: Patterns>(
         &self,
@@ -232,7 +233,7 @@ impl LazyDfa {
             at.here = Here::at(haystack, stuck.at);
             return;
         }
-        // The offset fits: no haystack has as many bytes.
+        // This doesn't overflow: no haystack is that long.
         at.until = stuck.at + 1;
         if stuck.idle_at > at.here.at {
             let here = Here::at(haystack, stuck.idle_at);
@@ -243,9 +244,9 @@ impl LazyDfa {
         }
     }
 
-    /// Begins anew as many characters before the end of remembered turns as a way reads at most, if
-    /// that is known and after where the search is: no match starts before that isn't complete
-    /// where they end, and none is.
+    /// Begins anew before the end of the cached transitions, by the greatest number of characters
+    /// that a path reads, if that is known and the new position is after the search's. No match
+    /// starts before that position: it would be complete where the transitions end, and none is.
     pub(super) fn begin_anew<P: Patterns>(
         &self,
         patterns: &P,
@@ -290,7 +291,8 @@ impl LazyDfa {
     }
 }
 
-/// Whether all ways began at the first start, which is before this position if there are any.
+/// Whether all threads of this state began at the first start, and that is before this position if
+/// there are any.
 fn may_take_up(ways: &[StoredWay], stuck: Standing) -> bool
     ensures all { result ≡ true → All (λ way. way.is_first ≡ true) ways.now }
     ensures before { result ≡ true → (ways.now ≡ []) ⊎ (stuck.first < stuck.at) }

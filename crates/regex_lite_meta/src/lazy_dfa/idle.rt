@@ -1,5 +1,5 @@
-//! The start state, where there is neither a thread nor a match: a search follows cached
-//! transitions there, or skips positions at which no match can begin.
+//! The start state, without thread and match: a search follows cached transitions there, or skips
+//! positions at which no match can begin.
 //!
 //! Without a prefilter up to four bytes at which no match can begin are stepped over, so that their
 //! transitions are cached. After eight transitions in a row from a start state to itself the search
@@ -25,8 +25,8 @@ use regex_lite_engine::search::here::Here;
 use regex_lite_engine::search::patterns::{Patterns, pass_over};
 
 impl LazyDfa {
-    /// Where there is neither a thread nor a match, passes over positions at which no match can
-    /// begin, unless turns are faster.
+    /// Without thread and match, skips positions at which no match can begin, unless following
+    /// transitions is faster.
     #[inline(always)]
     pub(super) fn at_idle<P: Patterns>(
         &mut self,
@@ -64,8 +64,7 @@ impl LazyDfa {
         }
     }
 
-    /// The state without ways in which a match is searched for after this character, if there is
-    /// room for it.
+    /// The start state after this character, if it is cached or fits.
     fn idle_state(&mut self, before: Option<char>) -> Option<u16>
         requires none_pending { self.old.pending ≡ [] }
         ensures remembers { (table : List (Place ℕ)) (entries : List ℕ)
@@ -77,11 +76,11 @@ impl LazyDfa {
         self.settle(true, side, Hit::Nowhere, false)
     }
 
-    /// The same position in the state without ways, if a turn from there is remembered.
+    /// The same position in the start state, if the transition from there is cached.
     pub(super) fn stay_idle<P: Patterns>(&self, patterns: &P, at: Progress) -> Option<Progress>
         ensures { IfSome result (StandsIdle self.now at) }
     {
-        // A prefilter is faster than turns.
+        // A prefilter is faster than transitions.
         if patterns.has_prefilter() {
             return None;
         }
@@ -98,7 +97,7 @@ impl LazyDfa {
         })
     }
 
-    /// The next position at which a match can begin, or this one, if its turn is worth taking.
+    /// The next position at which a match can begin, or this one if stepping beats skipping.
     pub(super) fn leave_idle<P: Patterns>(&self, patterns: &P, haystack: &str, here: Here) -> Here
         requires { (p : ℕ) × IsHere (chars haystack.now) p here }
         ensures { (p : ℕ) → IsHere (chars haystack.now) p here
@@ -112,9 +111,9 @@ impl LazyDfa {
         next
     }
 
-    /// Like `run`, but passes over positions first, at which no match can begin, and does so again
-    /// where it is stuck.
-    // Not inlined, so that a search without a prefilter costs no more than the call.
+    /// Like `run`, but first skips positions at which no match can begin, and does so again where
+    /// `run` is stuck.
+    // Not inlined, so that a search without a prefilter pays only for the call.
     #[inline(never)]
     pub(super) fn leap_on<P: Patterns, const EARLIEST: bool>(
         &self,
@@ -142,9 +141,9 @@ impl LazyDfa {
         }
     }
 
-    /// Where there is nothing to go on from and no match, asks the prefilter, if there is one, for
-    /// the next position at which a match can begin. Returns whether that is a later one. It stays
-    /// in the same state, so the graph has no looks.
+    /// In the start state without looks, skips to the next position that the prefilter finds, if
+    /// there is a prefilter. Returns whether that is a later position. The state stays the same,
+    /// since the graph has no looks.
     #[inline(always)]
     fn leap<P: Patterns>(&self, patterns: &P, haystack: &str, at: &mut Standing) -> bool
         requires scanning { (low p : ℕ) × IsScanning (P.table patterns.now) (P.entries patterns.now)
@@ -170,8 +169,8 @@ impl LazyDfa {
         true
     }
 
-    /// Whether there is nothing to go on from and no match, a prefilter and no looks, and a next
-    /// character.
+    /// Whether there is a prefilter to skip by: the scan is in the start state without a match, the
+    /// graph has no looks, and the haystack isn't at its end.
     #[inline(always)]
     fn may_leap<P: Patterns>(&self, patterns: &P, haystack: &str, at: &Standing) -> bool
         requires { at.now.state < length self.now.states }
@@ -187,7 +186,7 @@ impl LazyDfa {
             && self.is_empty(at.state)
     }
 
-    /// Whether it pays to take the turns up to this position, so that they are remembered.
+    /// Whether stepping to this position, which caches the transitions, beats skipping.
     #[inline(always)]
     pub(super) fn is_worth_a_turn<P: Patterns>(
         &self,
@@ -201,7 +200,7 @@ impl LazyDfa {
             && self.has_room()
     }
 
-    /// Whether the turn from this state is remembered.
+    /// Whether the transition from this state is cached.
     #[inline(always)]
     pub(super) fn knows(&self, x: u16, next: Option<char>) -> bool
         requires { x < length self.now.states }

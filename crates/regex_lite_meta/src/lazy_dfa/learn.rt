@@ -1,4 +1,4 @@
-//! Turns of a search, remembered.
+//! Determinization: caching the transitions of a search.
 ghost use Rattle.std.specs.Prelude.{◌≡◌, [], ◌<◌, ◌++◌, ℕ, MatchOption, Some, length, slice_get};
 ghost use Rattle.std.specs.Prelude.{true, IfOk, IfSome};
 ghost use Rattle.regex_lite_meta.specs.LazyDfa.Automaton.{FitsOwnParts, Remembers, State, hit_of};
@@ -23,10 +23,10 @@ use regex_lite_engine::search::here::byte_len;
 use regex_lite_engine::search::patterns::Patterns;
 
 impl LazyDfa {
-    /// Remembers the turn by which the search came from there to what the cache holds now, if the
-    /// state that it stood in is known, unless the last scan went on by it. A match was complete
-    /// there, or not, and `first` is the first start from there on. Returns the state that the
-    /// search is in, if there is room for it.
+    /// Caches the transition of the step from the position `at` to the threads in the cache, if the
+    /// state at that position is known and the last scan didn't follow the transition. `hit` says
+    /// whether a match was complete at `at`, and `first` is the first start from there on. Returns
+    /// the new state, if it is cached or fits.
     pub(super) fn learn<P: Patterns>(
         &mut self,
         patterns: &P,
@@ -67,7 +67,7 @@ impl LazyDfa {
         Some(y)
     }
 
-    /// The state in which the search stands, with this first start, if there is room for it.
+    /// The state of the search with this first start, if it is cached or fits.
     pub(super) fn state_at<P: Patterns>(
         &mut self,
         patterns: &P,
@@ -93,8 +93,8 @@ impl LazyDfa {
         self.settle(cache.best.is_none(), before, hit, false)
     }
 
-    /// The same position, in its state, if the last scan was stuck here. The search has come here
-    /// by ordinary turns, which it took without a look at their states.
+    /// The same position in its state, if the last scan was stuck here. The search came here by
+    /// steps of the PikeVM, which don't compute states.
     pub(super) fn find_state_again<P: Patterns>(
         &mut self,
         patterns: &P,
@@ -121,7 +121,7 @@ impl LazyDfa {
         at.with_state(state)
     }
 
-    /// Adds the threads of the position to the pending ways. Returns whether there was room.
+    /// Adds the threads of the position to the pending ways. Returns whether they fitted.
     fn gather(&mut self, memory: &Memory<Origin>, first: usize) -> bool
         ensures gathered { result ≡ true → self.new ≡ record self.old {
           pending = self.old.pending ++ ways_of first memory.now.threads;
@@ -142,7 +142,7 @@ impl LazyDfa {
         true
     }
 
-    /// Whether there is no match yet after a turn from this state.
+    /// Whether there is no match yet after a transition from this state.
     #[tactic(auto, using(crate::proofs::lazy_dfa::StoredStateLemmas::length_states))]
     fn searching_after(&self, x: u16, hit: Hit) -> bool
         requires { x < length self.now.states }
@@ -155,7 +155,7 @@ impl LazyDfa {
         }
     }
 
-    /// What looks see of the character, if there are looks.
+    /// The look context of the character, if there are looks.
     pub(super) fn side(&self, c: Option<char>) -> LookContext
         ensures { self.now.intervals.looks ≡ true → result ≡ side_of c }
     {
@@ -166,8 +166,7 @@ impl LazyDfa {
         }
     }
 
-    /// The state that has the pending ways and these properties, if it is there or there is room
-    /// for it.
+    /// The state that has the pending ways and these properties, if it is cached or fits.
     #[tactic(auto, using(crate::proofs::lazy_dfa::StoredStateLemmas::length_states))]
     pub(crate) fn settle(
         &mut self,
@@ -200,8 +199,8 @@ impl LazyDfa {
         Some(y as u16)
     }
 
-    /// The state that has the pending ways and these properties, if its number is looked up. Else
-    /// the cell for the number of such a state.
+    /// The state that has the pending ways and these properties, if the lookup has its number.
+    /// Otherwise the cell for that number.
     fn find_state(
         &self,
         searching: bool,
@@ -245,14 +244,14 @@ impl LazyDfa {
             && are_same(self.ways(y as usize), self.pending())
     }
 
-    /// Has the number of a state looked up in this cell.
+    /// Puts the number of a state into this cell of the lookup.
     fn put_number(&mut self, cell: usize, y: u16)
         ensures { self.new ≡ self.old }
     {
         self.lookup.put(cell, y);
     }
 
-    /// Has the number of a state looked up as that of one in which searches start, if it is one.
+    /// Records the state with this number as a start state, if it is one.
     #[tactic(auto, using(crate::proofs::lazy_dfa::StoredStateLemmas::length_states))]
     fn put_start(&mut self, y: u16)
         requires { y < length self.old.states }
@@ -265,7 +264,7 @@ impl LazyDfa {
     }
 }
 
-/// Whether the last turn completed a match.
+/// Whether the last step completed a match.
 fn has_just_ended(at: Progress, cache: &Cache<Origin>) -> bool {
     let (Some(last), Some(end)) = (at.here.before, cache.best.end()) else {
         return false;
@@ -273,7 +272,7 @@ fn has_just_ended(at: Progress, cache: &Cache<Origin>) -> bool {
     end.saturating_add(byte_len(last)) == at.here.at
 }
 
-/// Where the way began by which a turn completed a match, if it did.
+/// The origin of the match that this transition completed, if it completed one.
 fn hit_told(first: usize, hit: bool, cache: &Cache<Origin>) -> Hit
     ensures { hit_in result ≡ hit_of first hit (best_of cache.now.best) }
 {

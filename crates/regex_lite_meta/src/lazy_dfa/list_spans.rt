@@ -1,5 +1,5 @@
-//! Searches for several patterns: where a match starts and ends, and of which pattern it is. Where
-//! it pays they remember their turns, and keep no slots.
+//! Searches for several patterns that find the span of a match and the number of its pattern. Where
+//! it pays they use a lazy DFA, and keep no slots.
 ghost use Rattle.std.specs.Prelude.{◌≡◌, ◌<◌, IfOk, IfSome, IsCharBoundary, None, chars, length};
 ghost use Rattle.std.specs.Prelude.{false, option_map};
 ghost use Rattle.regex_lite_meta.specs.LazyDfa.Remembering.{FindsSpansInList, IsRemembering};
@@ -25,24 +25,24 @@ use regex_lite_engine::search::list_patterns::ListPatterns;
 use regex_lite_engine::search::patterns::pass_over;
 use std::alloc::{AllocError, Global};
 
-/// The memory in which the patterns of a list are searched for.
+/// The memory of searches for the patterns of a list.
 #[derive(Drop)]
 pub(crate) struct ListSpanSearcher<'g> {
-    /// Those of the list.
+    /// The patterns of the list.
     patterns: ListPatterns<'g>,
     cache: Cache<Origin>,
-    /// What is remembered of the turns of earlier searches, where it pays. On the heap: most have
-    /// none, and are moved about often.
+    /// The lazy DFA, where it pays. On the heap, since most searchers have none and are moved
+    /// often.
     dfa: Option<Box<LazyDfa>>,
 }
 
 impl<'g> ListSpanSearcher<'g> {
-    /// One for this list, whose matches have this number of slots, and whose searches go this way.
-    /// Where the memory for an automaton is refused, they go by ordered sets.
+    /// A searcher of this list, for matches with this number of slots and with this strategy. If
+    /// there is no memory for a lazy DFA, it uses the PikeVM.
     ///
     /// # Errors
     ///
-    /// If memory runs out without which it can't search.
+    /// If memory runs out that the searches can't do without.
     pub(crate) fn new(
         alloc: Global,
         list: &'g GraphList,
@@ -66,10 +66,10 @@ impl<'g> ListSpanSearcher<'g> {
         })
     }
 
-    /// Where the match starts and ends that starts first at or after this offset, and the number of
-    /// its pattern: the lowest of those that match there. Its slots are in the row. With EARLIEST
-    /// it is a match of any pattern with the least end of all that start there or later, of which
-    /// nothing else is known. It takes no memory.
+    /// The span of the match that starts first at or after this offset, and the number of its
+    /// pattern, the lowest of those that match there. Its slots are in the row. If EARLIEST, it is
+    /// a match of any pattern with the least end of all that start there or later, and only its end
+    /// is known. It needs no memory.
     ///
     /// Conditions: the list has a pattern, and the start is on a character boundary.
     pub(crate) fn find<const EARLIEST: bool>(
@@ -87,7 +87,7 @@ impl<'g> ListSpanSearcher<'g> {
         ensures finds { FindsSpansInList list.now self.new }
         ensures width { length self.new.cache.best.row ≡ length self.old.cache.best.row }
     {
-        // Each has a number of 32 bits, since there are no more.
+        // Pattern numbers have 32 bits, since there are no more patterns.
         let _entries = list.entries();
         if let Some(found) = find_remembering::<EARLIEST>(
             &mut self.dfa,
@@ -104,9 +104,9 @@ impl<'g> ListSpanSearcher<'g> {
         self.cache.best.found()
     }
 
-    /// Where the match starts and ends that starts at this offset, and the number of its pattern:
-    /// the lowest of those that match there. Its slots are in the row. With EARLIEST only whether
-    /// there is one is known. It takes no memory.
+    /// The span of the match that starts at this offset, and the number of its pattern, the lowest
+    /// of those that match there. Its slots are in the row. If EARLIEST, the result only says
+    /// whether there is a match. It needs no memory.
     ///
     /// Conditions: the list has a pattern, and the start is on a character boundary.
     pub(crate) fn find_anchored<const EARLIEST: bool>(
@@ -124,7 +124,7 @@ impl<'g> ListSpanSearcher<'g> {
         ensures finds { FindsSpansInList list.now self.new }
         ensures width { length self.new.cache.best.row ≡ length self.old.cache.best.row }
     {
-        // Each has a number of 32 bits, since there are no more.
+        // Pattern numbers have 32 bits, since there are no more patterns.
         let _entries = list.entries();
         find_anchored::<_, EARLIEST, false>(&mut self.cache, &mut self.patterns, haystack, start)
     }
@@ -137,7 +137,7 @@ impl<'g> ListSpanSearcher<'g> {
     }
 }
 
-/// An automaton of this list that remembers nothing yet, on the heap.
+/// A lazy DFA of this list with an empty cache, on the heap.
 #[inline(never)]
 fn automaton_for(alloc: Global, list: &GraphList) -> Option<Box<LazyDfa>>
     ensures { IfSome result (λ dfa. RemembersFor (table_of_list list.now) list.now.entries
@@ -147,9 +147,9 @@ fn automaton_for(alloc: Global, list: &GraphList) -> Option<Box<LazyDfa>>
     Box::new(alloc, dfa).ok()
 }
 
-/// What a search by remembered turns finds: the match that starts first or, with EARLIEST, one with
-/// the least end. None if there is no automaton, or if it is given up: then it is dropped, and no
-/// search has begun.
+/// The match span found by the lazy DFA: of the match that starts first or, if EARLIEST, of one
+/// with the least end. `None` if there is no lazy DFA, or if the search gives it up: then it is
+/// dropped, and the search has to begin again.
 fn find_remembering<const EARLIEST: bool>(
     dfa: &mut Option<Box<LazyDfa>>,
     list: &GraphList,
@@ -183,9 +183,9 @@ fn find_remembering<const EARLIEST: bool>(
 }
 
 impl LazyDfa {
-    /// What a search for all patterns of this list finds: the match that starts first or, with
-    /// EARLIEST, one with the least end. None if it is given up because too many turns find no
-    /// room.
+    /// The match that a search for all patterns of this list finds: the one that starts first or,
+    /// if EARLIEST, one with the least end. `None` if the search gives up because too many
+    /// transitions don't fit the cache.
     pub(crate) fn find_in_list<const EARLIEST: bool>(
         &mut self,
         list: &GraphList,
@@ -206,7 +206,7 @@ impl LazyDfa {
         ensures between { IsBetween (table_of_list list.now) cache.new }
         ensures width { length cache.new.walk.memory.row ≡ 0 }
     {
-        // Each place is one of the graph.
+        // Each entry is a place of the graph.
         let _entries = list.entries();
         let all = AllOfList { list };
         let from = Here::at(haystack, start);
@@ -220,7 +220,7 @@ impl LazyDfa {
     }
 }
 
-/// Up to where a search has gone.
+/// The offset up to which a search has scanned.
 fn went(found: Option<(Origin, usize)>, haystack: &str) -> usize {
     match found {
         Some((_, end)) => end,

@@ -1,28 +1,28 @@
-//! Where the states of a lazy automaton are looked for: a small open table of their numbers.
+//! The lookup of a lazy DFA's states: a small hash table of their numbers, with open addressing.
 use crate::lazy_dfa::state::{Hit, StoredWay};
 use std::alloc::{AllocError, Global};
 
-/// A state is in one of this number of cells, or in none. There are twice as many cells as states,
-/// so they are seldom all taken: one of the states is forgotten then, and may be added once more.
+/// The number of cells that are probed for a state. There are twice as many cells as states, so all
+/// of them are seldom taken: then one of the states is evicted, and may be added again.
 pub(super) const CELLS_FOR_ONE: usize = 8;
 
-/// Stands for an empty cell.
+/// Marks an empty cell.
 const EMPTY: u16 = 0xFFFF;
 
 /// An odd number with about as many bits set as not.
 const MULTIPLIER: u64 = 0x9E37_79B9_7F4A_7C15;
 
-/// Cells with the numbers of states, in which those with the same hash are near each other. A
-/// number may be that of any state or of none, so whoever takes one has to compare the state.
+/// Cells with the numbers of states. Those with the same hash are near each other. A cell may hold
+/// any number, so callers have to compare the state.
 #[derive(Drop)]
 pub(crate) struct Lookup {
     cells: Vec<u16>,
-    /// How many cells there are, a power of two, less one.
+    /// The number of cells, a power of two, minus one.
     mask: usize,
 }
 
 impl Lookup {
-    /// One for this number of states, with empty cells.
+    /// A lookup for this number of states, with empty cells.
     pub(super) fn new(alloc: Global, states: usize) -> Result<Lookup, AllocError> {
         let len: usize = match states {
             0..=16 => 32,
@@ -37,8 +37,8 @@ impl Lookup {
         })
     }
 
-    /// One of the cells for a state with this hash. The others have the same number but for the
-    /// lowest bits.
+    /// One of the cells for a state with this hash. The others differ from it only in the lowest
+    /// bits.
     pub(super) fn cell(&self, hash: u64) -> usize {
         // The higher bits of a product depend on most bits of both numbers.
         (hash >> 32) as usize & self.mask
@@ -61,7 +61,7 @@ impl Lookup {
     }
 }
 
-/// A number for a state with these ways. Few states with other ways or another hit have the same.
+/// The hash of a state with these ways and this match flag.
 pub(super) fn hash_of(ways: &[StoredWay], hit: Hit) -> u64 {
     let mut hash = match hit {
         Hit::Nowhere => 0,
@@ -74,7 +74,7 @@ pub(super) fn hash_of(ways: &[StoredWay], hit: Hit) -> u64 {
     hash
 }
 
-/// A number that depends on the order of both.
+/// The hash mixed with more bits; their order matters.
 fn mixed(hash: u64, bits: u64) -> u64 {
     (hash ^ bits).wrapping_mul(MULTIPLIER)
 }

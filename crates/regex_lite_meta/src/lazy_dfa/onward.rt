@@ -1,4 +1,4 @@
-//! Scans that go on by remembered turns, by offsets alone.
+//! The inner loop of scans: it follows cached transitions by offsets alone.
 //!
 //! The loop knows an offset and the row of a state, and finds the state by a division when it ends.
 //! Transitions for ASCII characters that are not special are a loop within the loop, so that the
@@ -23,10 +23,10 @@ use crate::lazy_dfa::state::{Effect, Hit, Target};
 use regex_lite_engine::search::patterns::Patterns;
 
 impl LazyDfa {
-    /// Goes on while turns are remembered, up to the last of them before the end of the search.
-    /// Returns whether the last match is the answer: nothing leads on from it or, with EARLIEST, it
-    /// is the first that a turn completes, of which only the end is known.
-    // Not inlined, since what an inlined one needs is cleared each time.
+    /// Follows transitions while they are cached, up to the last before the end of the search.
+    /// Returns whether the last match is the answer: no thread is left after it or, if EARLIEST, it
+    /// is the first that a transition completes, of which only the end is known.
+    // Not inlined: when inlined, its stack frame is cleared on each call.
     #[inline(never)]
     pub(super) fn run<P: Patterns, const EARLIEST: bool>(
         &self,
@@ -49,7 +49,7 @@ impl LazyDfa {
         'turns: loop {
             let (on, ascii) = self.pass_plain(patterns, haystack, spot, at);
             spot = on;
-            // A way out for itself: one for all would cost each turn two moves.
+            // A separate exit: a shared one costs two moves per transition.
             if spot.at >= haystack.len() {
                 self.settle_at(spot, at);
                 return false;
@@ -82,9 +82,9 @@ impl LazyDfa {
         false
     }
 
-    /// Goes on by turns that change nothing but the state, as most do, while the characters are
-    /// ASCII. Returns where the scan stands then and, if the next character is ASCII too, where its
-    /// turn leads.
+    /// Follows transitions that change only the state, as most do, while the characters are ASCII.
+    /// Returns the scan's position then and, if the next character is ASCII too, the target of its
+    /// transition.
     #[inline(always)]
     fn pass_plain<P: Patterns>(
         &self,
@@ -122,8 +122,8 @@ impl LazyDfa {
         (spot, None)
     }
 
-    /// Where the turn from there leads: the target, and the offset. None at the end of the haystack.
-    /// For an ASCII character the target may be known.
+    /// The target of the transition from this position, and the offset after the character. `None`
+    /// at the end of the haystack. For an ASCII character the target may be given.
     #[inline(always)]
     fn turn<P: Patterns>(
         &self,
@@ -153,10 +153,10 @@ impl LazyDfa {
         Some((self.target(spot.row, class), end))
     }
 
-    /// Takes the turn to this target and offset by what the state says. Returns where the scan
-    /// stands then, or nothing if the search is over: nothing leads on from its match. None if the
-    /// turn isn't taken: it completes a match of which the start isn't known, or leads from nothing
-    /// to go on from to nothing too often in a row.
+    /// Takes the transition to this target and offset as the target's state says. Returns the
+    /// scan's new position, or `Some(None)` if the search is over, since no thread is left after
+    /// its match. `None` if the transition isn't taken: it completes a match whose start isn't
+    /// known, or there were too many consecutive transitions from the start state to itself.
     #[inline(always)]
     fn take_by_state(
         &self,
@@ -187,7 +187,7 @@ impl LazyDfa {
         Some(Some(on))
     }
 
-    /// The first start after a turn from this offset to this state, which has ways, where it was
+    /// The first start after a transition from this offset to this state, which has threads. It was
     /// `first` before.
     #[inline(always)]
     #[tactic(auto, using(crate::proofs::lazy_dfa::StoredStateLemmas::length_states))]
@@ -203,7 +203,7 @@ impl LazyDfa {
         }
     }
 
-    /// Where the way began by which a match is complete in this state.
+    /// The origin of the match that is complete in this state.
     #[inline(always)]
     #[tactic(auto, using(crate::proofs::lazy_dfa::StoredStateLemmas::length_states))]
     fn hit(&self, x: u16) -> Hit
@@ -214,7 +214,7 @@ impl LazyDfa {
         self.states[x as usize].hit
     }
 
-    /// Whether the turn completes a match, if the least end is asked for.
+    /// Whether the transition completes a match, if EARLIEST.
     #[inline(always)]
     fn is_last<const EARLIEST: bool>(&self, target: Target) -> bool
         requires to { target.state < length self.now.states }

@@ -1,4 +1,4 @@
-//! The places among which searches for some patterns stay, whatever else is in their table.
+//! The places of a table that searches for some patterns can reach.
 //!
 //! The classes and the reach of an automaton are those of its patterns' own part alone. Patterns
 //! lie side by side in the table of a list, so the least row of places that no arrow leaves is that
@@ -13,7 +13,7 @@ ghost use Rattle.regex_lite_engine.specs.Search.Starts.{AreAllStarts};
 use regex_lite_engine::nfa::place::Place;
 use regex_lite_engine::search::patterns::Patterns;
 
-/// Places in a row: from `low` on, up to the one before `end`.
+/// Consecutive places: from `low` up to, but not including, `end`.
 #[derive(Clone, Copy)]
 pub(super) struct Part {
     pub low: usize,
@@ -21,7 +21,7 @@ pub(super) struct Part {
 }
 
 impl Part {
-    /// The least one in which all of these patterns are entered and that no arrow leaves. None
+    /// The least part that has the entries of all these patterns and that no arrow leaves. `None`
     /// without a pattern.
     pub(super) fn of<P: Patterns>(all: &P) -> Option<Part>
         requires { AreAllStarts (P.table all.now) (P.entries all.now) (P.starts all.now) }
@@ -39,7 +39,7 @@ impl Part {
         Some(part)
     }
 
-    /// The place with this number alone.
+    /// Only the place with this number.
     fn at(place: u32) -> Part
         ensures { result ≡ record { low = place; end = place + 1 } }
     {
@@ -47,8 +47,8 @@ impl Part {
         Part { low, end: low + 1 }
     }
 
-    /// Takes in the place with this number, and those between.
-    // Inlined, and so are those of a place, since each place passes here.
+    /// Extends the part to the place with this number.
+    // Inlined, and so is the next, since they are called for each place.
     #[inline(always)]
     fn take_in(&mut self, place: u32)
         requires order { self.old.low ≤ self.old.end }
@@ -65,7 +65,7 @@ impl Part {
         }
     }
 
-    /// Takes in the places that the arrows of this one lead to.
+    /// Extends the part to the targets of this place's arrows.
     #[inline(always)]
     fn take_in_targets(&mut self, place: &Place)
         requires order { self.old.low ≤ self.old.end }
@@ -78,7 +78,7 @@ impl Part {
             Place::Empty { to } => self.take_in(*to),
             Place::Char { to, .. } => self.take_in(*to),
             Place::Class { to, set } => {
-                // Without a character there is no arrow.
+                // An empty set has no arrow.
                 if !set.ranges().is_empty() {
                     self.take_in(*to);
                 }
@@ -94,7 +94,7 @@ impl Part {
         }
     }
 
-    /// Takes in the places with these numbers.
+    /// Extends the part to the places with these numbers.
     fn take_in_all(&mut self, places: &[u32])
         requires order { self.old.low ≤ self.old.end }
         ensures taken { All (IsInPart self.new) places.now }
@@ -107,7 +107,7 @@ impl Part {
         }
     }
 
-    /// Takes in the places that its own arrows lead to, and those that theirs do.
+    /// Extends the part to all places that are reachable from it.
     fn close(&mut self, places: &[Place])
         requires order { self.old.low ≤ self.old.end }
         requires inside { self.old.end ≤ length places.now }
@@ -116,7 +116,7 @@ impl Part {
         ensures widens { Widens self.old self.new }
         ensures inside { self.new.end ≤ length places.now }
     {
-        // The arrows of those from `low` on, up to the one before `end`, lead into it.
+        // The arrows of the places from `low` up to `end` lead into the part.
         let mut low = self.end;
         let mut end = self.end;
         'places: loop {

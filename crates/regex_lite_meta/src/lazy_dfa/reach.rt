@@ -1,5 +1,5 @@
-//! How many characters a way reads at most: where no place is entered twice, a search that is stuck
-//! goes back by no more than these.
+//! The greatest number of characters that a path reads. Without loops it is bounded, and a stuck
+//! search goes back no further than that.
 ghost use Rattle.std.specs.Prelude.{◌≡◌, ◌+◌, ◌-◌, ◌≤◌, ◌<◌, ℕ, List, All, IfSome, true, false};
 ghost use Rattle.std.specs.Prelude.{Some, chars, length, map, slice_get};
 ghost use Rattle.regex_lite_meta.specs.LazyDfa.Automaton.{ReadsAtMost};
@@ -14,7 +14,7 @@ use crate::lazy_dfa::part::Part;
 use regex_lite_engine::nfa::place::Place;
 use regex_lite_engine::search::here::{Here, byte_len};
 
-/// How many of these places read a character, or more: a class may be empty.
+/// An upper bound of the number of places that read a character; a class may be empty.
 pub(super) fn reading_in(places: &[Place]) -> usize
     ensures { reading_of (map place_of places.now) ≤ result }
 {
@@ -34,9 +34,9 @@ fn reads(place: &Place) -> bool
     matches!(place, Place::Char { .. } | Place::Class { .. })
 }
 
-/// How many characters a way of this number of patterns reads at most, whose part of these places
-/// has `reading` that read one, if a search may go back by no more. The automaton of several
-/// patterns may be given up, which that of a search that began anew is not.
+/// The greatest number of characters that a path reads, if a search may go back no further. The
+/// part has `reading` places that read a character. It is known only for a single pattern, since
+/// the lazy DFA of several patterns may be given up, and a search that began anew can't give up.
 pub(super) fn reach_for(
     patterns: usize,
     places: &[Place],
@@ -56,7 +56,7 @@ pub(super) fn reach_for(
     }
 }
 
-/// Whether all arrows of the part's places lead to lower numbers, as they do without loops.
+/// Whether all arrows of the part's places lead to lower numbers, as they do if there are no loops.
 fn lead_down(places: &[Place], part: Part) -> bool
     requires inside { part.end ≤ length places.now }
     ensures { result ≡ true → (q : ℕ) (place : code.Place) → IsInPart part q
@@ -101,7 +101,7 @@ fn are_below(entries: &[u32], number: usize) -> bool
     true
 }
 
-/// The position so many characters before this one, if it lies after the offset.
+/// The position `characters` characters before this one, if it lies after the offset `after`.
 pub(super) fn back(haystack: &str, from: Here, characters: usize, after: usize) -> Option<Here>
     requires { (p : ℕ) × IsHere (chars haystack.now) p from }
     ensures here { (p : ℕ) → IsHere (chars haystack.now) p from → IfSome result (λ here.
@@ -124,7 +124,7 @@ pub(super) fn back(haystack: &str, from: Here, characters: usize, after: usize) 
     Some(here)
 }
 
-/// The position before the last character. None at the haystack's start.
+/// The position one character earlier. `None` at the haystack's start.
 fn before(haystack: &str, here: Here) -> Option<Here>
     requires { (p : ℕ) × IsHere (chars haystack.now) p here }
     ensures { (p : ℕ) → IsHere (chars haystack.now) p here → IfSome result (λ before.

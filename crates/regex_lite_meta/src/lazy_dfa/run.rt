@@ -1,4 +1,4 @@
-//! Searches that remember their turns, and go by those that they remember.
+//! The steps of searches with a lazy DFA.
 ghost use Rattle.std.specs.Prelude.{◌≡◌, [], ◌<◌, ◌≤◌, ◌+◌, ◌⊎◌, ℕ, List};
 ghost use Rattle.std.specs.Prelude.{IfSome, IsCharBoundary, IsSome, MatchOption, None};
 ghost use Rattle.std.specs.Prelude.{chars, false, length, map, slice_index, true};
@@ -25,21 +25,21 @@ use regex_lite_engine::pikevm::memory::Memory;
 use regex_lite_engine::search::here::Here;
 use regex_lite_engine::search::patterns::Patterns;
 
-/// Where a search stands, and its state, if that is known.
+/// The position of a search, and its state, if that is known.
 #[derive(Clone, Copy)]
 pub(crate) struct Progress {
     pub here: Here,
     pub state: Option<u16>,
-    /// The first start, where some ways of the state began.
+    /// The first start, at which some threads of the state began.
     pub first: usize,
-    /// Up to this offset turns were looked up before.
+    /// The offset up to which cached transitions were already looked up.
     pub until: usize,
-    /// Whether it began anew on the way, at a later start.
+    /// Whether the search began anew at a later start.
     pub anew: bool,
 }
 
 impl Progress {
-    /// Where a search stands before its first turn.
+    /// The position of a search before its first step.
     pub(crate) fn begun(here: Here) -> Progress
         ensures is { result ≡ record {
           here = here;
@@ -58,7 +58,8 @@ impl Progress {
         }
     }
 
-    /// Where a search stands that has come here by other turns. None if its first start is unknown.
+    /// The position of a search that came here by steps of the PikeVM. `None` if its first start is
+    /// unknown.
     pub(super) fn on_the_way(cache: &Cache<Origin>, here: Here) -> Option<Progress>
         ensures { (table : List (Place ℕ)) (haystack : Text) (entries : List ℕ) (s p : ℕ)
             (automaton : Automaton) → IsHere haystack p here
@@ -75,7 +76,7 @@ impl Progress {
         })
     }
 
-    /// Whether the last scan went on from here, so that the turn is remembered.
+    /// Whether the last scan followed the transition from here, so that it is cached.
     pub(super) fn was_scanned(&self) -> bool {
         self.here.at.saturating_add(1) < self.until
     }
@@ -99,8 +100,9 @@ impl Progress {
     }
 }
 
-/// The first start of a search that stands at this offset: where the most preferred thread began,
-/// or the offset if there is no thread. None if that thread didn't begin before, which none does.
+/// The first start of a search at this offset: the start of the most preferred thread, or the
+/// offset if there is no thread. `None` if that thread didn't begin before this offset, which
+/// doesn't happen.
 fn first_start(memory: &Memory<Origin>, at: usize) -> Option<usize>
     ensures { IfSome result (λ first.
         (first ≤ at) × IsFirstStart first at memory.now.threads) }
@@ -112,8 +114,8 @@ fn first_start(memory: &Memory<Origin>, at: usize) -> Option<usize>
     if start.at < at { Some(start.at) } else { None }
 }
 
-/// The first start after the search has gone over the position: the position itself, if the most
-/// preferred thread began there and there is no match. No thread of an earlier start is left then.
+/// The first start after the step at this position: the position itself, if the most preferred
+/// thread began there and there is no match. Then no thread with an earlier start is left.
 pub(super) fn first_after(cache: &Cache<Origin>, at: Progress) -> usize
     ensures { IsFirstAfterTurn at.first at.here.at (best_of cache.now.best) result }
 {
@@ -128,7 +130,7 @@ pub(super) fn first_after(cache: &Cache<Origin>, at: Progress) -> usize
     }
 }
 
-/// Goes on to the next position. The state is the one that the search is in there.
+/// Moves to the next position. The state is already that of the next position.
 #[inline(always)]
 pub(super) fn next_position(cache: &Cache<Origin>, haystack: &str, at: Progress) -> Progress
     requires here { (p : ℕ) × IsHere (chars haystack.now) p at.here }
@@ -159,8 +161,8 @@ pub(super) fn next_position(cache: &Cache<Origin>, haystack: &str, at: Progress)
     }
 }
 
-/// Goes over the position, at which each pattern may start. Returns whether a match is complete
-/// there.
+/// Takes the PikeVM's step at this position, at which each pattern may start. Returns whether a
+/// match is complete there.
 pub(super) fn go_over<P: Patterns>(
     cache: &mut Cache<Origin>,
     patterns: &P,
@@ -184,12 +186,12 @@ pub(super) fn go_over<P: Patterns>(
     ensures hit { IsHit result (best_of cache.old.best) (best_of cache.new.best) }
     ensures ends { EndsAt here.at (best_of cache.old.best) (best_of cache.new.best) }
 {
-    // There is room for more ways than there are patterns.
+    // The memory fits more threads than there are patterns.
     let _threads = cache.walk.memory.threads();
     cache.turn::<_, false>(patterns, here)
 }
 
-/// Goes on from nothing: without a thread, and without a match.
+/// Clears the threads and the match.
 pub(super) fn let_go(cache: &mut Cache<Origin>)
     ensures threads { cache.new.walk.memory.threads ≡ [] }
     ensures none { best_of cache.new.best ≡ None }
@@ -199,16 +201,14 @@ pub(super) fn let_go(cache: &mut Cache<Origin>)
     cache.best.clear();
 }
 
-/// Whether this can be the match of a search that has done as much: none is found before a
-/// place is entered.
+/// Whether a search with this cost can have this match: a match implies that a place was entered.
 pub(super) fn may_have(cache: &Cache<Origin>, found: Option<(Origin, usize)>) -> bool
     ensures { result ≡ true → (found ≡ None) ⊎ (0 < cache.now.walk.steps.entered) }
 {
     found.is_none() || cache.walk.steps.entered() > 0
 }
 
-/// Goes on with these ways, all of which began at this start, and with this match, if there is
-/// one.
+/// Loads these ways as threads, all of which began at this start, and this match, if there is one.
 pub(super) fn take_up_ways(
     cache: &mut Cache<Origin>,
     ways: &[StoredWay],

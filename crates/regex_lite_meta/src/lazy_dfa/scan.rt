@@ -1,4 +1,4 @@
-//! Searches that go on by remembered turns, without a try.
+//! Scans: searches that follow cached transitions only.
 ghost use Rattle.std.specs.Prelude.{◌≡◌, ◌↔◌, ◌+◌, ◌<◌, ◌⊎◌, [], ℕ, IfSome, IsCharBoundary};
 ghost use Rattle.std.specs.Prelude.{IsSome, IsTrue, None, Some, chars, false, length, slice_get};
 ghost use Rattle.std.specs.Prelude.{true};
@@ -16,21 +16,22 @@ use regex_lite_engine::pikevm::beginning::Origin;
 use regex_lite_engine::search::here::{Here, last_char};
 use regex_lite_engine::search::patterns::{Patterns, pass_over};
 
-/// Where a search that goes by remembered turns stands.
+/// The position of a DFA search.
 #[derive(Clone, Copy)]
 pub(crate) struct Standing {
     pub at: usize,
     pub state: u16,
-    /// The first start, where some ways of the state began.
+    /// The first start, at which some threads of the state began.
     pub first: usize,
-    /// The last offset at which there was nothing to go on from, or the first start before that.
+    /// The last offset without thread and match, or the first start if there was none.
     pub idle_at: usize,
-    /// Where the last match that was found starts and ends.
+    /// The span of the last match that was found.
     pub best: Option<(Origin, usize)>,
 }
 
 impl Standing {
-    /// Now the last match is one of this pattern that began at the first start and ends there.
+    /// Sets the last match to one of this pattern that began at the first start and ends at this
+    /// offset.
     #[inline(always)]
     pub(super) fn complete(&mut self, number: u32, end: usize)
         ensures { self.new ≡ record self.old {
@@ -44,7 +45,7 @@ impl Standing {
         self.best = Some((origin, end));
     }
 
-    /// The match of this pattern that began at the first start and ends here.
+    /// The match of this pattern that began at the first start and ends at the scan's position.
     fn completed(&self, number: u32) -> Option<(Origin, usize)>
         ensures { result
             ≡ Some (record { at = self.now.first; number = number }, self.now.at) }
@@ -58,10 +59,10 @@ impl Standing {
 }
 
 impl LazyDfa {
-    /// Goes on by remembered turns, and over positions at which no match can begin, up to a turn
-    /// that isn't known, or that completes a match of which the start isn't known. Returns whether
-    /// the last match is the answer: the most preferred one or, with EARLIEST, one with the least
-    /// end, whose start says nothing. None may be the answer too.
+    /// Follows cached transitions, and skips positions at which no match can begin, up to a
+    /// transition that isn't cached or that completes a match whose start isn't known. Returns
+    /// whether the last match is the answer: the most preferred one or, if EARLIEST, one with the
+    /// least end, whose start is meaningless. The answer may be that there is no match.
     pub(super) fn scan<P: Patterns, const EARLIEST: bool>(
         &self,
         patterns: &P,
@@ -83,7 +84,7 @@ impl LazyDfa {
     }
 
     /// Like `scan`, from where `run` stopped.
-    // Not inlined, so that searches for which `run` is enough cost no more than that.
+    // Not inlined, so that searches for which `run` suffices don't pay for it.
     #[inline(never)]
     pub(super) fn scan_on<P: Patterns, const EARLIEST: bool>(
         &self,
@@ -123,9 +124,9 @@ impl LazyDfa {
         }
     }
 
-    /// Where there is nothing to go on from and no match, goes on to the next position at which one
-    /// can begin. Returns whether it could, or needn't: not where no state is known for that, or
-    /// where turns would be faster.
+    /// In the start state, without a match, skips to the next position at which a match can begin.
+    /// Returns `false` if the state at that position isn't cached, or if following transitions
+    /// would be faster.
     // Inlined, so that other positions cost no more than the test.
     #[inline(always)]
     pub(super) fn skip<P: Patterns>(&self, patterns: &P, haystack: &str, at: &mut Standing) -> bool
@@ -135,14 +136,15 @@ impl LazyDfa {
             (chars haystack.now) self.now at.old at.new }
         ensures none { at.old.best ≡ None → at.new.best ≡ None }
     {
-        // At the haystack's end there is nothing to pass over.
+        // At the haystack's end there is nothing to skip.
         if at.at >= haystack.len() || at.best.is_some() || !self.is_empty(at.state) {
             return true;
         }
         self.skip_idle(patterns, haystack, at)
     }
 
-    /// The same where there is nothing to go on from and no match.
+    /// Skips from the start state, without a match, to the next position at which a match can
+    /// begin. Returns whether it could.
     #[inline(never)]
     fn skip_idle<P: Patterns>(&self, patterns: &P, haystack: &str, at: &mut Standing) -> bool
         requires scanning { (low p : ℕ) × IsScanning (P.table patterns.now) (P.entries patterns.now)
@@ -172,7 +174,7 @@ impl LazyDfa {
         true
     }
 
-    /// The state in which a search starts at this offset.
+    /// The start state of a search at this offset.
     ///
     /// Condition: the offset is on a character boundary.
     #[inline(always)]
@@ -187,7 +189,7 @@ impl LazyDfa {
         self.empty_state(last_char(haystack, at))
     }
 
-    /// The state without ways in which a match is searched for after this character.
+    /// The start state after this character.
     #[inline(always)]
     pub(crate) fn empty_state(&self, before: Option<char>) -> Option<u16>
         ensures { IfSome result (λ x. IsEmptyState self.now x before) }
@@ -204,14 +206,14 @@ impl LazyDfa {
         None
     }
 
-    /// Whether looks, if there are any, see the same of both.
+    /// Whether the two contexts are the same to the looks, if there are any.
     fn sees_alike(&self, side: LookContext, other: LookContext) -> bool
         ensures { result ≡ true → self.now.intervals.looks ≡ true → side ≡ other }
     {
         !self.classes.looks() || side.is(other)
     }
 
-    /// Whether the state has no ways.
+    /// Whether the state has no threads.
     #[tactic(auto, using(crate::proofs::lazy_dfa::StoredStateLemmas::length_states))]
     pub(super) fn is_empty(&self, x: u16) -> bool
         requires { x < length self.now.states }
@@ -221,8 +223,8 @@ impl LazyDfa {
         self.states[x as usize].len == 0
     }
 
-    /// Where the turn from here leads, and the match that is the last then. None where that isn't
-    /// known. With EARLIEST, a match may be one of which the start isn't known.
+    /// The state that the transition from here leads to, and the last match then. `None` if that
+    /// isn't known. If EARLIEST, the start of a match may be unknown.
     fn step<P: Patterns, const EARLIEST: bool>(
         &self,
         patterns: &P,
@@ -252,7 +254,7 @@ impl LazyDfa {
         }
     }
 
-    /// Whether the answer is known after the turn.
+    /// Whether the answer is known after the transition.
     fn is_over<const EARLIEST: bool>(
         &self,
         here: Here,
@@ -275,7 +277,7 @@ impl LazyDfa {
         best.is_some() && (EARLIEST || self.is_empty(to))
     }
 
-    /// Goes on to the next position, in this state and with this match.
+    /// Moves to the next position, in this state and with this match.
     fn go_on(
         &self,
         haystack: &str,

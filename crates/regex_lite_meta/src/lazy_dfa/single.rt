@@ -31,10 +31,10 @@ use std::alloc::Global;
 pub(crate) mod list;
 pub(crate) mod one;
 
-/// The start and the end of the match that a search by itself finds, with the number of its
-/// pattern. With EARLIEST it is one with the least end, and its start and number say nothing.
-/// The search goes on with an automaton if it isn't over soon. `patterns` are those that may start
-/// at a position, and `all` start everywhere.
+/// The span of the match that a one-off search finds, with the number of its pattern. If EARLIEST,
+/// it is one with the least end, and its start and number are meaningless. A search that isn't over
+/// soon continues with a lazy DFA. `patterns` are those that can start at a position, and `all`
+/// start everywhere.
 pub(crate) fn find_once<P: Patterns, A: Patterns, const EARLIEST: bool>(
     patterns: &mut P,
     all: &A,
@@ -80,8 +80,8 @@ pub(crate) fn find_once<P: Patterns, A: Patterns, const EARLIEST: bool>(
     }
 }
 
-/// Goes on with a new automaton. Returns where the search stands if there is none, or if it is
-/// given up.
+/// Continues with a new lazy DFA. Returns the search's position if there is no memory for one, or
+/// if it is given up.
 fn find_learning<A: Patterns, const EARLIEST: bool>(
     all: &A,
     alloc: Global,

@@ -1,5 +1,5 @@
-//! Searches without slots that find where a match starts and ends, by remembered turns where that
-//! pays. A search between these finds its slots.
+//! Searches without slots that find the span of a match, with a lazy DFA where that pays. A search
+//! in that span then finds its slots.
 ghost use Rattle.std.specs.Prelude.{◌≡◌, ◌∷◌, [], IfSome, IsCharBoundary, chars};
 ghost use Rattle.std.specs.Prelude.{length, true};
 ghost use Rattle.regex_lite_meta.specs.LazyDfa.Remembering.{FindsSpansIn, RemembersFor};
@@ -20,8 +20,7 @@ use regex_lite_engine::pikevm::run::run;
 use regex_lite_engine::search::one_pattern::OnePattern;
 use std::alloc::Global;
 
-/// The memory of searches without slots, and an automaton that remembers their turns if they go by
-/// one.
+/// The memory of searches without slots, and a lazy DFA if they use one.
 #[derive(Drop)]
 pub(crate) struct SpanSearcher {
     dfa: Option<LazyDfa>,
@@ -29,9 +28,8 @@ pub(crate) struct SpanSearcher {
 }
 
 impl SpanSearcher {
-    /// One for this pattern, whose searches go this way. It remembers nothing yet. None where an
-    /// automaton would have too many classes, or where memory runs out. It is in a box, so that
-    /// moving it costs little.
+    /// A searcher for this pattern with this strategy. Its cache is empty. `None` if a lazy DFA
+    /// would have too many classes or memory runs out. It is boxed, so that moving it is cheap.
     pub(crate) fn for_one(
         alloc: Global,
         pattern: &OnePattern<'_>,
@@ -49,8 +47,7 @@ impl SpanSearcher {
         Box::new(alloc, searcher).ok()
     }
 
-    /// Where the most preferred match from the least start at or after this offset starts and
-    /// ends.
+    /// The span of the most preferred match from the least start at or after this offset.
     ///
     /// Condition: the pattern may start anywhere.
     pub(crate) fn find(
@@ -77,11 +74,11 @@ impl SpanSearcher {
 }
 
 impl LazyDfa {
-    /// Where the most preferred match from the least start at or after this offset starts and
-    /// ends, of a pattern whose turns this remembers.
+    /// The match span found by the lazy DFA: of the most preferred match from the least start at or
+    /// after this offset.
     ///
     /// Condition: the pattern may start anywhere.
-    // Not inlined, so that a search without an automaton costs no more than the test for it.
+    // Not inlined, so that a search without a lazy DFA pays only for the test.
     #[inline(never)]
     pub(crate) fn find_span(
         &mut self,

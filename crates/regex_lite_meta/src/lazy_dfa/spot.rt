@@ -1,4 +1,4 @@
-//! Where a scan stands between two turns, and what a turn changes of that.
+//! The position of a scan between two transitions, and how a transition changes it.
 ghost use Rattle.std.specs.Prelude.{◌≡◌, ◌*◌, ◌<◌, ℕ, IfSome, None, length, true};
 ghost use Rattle.regex_lite_meta.specs.LazyDfa.Automaton.{State};
 ghost use Rattle.regex_lite_meta.specs.LazyDfa.Intervals.{classes_in};
@@ -11,21 +11,21 @@ use crate::lazy_dfa::scan::Standing;
 use crate::lazy_dfa::state::{Effect, Target};
 use crate::strategy::MOST_IDLE;
 
-/// Where a scan stands between two turns. What changes less often is left in its [`Standing`], so
-/// that a turn moves little.
+/// The position of a scan between two transitions. What changes less often stays in its
+/// [`Standing`], so that a transition copies little.
 #[derive(Clone, Copy)]
 pub(super) struct Spot {
     pub at: usize,
-    /// Where the row of its state begins.
+    /// The start of the state's row.
     pub row: usize,
-    /// The last offset to which a turn led to nothing to go on from.
+    /// The offset after the last transition to the start state.
     idle_at: usize,
-    /// How many turns in a row led there from nothing.
+    /// The number of consecutive transitions from the start state to itself up to that offset.
     idle: u32,
 }
 
 impl LazyDfa {
-    /// Where this scan stands.
+    /// The position of this scan.
     #[inline(always)]
     pub(super) fn spot_of(&self, at: &Standing) -> Spot
         requires { at.now.state < length self.now.states }
@@ -40,7 +40,7 @@ impl LazyDfa {
         }
     }
 
-    /// Moves a scan to this spot.
+    /// Moves a scan to this position.
     #[inline(always)]
     pub(super) fn settle_at(&self, spot: Spot, at: &mut Standing)
         requires row { (x : ℕ) × IsRowOf self.now spot.row x }
@@ -55,7 +55,7 @@ impl LazyDfa {
 }
 
 impl Spot {
-    /// Where the scan stands after a turn to this target and offset.
+    /// The position after a transition to this target and offset.
     #[inline(always)]
     pub(super) fn after(self, target: Target, end: usize) -> Spot
         ensures at { result.at ≡ end }
@@ -69,8 +69,8 @@ impl Spot {
         }
     }
 
-    /// How many turns in a row then led from nothing to go on from to nothing, unless that is too
-    /// many.
+    /// The number of consecutive transitions from the start state to itself after another one to
+    /// the start state, unless that is too many.
     #[inline(always)]
     fn idle_after(self) -> Option<u32> {
         if self.at != self.idle_at {
@@ -83,10 +83,10 @@ impl Spot {
     }
 }
 
-/// Takes the turn to this target and offset if its effect tells all of it. Returns where the scan
-/// stands then, or nothing if the search is over. None if it isn't taken: for what only the state
-/// says, if it leads from nothing to go on from to nothing too often in a row, and with EARLIEST if
-/// it completes a match.
+/// Takes the transition to this target and offset if its effect determines the outcome. Returns the
+/// scan's new position, or `Some(None)` if the search is over. `None` if the transition isn't
+/// taken: if only the state determines the outcome, after too many consecutive transitions from the
+/// start state to itself and, if EARLIEST, if it completes a match.
 #[inline(always)]
 pub(super) fn take_by_effect<const EARLIEST: bool>(
     spot: Spot,
@@ -110,7 +110,8 @@ pub(super) fn take_by_effect<const EARLIEST: bool>(
         at.complete(0, spot.at);
         return Some(Some(spot.after(target, end)));
     }
-    // Stored here, or else the compiler makes one jump of this `match` and the test before it.
+    // Stored here: otherwise the compiler merges this `match` and the tests before it into one jump
+    // table.
     at.at = spot.at;
     match target.effect {
         Effect::Ends => {
@@ -129,8 +130,7 @@ pub(super) fn take_by_effect<const EARLIEST: bool>(
     }
 }
 
-/// Takes a turn after which there is nothing to go on from, and the match that it completes is
-/// known.
+/// Takes a transition to the start state. The match that it completes, if any, is known.
 #[inline(always)]
 pub(super) fn take_to_nothing(spot: Spot, on: Spot, at: &mut Standing) -> Option<Option<Spot>>
     ensures { TakesToNothing on at.old at.new result }

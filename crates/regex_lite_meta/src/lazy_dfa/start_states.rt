@@ -1,34 +1,33 @@
-//! The states in which searches start.
+//! The start states.
 ghost use Rattle.std.specs.Prelude.{◌<◌};
 
 use crate::lazy_dfa::state::LookContext;
 
-/// The numbers of the states without ways in which a match is searched for: one for each thing that
-/// looks may see of the character before. A number may be that of another state or of none, so
-/// whoever takes one has to look at the state.
+/// The numbers of the start states, one for each look context of the character before. A number may
+/// be that of another state or of none, so callers have to check the state.
 #[derive(Clone, Copy)]
 pub(crate) struct StartStates {
     numbers: [u16; 5],
 }
 
 impl StartStates {
-    /// Those of an automaton without states.
+    /// The start states of a lazy DFA without states.
     pub(super) fn none() -> StartStates {
         StartStates { numbers: [0; 5] }
     }
 
-    /// The state after a character of which looks see this.
+    /// The start state for this look context.
     pub(super) fn number(&self, before: LookContext) -> u16 {
         self.numbers[index(before)]
     }
 
-    /// Puts the number of a state there.
+    /// Sets the start state for this look context.
     pub(super) fn put(&mut self, before: LookContext, number: u16) {
         self.numbers[index(before)] = number;
     }
 }
 
-/// Where the number for this is. No character is seen as two of these.
+/// The index of this look context. Each character has one.
 fn index(before: LookContext) -> usize
     ensures { result < 5 }
 {

@@ -1,4 +1,4 @@
-//! The states of a lazy automaton.
+//! The states of a lazy DFA.
 ghost use Rattle.std.specs.Prelude.{◌≡◌, ◌<◌, IfSome, Option, Some, true, ◌↔◌, IsTrue, None};
 ghost use Rattle.regex_lite_meta.specs.LazyDfa.Automaton.{KeptOrigin};
 ghost use Rattle.regex_lite_meta.specs.LazyDfa.Stored.{hit_in, is_known, is_restarting};
@@ -8,8 +8,8 @@ ghost use Rattle.regex_lite_syntax.specs.Tree.Looks.{is_word};
 
 use std::mem::size_of;
 
-/// A place to go on from, whether the way to it began at the first start, and the number of its
-/// pattern.
+/// One NFA state of a DFA state: a place, whether the path to it began at the first start, and the
+/// number of its pattern.
 #[derive(Clone, Copy)]
 pub(crate) struct StoredWay {
     pub place: u32,
@@ -17,71 +17,73 @@ pub(crate) struct StoredWay {
     pub is_first: bool,
 }
 
-/// Where the way began by which a match was complete, with the number of its pattern.
+/// The match flag of a state: the origin of the match that was complete, with the number of its
+/// pattern.
 #[derive(Clone, Copy)]
 pub(crate) enum Hit {
-    /// None was.
+    /// No match was complete.
     Nowhere,
     AtFirst(u32),
     AtLater(u32),
 }
 
-/// What a search goes on with between two characters, whatever the haystack.
+/// A DFA state: all that a search depends on between two characters, in any haystack.
 #[derive(Clone, Copy)]
 pub(crate) struct StoredState {
-    /// Where its ways begin in the list of all, and how many they are.
+    /// The start of the state's ways in the list of all, and their number.
     pub from: usize,
     pub len: usize,
     /// Whether there is no match yet.
     pub searching: bool,
-    /// Whether the last position is the first start from there on, in place of an earlier one.
+    /// Whether the last position replaces an earlier one as the first start.
     pub restarts: bool,
-    /// What looks see of the character before.
+    /// The look context of the character before.
     pub before: LookContext,
     /// Whether a match was complete at the last position.
     pub hit: Hit,
 }
 
-// An automaton has memory for hundreds of them.
+// A lazy DFA has hundreds of them.
 const _: () = prove!(size_of::<StoredState>() == 32);
 
-/// Where a turn leads.
+/// The target of a transition.
 #[derive(Clone, Copy)]
 pub(crate) struct Target {
-    /// Where the row of the state begins in the list of all targets.
+    /// The start of the state's row in the list of all targets.
     pub row: u16,
     /// The number of the state.
     pub state: u8,
-    // The last, so that one comparison of all bytes tells whether the turn is plain.
+    // The last field, so that one comparison of all bytes tells whether the transition is plain.
     pub effect: Effect,
 }
 
-/// What a turn does besides, as far as that is known without a look at the state it leads to.
+/// The flags of a transition: what it does besides changing the state, as far as that is known
+/// without reading the state.
 #[derive(Clone, Copy)]
 pub(crate) enum Effect {
-    /// Nothing: the state has ways, and no match was complete.
+    /// Nothing: the state has threads, and no match was complete.
     Plain,
-    /// The state has ways, and a match of the first pattern was complete, which began at the first
-    /// start.
+    /// The state has threads, and a match of the first pattern was complete, which began at the
+    /// first start.
     Completes,
-    /// The state has no ways, and no match was complete.
+    /// The state has no threads, and no match was complete.
     Empties,
-    /// The state has no ways, and a match of the first pattern was complete, which began at the
+    /// The state has no threads, and a match of the first pattern was complete, which began at the
     /// first start.
     Ends,
-    /// The state has ways, no match was complete, and the turn's own position is the first start
-    /// from there on.
+    /// The state has threads, no match was complete, and the position of the transition is the
+    /// first start from there on.
     Restarts,
-    /// Only the state says.
+    /// The effect is given by the state.
     ByState,
-    /// The turn isn't remembered.
+    /// The transition isn't cached.
     Unknown,
 }
 
-// An automaton has memory for thousands of them.
+// A lazy DFA has thousands of them.
 const _: () = prove!(size_of::<Target>() == 4);
 
-/// Whether the ways are the same.
+/// Whether the lists of ways are equal.
 pub(crate) fn are_same(ways: &[StoredWay], others: &[StoredWay]) -> bool
     ensures { result ≡ true → ways.now ≡ others.now }
 {
@@ -97,7 +99,7 @@ pub(crate) fn are_same(ways: &[StoredWay], others: &[StoredWay]) -> bool
 }
 
 impl Target {
-    /// The target, if the turn is remembered.
+    /// The target, if the transition is cached.
     #[inline(always)]
     pub(super) fn remembered(self) -> Option<Target>
         ensures { IfSome result (λ target. (target ≡ self) × (is_known self.effect ≡ true)) }
@@ -110,12 +112,12 @@ impl Target {
 }
 
 impl StoredWay {
-    /// A number that is different for each way.
+    /// A number that identifies the way, for hashing.
     pub(super) fn bits(self) -> u64 {
         (self.number as u64) << 33 | (self.place as u64) << 1 | self.is_first as u64
     }
 
-    /// Whether they are the same.
+    /// Whether the ways are equal.
     fn is(self, other: StoredWay) -> bool
         ensures { result ≡ true → self ≡ other }
     {
@@ -124,7 +126,7 @@ impl StoredWay {
 }
 
 impl StoredState {
-    /// Whether it has these properties, whatever its ways.
+    /// Whether the state has these properties, whatever its ways.
     pub(crate) fn is_like(
         &self,
         searching: bool,
@@ -143,7 +145,7 @@ impl StoredState {
             && self.hit.is(hit)
     }
 
-    /// What a turn to it does besides.
+    /// The effect of a transition to this state.
     pub(crate) fn effect(&self) -> Effect
         ensures known { is_known result ≡ true }
         ensures some { (hit : Option KeptOrigin) → known_hit result ≡ Some hit
@@ -182,7 +184,7 @@ impl StoredState {
 }
 
 impl Hit {
-    /// Whether they are the same.
+    /// Whether the match flags are equal.
     pub(crate) fn is(self, other: Hit) -> bool
         ensures { result ≡ true → self ≡ other }
     {
@@ -200,10 +202,10 @@ impl Hit {
     }
 }
 
-/// What looks see of the character before or after a position.
+/// The look context: what looks distinguish of the character before or after a position.
 #[derive(Clone, Copy)]
 pub(crate) struct LookContext {
-    /// Whether there is none.
+    /// Whether there is no character.
     pub is_none: bool,
     pub is_line_feed: bool,
     pub is_carriage_return: bool,
@@ -211,7 +213,7 @@ pub(crate) struct LookContext {
 }
 
 impl LookContext {
-    /// What they see of this one.
+    /// The look context of this character.
     pub(crate) fn of(c: Option<char>) -> LookContext
         ensures { result ≡ side_of c }
     {
@@ -226,7 +228,7 @@ impl LookContext {
         }
     }
 
-    /// What they see where there is no character.
+    /// The look context without a character.
     pub(crate) fn none() -> LookContext
         ensures { result ≡ side_of None }
     {
@@ -238,7 +240,7 @@ impl LookContext {
         }
     }
 
-    /// Whether they see the same of both.
+    /// Whether the contexts are equal.
     pub(crate) fn is(self, other: LookContext) -> bool
         ensures { IsTrue result ↔ (self ≡ other) }
     {
@@ -249,7 +251,7 @@ impl LookContext {
     }
 }
 
-/// Whether it is a character of a word.
+/// Whether it is a word character.
 fn is_word_char(c: char) -> bool
     ensures { result ≡ is_word (Some c) }
 {

@@ -1,5 +1,5 @@
-//! One attempt at a pattern: from a position at which a match of it may begin, until it matches or
-//! no thread is left.
+//! One attempt at a pattern: a search from a position at which it may match, until it does or no
+//! thread is left.
 ghost use Rattle.std.specs.Prelude.{◌+◌, ℕ, chars};
 ghost use Rattle.regex_lite_engine.specs.Graph.Stored.{places_of};
 ghost use Rattle.regex_lite_engine.specs.Pikevm.Searching.{IsBetween, IsFresh};
@@ -14,8 +14,8 @@ use regex_lite_engine::pikevm::run::is_done;
 use regex_lite_engine::search::here::Here;
 use regex_lite_engine::search::one_pattern::OnePattern;
 
-/// Searches for the pattern from here on until it matches, or no thread is left: then no match
-/// starts before the position that it has come to.
+/// Searches for the pattern from here on until it matches or no thread is left. In the latter case
+/// no match starts before the position that it has reached.
 // Not inlined, so that its loop keeps its registers.
 #[inline(never)]
 pub(super) fn attempt(

@@ -1,4 +1,4 @@
-//! What the searches for the patterns of a list keep for one another.
+//! The memory that the searches for the single patterns of a list share.
 ghost use Rattle.std.specs.Prelude.{◌≡◌, ◌<◌, ◌+◌, ◌↔◌, List, ℕ, IfErr, IfOk};
 ghost use Rattle.std.specs.Prelude.{IsCharBoundary, chars, is_some, false, length, slice_index};
 ghost use Rattle.std.specs.Prelude.{IfSome, IsTrue, None};
@@ -34,18 +34,18 @@ use regex_lite_engine::search::here::Here;
 use regex_lite_engine::steps::no_steps;
 use std::alloc::{AllocError, Global};
 
-/// What the search for one pattern keeps for those for the next.
+/// The memory that a search for one pattern leaves to the search for the next.
 #[derive(Drop)]
 pub(crate) struct Kept {
     alloc: Global,
-    /// The memory of searches by ordered sets.
+    /// The memory of the PikeVM.
     sets: Option<Cache<Unkept>>,
-    /// What searches need that remember their turns.
+    /// The memory of searches with a lazy DFA.
     learning: Option<Box<Learning>>,
 }
 
 impl Kept {
-    /// Nothing yet.
+    /// No memory yet.
     pub(super) fn new(alloc: Global) -> Kept
         ensures { (list : StoredList) → AreKeptFor list result }
     {
@@ -56,8 +56,8 @@ impl Kept {
         }
     }
 
-    /// All that searches for the patterns of this list need. What they need to remember their turns
-    /// is asked for once one does, and they go without where it is refused.
+    /// All memory that searches for the patterns of this list need. The memory of a lazy DFA is
+    /// requested once a search uses one; without it searches use the PikeVM.
     ///
     /// Condition: the list has a pattern.
     ///
@@ -78,9 +78,8 @@ impl Kept {
         })
     }
 
-    /// Whether the pattern with this number matches, and what the search for it did. Memory is
-    /// asked for before the first step of the first pattern of which a match may begin, and kept
-    /// for the next ones.
+    /// Whether the pattern with this number matches, and the cost of the search for it. Memory is
+    /// requested for the first pattern that can match anywhere, and kept for the next ones.
     #[inline(always)]
     pub(super) fn search_one(
         &mut self,
@@ -107,7 +106,7 @@ impl Kept {
         ensures ready { NeedsNoMemory self.old → NeedsNoMemory self.new × IfErr result (λ _. ⊥) }
     {
         let pattern = list.pattern(number);
-        // The next word tells as much as any match.
+        // Any occurrence of a word is a match.
         if let Some((found, steps)) = pattern.search_words(self.alloc, haystack, start) {
             return Ok((found.is_some(), steps));
         }
@@ -117,8 +116,8 @@ impl Kept {
         self.search_from(list, number, haystack, first.at)
     }
 
-    /// Whether the pattern matches from this offset on, where a match of it may begin, and what the
-    /// search did.
+    /// Whether the pattern matches from this offset on, at which a match of it may begin, and the
+    /// cost of the search.
     #[inline(always)]
     fn search_from(
         &mut self,
@@ -143,8 +142,8 @@ impl Kept {
         self.search_by_sets(list, number, haystack, start)
     }
 
-    /// Tries the pattern here, where a match of it may begin. It isn't tried where it pays to
-    /// search for it by itself.
+    /// Tries the pattern here, where a match of it may begin. It isn't tried if searching for it by
+    /// itself is faster.
     pub(super) fn try_at(
         &mut self,
         list: &GraphList,
@@ -175,8 +174,8 @@ impl Kept {
         Ok(status)
     }
 
-    /// What [`Kept::search_from`] tells, by ordered sets alone.
-    // Not inlined, since then its own loop is: there are two callers.
+    /// What [`Kept::search_from`] returns, by the PikeVM alone.
+    // Not inlined, so that its own loop is inlined: it has two callers.
     #[inline(never)]
     fn search_by_sets(
         &mut self,
@@ -201,9 +200,9 @@ impl Kept {
         Ok(told)
     }
 
-    /// What [`Kept::search_from`] tells, with an automaton if the search isn't over soon. None if
-    /// the memory for that is refused.
-    // Not inlined, so that searches in short haystacks cost no more for it.
+    /// What [`Kept::search_from`] returns, with a lazy DFA if the search isn't over soon. `None` if
+    /// there is no memory for that.
+    // Not inlined, so that searches in short haystacks don't pay for it.
     #[inline(never)]
     fn search_learning(
         &mut self,
@@ -230,8 +229,7 @@ impl Kept {
     }
 }
 
-/// Whether a search for the pattern with this number that goes over so many bytes remembers its
-/// turns.
+/// Whether a search for the pattern with this number in this many bytes uses a lazy DFA.
 #[inline(always)]
 fn pays_to_learn(list: &GraphList, number: usize, bytes: usize) -> bool
     requires { number < length list.now.entries }
@@ -244,7 +242,7 @@ fn pays_to_learn(list: &GraphList, number: usize, bytes: usize) -> bool
     )
 }
 
-/// What searches for single patterns of a list need that remember their turns.
+/// The memory of searches for single patterns of a list with a lazy DFA.
 #[derive(Drop)]
 struct Learning {
     alloc: Global,
@@ -252,7 +250,7 @@ struct Learning {
 }
 
 impl Learning {
-    /// That for the patterns of this list.
+    /// The memory for the patterns of this list.
     ///
     /// Condition: the list has a pattern.
     ///
@@ -268,7 +266,8 @@ impl Learning {
         Ok(Box::new(alloc, Learning { alloc, cache })?)
     }
 
-    /// Whether the pattern with this number matches from this offset on, and what the search did.
+    /// Whether the pattern with this number matches from this offset on, and the cost of the
+    /// search.
     fn search(
         &mut self,
         list: &GraphList,
@@ -293,8 +292,7 @@ impl Learning {
     }
 }
 
-/// Memory for a search in this table: what was kept, made ready for another search, if there is
-/// any.
+/// Memory for a search in this table: what was kept, if anything, reset for another search.
 ///
 /// Condition: the table has a place.
 ///
@@ -320,7 +318,7 @@ fn memory_again(
     Ok(cache)
 }
 
-/// Whether the search in this memory found a match, and what it did.
+/// Whether the search in this memory found a match, and its cost.
 fn told_by(cache: &Cache<Unkept>) -> (bool, Steps)
     ensures found { result.0 ≡ is_some (best_of cache.now.best) }
     ensures steps { result.1 ≡ cache.now.walk.steps }

@@ -1,4 +1,4 @@
-//! One pass over a haystack for all patterns of a list, by their index.
+//! One pass over a haystack for all patterns of a list, by their index of starts.
 ghost use Rattle.std.specs.Prelude.{◌≡◌, ◌+◌, ◌<◌, ℕ, List, IfErr, IfOk, IsCharBoundary, IsTrue};
 ghost use Rattle.std.specs.Prelude.{chars, false, length, slice_index, slice_index_or};
 ghost use Rattle.regex_lite_syntax.specs.Tree.{Tree};
@@ -23,12 +23,12 @@ use std::alloc::{AllocError, Global};
 #[derive(Drop)]
 pub(crate) struct ListPass<'g> {
     patterns: ListPatterns<'g>,
-    /// By the number of the pattern.
+    /// The status of each pattern, by its number.
     statuses: Vec<Status>,
 }
 
 impl<'g> ListPass<'g> {
-    /// All that passes for the patterns of this list need of their own.
+    /// All memory of their own that passes for the patterns of this list need.
     ///
     /// # Errors
     ///
@@ -42,8 +42,8 @@ impl<'g> ListPass<'g> {
         })
     }
 
-    /// Tells which of the patterns match, by a pass over the haystack. What it doesn't find out is
-    /// searched for pattern by pattern.
+    /// Finds which of the patterns match, by a pass over the haystack. Patterns that the pass
+    /// leaves undecided are searched for one by one.
     pub(crate) fn search(
         &mut self,
         list: &GraphList,
@@ -70,8 +70,9 @@ impl<'g> ListPass<'g> {
         self.finish(list, kept, haystack, left, matched)
     }
 
-    /// Goes on from here, from one position at which patterns may start to the next, and tries them
-    /// there. Returns where it has left the pass. None if it came to the haystack's end.
+    /// Continues from here, from one position at which patterns may start to the next, and tries
+    /// them there. Returns the position at which it abandons the pass. `None` if it reaches the
+    /// haystack's end.
     fn go(
         &mut self,
         list: &GraphList,
@@ -145,8 +146,8 @@ impl<'g> ListPass<'g> {
         Ok(true)
     }
 
-    /// Tells which patterns match, after a pass that was left here, or that came to the haystack's
-    /// end.
+    /// Finds which patterns match, after a pass that was abandoned here or that reached the
+    /// haystack's end.
     fn finish(
         &self,
         list: &GraphList,

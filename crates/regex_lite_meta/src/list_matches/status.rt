@@ -1,4 +1,4 @@
-//! What a pass over a haystack knows of a pattern.
+//! The status of a pattern in a pass over a haystack.
 ghost use Rattle.std.specs.Prelude.{◌≡◌, ◌⊎◌, ◌+◌, ◌<◌, ℕ, List, IfSome, IsTrue, IsUtf8, None};
 ghost use Rattle.std.specs.Prelude.{chars, length};
 ghost use Rattle.regex_lite_engine.specs.Graph.Places.{Place};
@@ -8,24 +8,24 @@ ghost use Rattle.regex_lite_meta.specs.declared.list_matches.status.Status.TheVa
 
 use regex_lite_engine::search::here::Here;
 
-/// What a pass over a haystack for all patterns of a list knows of one of them.
+/// What a pass over a haystack for all patterns of a list knows about one of them.
 #[derive(Clone, Copy)]
 pub(crate) enum Status {
-    /// Whether it matches.
+    /// It is known whether the pattern matches.
     Known(bool),
-    /// No match of it starts before this offset, nor before the position that the pass has come
-    /// to.
+    /// No match of the pattern starts before this offset, nor before the position of the pass.
     Open(usize),
-    /// No match of it starts before this offset, from which on it is searched for by itself.
+    /// No match of the pattern starts before this offset, from which on it is searched for by
+    /// itself.
     Left(usize),
 }
 
 /// What is left to do for a pattern after the pass.
 #[derive(Clone, Copy)]
 pub(super) enum Rest {
-    /// Nothing: it is known whether it matches.
+    /// Nothing: it is known whether the pattern matches.
     Known(bool),
-    /// It is searched for by itself from this offset on.
+    /// The pattern is searched for by itself from this offset on.
     From(usize),
 }
 
@@ -41,7 +41,7 @@ impl Status {
         }
     }
 
-    /// What is left to do for the pattern after a pass that was left here, or that came to the
+    /// What is left to do for the pattern after a pass that was abandoned here or that reached the
     /// haystack's end.
     pub(super) fn rest(self, left: Option<Here>) -> Rest
         ensures ended { left ≡ None → (table : List (Place ℕ)) (bytes : List ℕ) (entry s : ℕ)

@@ -1,56 +1,57 @@
-//! What a pass over a haystack for all patterns of a list may spend. All counts are instructions.
+//! The budget of a pass over a haystack for all patterns of a list: a cost model, in instructions.
 
 use crate::list_matches::Status;
 use regex_lite_engine::nfa::list::GraphList;
 
-/// From this number of patterns on a pass pays. With twelve filters it took 1.16 to 1.23 of what
-/// the searches for each take; 16 words take .37 to .76.
+/// The number of patterns from which on a pass pays. With twelve filters it took 1.16 to 1.23 times
+/// as many instructions as a search for each; with 16 words it takes .37 to .76 times as many.
 const LEAST_PATTERNS: usize = 16;
 
-/// What a search for one pattern that finds none takes besides its bytes: 190 to 440.
+/// The cost of a search for one pattern that finds nothing, besides its bytes: 190 to 440.
 const CALL: usize = 200;
 
-/// What its filter takes a byte: 1.0 to 3.9.
+/// The cost of its filter for a byte: 1.0 to 3.9.
 const BYTE: usize = 1;
 
-/// What a pass may spend in advance, for each pattern, and once. With 8 and nothing 16 words that
-/// are not there took .87 in 20 bytes, where they take .47.
+/// What a pass may spend in advance: this for each pattern, and once the next constant. With 8 and
+/// nothing, 16 words that don't occur took .87 in 20 bytes, where they take .47.
 const ADVANCE: usize = 16;
 
 const FIRST: usize = 500;
 
-/// One more is spent in advance for each pattern and this number of bytes.
+/// For each pattern and this number of bytes, one more instruction may be spent in advance.
 const BYTES_FOR_ONE_MORE: usize = 64;
 
-/// What a stop takes: the next position is looked for, and the patterns that may start there.
+/// The cost of a stop: searching for the next position, and finding the patterns that may start
+/// there.
 const STOP: usize = 150;
 
-/// What each of them takes that is listed.
+/// The cost of each pattern that is found at a stop.
 const LISTED: usize = 10;
 
-/// What a try takes that finds no match, besides what a search for the pattern would take there.
-/// With 400, 16 words that are not there take .95 in 16 KB instead of .51.
+/// The cost of a try that finds no match, besides the cost of a search for the pattern there. With
+/// 400, 16 words that don't occur take .95 in 16 KB instead of .51.
 const TRY: usize = 200;
 
-/// Whether a pass over a haystack pays for this list. It doesn't where no character begins a match,
-/// as for patterns that are anchored: each of these is known to match nowhere else at once.
+/// Whether a pass over a haystack pays for this list. It doesn't if no match begins with a
+/// character, as for anchored patterns: each of these is known at once to match nowhere else.
 pub(crate) fn pays_in_one_pass(list: &GraphList) -> bool {
     list.len() >= LEAST_PATTERNS && list.heads().any.any
 }
 
-/// What a pass may still spend. It earns what the searches for the open patterns would take, and
-/// pays for what they wouldn't do.
+/// What a pass may still spend. It earns the cost of the searches for the open patterns, and pays
+/// for what these searches wouldn't do.
 #[derive(Drop)]
 pub(crate) struct Credit {
     left: usize,
-    /// How many patterns are open.
+    /// The number of open patterns.
     open: usize,
-    /// What each of them earns for a byte.
+    /// What each open pattern earns for a byte.
     byte: usize,
 }
 
 impl Credit {
-    /// That of a pass over this number of bytes.
+    /// The credit of a pass over this number of bytes.
     pub(crate) fn of(patterns: usize, bytes: usize) -> Credit {
         let each = ADVANCE.saturating_add(bytes / BYTES_FOR_ONE_MORE);
         Credit {
@@ -60,7 +61,7 @@ impl Credit {
         }
     }
 
-    /// Earns for the bytes from this offset to that.
+    /// Earns for the bytes between these offsets.
     pub(crate) fn earn(&mut self, from: usize, to: usize) {
         let bytes = to.saturating_sub(from);
         let earned = bytes.saturating_mul(self.open).saturating_mul(self.byte);
@@ -72,8 +73,8 @@ impl Credit {
         self.pay(listed.saturating_mul(LISTED).saturating_add(STOP));
     }
 
-    /// Pays for a try after which this is known, if it has found nothing, and else notes that the
-    /// pattern is no longer open.
+    /// Pays for a try with this result, if it found nothing; otherwise records that the pattern is
+    /// no longer open.
     pub(crate) fn pay_for_try(&mut self, status: Status) {
         if let Status::Open(_) = status {
             self.pay(TRY);
@@ -86,7 +87,7 @@ impl Credit {
         self.left = self.left.saturating_sub(instructions);
     }
 
-    /// Whether nothing is left, or no pattern is open.
+    /// Whether the credit is used up, or no pattern is open.
     pub(crate) fn is_spent(&self) -> bool {
         self.left == 0 || self.open == 0
     }

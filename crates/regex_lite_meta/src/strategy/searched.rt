@@ -1,4 +1,4 @@
-//! What is searched, as far as the choice of a way depends on it: one pattern or several.
+//! What is searched, as far as the choice of the engine depends on it: one pattern or several.
 ghost use Rattle.std.specs.Prelude.{◌≡◌};
 
 use regex_lite_engine::nfa::list::GraphList;
@@ -6,34 +6,35 @@ use regex_lite_engine::nfa::table::Table;
 use regex_lite_engine::search::pattern_filter::PatternFilter;
 use regex_lite_syntax::prefilter::{Filter, ListHeads, Prefilter};
 
-/// The graph of one pattern or of several, and where their matches can begin. What it takes time to
-/// find out is found out only where it is asked for.
+/// The graph of one pattern or of several, and where their matches can begin. What takes time to
+/// compute is computed only when it is needed.
 #[derive(Clone, Copy)]
 pub(crate) struct Searched<'g> {
     pub(super) table: &'g Table,
     heads: HeadsOf<'g>,
 }
 
-/// What is known of the characters with which a match begins.
+/// What is known about the characters with which a match begins.
 #[derive(Clone, Copy)]
 enum HeadsOf<'g> {
     One(PatternFilter<'g>),
     Several(&'g ListHeads),
 }
 
-/// How a match begins.
+/// How selective the starts of matches are.
 #[derive(Clone, Copy)]
 pub(super) enum Selectivity {
-    /// With one of many characters.
+    /// A match begins with one of many characters.
     Often,
-    /// With a character of a range, which is looked for.
+    /// A match begins with a character of a range, which is searched for.
     InRange,
-    /// With one of a few bytes, of a few pairs of them, or of some words, which are looked for.
+    /// A match begins with one of a few bytes, of a few pairs of bytes, or of some words, which are
+    /// searched for.
     Rarely,
-    /// With any character, since the pattern reads none.
+    /// A match may begin with any character, since the pattern reads none.
     Unread,
-    /// At few positions, which an index of several patterns, two known characters or whole words
-    /// find.
+    /// A match begins at few positions, which an index of several patterns, two known characters or
+    /// whole words find.
     Indexed,
 }
 
@@ -60,12 +61,12 @@ impl<'g> Searched<'g> {
         }
     }
 
-    /// How a match begins.
+    /// How selective the starts of matches are.
     #[inline(always)]
     pub(super) fn beginning(&self) -> Selectivity {
         match self.heads {
             HeadsOf::One(PatternFilter::Whole(filter)) => self.beginning_by(filter),
-            // One that begins with two characters that are known is mostly passed over.
+            // A pattern that begins with two known characters is skipped at most positions.
             HeadsOf::One(PatternFilter::Literal(_)) => Selectivity::Indexed,
             HeadsOf::Several(heads) => {
                 if heads.begin_often() {
@@ -77,7 +78,7 @@ impl<'g> Searched<'g> {
         }
     }
 
-    /// How a match of one pattern begins.
+    /// How selective the starts of matches of one pattern are.
     #[inline(always)]
     fn beginning_by(&self, filter: &Filter) -> Selectivity {
         if filter.whole_words().is_some() {
@@ -94,7 +95,7 @@ impl<'g> Searched<'g> {
         }
     }
 
-    /// Whether characters are read, and something branches.
+    /// Whether the graph reads characters, and something in it branches.
     pub(super) fn branches(&self) -> bool {
         self.table.reading() > 0 && self.table.arrows() >= self.table.places()
     }

@@ -1,26 +1,26 @@
-//! What a search is to find, and how often.
+//! What a search is for, and how often it is made.
 
-/// What is wanted.
+/// What a search is for.
 #[derive(Clone, Copy)]
 pub(crate) enum Wanted {
-    /// One match at or after this offset, and what its search does.
+    /// One match at or after this offset, and the cost of the search.
     Match { start: usize },
     /// One match at or after this offset, by any number of searches.
     Uncounted { start: usize },
     /// The earliest end of any match, once.
     Earliest,
-    /// One match after another, by searches in the same memory.
+    /// One match after another, by searches that reuse their memory.
     EachMatch,
 }
 
 impl Wanted {
-    /// Whether it is one match, whatever its slots.
+    /// Whether one match is wanted, whatever its slots.
     #[inline(always)]
     pub(super) fn is_one(self) -> bool {
         matches!(self, Wanted::Match { .. } | Wanted::Uncounted { .. })
     }
 
-    /// Whether it is one match from a later offset than the haystack's start.
+    /// Whether one match from a later offset than the haystack's start is wanted.
     #[inline(always)]
     pub(super) fn is_later(self) -> bool {
         match self {
@@ -35,8 +35,8 @@ impl Wanted {
         matches!(self, Wanted::EachMatch)
     }
 
-    /// Whether one search may find a match and another its slots, which isn't so if both would be
-    /// counted together, nor for a search that is soon over.
+    /// Whether one search may find a match and another its slots. That isn't so if the cost of both
+    /// would count together, nor for a search that is mostly short.
     #[inline(always)]
     pub(super) fn may_search_twice(self) -> bool {
         match self {

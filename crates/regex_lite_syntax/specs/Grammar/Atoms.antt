@@ -1,4 +1,4 @@
--- The items that are no groups.
+-- The items that aren't groups.
 use Rattle.std.specs.Prelude.{◌≡◌, ℕ, Bool, not, ◌&&◌, ◌||◌, ◌==◌}
 use Rattle.std.specs.Prelude.{List, ◌∷◌, MatchBool, if◌then◌else◌}
 use Rattle.regex_lite_syntax.specs.declared.flags.Flags.{Flags}
@@ -20,18 +20,19 @@ is_literal verbose c =
     not (c ∈ "\\.^$()[|?*+{")
     && not (verbose && (is_white_space c || c == the "#"))
 
--- what `.` stands for: under `s` every character, else every one that ends no line
+-- the set of `.`: under `s` every character, otherwise every character that doesn't end a line
 abbrev pub dot : Flags → Set
 dot flags c =
     is_character c
     && (flags.dot_matches_new_line || not (c == the "\n" || (flags.crlf && c == the "\r")))
 
--- what `^` or `$` stands for: the haystack's end, or under `m` that of a line of either kind
+-- the look of `^` or `$`: at the start or end of the haystack, or under `m` at that of a line of
+-- either kind
 abbrev pub anchor : Flags → (whole line crlf_line : Look) → Look
 anchor flags whole line crlf_line =
     if not flags.multi_line then whole else if flags.crlf then crlf_line else line
 
--- what the first character of an item begins
+-- the kind of item that its first character begins
 pub data AtomKind : Type 0 where
   -- an item of this one character
   single : Primitive → AtomKind
@@ -53,7 +54,7 @@ atom_kind flags c =
 abbrev pub IsClassOf : Set → Tree → Type 0
 IsClassOf s a = (ranges : List ClassRange) × AreRunsOf ranges s × (a ≡ class ranges)
 
--- the tree of a primitive: under `i` an ASCII letter stands for both its cases
+-- the tree of a primitive: under `i` an ASCII letter matches in both cases
 abbrev pub PrimitiveTree : Flags → Primitive → Tree → Type 0
 PrimitiveTree flags (one c) a =
     MatchBool (flags.case_insensitive && is_letter c) (IsClassOf (case_closure (just c)) a)
@@ -61,7 +62,7 @@ PrimitiveTree flags (one c) a =
 PrimitiveTree flags (some_of s) a = IsClassOf s a
 PrimitiveTree flags (look_at test) a = a ≡ look test
 
--- the item that begins at t, past its first character
+-- the rest of the item that begins at t, after its first character
 abbrev pub AtomFrom : AtomKind → Flags → (t past_first rest : Text) → Tree → Type 0
 AtomFrom (single p) flags t past_first rest a = (past_first ≡ rest) × PrimitiveTree flags p a
 AtomFrom escape flags t past_first rest a =
@@ -71,7 +72,7 @@ AtomFrom bracketed flags t past_first rest a =
     × IsClassOf s a
 AtomFrom no_atom flags t past_first rest a = ⊥
 
--- an item that is no group, and its tree
+-- an item that isn't a group, and its tree
 pub record Atom (flags : Flags) (t rest : Text) (a : Tree) : Type 0 where
   pub first : ℕ
   pub past_first : Text

@@ -9,7 +9,7 @@ use Rattle.regex_lite_syntax.specs.Sets.{Set, just, span, union, complement, cas
 use Rattle.regex_lite_syntax.specs.NamedSets.{SetName, members, set_named}
 use Rattle.regex_lite_syntax.specs.Grammar.Escapes.{Primitive, one, some_of, Escape}
 
--- one character or one escape. In verbose mode white space and `#` are no characters of a class
+-- one character or one escape; in verbose mode white space and `#` aren't characters of a class
 pub data ClassElement (verbose : Bool) (t rest : Text) (p : Primitive) : Type 0 where
   literal : (c : ℕ) → t ≡ c ∷ rest → c ≢ the "\\"
       → (verbose ≡ true → IsTrue (not (is_white_space c)) × (c ≢ the "#")) → p ≡ one c
@@ -17,7 +17,7 @@ pub data ClassElement (verbose : Bool) (t rest : Text) (p : Primitive) : Type 0 
   escaped : (past : Text) → t ≡ the "\\" ∷ past → Escape verbose past rest p
       → ClassElement verbose t rest p
 
--- past a part a dash makes a range: what stands past it and its gap is neither `]` nor `-`
+-- after an element a dash makes a range: after the dash and its gap there is neither `]` nor `-`
 pub record RangeFollows (verbose : Bool) (t last : Text) : Type 0 where
   pub past_dash : Text
   pub end : ℕ
@@ -62,26 +62,26 @@ pub data ClassItem (verbose : Bool) (t rest : Text) (s : Set) : Type 0 where
       → RangeFollows verbose past last → ClassElement verbose last rest (one end) → start ≤ end
       → s ≡ span start end → ClassItem verbose t rest s
 
--- a character that is taken where it stands, with the gap after it
+-- a character that is taken if it comes next, with the gap after it
 pub data Takes (verbose : Bool) (c : ℕ) (t rest : Text) (taken : Bool) : Type 0 where
   takes : (past : Text) → t ≡ c ∷ past → WholeGap verbose past rest → taken ≡ true
       → Takes verbose c t rest taken
   leaves : (Begins c t → ⊥) → t ≡ rest → taken ≡ false → Takes verbose c t rest taken
 
--- all dashes that stand there, this many, each with the gap after it
+-- all dashes that come next, this many, each with the gap after it
 abbrev pub Dashes : (verbose : Bool) → ℕ → Text → Text → Type 0
 Dashes verbose zero t rest = (t ≡ rest) × (Begins (the "-") t → ⊥)
 Dashes verbose (suc n) t rest =
     (past : Text) × (next : Text) × (t ≡ the "-" ∷ past) × WholeGap verbose past next
     × Dashes verbose n next rest
 
--- a `]` for itself, which is taken only where no dash stood
+-- a `]` that is a member, which is taken only if there was no dash before
 abbrev pub FirstBracket : (verbose : Bool) → (dashes : ℕ) → Text → Text → (taken : Bool) → Type 0
 FirstBracket verbose zero t rest taken = Takes verbose (the "]") t rest taken
 FirstBracket verbose (suc n) t rest taken = (t ≡ rest) × (taken ≡ false)
 
--- what a class begins with, from its opening bracket on: `^` where it is negated, and then dashes,
--- or where there are none a `]`, each for itself
+-- the opening of a class, from its bracket on: `^` if it is negated, and then dashes, or if there
+-- are none a `]`, which are members
 pub record ClassOpening (verbose : Bool) (t rest : Text) (negated dash bracket : Bool)
     : Type 0 where
   pub opened : Text
@@ -103,11 +103,11 @@ ClassItems verbose (s ∷ sets) t rest =
     (past : Text) × (next : Text) × ClassItem verbose t past s × WholeGap verbose past next
     × ClassItems verbose sets next rest
 
--- the set where it counts, else no character
+-- the set if it counts, otherwise no character
 abbrev pub only_if : Bool → Set → Set
 only_if counts s c = counts && s c
 
--- the union of the sets, closed under case where that is asked for, and then negated
+-- the union of the sets, closed under case if `insensitive`, and then negated if `negated`
 abbrev pub class_set : (insensitive negated : Bool) → List Set → Set
 class_set insensitive negated sets =
     let whole = if insensitive then case_closure (union sets) else union sets in

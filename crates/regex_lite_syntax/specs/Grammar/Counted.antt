@@ -10,22 +10,22 @@ abbrev pub WhiteSpace : Text → Text → Type 0
 WhiteSpace [] rest = rest ≡ []
 WhiteSpace (c ∷ t) rest = (rest ≡ c ∷ t) ⊎ (IsTrue (is_white_space c) × WhiteSpace t rest)
 
--- what may stand on either side of a number: white space, and in verbose mode comments too
+-- what may come on either side of a number: white space, and in verbose mode comments too
 abbrev pub Side : (verbose : Bool) → Text → Text → Type 0
 Side true t rest = Spacing t rest
 Side false t rest = WhiteSpace t rest
 
--- no such side could go on here
+-- no such side could continue here
 abbrev pub EndsSide : (verbose : Bool) → Text → Type 0
 EndsSide true t = EndsGap true t
 EndsSide false [] = Unit {0}
 EndsSide false (c ∷ t) = IsTrue (not (is_white_space c))
 
--- a side that is as long as it can be
+-- a side that is as long as possible
 abbrev pub WholeSide : (verbose : Bool) → Text → Text → Type 0
 WholeSide verbose t rest = Side verbose t rest × EndsSide verbose rest
 
--- a decimal number below 2^32 with what may stand on its sides
+-- a decimal number below 2^32 with its sides
 pub record Number (verbose : Bool) (t rest : Text) (n : ℕ) : Type 0 where
   pub first : Text
   pub last : Text
@@ -41,12 +41,12 @@ pub record Number (verbose : Bool) (t rest : Text) (n : ℕ) : Type 0 where
 abbrev pub EndsNumber : Text → Type 0
 EndsNumber t = Begins (the ",") t ⊎ Begins (the "}") t
 
--- what may stand past the comma, up to the brace that closes: a number, or none
+-- what comes after the comma, up to the closing brace: a number, or none
 abbrev pub Limit : (verbose : Bool) → Text → Text → (most : Option ℕ) → Type 0
 Limit verbose t rest None = Gap verbose t (the "}" ∷ rest)
 Limit verbose t rest (Some n) = Number verbose t (the "}" ∷ rest) n
 
--- the bounds of a counted operator and the brace that closes it
+-- the bounds of a counted operator and its closing brace
 pub data Counted (verbose : Bool) (t rest : Text) (least : ℕ) (most : Option ℕ) : Type 0 where
   exactly : Number verbose t (the "}" ∷ rest) least → most ≡ Some least
       → Counted verbose t rest least most

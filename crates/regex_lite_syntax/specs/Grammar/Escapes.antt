@@ -17,13 +17,13 @@ pub data Primitive : Type 0 where
   some_of : Set → Primitive
   look_at : Look → Primitive
 
--- what the character after a backslash asks for
+-- the kind of an escape, by the character after the backslash
 pub data EscapeKind : Type 0 where
-  -- this, and no more is read
+  -- it stands for this, and no more is read
   gives : Primitive → EscapeKind
   -- `\b`, perhaps with a name in braces
   word_boundary : EscapeKind
-  -- this many hexadecimal digits, or some in braces
+  -- this many hexadecimal digits, or any number of them in braces
   hexadecimal : (digits : ℕ) → EscapeKind
   refused : EscapeKind
 
@@ -65,7 +65,7 @@ pub record FixedDigits (verbose : Bool) (n : ℕ) (t rest : Text) (c : ℕ) : Ty
   pub scalar : IsTrue (is_character (number_of 16 digits))
   pub value : c ≡ number_of 16 digits
 
--- one or more hexadecimal digits and the brace that closes, past the one that opens
+-- one or more hexadecimal digits and the closing brace, after the opening one
 pub record BracedDigits (verbose : Bool) (t rest : Text) (c : ℕ) : Type 0 where
   pub digits : Text
   pub last : Text
@@ -75,7 +75,7 @@ pub record BracedDigits (verbose : Bool) (t rest : Text) (c : ℕ) : Type 0 wher
   pub scalar : IsTrue (is_character (number_of 16 digits))
   pub value : c ≡ number_of 16 digits
 
--- the character by its number, past the letter that asks for this many digits
+-- the character by its number, after the letter that asks for this many digits
 pub data Hexadecimal (verbose : Bool) (n : ℕ) (t rest : Text) (c : ℕ) : Type 0 where
   fixed : FixedDigits verbose n t rest c → Hexadecimal verbose n t rest c
   braced : (opened : Text) → Gap verbose t (the "{" ∷ opened)
@@ -96,7 +96,7 @@ boundary_named name =
     is : String → Bool
     is s = is_text name (codes s)
 
--- a name and the brace that closes, past the one that opens
+-- a name and the closing brace, after the opening one
 pub record BoundaryName (verbose : Bool) (t rest : Text) (look : Look) : Type 0 where
   pub name : Text
   pub last : Text
@@ -104,13 +104,13 @@ pub record BoundaryName (verbose : Bool) (t rest : Text) (look : Look) : Type 0 
   pub closes : Gap verbose last (the "}" ∷ rest)
   pub named : boundary_named name ≡ Some look
 
--- past a brace: no name begins here, since what stands past the gap is no character of one
+-- after a brace: no name begins here, since the character after the gap isn't one of a name
 pub record BeginsCount (verbose : Bool) (t : Text) : Type 0 where
   pub goes_on : Gap verbose t [] → ⊥
   pub no_name : (c : ℕ) (rest : Text) → Gap verbose t (c ∷ rest)
       → IsTrue (is_boundary_character c) → ⊥
 
--- past `\b`: a name in braces, or no more, where a brace may stand that begins a counted operator
+-- after `\b`: a name in braces, or nothing; then a brace may follow that begins a counted operator
 pub data WordBoundary (verbose : Bool) (t rest : Text) (look : Look) : Type 0 where
   alone : (Begins (the "{") t → ⊥) → t ≡ rest → look ≡ looks.Word
       → WordBoundary verbose t rest look
@@ -119,7 +119,7 @@ pub data WordBoundary (verbose : Bool) (t rest : Text) (look : Look) : Type 0 wh
   named : (opened : Text) → t ≡ the "{" ∷ opened → BoundaryName verbose opened rest look
       → WordBoundary verbose t rest look
 
--- the rest of an escape, past the character after the backslash
+-- the rest of an escape, after the character after the backslash
 abbrev pub EscapeFrom : EscapeKind → (verbose : Bool) → Text → Text → Primitive → Type 0
 EscapeFrom (gives q) verbose t rest p = (t ≡ rest) × (p ≡ q)
 EscapeFrom word_boundary verbose t rest p =
@@ -127,7 +127,7 @@ EscapeFrom word_boundary verbose t rest p =
 EscapeFrom (hexadecimal n) verbose t rest p = (c : ℕ) × Hexadecimal verbose n t rest c × (p ≡ one c)
 EscapeFrom refused verbose t rest p = ⊥
 
--- an escape, past its backslash, and what it gives
+-- an escape, after its backslash, and what it stands for
 pub record Escape (verbose : Bool) (t rest : Text) (p : Primitive) : Type 0 where
   pub first : ℕ
   pub past_first : Text

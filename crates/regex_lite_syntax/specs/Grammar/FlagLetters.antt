@@ -25,12 +25,12 @@ abbrev pub with_flags : (set : Bool) → Text → Flags → Flags
 with_flags set [] flags = flags
 with_flags set (c ∷ cs) flags = with_flags set cs (with_flag set c flags)
 
--- no letter stands twice
+-- no letter occurs twice
 abbrev pub all_differ : Text → Bool
 all_differ [] = true
 all_differ (c ∷ cs) = not (is_one_of cs c) && all_differ cs
 
--- flag letters, of which those after a dash clear and the others set
+-- flag letters, those after a dash clear their flags, the others set them
 pub data FlagLetters (old : Flags) (t rest : Text) (new : Flags) : Type 0 where
   setting : (on : Text) → t ≡ on ++ rest → AllPass is_flag_letter on → IsTrue (all_differ on)
       → new ≡ with_flags true on old → FlagLetters old t rest new

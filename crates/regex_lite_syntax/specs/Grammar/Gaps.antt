@@ -4,7 +4,7 @@ use Rattle.std.specs.List.{AllPass}
 use Rattle.regex_lite_syntax.specs.Text.{Text, the}
 use Rattle.regex_lite_syntax.specs.Characters.{is_white_space}
 
--- a character of a comment: every one but a line feed
+-- a character of a comment: any but a line feed
 abbrev pub is_in_comment : ℕ → Bool
 is_in_comment c = not (c == the "\n")
 
@@ -23,18 +23,18 @@ pub data Spacing : (t rest : Text) → Type 0 where
   further : {t rest : Text} (past : Text) → SpacingPiece t past → Spacing past rest
       → Spacing t rest
 
--- in verbose mode white space and comments, else nothing
+-- in verbose mode white space and comments, otherwise nothing
 abbrev pub Gap : (verbose : Bool) → Text → Text → Type 0
 Gap true t rest = Spacing t rest
 Gap false t rest = rest ≡ t
 
--- no gap could go on here
+-- no gap could continue here
 abbrev pub EndsGap : (verbose : Bool) → Text → Type 0
 EndsGap false t = Unit {0}
 EndsGap true [] = Unit {0}
 EndsGap true (c ∷ t) = IsTrue (not (is_white_space c)) × (c ≢ the "#")
 
--- a gap that is as long as it can be
+-- a gap that is as long as possible
 abbrev pub WholeGap : (verbose : Bool) → Text → Text → Type 0
 WholeGap verbose t rest = Gap verbose t rest × EndsGap verbose rest
 

@@ -16,11 +16,11 @@ is_number LetterNumber = true
 is_number OtherNumber = true
 is_number _ = false
 
--- a character that may stand first in a name
+-- a character that may begin a name
 abbrev pub begins_name : ℕ → Bool
 begins_name c = c == the "_" || is_alphabetic c
 
--- a character that may stand further on in a name
+-- a character that may continue a name
 abbrev pub continues_name : ℕ → Bool
 continues_name c = c ∈ "_.[]" || is_alphabetic c || is_number (general_category c)
 
@@ -32,13 +32,13 @@ is_name (c ∷ t) = begins_name c && list_all continues_name t
 abbrev pub is_no_end : ℕ → Bool
 is_no_end c = not (c == the ">")
 
--- a name and the `>` that ends it, past the `<`
+-- a name and the `>` that ends it, after the `<`
 pub record NameWritten (t rest name : Text) : Type 0 where
   pub written : t ≡ name ++ the ">" ∷ rest
   pub inside : AllPass is_no_end name
   pub is_a_name : IsTrue (is_name name)
 
--- what stands before a name, from the `?` of the group's head on
+-- the opening of a name, from the `?` of the group's head on
 pub data NameOpening (t past : Text) : Type 0 where
   with_p : t ≡ codes "?P<" ++ past → NameOpening t past
   without_p : t ≡ codes "?<" ++ past → NameOpening t past
@@ -49,6 +49,6 @@ pub record Named (t rest name : Text) : Type 0 where
   pub opens : NameOpening t past
   pub called : NameWritten past rest name
 
--- no name stands twice
+-- no name occurs twice
 abbrev pub NamesDiffer : List Text → Type 0
 NamesDiffer names = AllPairs (λ name later. name ≢ later) names

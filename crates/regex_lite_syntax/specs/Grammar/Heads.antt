@@ -8,7 +8,7 @@ use Rattle.regex_lite_syntax.specs.Grammar.FlagLetters.{FlagLetters}
 use Rattle.regex_lite_syntax.specs.Grammar.GroupNames.{Named}
 use Rattle.regex_lite_syntax.specs.Grammar.Points.{Point}
 
--- what a group makes of its alternatives
+-- the kind of a group
 pub data GroupKind : Type 0 where
   non_capturing : GroupKind
   capturing : (index : ℕ) (name : Option Text) → GroupKind
@@ -17,19 +17,19 @@ abbrev pub group_tree : GroupKind → Tree → Tree
 group_tree non_capturing a = a
 group_tree (capturing index name) a = capture index name a
 
--- the same, with one more numbered group
+-- the point with one more numbered group
 abbrev pub numbered_on : Point → Point
 numbered_on p = record p { groups = p.groups + 1 }
 
--- the same, with one more name
+-- the point with one more name
 abbrev pub named_on : Point → Text → Point
 named_on p name = record p { names = p.names ++ name ∷ [] }
 
--- inside a group that stands in this many others
+-- the point inside a group that is inside this many others
 abbrev pub inside : (level : ℕ) → Point → Flags → Text → Point
 inside level p flags t = record p { rest = t; flags = flags; deepest = max p.deepest (level + 1) }
 
--- past a group's end, where the flags are again those outside
+-- the point after a group's end, where the flags are again those outside
 abbrev pub outside : (before end : Point) → Text → Point
 outside before end t = record end { rest = t; flags = before.flags }
 

@@ -6,7 +6,7 @@ use Rattle.regex_lite_syntax.specs.Text.{Text, Begins, the}
 use Rattle.regex_lite_syntax.specs.Grammar.Gaps.{Gap}
 use Rattle.regex_lite_syntax.specs.Grammar.Counted.{Counted}
 
--- how often `?`, `*` and `+` repeat: at least, and at most where there is a limit
+-- the least number of passes of `?`, `*` and `+`, and the greatest if there is a limit
 abbrev pub times : ℕ → Option (ℕ × Option ℕ)
 times c =
     if c == the "?" then Some (0, Some 1)
@@ -14,11 +14,11 @@ times c =
     else if c == the "+" then Some (1, None)
     else None
 
--- an operator is greedy unless it is written as lazy, and under `U` the other way round
+-- an operator is greedy unless it is written as lazy, and under `U` lazy unless it is
 abbrev pub greed : Flags → (lazy : Bool) → Bool
 greed flags lazy = if flags.swap_greed then lazy else not lazy
 
--- one operator. A `?` directly after `?`, `*` or `+`, or past the gap after a counted operator,
+-- one operator; a `?` directly after `?`, `*` or `+`, or after the gap after a counted operator,
 -- makes it lazy and belongs to it
 pub data Operator (flags : Flags) (t rest : Text) (least : ℕ) (most : Option ℕ) (greedy : Bool)
     : Type 0 where

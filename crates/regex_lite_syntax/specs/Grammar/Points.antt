@@ -10,21 +10,21 @@ pub record Point : Type 0 where
   pub rest : Text
   -- the flags that hold here
   pub flags : Flags
-  -- how many groups have been numbered
+  -- the number of groups that have been numbered
   pub groups : ℕ
-  -- their names, in order
+  -- the names of groups, in order
   pub names : List Text
-  -- how many groups stood in one another at most
+  -- the greatest number of nested groups
   pub deepest : ℕ
 
--- the same further on
+-- the point further on
 abbrev pub onward : Point → Text → Point
 onward p t = record p { rest = t }
 
--- past the gap
+-- the point after the gap
 abbrev pub PastGap : Point → Point → Type 0
 PastGap p q = Gap p.flags.ignore_whitespace p.rest q.rest × (q ≡ onward p q.rest)
 
--- where a pattern begins
+-- the point at which a pattern begins
 abbrev pub start : Flags → Text → Point
 start flags pattern = record { rest = pattern; flags = flags; groups = 0; names = []; deepest = 0 }

@@ -1,11 +1,11 @@
--- Names of looks that a pattern ends inside.
+-- Patterns that end inside the name of a look.
 use Rattle.std.specs.Prelude.{◌≡◌, Bool, [], ◌++◌}
 use Rattle.regex_lite_syntax.specs.Text.{Text}
 use Rattle.regex_lite_syntax.specs.Grammar.Gaps.{Gap, Spaced}
 use Rattle.regex_lite_syntax.specs.Grammar.Escapes.{is_boundary_character}
 
--- the text ends inside this name, or before the brace that would close it: the letters that stand
--- there begin the name, and no more than a gap is left past them
+-- the text ends inside this name, or before the brace that would close it: the letters there begin
+-- the name, and at most a gap is left after them
 pub record EndsInName (verbose : Bool) (name t : Text) : Type 0 where
   pub letters : Text
   pub left : Text

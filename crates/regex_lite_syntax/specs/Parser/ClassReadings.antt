@@ -1,4 +1,4 @@
--- What the readers of a class give, as what the grammar gives.
+-- What the functions that read a class return, in terms of the grammar.
 use Rattle.std.specs.Prelude.{◌≡◌, ◌≤◌, ℕ, Bool, true, false, ◌&&◌, ◌==◌}
 use Rattle.std.specs.Prelude.{List, [], ◌∷◌, IsTrue, codes}
 use Rattle.regex_lite_syntax.specs.declared.class.named.NamedSet.{NamedSet}
@@ -20,17 +20,17 @@ use Rattle.regex_lite_syntax.specs.Grammar.Escapes.{Primitive, one, some_of, loo
 use Rattle.regex_lite_syntax.specs.Parser.Readings.{named_or_not}
 use Rattle.regex_lite_syntax.specs.Grammar.Classes.{ClassElement, NamedClass, ClassItems}
 
--- what an element is in the grammar
+-- the primitive of an element
 abbrev pub element_primitive : Element → Primitive
 element_primitive (elements.Char c) = one c
 element_primitive (elements.Set set negated) = some_of (named_or_not set negated)
 
--- a primitive that a class may have: a look is none
+-- a primitive that a class may have: not a look
 abbrev pub IsElement : Primitive → Type 0
 IsElement (look_at look) = ⊥
 IsElement _ = Unit {0}
 
--- its set
+-- the set of an element
 abbrev pub element_set : Element → Set
 element_set (elements.Char c) = just c
 element_set (elements.Set set negated) = named_or_not set negated
@@ -54,18 +54,18 @@ pub record RangeTo (verbose : Bool) (first : Primitive) (t rest : Text) (s : Set
   pub ordered : start ≤ end
   pub set_is : s ≡ span start end
 
--- past a part no more is left than a gap, or a dash with its gaps
+-- after an element only a gap is left, or a dash with its gaps
 pub data EndsOpen (verbose : Bool) (t : Text) : Type 0 where
   at_once : WholeGap verbose t [] → EndsOpen verbose t
   past_dash : (past : Text) → WholeGap verbose t (the "-" ∷ past) → WholeGap verbose past []
       → EndsOpen verbose t
 
--- some items follow, and the bracket that closes the class
+-- some items follow, and the closing bracket of the class
 abbrev pub HasItems : (verbose : Bool) → Text → Type 0
 HasItems verbose t =
     (s : Set) × (sets : List Set) × (rest : Text) × ClassItems verbose (s ∷ sets) t rest
 
--- the text begins with no character of this kind
+-- the text doesn't begin with a character of this kind
 abbrev pub Lacks : (kind : ℕ → Bool) → Text → Type 0
 Lacks kind [] = Unit {0}
 Lacks kind (c ∷ t) = kind c ≡ false
@@ -93,11 +93,11 @@ set_name Upper = codes "upper"
 set_name Word = codes "word"
 set_name Xdigit = codes "xdigit"
 
--- a set stands there by its name, as `[:alpha:]`
+-- a named set comes next, such as `[:alpha:]`
 abbrev pub HasNamedSet : Text → Type 0
 HasNamedSet t = (rest : Text) × (negated : Bool) × (set : SetName) × NamedClass t rest negated set
 
--- this element stands there so
+-- this element comes next as a named set
 abbrev pub IsNamedSet : (t rest : Text) → Element → Type 0
 IsNamedSet t rest (elements.Char c) = ⊥
 IsNamedSet t rest (elements.Set set negated) = NamedClass t rest negated (name_of set)

@@ -1,4 +1,4 @@
--- What the functions that find a fault's end promise one another.
+-- The internal contracts of the search for a fault's end.
 use Rattle.std.specs.Prelude.{◌≡◌, ◌⊎◌, ℕ, ◌-◌, ◌<◌, ◌≤◌, take}
 use Rattle.regex_lite_syntax.specs.declared.error.ErrorKind.{ErrorKind}
 use Rattle.regex_lite_syntax.specs.declared.error.ErrorKind.TheVariants.{Groups, Memory}
@@ -7,7 +7,7 @@ use Rattle.regex_lite_syntax.specs.FaultPlaces.{BeginsNone, BeginsSome}
 use Rattle.regex_lite_syntax.specs.Limits.{PassesGroups, openings}
 use Rattle.regex_lite_syntax.specs.Text.{Text}
 
--- what an error says by its kind where reading the text is refused other than for a fault: it has
+-- an error of this kind means that the text isn't parsed for a reason other than a fault: it has
 -- too many groups to be numbered, or memory ran out
 abbrev pub IsRefusedUnread : Text → ErrorKind → Type 0
 IsRefusedUnread pattern Groups = PassesGroups (openings pattern)
@@ -18,8 +18,8 @@ IsRefusedUnread pattern _ = ⊥
 abbrev pub GoesOnFrom : Flags → Text → (start k : ℕ) → Type 0
 GoesOnFrom flags pattern start k = (k ≡ start) ⊎ BeginsSome flags (take k pattern)
 
--- above the first `low` characters and up to `high` of them, `end` are some that begin no accepted
--- pattern, though one character fewer do or are just `low`
+-- `end` is above `low` and at most `high`; no accepted pattern begins with the first `end`
+-- characters, while one begins with one character less, or that is `low`
 pub record IsEndAbove (flags : Flags) (pattern : Text) (low high end : ℕ) : Type 0 where
   pub past : low < end
   pub inside : end ≤ high

@@ -1,4 +1,4 @@
--- What the readers of flags promise one another.
+-- The internal contracts of the functions that read flags.
 use Rattle.std.specs.Prelude.{◌≡◌, [], ◌∷◌, ◌++◌, ◌⊎◌, IsTrue}
 use Rattle.regex_lite_syntax.specs.declared.flags.Flags.{Flags}
 use Rattle.std.specs.List.{AllPass}
@@ -15,7 +15,7 @@ abbrev pub EndsRun : Text → Type 0
 EndsRun [] = ⊥
 EndsRun (c ∷ t) = IsTrue (c ∈ "-:)")
 
--- flag letters up to what ends them. None stands twice, nor among those before
+-- flag letters up to what ends them; none occurs twice, nor among those before
 pub record LetterRun (before letters t rest : Text) : Type 0 where
   pub written : t ≡ letters ++ rest
   pub all : AllPass is_flag_letter letters

@@ -1,10 +1,10 @@
--- Hexadecimal digits that go on from a number that has been read.
+-- Hexadecimal digits that continue a number that has been read.
 use Rattle.std.specs.Prelude.{ℕ, ◌+◌, ◌*◌, ◌≤◌, fold, IsTrue}
 use Rattle.std.specs.List.{list_all}
 use Rattle.regex_lite_syntax.specs.Text.{Text}
 use Rattle.regex_lite_syntax.specs.Characters.{is_character, is_hex_digit, digit_value}
 
--- the number to which these digits go on
+-- the number continued with these digits
 abbrev pub number_on : (number : ℕ) → (digits : Text) → ℕ
 number_on number digits = fold (λ n d. n * 16 + digit_value d) number digits
 

@@ -13,7 +13,7 @@ use Rattle.std.specs.declared.rc.RcStr.{RcStr}
 abbrev pub has_name : List (RcStr Global) → List ℕ → Bool
 has_name names bytes = list_any (λ name. bytes_eq bytes (rc_str_bytes name)) names
 
--- a name of the set does
+-- a name of the set has these bytes
 abbrev pub set_has_name : BTreeSet (RcStr Global) → List ℕ → Bool
 set_has_name set bytes = contains_by (λ name. slice_cmp nat_cmp bytes (rc_str_bytes name)) set
 

@@ -1,4 +1,4 @@
--- The sets whose runs are a part of the program.
+-- The sets with static runs.
 use Rattle.std.specs.Prelude.{ℕ, Bool, true, false, not, ◌&&◌, ◌||◌, ◌==◌, List, [], ◌∷◌}
 use Rattle.regex_lite_syntax.specs.declared.class.ClassRange.{ClassRange}
 use Rattle.regex_lite_syntax.specs.declared.class.named.KnownSet.{KnownSet}
@@ -38,18 +38,18 @@ named_runs sets.Word =
 named_runs sets.Xdigit =
     range (the "0") (the "9") ∷ range (the "A") (the "F") ∷ range (the "a") (the "f") ∷ []
 
--- those of what `.` stands for
+-- the runs of the set of `.`
 abbrev pub dot_runs : (new_lines crlf : Bool) → List ClassRange
 dot_runs true crlf = range 0 0x10FFFF ∷ []
 dot_runs false true = range 0 (the "\t") ∷ range 0xB 0xC ∷ range 0xE 0x10FFFF ∷ []
 dot_runs false false = range 0 (the "\t") ∷ range 0xB 0x10FFFF ∷ []
 
--- those of a set of either kind
+-- the runs of a set of either kind
 abbrev pub known_runs : KnownSet → List ClassRange
 known_runs (known.Named set) = named_runs set
 known_runs (known.Dot new_lines crlf) = dot_runs new_lines crlf
 
--- what `.` stands for
+-- the set of `.`
 abbrev pub dot_members : (new_lines crlf : Bool) → Set
 dot_members new_lines crlf c =
     is_character c && (new_lines || not (c == the "\n" || (crlf && c == the "\r")))

@@ -1,4 +1,4 @@
--- What the parser has read, as the states of a machine that never has a choice.
+-- What the parser has read, as the states of a deterministic machine.
 use Rattle.std.specs.Prelude.{◌≡◌, ◌⊎◌, ℕ, Bool, ◌||◌, ◌==◌, length, List}
 use Rattle.std.specs.Prelude.{[], ◌∷◌, ◌++◌, Option, is_some, if◌then◌else◌}
 use Rattle.regex_lite_syntax.specs.declared.flags.Flags.{Flags}
@@ -17,7 +17,7 @@ pub record Frame : Type 0 where
   pub branches : List Tree
   pub items : List Tree
 
--- the innermost open group's frame stands first
+-- the frame of the innermost open group comes first
 pub record State : Type 0 where
   pub point : Point
   pub frames : List Frame
@@ -59,7 +59,7 @@ parted s p = record { point = p; frames = s.frames; branches = ended s; items = 
 unfoldable pub with_items : State → Point → List Tree → State
 with_items s p items = record { point = p; frames = s.frames; branches = s.branches; items = items }
 
--- what the first character of a text asks for
+-- the kind of step, by the first character of a text
 pub data Kind : Type 0 where
   stop paren closing bar operator atom : Kind
 
@@ -72,7 +72,7 @@ kind_at (c ∷ t) =
     else if is_some (times c) || c == the "{" then operator
     else atom
 
--- at p, past the gap, such a character leads from the one state to the other
+-- at p, after the gap, such a character leads from one state to the other
 abbrev pub Does : Kind → State → Point → State → Type 0
 Does stop s p q = ⊥
 Does paren s p q =
@@ -99,11 +99,11 @@ pub record Step (s q : State) : Type 0 where
   pub ends : EndsGap s.point.flags.ignore_whitespace past.rest
   pub does : Does (kind_at past.rest) s past q
 
--- steps lead from the one state to the other
+-- steps lead from one state to the other
 pub data LeadsOn : State → State → Type 0 where
   stay : {s q : State} → s ≡ q → LeadsOn s q
   go : {s q : State} (m : State) → Step s m → LeadsOn m q → LeadsOn s q
 
--- the text begins with a character that asks for an item that is no group
+-- the text begins with the first character of an item that isn't a group
 abbrev pub BeginsAtom : Text → Type 0
 BeginsAtom t = kind_at t ≡ atom

@@ -1,4 +1,4 @@
--- What the readers give, as what the grammar gives.
+-- What the parser's functions return, in terms of the grammar.
 use Rattle.std.specs.Prelude.{ℕ, ◌≤◌, Bool, Option, Some, None, if◌then◌else◌}
 use Rattle.regex_lite_syntax.specs.declared.parse.escape.Primitive.{Primitive as Read}
 use Rattle.regex_lite_syntax.specs.declared.parse.escape.Primitive.TheVariants as read
@@ -11,7 +11,7 @@ use Rattle.regex_lite_syntax.specs.Parser.SetNames.{name_of}
 use Rattle.regex_lite_syntax.specs.Grammar.Escapes.{Primitive, one, some_of, look_at, EscapeKind}
 use Rattle.regex_lite_syntax.specs.Grammar.Escapes.{gives, word_boundary, hexadecimal, refused}
 
--- the set with a name, or all other characters
+-- the set with a name, or its complement
 abbrev pub named_or_not : NamedSet → (negated : Bool) → Set
 named_or_not set negated =
     if negated then complement (members (name_of set)) else members (name_of set)
@@ -21,7 +21,7 @@ primitive_of (read.Char c) = one c
 primitive_of (read.Set set negated) = some_of (named_or_not set negated)
 primitive_of (read.Look look) = look_at look
 
--- what the character after a backslash asks for
+-- the kind of an escape, by the meaning of the character after the backslash
 abbrev pub escape_kind_of : Meaning → EscapeKind
 escape_kind_of (meaning.Gives primitive) = gives (primitive_of primitive)
 escape_kind_of meaning.WordBoundary = word_boundary

@@ -1,4 +1,4 @@
--- The runs of a set, wherever they are.
+-- The runs of a set, wherever they are stored.
 use Rattle.std.specs.Prelude.{List}
 use Rattle.regex_lite_syntax.specs.declared.class.ClassRange.{ClassRange}
 use Rattle.regex_lite_syntax.specs.declared.class.RunStorage.{RunStorage}

@@ -35,8 +35,7 @@ frame_of group = record {
   items = map tree_of group.outer.items.items;
 }
 
--- the parser as a state, with what is left of the pattern, and how many groups stood in one another
--- at most
+-- the parser as a state, with what is left of the pattern, and the greatest number of nested groups
 unfoldable pub state : Parser → (rest : Text) → (deepest : ℕ) → State
 state p rest deepest = record {
   point = record {
@@ -51,7 +50,7 @@ state p rest deepest = record {
   items = map tree_of p.here.items.items;
 }
 
--- a step of the machine leads from the one state to the other, and no name comes to stand twice
+-- a step of the machine leads from one state to the other, and afterwards no name occurs twice
 abbrev pub FreshStep : (s q : State) → Type 0
 FreshStep s q = Step s q × (NamesDiffer s.point.names → NamesDiffer q.point.names)
 
@@ -65,23 +64,23 @@ pub record Advances (before after : Parser) (pattern : Text) (at next : ℕ) : T
   pub in_pattern : next ≤ length pattern
   pub reads : StepsTo before after (drop at pattern) (drop next pattern)
 
--- the machine has a step where the parser stands before t, after which no name stands twice
+-- the machine has a step from the parser before t, after which no name occurs twice
 abbrev pub CanRead : Parser → Text → Type 0
 CanRead p t = (d : ℕ) × (q : State) × Step (state p t d) q × NamesDiffer q.point.names
 
--- with more of the pattern past t the machine has a step where the parser stands, past which a `_`
--- alone is left
+-- with more of the pattern after t the machine has a step from the parser, after which only a `_`
+-- is left
 abbrev pub CanReadOn : Parser → Text → Type 0
 CanReadOn p t = (d : ℕ) → (more : Text) × (q : State) × AreCharacters more
     × FreshStep (state p (t ++ more) d) q × (q.point.rest ≡ the "_" ∷ [])
 
--- a group that is numbered begins where the parser stands before t
+-- a numbered group begins at the parser's point before t
 abbrev pub BeginsCapture : Parser → Text → Type 0
 BeginsCapture p t = (name : Option Text) × ((d : ℕ) →
     let s = state p t d in
     (first : Point) × Head (length s.frames) s.point first (capturing (s.point.groups + 1) name))
 
--- a group begins there that can't be numbered
+-- a group that can't be numbered begins at the parser's point before t
 abbrev pub BeginsTooMany : Parser → Text → Type 0
 BeginsTooMany p t = PassesGroups (p.groups + 1) × BeginsCapture p t
 

@@ -1,4 +1,4 @@
--- Where each look holds, by the characters beside a position of the whole haystack.
+-- Where each look holds, by the characters next to a position of the whole haystack.
 use Rattle.std.specs.Prelude.{ℕ, Bool, false, not, ◌&&◌, ◌||◌, ◌==◌}
 use Rattle.std.specs.Prelude.{Option, Some, None, is_none, IsTrue}
 use Rattle.regex_lite_syntax.specs.declared.hir.look.Look.{Look}
@@ -10,7 +10,7 @@ use Rattle.regex_lite_syntax.specs.declared.hir.look.Look.TheVariants.{WordEndHa
 use Rattle.regex_lite_syntax.specs.Text.{Text, before, after, the}
 use Rattle.regex_lite_syntax.specs.NamedSets.{members, word}
 
--- there is such a character
+-- there is a character, and it is this one
 abbrev pub is : Option ℕ → ℕ → Bool
 is None c = false
 is (Some d) c = d == c
@@ -20,7 +20,7 @@ abbrev pub is_word : Option ℕ → Bool
 is_word None = false
 is_word (Some c) = members word c
 
--- the look holds between these neighbours, of which the haystack's start and end have but one
+-- the look holds between these neighbours; the haystack's start and end have only one
 unfoldable pub holds_between : Look → (before after : Option ℕ) → Bool
 holds_between Start b a = is_none b
 holds_between End b a = is_none a

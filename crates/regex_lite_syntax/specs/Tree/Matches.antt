@@ -10,12 +10,12 @@ use Rattle.regex_lite_syntax.specs.Tree.{repetition, concat, alternation, Trees,
 abbrev pub IsPosition : Text → ℕ → Type 0
 IsPosition haystack i = i ≤ length haystack
 
--- this many passes, one after another, lead from the one position to the other
+-- this many passes, one after another, lead from one position to the other
 abbrev pub Passes : (pass : ℕ → ℕ → Type 0) → ℕ → ℕ → ℕ → Type 0
 Passes pass zero i j = i ≡ j
 Passes pass (suc n) i j = (k : ℕ) × pass i k × Passes pass n k j
 
--- at most this many, where there is a limit
+-- at most this many, if there is a limit
 abbrev pub AtMost : ℕ → Option ℕ → Type 0
 AtMost n None = Unit {0}
 AtMost n (Some most) = n ≤ most

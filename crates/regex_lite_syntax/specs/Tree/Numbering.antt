@@ -4,7 +4,7 @@ use Rattle.regex_lite_syntax.specs.Tree.{Tree, Trees, empty, character, class, l
 use Rattle.regex_lite_syntax.specs.Tree.{repetition, capture, concat, alternation, none, more}
 
 abbrev mutual
-  -- in the order of their opening parentheses
+  -- the indices in the order of the opening parentheses
   pub indices : Tree → List ℕ
   indices empty = []
   indices (character c) = []
@@ -19,6 +19,6 @@ abbrev mutual
   indices_in none = []
   indices_in (more a rest) = indices a ++ indices_in rest
 
--- no index stands twice
+-- no index occurs twice
 abbrev pub IndicesDiffer : Tree → Type 0
 IndicesDiffer tree = AllPairs (λ index later. index ≢ later) (indices tree)

@@ -1,4 +1,4 @@
--- The parts of a tree in a row, in the order of the pattern, each before those that it has.
+-- The outline of a tree: its parts in preorder, the order of the pattern.
 use Rattle.std.specs.Prelude.{ℕ, ◌+◌, List, [], ◌∷◌, ◌++◌, map}
 use Rattle.regex_lite_syntax.specs.Tree.{Tree, Trees, empty, character, class, look}
 use Rattle.regex_lite_syntax.specs.Tree.{repetition, capture, concat, alternation, none, more}
@@ -7,7 +7,7 @@ use Rattle.regex_lite_syntax.specs.declared.hir.outline.Part.{Part}
 use Rattle.regex_lite_syntax.specs.declared.hir.outline.PartKind.{PartKind}
 use Rattle.regex_lite_syntax.specs.declared.hir.outline.PartKind.TheVariants as kind
 
--- what the root of a tree is. A group's name is not told
+-- the kind of a tree's root, without a group's name
 abbrev pub kind_of_root : Tree → PartKind
 kind_of_root empty = kind.Empty
 kind_of_root (character c) = kind.Char c
@@ -27,7 +27,7 @@ abbrev pub ranges_at : List ClassRange → (depth : ℕ) → List Part
 ranges_at ranges depth = map (λ range. record { depth = depth; kind = kind.Range range }) ranges
 
 abbrev mutual
-  -- the parts of a tree whose root is this deep: the root, and right below it what that has
+  -- the parts of a tree whose root has this depth: the root, and one level below it its parts
   pub outline_at : Tree → (depth : ℕ) → List Part
   outline_at empty depth = root_at empty depth ∷ []
   outline_at (character c) depth = root_at (character c) depth ∷ []
@@ -41,7 +41,7 @@ abbrev mutual
   outline_at (alternation branches) depth =
       root_at (alternation branches) depth ∷ outlines_at branches (depth + 1)
 
-  -- those of several trees, one tree after another
+  -- the parts of several trees, one tree after another
   pub outlines_at : Trees → (depth : ℕ) → List Part
   outlines_at none depth = []
   outlines_at (more a rest) depth = outline_at a depth ++ outlines_at rest depth

@@ -1,4 +1,4 @@
--- Properties of a tree: whether it can match the empty text, and what it says of its groups.
+-- Properties of a tree: whether it can match the empty text, and properties of its groups.
 use Rattle.std.specs.Prelude.{ℕ, zero, suc, ◌≡◌, ◌+◌, ◌^◌, ◌==◌, nat_lt, max, Bool, true}
 use Rattle.std.specs.Prelude.{false, ◌&&◌, ◌||◌, Option, Some, None, if◌then◌else◌}
 use Rattle.std.specs.Option.{option_or}
@@ -7,7 +7,7 @@ use Rattle.regex_lite_syntax.specs.Tree.{Tree, Trees, empty, character, class, l
 use Rattle.regex_lite_syntax.specs.Tree.{repetition, capture, concat, alternation, none, more}
 use Rattle.regex_lite_syntax.specs.declared.hir.properties.Properties.{Properties}
 
--- no pass is needed
+-- no pass is required
 abbrev pub is_zero : ℕ → Bool
 is_zero zero = true
 is_zero (suc n) = false
@@ -33,7 +33,7 @@ abbrev mutual
   any_nullable (more a rest) = nullable a || any_nullable rest
 
 abbrev mutual
-  -- the greatest index of a group, 0 where there is none
+  -- the greatest index of a group, 0 if there is none
   pub greatest_index : Tree → ℕ
   greatest_index empty = 0
   greatest_index (character c) = 0
@@ -48,7 +48,7 @@ abbrev mutual
   greatest_index_in none = 0
   greatest_index_in (more a rest) = max (greatest_index a) (greatest_index_in rest)
 
--- how many groups a match can have, the whole match as group 0 among them
+-- the number of groups of a match, including the whole match as group 0
 abbrev pub captures_len : Tree → ℕ
 captures_len tree = greatest_index tree + 1
 
@@ -58,7 +58,7 @@ name_if true name = name
 name_if false name = None
 
 abbrev mutual
-  -- the name of the group with this index, where the tree has the group and it has a name
+  -- the name of the group with this index, if the tree has the group and the group has a name
   pub group_name : Tree → ℕ → Option Text
   group_name empty k = None
   group_name (character c) k = None
@@ -73,26 +73,27 @@ abbrev mutual
   group_name_in none k = None
   group_name_in (more a rest) k = option_or (group_name a k) (group_name_in rest k)
 
--- the sum, where both are known
+-- the sum, if both are known
 abbrev pub sum : Option ℕ → Option ℕ → Option ℕ
 sum None b = None
 sum (Some a) None = None
 sum (Some a) (Some b) = Some (a + b)
 
--- the common number, where there is one
+-- the common number, if there is one
 abbrev pub common : Option ℕ → Option ℕ → Option ℕ
 common None b = None
 common (Some a) None = None
 common (Some a) (Some b) = if a == b then Some a else None
 
--- the groups that take part in a repetition. Where no pass is needed, only their absence is sure
+-- the number of groups that take part in a repetition; if no pass is required, it is known only if
+-- there are none
 abbrev pub in_passes : (least : ℕ) → Option ℕ → Option ℕ
 in_passes (suc n) groups = groups
 in_passes zero (Some zero) = Some zero
 in_passes zero _ = None
 
 abbrev mutual
-  -- how many groups at least take part in every match, where that is known
+  -- the least number of groups that take part in every match, if it is known
   pub static_groups : Tree → Option ℕ
   static_groups empty = Some 0
   static_groups (character c) = Some 0
@@ -112,11 +113,12 @@ abbrev mutual
   static_common (more a none) = static_groups a
   static_common (more a (more b rest)) = common (static_groups a) (static_common (more b rest))
 
--- how many groups at least take part in every match, the whole match among them, where known
+-- the least number of groups that take part in every match, including the whole match, if it is
+-- known
 abbrev pub static_captures_len : Tree → Option ℕ
 static_captures_len tree = sum (Some 1) (static_groups tree)
 
--- the number, where 32 bits hold it
+-- the number, if it fits 32 bits
 abbrev pub in_32_bits : Option ℕ → Option ℕ
 in_32_bits None = None
 in_32_bits (Some n) = if nat_lt n (2 ^ 32) then Some n else None

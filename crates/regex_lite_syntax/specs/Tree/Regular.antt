@@ -5,7 +5,7 @@ use Rattle.regex_lite_syntax.specs.Ranges.{AreRuns}
 use Rattle.regex_lite_syntax.specs.Tree.{Tree, Trees, empty, character, class, look}
 use Rattle.regex_lite_syntax.specs.Tree.{repetition, capture, concat, alternation, none, more}
 
--- at most this many, where there is a limit
+-- the least number is at most the most, if there is a limit
 abbrev pub InOrder : (least : ℕ) → (most : Option ℕ) → Type 0
 InOrder least None = Unit {0}
 InOrder least (Some most) = least ≤ most

@@ -1,4 +1,4 @@
--- The values of the code as those that the definitions speak of.
+-- The code's values as values of the definitions.
 use Rattle.std.specs.Prelude.{List, map, option_map, chars}
 use Rattle.std.specs.Rc.{rc_str_bytes}
 use Rattle.std.specs.declared.alloc.Global.{Global}
@@ -14,11 +14,11 @@ use Rattle.regex_lite_syntax.specs.declared.hir.Hir.TheFolds.{fold-Hir}
 abbrev pub text_of_name : RcStr Global → Text
 text_of_name name = chars (rc_str_bytes name)
 
--- those of each of the names
+-- the characters of each of the names
 abbrev pub names_of : List (RcStr Global) → List Text
 names_of names = map text_of_name names
 
--- one node, with a tree in the place of each child
+-- the tree of one node, given the trees of its children
 abbrev pub node_tree : Hir-F Tree → Tree
 node_tree Hir-F.Empty = empty
 node_tree (Hir-F.Char c) = character c

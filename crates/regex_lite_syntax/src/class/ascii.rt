@@ -1,4 +1,4 @@
-//! The ASCII characters of a set as a map: a bit for each.
+//! Bitmaps of the ASCII characters of a set.
 ghost use Rattle.std.specs.Prelude.{◌≡◌};
 ghost use Rattle.regex_lite_syntax.specs.AsciiMaps.{AreMapOf, IsMapOf};
 ghost use Rattle.regex_lite_syntax.specs.Sets.{span};
@@ -8,7 +8,8 @@ use super::ClassRange;
 
 const LAST_ASCII: char = '\x7F';
 
-/// The ASCII characters of the ranges, which are in order, as a map in two words, the lowest first.
+/// The ASCII characters of the ranges, which are in order, as a bitmap in two words, the lowest
+/// first.
 pub(crate) fn words_of_ranges(ranges: &[ClassRange]) -> [u64; 2]
     requires { AreRuns 0 ranges.now }
     ensures { AreMapOf result (in_ranges ranges.now) }
@@ -17,7 +18,7 @@ pub(crate) fn words_of_ranges(ranges: &[ClassRange]) -> [u64; 2]
     [(map % (1 << 64)) as u64, (map >> 64) as u64]
 }
 
-/// The ASCII characters of the ranges, which are in order, as a map.
+/// The ASCII characters of the ranges, which are in order, as a bitmap.
 fn map_of_ranges(ranges: &[ClassRange]) -> u128
     requires { AreRuns 0 ranges.now }
     ensures { IsMapOf result (in_ranges ranges.now) }
@@ -32,7 +33,7 @@ fn map_of_ranges(ranges: &[ClassRange]) -> u128
     map
 }
 
-/// The ASCII characters of the range, as a map.
+/// The ASCII characters of the range, as a bitmap.
 fn map_of_range(range: ClassRange) -> u128
     ensures { IsMapOf result (span range.start range.end) }
 {

@@ -68,7 +68,7 @@ fn push_lower_case(ranges: &mut Vec<ClassRange>, range: ClassRange) -> Result<()
     Ok(())
 }
 
-/// The characters that both ranges hold.
+/// The characters that are in both ranges.
 fn intersection(a: ClassRange, b: ClassRange) -> Option<ClassRange>
     ensures { MatchOption result (min a.end b.end < max a.start b.start)
         (λ range. (range.start ≡ max a.start b.start) × (range.end ≡ min a.end b.end)

@@ -1,4 +1,4 @@
-//! The sets of characters that have names.
+//! Character sets that have names.
 ghost use Rattle.std.specs.Prelude.{◌≡◌};
 ghost use Rattle.regex_lite_syntax.specs.Parser.KnownSets.{dot_members, dot_runs, known_members};
 ghost use Rattle.regex_lite_syntax.specs.Parser.KnownSets.{known_runs, named_runs};
@@ -15,12 +15,12 @@ macro_rules! ranges {
     };
 }
 
-/// A set whose runs are a part of the program.
+/// A set with static runs.
 #[derive(Clone, Copy, PartialEq, Eq, Debug)]
 pub(crate) enum KnownSet {
     /// The set with this name.
     Named(NamedSet),
-    /// What `.` stands for: all characters but, unless they count too, those that end a line.
+    /// The set of `.`: all characters except line terminators, unless they are included too.
     Dot { new_lines: bool, crlf: bool },
 }
 
@@ -56,7 +56,7 @@ impl KnownSet {
     }
 }
 
-/// The maximal runs of what `.` stands for, in order.
+/// The maximal runs of the set of `.`, in order.
 fn dot_ranges(new_lines: bool, crlf: bool) -> &'static [ClassRange]
     ensures same { result.now ≡ dot_runs new_lines crlf }
     ensures runs { AreRunsOf result.now (dot_members new_lines crlf) }

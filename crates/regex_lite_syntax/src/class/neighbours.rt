@@ -1,4 +1,4 @@
-//! The characters beside a character: U+D7FF and U+E000 are neighbours.
+//! The neighbours of a character: U+D7FF and U+E000 are neighbours.
 ghost use Rattle.std.specs.Prelude.{◌≡◌, ◌<◌, IsTrue, MatchOption};
 ghost use Rattle.regex_lite_syntax.specs.Characters.{is_character};
 ghost use Rattle.regex_lite_syntax.specs.Ranges.{next_character};

@@ -1,4 +1,4 @@
-//! Ranges that are joined where no character stands between them.
+//! Joining ranges that have no character between them.
 ghost use Rattle.std.specs.Prelude.{◌≡◌, ℕ, ◌+◌, ◌<◌, ◌≤◌, ◌||◌, All};
 ghost use Rattle.std.specs.Prelude.{MatchBool, OnOk, length, take, drop};
 ghost use Rattle.std.specs.List.Sorted.{IsNonDecreasingBy};
@@ -10,8 +10,8 @@ use super::ClassRange;
 use super::neighbours::next_char;
 use std::alloc::AllocError;
 
-/// Joins ranges whose starts are in order to runs that stand in front, and returns how many runs
-/// there are.
+/// Joins ranges whose starts are in order into runs, which are stored at the front, and returns the
+/// number of runs.
 pub(crate) fn join_all(ranges: &mut [ClassRange]) -> usize
     requires { IsNonDecreasingBy (λ range. range.start) ranges.old }
     ensures { AreRunsOf (take result ranges.new) (in_ranges ranges.old) }
@@ -24,8 +24,8 @@ pub(crate) fn join_all(ranges: &mut [ClassRange]) -> usize
     runs
 }
 
-/// Adds the range, which starts no earlier than any of the runs in front, and returns how many
-/// there are then.
+/// Adds the range, which starts no earlier than any of the runs at the front, and returns the new
+/// number of runs.
 fn join(ranges: &mut [ClassRange], runs: usize, range: ClassRange) -> usize
     requires inside { runs < length ranges.old }
     requires runs { AreRuns 0 (take runs ranges.old) }
@@ -76,7 +76,7 @@ pub(crate) fn append(runs: &mut Vec<ClassRange>, range: ClassRange) -> Result<()
     Ok(())
 }
 
-/// Adds the characters from `start` to `end`, where there are both.
+/// Adds the characters from `start` to `end`, if both exist.
 pub(crate) fn append_between(
     runs: &mut Vec<ClassRange>,
     start: Option<char>,
@@ -95,7 +95,7 @@ pub(crate) fn append_between(
     }
 }
 
-/// Whether no character stands between the end of a range and the start of a later one.
+/// Whether there is no character between the end of a range and the start of a later one.
 fn are_joined(end: char, start: char) -> bool
     ensures { MatchBool result (start ≤ next_character end) (next_character end < start) }
 {

@@ -5,7 +5,7 @@ ghost use Rattle.regex_lite_syntax.specs.CutShort.{is_cut_short};
 
 use crate::error::unexpected_eof::UnexpectedEof;
 
-/// Which rule of the grammar a pattern breaks.
+/// A rule of the grammar that a pattern breaks.
 #[derive(Clone, Copy, PartialEq, Eq, Debug)]
 pub enum SyntaxFault {
     /// The pattern ends inside this part, which more of the pattern could complete.
@@ -48,8 +48,8 @@ pub enum SyntaxFault {
 }
 
 impl SyntaxFault {
-    /// The fault of a pattern that ends inside this part, by whether more of it could complete the
-    /// part.
+    /// The fault of a pattern that ends inside this part, depending on whether more of it could
+    /// complete the part.
     pub(crate) fn at_end(part: UnexpectedEof, is_completable: bool) -> SyntaxFault
         ensures { is_cut_short result ≡ is_completable }
     {
@@ -67,7 +67,7 @@ impl SyntaxFault {
         matches!(self, SyntaxFault::CutShort(_))
     }
 
-    /// The same fault of a pattern that nothing could complete.
+    /// The fault as one of a pattern that nothing could complete.
     pub(crate) fn for_good(self) -> SyntaxFault
         ensures { is_cut_short result ≡ false }
     {

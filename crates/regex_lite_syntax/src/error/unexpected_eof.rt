@@ -1,8 +1,8 @@
-//! In which part a pattern ends, and the text of each such fault.
+//! Faults of patterns that end inside a part, and the text of each.
 ghost use Rattle.std.specs.Prelude.{◌≡◌};
 ghost use Rattle.regex_lite_syntax.specs.FaultTexts.{eof_text};
 
-/// Inside which part a pattern ends.
+/// The part inside which a pattern ends.
 #[derive(Clone, Copy, PartialEq, Eq, Debug)]
 pub enum UnexpectedEof {
     /// A group.
@@ -15,7 +15,7 @@ pub enum UnexpectedEof {
     GroupNameEnd,
     /// The flags of a group or a directive.
     Flag,
-    /// A head of a group that goes on with a name or with flags.
+    /// A head of a group that continues with a name or with flags.
     FlagOrName,
     /// A counted operator, before the digits of a number.
     Decimal,
@@ -45,7 +45,7 @@ pub enum UnexpectedEof {
     ClassAfterNegation,
     /// A class, after a `]` that stands for itself.
     ClassAfterClosing,
-    /// A set with a name in a class.
+    /// A named set in a class.
     ClassNest,
     /// The name of a look in braces.
     SpecialWordBoundary,

@@ -10,7 +10,7 @@ pub trait AsHir {
     /// The tree that a value carries, in the definitions.
     ghost tree: { Self → Tree };
 
-    /// The tree that it carries.
+    /// The tree that the value carries.
     fn as_hir(&self) -> &Hir
         ensures { tree_of result.now ≡ tree self.now };
 }

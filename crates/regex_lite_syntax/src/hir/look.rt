@@ -2,7 +2,7 @@
 ghost use Rattle.std.specs.Prelude.{◌≡◌};
 ghost use Rattle.regex_lite_syntax.specs.Tree.Looks.{holds_between, is, is_word};
 
-/// A test of a position of the haystack by the characters beside it.
+/// A look: a test of a position in the haystack by the characters next to it.
 #[derive(Clone, Copy, PartialEq, Eq, Debug)]
 pub enum Look {
     /// The haystack starts here.
@@ -25,17 +25,17 @@ pub enum Look {
     WordStart,
     /// A word ends here.
     WordEnd,
-    /// No word character stands before.
+    /// There is no word character before.
     WordStartHalf,
-    /// No word character stands after.
+    /// There is no word character after.
     WordEndHalf,
 }
 
 impl Look {
-    /// Whether the test holds between the characters before and after a position, of which one is
+    /// Whether the test holds between the characters before and after a position. One of them is
     /// missing at the start and at the end of the haystack.
     // Not inlined, since the loop of a search would then compute all twelve looks at each position,
-    // whether a place asks for one or not.
+    // whether a place needs one or not.
     #[inline(never)]
     #[tactic(auto, unfolding(crate::specs::Tree::Looks::holds_between))]
     pub fn holds(self, before: Option<char>, after: Option<char>) -> bool
@@ -66,7 +66,7 @@ impl Look {
     }
 }
 
-/// Whether there is a character, and it is this one.
+/// Whether there is a character and it is this one.
 fn is_char(neighbour: Option<char>, c: char) -> bool
     ensures { result ≡ is neighbour c }
 {
@@ -76,7 +76,7 @@ fn is_char(neighbour: Option<char>, c: char) -> bool
     }
 }
 
-/// Whether there is a character, and it is one of a word.
+/// Whether there is a character and it is a word character.
 fn is_word_char(neighbour: Option<char>) -> bool
     ensures { result ≡ is_word neighbour }
 {

@@ -13,7 +13,7 @@ use std::alloc::{AllocError, Global};
 use std::rc::RcStr;
 
 impl Hir {
-    /// The names of the groups by index, group 0 first. Each is shared with the tree.
+    /// The names of the groups by index, from group 0 on. Each is shared with the tree.
     ///
     /// Condition: `len` is one more than the greatest index.
     pub fn capture_names(&self, alloc: Global, len: usize) -> Result<Vec<Option<RcStr>>, AllocError>
@@ -46,7 +46,7 @@ fn add_names(names: &mut [Option<RcStr>], hir: &Hir) -> Result<(), AllocError>
     }
 }
 
-/// Adds those of each of the trees.
+/// Adds the names of the groups of each tree.
 #[cycle(add)]
 fn add_all_names(names: &mut [Option<RcStr>], trees: &[Hir]) -> Result<(), AllocError>
     requires { greatest_index_in (trees_of (map tree_of trees.now)) < length names.old }
@@ -59,7 +59,7 @@ fn add_all_names(names: &mut [Option<RcStr>], trees: &[Hir]) -> Result<(), Alloc
     Ok(())
 }
 
-/// Adds a group's name, if it has one, where the table has none yet.
+/// Adds a group's name, if it has one and the table has none for the group yet.
 fn add_name(names: &mut [Option<RcStr>], index: u32, name: &Option<RcStr>) -> Result<(), AllocError>
     requires { index < length names.old }
     ensures { IfOk result (λ _.

@@ -1,4 +1,4 @@
-//! The parts of a tree in a row, each before those that it has.
+//! The outline of a tree: its parts in preorder.
 ghost use Rattle.std.specs.Prelude.{◌≡◌, ◌+◌, ◌^◌, ◌≤◌, ◌++◌, IfOk, map};
 ghost use Rattle.regex_lite_syntax.specs.Limits.{depth as depth_of, depth_of_list};
 ghost use Rattle.regex_lite_syntax.specs.Tree.{trees as trees_of};
@@ -11,21 +11,21 @@ use super::look::Look;
 use crate::class::ClassRange;
 use std::alloc::{AllocError, Global};
 
-/// What a part of a pattern is.
+/// The kind of a part of a pattern.
 #[derive(Clone, Copy, PartialEq, Eq, Debug)]
 pub enum PartKind {
     /// The empty text.
     Empty,
     /// This character.
     Char(char),
-    /// A character of the set with these maximal runs, in order: the parts right after it, one
-    /// level below it. If there is none, no character belongs to it.
+    /// A character of the set with these maximal runs, in order: the parts that follow it, one
+    /// level below it. If there are none, the set is empty.
     Class,
     /// One of the runs of a class.
     Range(ClassRange),
     /// A test of the position.
     Look(Look),
-    /// The part below it at least `least` times, and at most `most` times where there is a limit.
+    /// The part below it at least `least` times, and at most `most` times if there is a limit.
     Repetition {
         least: u32,
         most: Option<u32>,
@@ -43,17 +43,17 @@ pub enum PartKind {
 /// A part of a pattern: a node of its tree, or a run of a class.
 #[derive(Clone, Copy, PartialEq, Eq, Debug)]
 pub struct Part {
-    /// This many parts have it, one in another.
+    /// The depth of the part: the number of parts around it.
     pub depth: usize,
-    /// What it is.
+    /// The kind of the part.
     pub kind: PartKind,
 }
 
 impl Hir {
-    /// The parts of the tree, in the order of the pattern. Each stands right before those that it
-    /// has, and these are one level below it.
+    /// The parts of the tree in preorder, the order of the pattern. The parts of a part follow it
+    /// directly, and are one level below it.
     ///
-    /// Condition: at most 2^32 nodes stand in one another below the root.
+    /// Condition: nodes are nested at most 2^32 deep below the root.
     ///
     /// # Errors
     ///
@@ -67,7 +67,7 @@ impl Hir {
         Ok(parts)
     }
 
-    /// What its root is.
+    /// The kind of the root.
     fn part_kind(&self) -> PartKind
         ensures { result ≡ kind_of_root (tree_of self.now) }
     {
@@ -93,7 +93,7 @@ impl Hir {
     }
 }
 
-/// Adds the parts of a tree that stands this deep.
+/// Adds the parts of a tree at this depth.
 #[cycle(outline)]
 fn add_parts(parts: &mut Vec<Part>, hir: &Hir, depth: usize) -> Result<(), AllocError>
     requires { depth + depth_of (tree_of hir.now) ≤ 2 ^ 32 }
@@ -112,7 +112,7 @@ fn add_parts(parts: &mut Vec<Part>, hir: &Hir, depth: usize) -> Result<(), Alloc
     }
 }
 
-/// Adds those of each of the trees.
+/// Adds the parts of each tree.
 #[cycle(outline)]
 fn add_all_parts(parts: &mut Vec<Part>, trees: &[Hir], depth: usize) -> Result<(), AllocError>
     requires { depth + depth_of_list (trees_of (map tree_of trees.now)) ≤ 2 ^ 32 }
@@ -125,7 +125,7 @@ fn add_all_parts(parts: &mut Vec<Part>, trees: &[Hir], depth: usize) -> Result<(
     Ok(())
 }
 
-/// Adds the runs of a class, which stand this deep.
+/// Adds the runs of a class at this depth.
 fn add_ranges(parts: &mut Vec<Part>, ranges: &[ClassRange], depth: usize) -> Result<(), AllocError>
     ensures { IfOk result (λ _. parts.new.items ≡ parts.old.items ++ ranges_at ranges.now depth) }
 {

@@ -1,5 +1,5 @@
-//! What a tree says of itself: whether it can match the empty text, and of its groups how they are
-//! numbered and how many take part in every match.
+//! Properties of a tree: whether it can match the empty text, the greatest index of its groups, and
+//! how many groups take part in every match.
 ghost use Rattle.std.specs.Prelude.{◌≡◌, ℕ, Bool, Option, map, option_map};
 ghost use Rattle.regex_lite_syntax.specs.Text.{Text};
 ghost use Rattle.regex_lite_syntax.specs.Tree.{Tree, Trees, repetition, capture, concat};
@@ -11,20 +11,20 @@ ghost use Rattle.regex_lite_syntax.specs.Tree.Properties.{ArePropertiesOf};
 
 use super::Hir;
 
-/// What a tree says of itself. It is found from the properties of its parts alone, so whoever walks
-/// a tree has them with no walk of their own.
+/// Properties of a tree. They are computed from the properties of its parts, so any walk over the
+/// tree can compute them along the way.
 #[derive(Clone, Copy, Debug)]
 pub struct Properties {
-    /// It may match without reading a character.
+    /// Whether the tree may match without reading a character.
     pub nullable: bool,
-    /// The greatest index of a group, or 0 where there is none.
+    /// The greatest index of a group, or 0 if there is none.
     pub greatest_index: u32,
-    /// How many groups at least take part in every match, where that is known and 32 bits hold it.
+    /// The least number of groups that take part in every match, if it is known and fits 32 bits.
     pub static_groups: Option<u32>,
 }
 
 impl Properties {
-    /// Those of a concatenation with this first part and the rest.
+    /// The properties of a concatenation with this first part and the rest.
     pub fn then(self, rest: Properties) -> Properties
         ensures { (first : Tree) (parts : Trees)
             → ArePropertiesOf first self → ArePropertiesOf (concat parts) rest
@@ -37,7 +37,7 @@ impl Properties {
         }
     }
 
-    /// Those of alternatives with this branch alone.
+    /// The properties of alternatives with only this branch.
     pub fn alone(self) -> Properties
         ensures { (branch : Tree) → ArePropertiesOf branch self
             → ArePropertiesOf (alternation (more branch none)) result }
@@ -45,7 +45,7 @@ impl Properties {
         self
     }
 
-    /// Those of alternatives with this branch before the others.
+    /// The properties of alternatives with this branch before the others.
     pub fn or(self, others: Properties) -> Properties
         ensures { (branch next : Tree) (rest : Trees)
             → ArePropertiesOf branch self
@@ -59,7 +59,7 @@ impl Properties {
         }
     }
 
-    /// Those of a group round this.
+    /// The properties of a group around this tree.
     pub fn captured(self, index: u32) -> Properties
         ensures { (name : Option Text) (body : Tree) → ArePropertiesOf body self
             → ArePropertiesOf (capture index name body) result }
@@ -71,7 +71,7 @@ impl Properties {
         }
     }
 
-    /// The properties of a repetition of this with at least `least` passes.
+    /// The properties of a repetition of this tree with at least `least` passes.
     pub fn repeated(self, least: u32) -> Properties
         ensures { (most : Option ℕ) (greedy : Bool) (body : Tree) → ArePropertiesOf body self
             → ArePropertiesOf (repetition least most greedy body) result }
@@ -84,7 +84,7 @@ impl Properties {
     }
 }
 
-/// The sum, where both are known.
+/// The sum, if both are known.
 fn sum(a: Option<u32>, b: Option<u32>) -> Option<u32>
     ensures { (n m : Option ℕ) → a ≡ in_32_bits n → b ≡ in_32_bits m
         → result ≡ in_32_bits (sum n m) }
@@ -92,7 +92,7 @@ fn sum(a: Option<u32>, b: Option<u32>) -> Option<u32>
     a?.checked_add(b?)
 }
 
-/// The common number, where there is one.
+/// The common number, if there is one.
 fn common(a: Option<u32>, b: Option<u32>) -> Option<u32>
     ensures { (n m : Option ℕ) → a ≡ in_32_bits n → b ≡ in_32_bits m
         → result ≡ in_32_bits (common n m) }
@@ -113,7 +113,7 @@ fn in_passes(least: u32, groups: Option<u32>) -> Option<u32>
 }
 
 impl Hir {
-    /// Whether it can match without reading a character.
+    /// Whether the tree can match without reading a character.
     #[cycle(nullable)]
     pub fn is_nullable(&self) -> bool
         ensures { result ≡ nullable (tree_of self.now) }
@@ -129,7 +129,7 @@ impl Hir {
     }
 }
 
-/// Whether each of the trees can.
+/// Whether each of the trees can match without reading a character.
 #[cycle(nullable)]
 fn are_all_nullable(trees: &[Hir]) -> bool
     ensures { result ≡ all_nullable (trees_of (map tree_of trees.now)) }
@@ -142,7 +142,7 @@ fn are_all_nullable(trees: &[Hir]) -> bool
     true
 }
 
-/// Whether one of the trees can.
+/// Whether one of the trees can match without reading a character.
 #[cycle(nullable)]
 fn is_any_nullable(trees: &[Hir]) -> bool
     ensures { result ≡ any_nullable (trees_of (map tree_of trees.now)) }

@@ -1,4 +1,4 @@
-//! Items that are no groups.
+//! Items that aren't groups.
 ghost use Rattle.std.specs.Prelude.{◌≡◌, ◌<◌, ◌≤◌, drop, length, IsTrue, IfOk, IfErr};
 ghost use Rattle.regex_lite_syntax.specs.Text.{Text};
 ghost use Rattle.regex_lite_syntax.specs.Characters.{is_letter, AreCharacters};
@@ -23,7 +23,7 @@ use crate::parse::bracket::read_class;
 use crate::parse::escape::{Primitive, read_escape};
 use std::alloc::{AllocError, Global};
 
-/// Reads the item that stands at the index, which is no group, and returns the index after it.
+/// Reads the item at the index, which isn't a group, and returns the index after it.
 pub(crate) fn read_atom(
     alloc: Global,
     chars: &[char],
@@ -65,7 +65,7 @@ pub(crate) fn read_atom(
     }
 }
 
-/// What `.` stands for.
+/// The set of `.`.
 fn dot_class(flags: Flags) -> Class
     ensures { AreRunsOf result (dot flags) }
 {
@@ -82,7 +82,8 @@ fn only(c: char) -> ClassRange
     ClassRange { start: c, end: c }
 }
 
-/// What `^` or `$` stands for: the haystack's end, or under `m` that of a line of either kind.
+/// The look of `^` or `$`: at the start or end of the haystack, or under `m` at that of a line of
+/// either kind.
 fn anchor_look(flags: Flags, whole: Look, line: Look, crlf_line: Look) -> Look
     ensures { result ≡ anchor flags whole line crlf_line }
 {
@@ -95,7 +96,7 @@ fn anchor_look(flags: Flags, whole: Look, line: Look, crlf_line: Look) -> Look
     }
 }
 
-/// The tree of a character: under `i` an ASCII letter stands for both its cases.
+/// The tree of a character: under `i` an ASCII letter matches in both cases.
 fn char_tree(alloc: Global, flags: Flags, c: char) -> Result<Hir, AllocError>
     ensures { IfOk result (λ hir. PrimitiveTree flags (one c) (tree_of hir)) }
 {
@@ -117,7 +118,7 @@ fn both_cases(alloc: Global, letter: char) -> Result<Class, AllocError>
     Ok(Class::of_runs(ranges))
 }
 
-/// The tree of what an escape gives.
+/// The tree of what an escape stands for.
 fn piece_tree(alloc: Global, flags: Flags, primitive: Primitive) -> Result<Hir, AllocError>
     ensures { IfOk result (λ hir. PrimitiveTree flags (primitive_of primitive) (tree_of hir)) }
 {

@@ -22,7 +22,7 @@ use opening::read_opening;
 use set::{class_of, push_item, push_opening};
 use std::alloc::Global;
 
-/// Reads a class from its opening bracket on, and returns the index after it and its set.
+/// Reads a class from its opening bracket on, and returns the index after it and the set.
 pub(crate) fn read_class(
     alloc: Global,
     chars: &[char],
@@ -54,7 +54,7 @@ pub(crate) fn read_class(
     Ok((end, class))
 }
 
-/// Reads the items of a class and the bracket that closes it, and adds the items' sets.
+/// Reads the items of a class and its closing bracket, and adds the items' sets.
 fn read_items(
     alloc: Global,
     chars: &[char],

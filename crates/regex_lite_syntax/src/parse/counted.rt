@@ -1,4 +1,4 @@
-//! Counted operators: how often they repeat, in braces.
+//! Counted operators: repetitions with bounds in braces.
 ghost use Rattle.std.specs.Prelude.{◌≡◌, ◌↔◌, ℕ, ◌+◌, ◌-◌, ◌*◌, ◌^◌, ◌<◌, ◌≤◌, [], ◌∷◌, ◌++◌, drop};
 ghost use Rattle.std.specs.Prelude.{length, Option, IsTrue, IfOk, IfSome, IfNone, SomeIff, IfErr};
 ghost use Rattle.regex_lite_syntax.specs.Text.{Text};
@@ -14,14 +14,14 @@ use crate::error::{SyntaxFault, UnexpectedEof};
 use crate::parse::gap::{is_white_space_char, skip_gap};
 use crate::parse::read::char_at;
 
-/// How often an operator repeats: at least, and at most where there is a limit.
+/// The least number of passes of an operator, and the greatest if there is a limit.
 #[derive(Clone, Copy, PartialEq, Eq, Debug)]
 pub(crate) struct Times {
     pub(crate) least: u32,
     pub(crate) most: Option<u32>,
 }
 
-/// A number that was read: where its digits end, and where what stands past them ends.
+/// A number that was read, the end of its digits, and the end of what may follow them.
 #[derive(Clone, Copy)]
 struct Decimal {
     past_digits: usize,
@@ -69,8 +69,8 @@ pub(crate) fn read_counted(
     }
 }
 
-/// Reads the limit, if there is one, from after the comma on, and the brace that closes. A limit
-/// that is below the least number is refused.
+/// Reads the limit, if there is one, from after the comma on, and the closing brace. A limit below
+/// the least number is an error.
 fn read_limit(
     chars: &[char],
     at: usize,
@@ -110,8 +110,8 @@ fn read_limit(
     }
 }
 
-/// Whether a number with which the pattern ends, whose digits end at this index, is not below the
-/// least one, or is so with more digits, where those can follow.
+/// Whether a number with which the pattern ends, whose digits end at this index, is at least the
+/// least number, or can become so with more digits, if digits can follow.
 fn can_become(chars: &[char], past_digits: usize, verbose: bool, number: u32, least: u32) -> bool
     requires { past_digits ≤ length chars.now }
     ensures { IsTrue result ↔
@@ -124,11 +124,11 @@ fn can_become(chars: &[char], past_digits: usize, verbose: bool, number: u32, le
     }
 }
 
-/// Whether the number is not below the least one, or is so with more digits.
+/// Whether the number is at least the least number, or can become so with more digits.
 fn can_grow(number: u32, least: u32) -> bool
     ensures { IsTrue result ↔ CanReach least (GrowsTo number) }
 {
-    // With some number of further digits the number is at least `low` and at most `high`.
+    // With some number of further digits, the number is between `low` and `high`.
     let mut low = u64::from(number);
     let mut high = low;
     while high < u64::from(least) {
@@ -138,7 +138,7 @@ fn can_grow(number: u32, least: u32) -> bool
     low <= u64::from(u32::MAX)
 }
 
-/// Reads a number with what stands on its sides.
+/// Reads a number with the white space around it.
 fn read_number(chars: &[char], at: usize, verbose: bool) -> Result<Decimal, SyntaxFault>
     requires { at ≤ length chars.now }
     ensures inside { IfOk result (λ r.
@@ -146,8 +146,8 @@ fn read_number(chars: &[char], at: usize, verbose: bool) -> Result<Decimal, Synt
     ensures ok { IfOk result (λ r.
         (number : Number verbose (drop at chars.now) (drop r.end chars.now) r.value)
         × (number.last ≡ drop r.past_digits chars.now)) }
-    // No other number stands there that goes up to a comma or a brace, nor does one in a longer
-    // text, if anything is left past the number.
+    // There is no other number there that extends to a comma or a brace, nor in a longer text, if
+    // anything is left after the number.
     ensures only { IfOk result (λ r.
         (more rest : Text) (n : ℕ) → (drop r.end chars.now ≡ [] → more ≡ [])
         → Number verbose (drop at chars.now ++ more) rest n → EndsNumber rest
@@ -155,7 +155,7 @@ fn read_number(chars: &[char], at: usize, verbose: bool) -> Result<Decimal, Synt
     ensures refused { IfErr result (λ fault. NoReading fault
         (λ t. (rest : Text) × (n : ℕ) × Number verbose t rest n × EndsNumber rest)
         (drop at chars.now)) }
-    // Where none has begun, the greatest number of all can come.
+    // If no number has begun, the greatest number can follow.
     ensures completes { IfErr result (λ fault. CanComplete fault
         (λ t rest. Number verbose t rest (2 ^ 32 - 1)) (drop at chars.now)) }
 {
@@ -182,7 +182,7 @@ fn read_number(chars: &[char], at: usize, verbose: bool) -> Result<Decimal, Synt
     })
 }
 
-/// Where what may stand on the side of a number ends.
+/// The end of the white space next to a number.
 fn skip_side(chars: &[char], at: usize, verbose: bool) -> usize
     requires { at ≤ length chars.now }
     ensures inside { (at ≤ result) × (result ≤ length chars.now) }
@@ -198,7 +198,7 @@ fn skip_side(chars: &[char], at: usize, verbose: bool) -> usize
     end
 }
 
-/// The value of the digit past the gap at the index, with the index after it.
+/// The value of the digit after the gap at the index, and the index after it.
 fn next_digit(chars: &[char], at: usize, verbose: bool) -> Option<(usize, u32)>
     requires { at ≤ length chars.now }
     ensures inside { IfSome result (λ r. (at < r.0) × (r.0 ≤ length chars.now)) }
@@ -213,7 +213,7 @@ fn next_digit(chars: &[char], at: usize, verbose: bool) -> Option<(usize, u32)>
     Some((here + 1, digit))
 }
 
-/// The number with one more digit, where it is below 2^32.
+/// The number with a digit appended, if it is below 2^32.
 fn with_digit(number: u32, digit: u32) -> Option<u32>
     ensures { SomeIff result (number * 10 + digit < 2 ^ 32) (number * 10 + digit) }
 {

@@ -1,4 +1,4 @@
-//! Escapes: what follows a backslash, and what it gives.
+//! Escapes: a backslash and what follows it.
 ghost use Rattle.std.specs.Prelude.{◌≡◌, ◌<◌, ◌≤◌, ℕ, false, drop, length, IfOk, IfErr};
 ghost use Rattle.std.specs.Prelude.{if◌then◌else◌};
 ghost use Rattle.regex_lite_syntax.specs.Text.{Text, Begins, the};
@@ -22,30 +22,30 @@ use crate::parse::read::char_at;
 use boundary::read_word_boundary;
 use hexadecimal::read_hexadecimal;
 
-/// What an escape gives.
+/// What an escape stands for.
 #[derive(Clone, Copy, PartialEq, Eq, Debug)]
 pub(crate) enum Primitive {
     /// This character.
     Char(char),
-    /// The set with this name, or all other characters.
+    /// The set with this name, or its complement.
     Set { set: NamedSet, negated: bool },
     Look(Look),
 }
 
-/// What the character after a backslash asks for.
+/// The meaning of the character after a backslash.
 #[derive(Clone, Copy)]
 enum Meaning {
-    /// This, and no more is read.
+    /// It stands for this, and no more is read.
     Gives(Primitive),
-    /// What stands at the start or the end of a word, perhaps with a name in braces.
+    /// A word boundary, perhaps with a name in braces.
     WordBoundary,
-    /// This number of hexadecimal digits, or some in braces.
+    /// This number of hexadecimal digits, or any number of them in braces.
     Hexadecimal(u32),
     Refused,
 }
 
-/// Reads an escape from after its backslash on, and returns the index after it. Where the pattern
-/// ends inside the number of a character, more of it completes the escape only if that can give a
+/// Reads an escape from after its backslash on, and returns the index after it. If the pattern ends
+/// inside the number of a character, more of it completes the escape only if that can be a
 /// character from `least` on.
 pub(crate) fn read_escape(
     chars: &[char],
@@ -83,7 +83,7 @@ pub(crate) fn read_escape(
     }
 }
 
-/// What the character after a backslash asks for.
+/// The meaning of the character after a backslash.
 fn meaning_of(c: char) -> Meaning
     ensures { escape_kind_of result ≡ escape_kind c }
 {
@@ -113,7 +113,7 @@ fn meaning_of(c: char) -> Meaning
     }
 }
 
-/// The characters of the set are asked for.
+/// The meaning of an escape for a set.
 fn members_of(set: NamedSet) -> Meaning
     ensures { escape_kind_of result ≡ gives (some_of (members (name_of set))) }
 {
@@ -123,14 +123,14 @@ fn members_of(set: NamedSet) -> Meaning
     })
 }
 
-/// All characters but those of the set are asked for.
+/// The meaning of an escape for the complement of a set.
 fn others_than(set: NamedSet) -> Meaning
     ensures { escape_kind_of result ≡ gives (some_of (complement (members (name_of set)))) }
 {
     Meaning::Gives(Primitive::Set { set, negated: true })
 }
 
-/// What a character asks for that has no meaning of its own after a backslash.
+/// The meaning of a character that has no special meaning after a backslash.
 fn other_meaning(c: char) -> Meaning
     ensures { escape_kind_of result ≡ (if is_escapable c then gives (one c) else refused) }
 {
@@ -141,7 +141,7 @@ fn other_meaning(c: char) -> Meaning
     }
 }
 
-/// Why a character is refused after a backslash.
+/// The fault of a character that isn't allowed after a backslash.
 fn refusal_of(c: char) -> SyntaxFault
     ensures { is_cut_short result ≡ false }
 {

@@ -1,4 +1,4 @@
-//! Where in a pattern its first fault stands.
+//! The place of the first fault in a pattern.
 ghost use Rattle.std.specs.Prelude.{◌≡◌, ◌≢◌, ◌<◌, ◌≤◌, chars as chars_of, take, length};
 ghost use Rattle.std.specs.Prelude.{IfOk, IfErr, IfSome, OnOk, MatchOption, MatchBool, Some, true};
 ghost use Rattle.std.specs.Prelude.{option_map};
@@ -17,32 +17,31 @@ use crate::flags::Flags;
 use crate::parse::{Parser, characters};
 use std::alloc::{AllocError, Global};
 
-/// Where a fault stands in a pattern, in characters.
+/// The place of a fault in a pattern, in characters.
 #[derive(Clone, Copy, PartialEq, Eq, Debug)]
 pub struct FaultPlace {
-    /// This number of characters stands before the part that can't be read.
+    /// The number of characters before the part that can't be parsed.
     pub start: usize,
-    /// The least number of the pattern's characters, past the start, with which no accepted pattern
-    /// begins. `None` where some accepted pattern begins with them all, so that there may be more
-    /// to come.
+    /// The length of the shortest prefix, longer than `start`, with which no accepted pattern
+    /// begins. `None` if some accepted pattern begins with the whole pattern, which may then be
+    /// incomplete.
     pub end: Option<usize>,
 }
 
-/// Where the parser stops reading a pattern.
+/// The place at which the parser stops.
 #[derive(Clone, Copy)]
 struct Stop {
-    /// This number of characters stands before the part that it can't read.
+    /// The number of characters before the part that it can't parse.
     start: usize,
     /// Whether the pattern ends inside that part, and more of it could complete the part.
     is_cut_short: bool,
 }
 
-/// Where the first fault of a pattern stands, or `None` if the grammar gives the pattern a tree.
+/// The place of the first fault in a pattern, or `None` if the grammar gives the pattern a tree.
 ///
 /// # Errors
 ///
-/// `Groups` where the pattern has more groups than can be numbered, and `Memory` if memory runs
-/// out.
+/// `Groups` if the pattern has more groups than can be numbered, and `Memory` if memory runs out.
 pub fn fault_at(alloc: Global, flags: Flags, pattern: &str) -> Result<Option<FaultPlace>, Error>
     ensures found { let pattern = chars_of pattern.now in IfOk result (λ found.
         MatchOption found (HasTree flags pattern)
@@ -57,7 +56,7 @@ pub fn fault_at(alloc: Global, flags: Flags, pattern: &str) -> Result<Option<Fau
     }
 }
 
-/// Where the parser stops reading the pattern with these characters, if it has a fault.
+/// The place at which the parser stops in the pattern with these characters, if it has a fault.
 fn first_stop(alloc: Global, flags: Flags, chars: &[char]) -> Result<Option<Stop>, Error>
     requires { AreCharacters chars.now }
     ensures found { IfOk result (λ found. MatchOption found (HasTree flags chars.now)
@@ -68,7 +67,7 @@ fn first_stop(alloc: Global, flags: Flags, chars: &[char]) -> Result<Option<Stop
     ensures unread { IfErr result (λ error. IsRefusedUnread chars.now (kind_of error)) }
 {
     let mut parser = Parser::new(alloc, flags);
-    // Where the groups begin that are open, the innermost last.
+    // The starts of the open groups, the innermost last.
     let mut starts = Vec::new(alloc);
     let mut at = 0;
     loop {
@@ -94,8 +93,8 @@ fn unclosed(start: Option<usize>) -> Option<Stop>
     })
 }
 
-/// What is told where the parser refuses to read on from the index with this error: it stops there
-/// for a syntax fault, and any other error is returned.
+/// The stop at the index for this error of the parser, if it is a syntax fault. Any other error is
+/// returned.
 fn stop_or_error(error: Error, start: usize) -> Result<Option<Stop>, Error>
     ensures stop { IfOk result (λ found. (fault : SyntaxFault) × (error ≡ syntax_error fault)
         × (found ≡ Some (record { start = start; is_cut_short = is_cut_short fault }))) }
@@ -110,8 +109,8 @@ fn stop_or_error(error: Error, start: usize) -> Result<Option<Stop>, Error>
     }
 }
 
-/// Brings the starts of the open groups up to date, after a step from the index after which this
-/// many are open.
+/// Updates the starts of the open groups after a step from this index, after which this many groups
+/// are open.
 fn track(starts: &mut Vec<usize>, count: usize, here: usize) -> Result<(), AllocError>
     ensures { OnOk result (Tracks starts.old.items starts.new.items count here) }
 {
@@ -143,8 +142,8 @@ fn place_of(alloc: Global, flags: Flags, chars: &[char], stop: Stop) -> Result<F
     })
 }
 
-/// The least number of characters, above `start`, that begin no accepted pattern, if all of them
-/// begin none.
+/// The length of the shortest prefix, longer than `start`, with which no accepted pattern begins,
+/// if none begins with the whole pattern.
 fn end_of_fault(alloc: Global, flags: Flags, chars: &[char], start: usize) -> Result<usize, Error>
     requires characters { AreCharacters chars.now }
     requires inside { start < length chars.now }
@@ -153,7 +152,7 @@ fn end_of_fault(alloc: Global, flags: Flags, chars: &[char], start: usize) -> Re
     ensures refused { IfErr result (λ error. IsRefusedUnread chars.now (kind_of error)) }
 {
     let mut low = start;
-    // Twice as many characters each time, so that all is read about twice.
+    // The number of characters doubles each time, so that the pattern is parsed about twice.
     let mut width: usize = 1;
     loop {
         let high = low.saturating_add(width).min(chars.len());
@@ -165,8 +164,9 @@ fn end_of_fault(alloc: Global, flags: Flags, chars: &[char], start: usize) -> Re
     }
 }
 
-/// A number of characters, above `low` and up to `high`, that begin no accepted pattern, though one
-/// character fewer do or are just `low`, if `high` of them begin none.
+/// By bisection between `low` and `high`: the length of a prefix with which no accepted pattern
+/// begins, while one begins with the prefix one character shorter or that has length `low`. No
+/// accepted pattern begins with the first `high` characters.
 fn least_refused(
     alloc: Global,
     flags: Flags,

@@ -23,7 +23,7 @@ pub(crate) fn is_white_space_char(c: char) -> bool
     )
 }
 
-/// Where the gap at the index ends. In verbose mode it is as long as it can be, else empty.
+/// The end of the gap at the index. In verbose mode it is as long as possible, otherwise empty.
 pub(crate) fn skip_gap(chars: &[char], at: usize, verbose: bool) -> usize
     requires { at ≤ length chars.now }
     ensures inside { (at ≤ result) × (result ≤ length chars.now) }

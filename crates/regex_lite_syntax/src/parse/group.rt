@@ -24,7 +24,7 @@ use std::mem;
 use std::rc::RcStr;
 
 impl Parser {
-    /// A `(` stands at the index: a group begins, or a directive stands there.
+    /// Reads the head of a group, or a directive, from the `(` at the index.
     pub(crate) fn read_group_head(&mut self, chars: &[char], at: usize) -> Result<usize, Error>
         requires inside { at < length chars.now }
         requires begins { drop at chars.now ≡ the "(" ∷ drop (at + 1) chars.now }
@@ -46,7 +46,8 @@ impl Parser {
         }
     }
 
-    /// A `(` stands at the index, and past the gap, from `first` on, what opens a name.
+    /// Reads the head of a named group, from the `(` at the index and the opening of a name, from
+    /// `first` on.
     fn read_named_head(
         &mut self,
         chars: &[char],
@@ -75,7 +76,8 @@ impl Parser {
         Ok(end)
     }
 
-    /// A `(` stands at the index, and past the gap, at `question`, a `?` that opens no name.
+    /// Reads a head with flags, from the `(` at the index and the `?` at `question`, which doesn't
+    /// open a name.
     fn read_flags_head(
         &mut self,
         chars: &[char],
@@ -108,7 +110,7 @@ impl Parser {
         Ok(end + 1)
     }
 
-    /// A `)` stands at the index.
+    /// Reads the end of a group, from the `)` at the index.
     pub(crate) fn read_group_end(&mut self, chars: &[char], at: usize) -> Result<usize, Error>
         requires inside { at < length chars.now }
         requires begins { drop at chars.now ≡ the ")" ∷ drop (at + 1) chars.now }
@@ -125,7 +127,7 @@ impl Parser {
         Ok(at + 1)
     }
 
-    /// A group with the next number begins.
+    /// Begins a group with the next number.
     fn open_capture(&mut self, name: Option<RcStr>) -> Result<(), Error>
         ensures ok { OnOk result
             (OpensCapture self.old self.new (option_map text_of_name name)) }
@@ -141,7 +143,7 @@ impl Parser {
         Ok(())
     }
 
-    /// A group begins, in which these flags hold.
+    /// Begins a group in which these flags hold.
     fn open(&mut self, kind: GroupKind, flags: Flags) -> Result<(), AllocError>
         ensures { OnOk result (OpensGroup self.old self.new (group_kind kind) flags) }
     {
@@ -167,7 +169,7 @@ impl Parser {
         }
     }
 
-    /// From here on these flags hold.
+    /// Sets the flags that hold from here on.
     fn set_flags(&mut self, flags: Flags)
         ensures { Directs self.old self.new flags }
     {

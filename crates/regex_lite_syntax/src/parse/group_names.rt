@@ -14,7 +14,7 @@ use std::rc::RcStr;
 #[derive(Drop)]
 pub(crate) struct GroupNames {
     in_order: Vec<RcStr>,
-    // The same names, shared. A pattern may have many, and each is looked for.
+    // The same names as a set. A pattern may have many names, and each is looked up.
     known: BTreeSet<RcStr>,
 }
 
@@ -42,7 +42,7 @@ impl GroupNames {
         }
     }
 
-    /// Adds a name after the others, unless it is there. Returns whether it is new.
+    /// Adds a name after the others, unless there is such a name. Returns whether it is new.
     pub(crate) fn insert(&mut self, name: &RcStr) -> Result<bool, AllocError>
         ensures { IfOk result (λ is_new. MatchBool is_new
             ((self.new ≡ self.old ++ text_of_name name.now ∷ [])

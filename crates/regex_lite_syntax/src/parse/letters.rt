@@ -19,8 +19,8 @@ use crate::error::{SyntaxFault, UnexpectedEof};
 use crate::flags::Flags;
 use crate::parse::read::{char_at, is_at};
 
-/// Reads a group's head from after its `?` on, up to the `:` or `)` that ends it. Returns the
-/// index of that and the flags as the head changes them.
+/// Reads a group's head from after its `?` on, up to the `:` or `)` that ends it. Returns its index
+/// and the flags as the head changes them.
 pub(crate) fn read_head(
     chars: &[char],
     at: usize,
@@ -33,7 +33,8 @@ pub(crate) fn read_head(
         (λ t. (rest : Text) × (new : Flags) × EndedFlags old t rest new) (drop at chars.now)) }
     ensures cut_short { IfErr result (λ fault.
         EndsInOpening (the "?" ∷ drop at chars.now) → IsTrue (is_cut_short fault)) }
-    // What opens a name may go on where the pattern ends inside it, and else flags do, up to a `:`.
+    // If the pattern ends inside the opening of a name, that may continue; otherwise flags may, up
+    // to a `:`.
     ensures completes { let t = drop at chars.now in IfErr result (λ fault.
         IsTrue (is_cut_short fault) → EndsInOpening (the "?" ∷ t) ⊎ Completable
         (λ t rest. (new : Flags) × EndedFlags old t (the ":" ∷ rest) new) t) }
@@ -44,8 +45,8 @@ pub(crate) fn read_head(
     }
 }
 
-/// The fault of a head that begins with no flags. Where a `P` ends the pattern, it may be part of
-/// what opens a name.
+/// The fault of a head that doesn't begin with flags. If a `P` ends the pattern, it may be part of
+/// the opening of a name.
 fn other_head(chars: &[char], at: usize) -> Option<SyntaxFault>
     requires { at ≤ length chars.now }
     ensures refused { IfSome result (λ fault. (old : Flags) → NoReading fault
@@ -66,8 +67,8 @@ fn other_head(chars: &[char], at: usize) -> Option<SyntaxFault>
     }
 }
 
-/// Reads flags up to the `:` or `)` that ends them. Returns the index of that and the flags as
-/// these change them.
+/// Reads flags up to the `:` or `)` that ends them. Returns its index and the flags as these change
+/// them.
 fn read_flags(chars: &[char], at: usize, old: Flags) -> Result<(usize, Flags), SyntaxFault>
     requires { at ≤ length chars.now }
     ensures inside { IfOk result (λ r. (at ≤ r.0) × (r.0 < length chars.now)) }
@@ -96,8 +97,8 @@ fn read_flags(chars: &[char], at: usize, old: Flags) -> Result<(usize, Flags), S
     Ok((end, new))
 }
 
-/// Whether the pattern ends at the index, where a flag letter would have to stand, and none is left
-/// that doesn't stand before.
+/// Whether the pattern ends at the index, where a flag letter has to follow, and all flag letters
+/// already occur before.
 fn is_out_of_letters(chars: &[char], at: usize, before: &[char]) -> bool
     requires { at ≤ length chars.now }
     ensures none_left { IsTrue result → (drop at chars.now ≡ [])
@@ -108,7 +109,7 @@ fn is_out_of_letters(chars: &[char], at: usize, before: &[char]) -> bool
     at == chars.len() && has_every_letter(before)
 }
 
-/// Whether all flag letters stand among these.
+/// Whether all flag letters are among these.
 fn has_every_letter(letters: &[char]) -> bool
     ensures { result ≡ list_all (is_one_of letters.now) (codes "imsURxu") }
 {
@@ -117,8 +118,8 @@ fn has_every_letter(letters: &[char]) -> bool
         .all(|letter| letters.contains(letter))
 }
 
-/// Reads flag letters up to the `-`, `:` or `)` that ends them, where others stand before. Answers
-/// the index of that and the flags as these letters set or clear them.
+/// Reads flag letters up to the `-`, `:` or `)` that ends them; other letters may come before.
+/// Returns its index and the flags as these letters set or clear them.
 fn read_letters(
     chars: &[char],
     at: usize,
@@ -135,7 +136,7 @@ fn read_letters(
     ensures refused { IfErr result (λ fault. NoReading fault
         (λ t. (letters : Text) × (rest : Text) × LetterRun before.now letters t rest)
         (drop at chars.now)) }
-    // Where the pattern is cut short, no more than such letters is left of it.
+    // If the pattern is cut short, only such letters are left of it.
     ensures at_end { let t = drop at chars.now in IfErr result (λ fault.
         IsTrue (is_cut_short fault)
         → AllPass is_flag_letter t × IsTrue (all_differ (before.now ++ t))) }

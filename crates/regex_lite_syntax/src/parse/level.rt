@@ -11,10 +11,10 @@ use std::alloc::{AllocError, Global};
 use std::mem;
 use std::rc::RcStr;
 
-/// What a group makes of its alternatives.
+/// The kind of a group.
 #[derive(Drop)]
 pub(crate) enum GroupKind {
-    /// They stand for themselves.
+    /// The group doesn't capture: it stands for its alternatives.
     NonCapturing,
     /// The group has this index, and this name if it has one.
     Capturing { index: u32, name: Option<RcStr> },
@@ -37,11 +37,11 @@ impl GroupKind {
 #[derive(Drop)]
 pub(crate) struct OpenGroup {
     pub(crate) kind: GroupKind,
-    /// What had been read outside it, where it began.
+    /// What had been read around the group when it began.
     pub(crate) outer: Level,
 }
 
-/// The branches of a group that have ended, and the items of the one under way.
+/// The branches of a group that have ended, and the items of the current branch.
 #[derive(Drop)]
 pub(crate) struct Level {
     /// The flags that hold at the point that has been reached in the group.
@@ -51,7 +51,7 @@ pub(crate) struct Level {
 }
 
 impl Level {
-    /// A group of which nothing has been read.
+    /// The level of a group of which nothing has been read.
     pub(crate) fn new(alloc: Global, flags: Flags) -> Level
         ensures flags { result.flags ≡ flags }
         ensures branches { result.branches.items ≡ [] }
@@ -64,7 +64,7 @@ impl Level {
         }
     }
 
-    /// The branch under way ends, and the next begins.
+    /// Ends the current branch, and begins the next.
     pub(crate) fn end_branch(&mut self, alloc: Global) -> Result<(), AllocError>
         ensures flags { self.new.flags ≡ self.old.flags }
         ensures branches { let ended = sequence_of (map tree_of self.old.items.items) in
@@ -77,7 +77,7 @@ impl Level {
         Ok(())
     }
 
-    /// The alternatives of the group, where it ends.
+    /// Ends the group: returns its alternatives.
     pub(crate) fn into_tree(self) -> Result<Hir, AllocError>
         ensures { IfOk result (λ hir. tree_of hir ≡ choice_of
             (map tree_of self.branches.items ++ sequence_of (map tree_of self.items.items) ∷ [])) }

@@ -15,7 +15,7 @@ use std::alloc::{AllocError, Global};
 use std::rc::RcStr;
 use unicode::properties::{GeneralCategory, is_alphabetic};
 
-/// Where a name begins: the index after `?P<` or `?<`, if one of them stands there.
+/// The start of a name: the index after `?P<` or `?<`, if one of them is at the index.
 pub(crate) fn skip_name_opening(chars: &[char], at: usize) -> Option<usize>
     requires { at ≤ length chars.now }
     ensures inside { IfSome result (λ start. (at < start) × (start ≤ length chars.now)) }
@@ -43,7 +43,7 @@ pub(crate) fn read_name(chars: &[char], at: usize) -> Result<usize, SyntaxFault>
         (slice_range chars.now at (end - 1))) }
     ensures refused { IfErr result (λ fault. NoReading fault
         (λ t. (rest : Text) × (name : Text) × NameWritten t rest name) (drop at chars.now)) }
-    // Whatever names there are before, more of the pattern makes this a new one.
+    // Whatever names came before, more of the pattern can make this a new name.
     ensures completes { IfErr result (λ fault. (names : List Text) → CanComplete fault
         (λ t rest. (name : Text) × NameWritten t rest name
         × (NamesDiffer names → NamesDiffer (names ++ name ∷ []))) (drop at chars.now)) }
@@ -67,8 +67,8 @@ pub(crate) fn read_name(chars: &[char], at: usize) -> Result<usize, SyntaxFault>
     Err(SyntaxFault::CutShort(UnexpectedEof::GroupNameEnd))
 }
 
-/// The fault of what stands at the index in a name's place and begins none: `(?<=` and `(?<!` open
-/// a look-around, but nothing after `(?P<` does.
+/// The fault of a missing name at the index: `(?<=` and `(?<!` open a look-around, but nothing
+/// after `(?P<` does.
 fn fault_of_start(chars: &[char], at: usize) -> SyntaxFault
     requires { at ≤ length chars.now }
     ensures { is_cut_short result ≡ false }
@@ -81,14 +81,14 @@ fn fault_of_start(chars: &[char], at: usize) -> SyntaxFault
     }
 }
 
-/// Whether the character may stand first in a name.
+/// Whether the character may begin a name.
 fn may_begin_name(c: char) -> bool
     ensures { result ≡ begins_name c }
 {
     c == '_' || is_alphabetic(c)
 }
 
-/// Whether the character may stand further on in a name.
+/// Whether the character may continue a name.
 fn may_continue_name(c: char) -> bool
     ensures { result ≡ continues_name c }
 {

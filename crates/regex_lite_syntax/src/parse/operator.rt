@@ -18,7 +18,7 @@ use crate::parse::read::is_at;
 use std::alloc::AllocError;
 
 impl Parser {
-    /// An operator with these times, of one character, stands at the index.
+    /// Reads an operator of one character, with these times, from the index on.
     pub(crate) fn read_operator(
         &mut self,
         chars: &[char],
@@ -44,7 +44,7 @@ impl Parser {
         Ok(if lazy { at + 2 } else { at + 1 })
     }
 
-    /// A `{` stands at the index.
+    /// Reads a counted operator, from the `{` at the index.
     pub(crate) fn read_counted_operator(
         &mut self,
         chars: &[char],

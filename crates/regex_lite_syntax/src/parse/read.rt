@@ -12,7 +12,7 @@ pub(crate) fn char_at(chars: &[char], at: usize) -> Option<char>
     chars.get(at).copied()
 }
 
-/// Whether this character stands at the index.
+/// Whether this character is at the index.
 pub(crate) fn is_at(chars: &[char], at: usize, c: char) -> bool
     requires { at ≤ length chars.now }
     ensures there { IsTrue result →

@@ -1,4 +1,4 @@
-//! The groups of all matches of a haystack, match after match.
+//! An iterator over the groups of all matches in a haystack.
 ghost use Rattle.std.specs.Prelude.{◌≡◌, None, IfOk, IfErr, IsCharBoundary, unwrap_or};
 ghost use Rattle.regex_lite_syntax.specs.Errors.{out_of_memory};
 ghost use Rattle.regex_lite.specs.Ahead.{after, ahead_of, whole};
@@ -13,7 +13,7 @@ use std::iter::FusedIterator;
 use std::marker::Model;
 
 impl Regex {
-    /// The groups of all matches that [`Regex::find_iter`] gives.
+    /// The groups of each match of [`Regex::find_iter`].
     ///
     /// ```
     /// let regex = Regex::new(alloc, "([a-z])([0-9])")?;
@@ -29,8 +29,8 @@ impl Regex {
     ///
     /// # Errors
     ///
-    /// `Memory` if memory runs out. Each item takes memory of its own. One that is refused is the
-    /// last.
+    /// `Memory` if memory runs out. Each item needs memory of its own, and may be an error too,
+    /// which is then the last item.
     pub fn captures_iter<'r, 'h>(
         &'r self,
         haystack: &'h str,
@@ -42,13 +42,13 @@ impl Regex {
         self.captures_iter_after(haystack, None)
     }
 
-    /// The groups of all matches that [`Regex::find_iter_after`] gives.
+    /// The groups of each match of [`Regex::find_iter_after`].
     ///
     /// Condition: the offset is on a character boundary of the haystack.
     ///
     /// # Errors
     ///
-    /// `Memory` if memory runs out. An item may return it too, and is then the last.
+    /// `Memory` if memory runs out. An item may be this error too, which is then the last item.
     pub fn captures_iter_after<'r, 'h>(
         &'r self,
         haystack: &'h str,
@@ -66,11 +66,10 @@ impl Regex {
     }
 }
 
-/// The groups of all matches of a haystack, match after match: an iterator that
-/// [`Regex::captures_iter`] makes.
+/// An iterator over the groups of all matches in a haystack: [`Regex::captures_iter`] returns it.
 ///
-/// After the last match, and after an error, it always gives `None`. The groups borrow the haystack
-/// alone, and outlive the iterator and the regex.
+/// After the last match, and after an error, it always returns `None`. The groups borrow only the
+/// haystack, so they can outlive the iterator and the regex.
 #[derive(Drop)]
 pub struct CaptureMatches<'r, 'h> {
     scan: GroupScan<'h, Searcher<'r>>,
@@ -105,7 +104,7 @@ impl<'r, 'h> Iterator for CaptureMatches<'r, 'h> {
 
 impl<'r, 'h> FusedIterator for CaptureMatches<'r, 'h> {}
 
-/// Writes the regex, and where the iterator stands.
+/// Writes the regex and the iterator's position.
 impl<'r, 'h> fmt::Debug for CaptureMatches<'r, 'h> {
     fn fmt<W: fmt::Write>(&self, f: &mut fmt::Formatter<W>) -> fmt::Result {
         self.scan.fmt_as("CaptureMatches", f)

@@ -5,8 +5,8 @@ ghost use Rattle.std.specs.Prelude.{◌≡◌, ◌↔◌, IsTrue, Some, None, Is
 use crate::string::matches::Match;
 use std::fmt;
 
-/// A haystack, where the last match of it ended, whether that was empty, and how many may still
-/// come.
+/// A haystack, the end of the last match in it, whether that match was empty, and how many more
+/// matches the iterator may return.
 #[derive(Clone, Copy)]
 pub(crate) struct Cursor<'h> {
     pub haystack: &'h str,
@@ -20,7 +20,7 @@ impl<'h> Cursor<'h> {
     ghost use Rattle.regex_lite.specs.MatchList.{one_less};
     ghost use Rattle.regex_lite.specs.MatchViews.{haystack_of_match, span_of_match};
 
-    /// Where all matches are still to come, or as many of them as the limit says.
+    /// The position before the first match. With a limit, at most that many matches follow.
     pub fn start(haystack: &'h str, limit: Option<usize>) -> Cursor<'h>
         ensures haystack { result.haystack.now ≡ haystack.now }
         ensures ended { result.ended ≡ None }
@@ -35,8 +35,8 @@ impl<'h> Cursor<'h> {
         }
     }
 
-    /// After a match that ended at this offset, or at the start where there was none. All that
-    /// follow may come.
+    /// The position after a match that ended at this offset or, if there was none, at the start.
+    /// The number of matches that follow isn't limited.
     pub fn after(haystack: &'h str, ended: Option<usize>) -> Cursor<'h>
         requires { IsCharBoundary haystack.now (unwrap_or ended 0) }
         ensures haystack { result.haystack.now ≡ haystack.now }
@@ -52,14 +52,14 @@ impl<'h> Cursor<'h> {
         }
     }
 
-    /// Whether no more may come.
+    /// Whether the limit is reached.
     pub fn is_over(self) -> bool
         ensures { IsTrue result ↔ (self.entry.limit ≡ Some 0) }
     {
         self.limit == Some(0)
     }
 
-    /// After this match.
+    /// The position after this match.
     pub fn pass(self, found: &Match<'h>) -> Cursor<'h>
         requires { haystack_of_match found.now ≡ self.haystack.now }
         ensures haystack { result.haystack.now ≡ self.entry.haystack.now }
@@ -76,7 +76,7 @@ impl<'h> Cursor<'h> {
         }
     }
 
-    /// At the same offset, with nothing to come.
+    /// The same position, with no more matches.
     pub fn at_end(self) -> Cursor<'h>
         ensures haystack { result.haystack.now ≡ self.entry.haystack.now }
         ensures ended { result.ended ≡ self.entry.ended }
@@ -91,7 +91,7 @@ impl<'h> Cursor<'h> {
     }
 }
 
-/// Writes the haystack, where the last match ended and how many may still come.
+/// Writes the haystack, the end of the last match and how many more may follow.
 impl<'h> fmt::Debug for Cursor<'h> {
     fn fmt<W: fmt::Write>(&self, f: &mut fmt::Formatter<W>) -> fmt::Result {
         f.debug_struct("Cursor")

@@ -1,4 +1,4 @@
-//! The matches of a haystack, one after another.
+//! An iterator over the matches in a haystack.
 ghost use Rattle.std.specs.Prelude.{◌≡◌, None, IfOk, IfErr, IsCharBoundary, unwrap_or};
 ghost use Rattle.regex_lite_syntax.specs.Errors.{out_of_memory};
 ghost use Rattle.regex_lite.specs.Ahead.{after, ahead_of, whole};
@@ -16,9 +16,9 @@ use std::marker::Model;
 impl Regex {
     /// All matches, from left to right.
     ///
-    /// The first is that of [`Regex::find`]. The next is looked for where the last one ended;
-    /// where that would be an empty match at that very place, it is looked for one character
-    /// further on. So no two matches overlap.
+    /// The first is the match of [`Regex::find`]. The search for the next starts where the last one
+    /// ended; if it finds an empty match right there, it starts one character later instead. So no
+    /// two matches overlap.
     ///
     /// ```
     /// let regex = Regex::new(alloc, "a*")?;
@@ -40,8 +40,8 @@ impl Regex {
         Matches::new(self, haystack, None)
     }
 
-    /// The matches that [`Regex::find_iter`] gives after one that ended at this offset; with
-    /// `None`, all of them. So a list of matches can be resumed.
+    /// The matches of [`Regex::find_iter`] that follow one that ended at this offset; with `None`,
+    /// all of them. So an iteration can be resumed.
     ///
     /// Condition: the offset is on a character boundary of the haystack.
     ///
@@ -74,10 +74,10 @@ impl Regex {
     }
 }
 
-/// The matches of a haystack, one after another: an iterator that [`Regex::find_iter`] makes.
+/// An iterator over the matches in a haystack: [`Regex::find_iter`] returns it.
 ///
-/// After the last match it always gives `None`. The matches borrow the haystack alone, and outlive
-/// the iterator and the regex.
+/// After the last match it always returns `None`. The matches borrow only the haystack, so they can
+/// outlive the iterator and the regex.
 #[derive(Drop)]
 pub struct Matches<'r, 'h> {
     scan: Scan<'h, Searcher<'r>>,
@@ -93,7 +93,7 @@ impl<'r, 'h> Model for Matches<'r, 'h> {
 }
 
 impl<'r, 'h> Matches<'r, 'h> {
-    /// The matches that the limit allows, where there is one.
+    /// The matches in the haystack, up to the limit if there is one.
     pub(crate) fn new(
         regex: &'r Regex,
         haystack: &'h str,
@@ -109,7 +109,7 @@ impl<'r, 'h> Matches<'r, 'h> {
         })
     }
 
-    /// Where it stands.
+    /// The iterator's position.
     pub(super) fn cursor(&self) -> Cursor<'h>
         ensures haystack { result.haystack.now ≡ self.now.haystack }
         ensures ended { result.ended ≡ self.now.ended }
@@ -136,7 +136,7 @@ impl<'r, 'h> Iterator for Matches<'r, 'h> {
 
 impl<'r, 'h> FusedIterator for Matches<'r, 'h> {}
 
-/// Writes the regex, and where the iterator stands.
+/// Writes the regex and the iterator's position.
 impl<'r, 'h> fmt::Debug for Matches<'r, 'h> {
     fn fmt<W: fmt::Write>(&self, f: &mut fmt::Formatter<W>) -> fmt::Result {
         self.scan.fmt_as("Matches", f)

@@ -1,4 +1,4 @@
-//! What finds matches, search after search, and their groups.
+//! What the iterators need of a searcher: matches and their groups.
 ghost use Rattle.std.specs.Prelude.{◌≡◌, List, Option, ℕ, IfOk, IfErr, IfSome, chars, length};
 ghost use Rattle.regex_lite_syntax.specs.Errors.{out_of_memory};
 ghost use Rattle.regex_lite_syntax.specs.Text.{Text};
@@ -14,30 +14,30 @@ use crate::string::captures::Captures;
 use crate::string::matches::Match;
 use regex_lite_syntax::Error;
 
-/// One pattern, or several, with memory for their searches.
+/// A searcher for one pattern or for several, with its memory.
 pub(crate) trait Finds {
-    /// The number of a pattern, where there are several.
+    /// The number of a pattern, if there are several.
     type Number: Drop;
 
-    /// What is searched for.
+    /// What is searched for: an expression or a list of them.
     ghost Sought: { Type 0 };
 
-    /// What a search returns if there is a match.
+    /// The answer of a search that finds a match.
     ghost Answer: { Type 0 };
 
-    /// What an answer says was found.
+    /// The match of an answer.
     ghost found_of: { Answer → Found };
 
-    /// The number of the pattern.
+    /// The pattern's number in an answer.
     ghost number_of: { Answer → Self.Number };
 
-    /// It is the answer of a search from a position on.
+    /// The answer is that of a search from this position on.
     ghost IsAnswer: { Sought → Text → (s : ℕ) → Option Answer → Type 0 };
 
-    /// These are the groups of what was found in a haystack.
+    /// The groups are those of the answer in this haystack.
     ghost AreGroupsFound: { Sought → (haystack : List ℕ) → Answer → Groups → Type 0 };
 
-    /// This many slots are kept for the groups.
+    /// A search keeps this many slots for the groups.
     ghost AreSlotsForGroups: { Sought → (slots : ℕ) → Type 0 };
 
     /// The memory of these groups can be reused for others.
@@ -46,11 +46,11 @@ pub(crate) trait Finds {
     /// What is searched for.
     ghost sought: { Self → Sought };
 
-    /// The slots of the last match.
+    /// The slots of the last match that was found.
     ghost slots: { Self → List (Option ℕ) };
 
-    /// The first match that starts at this offset or later, with the number of its pattern. Its
-    /// slots are kept.
+    /// The first match that starts at this offset or later, with the number of its pattern. The
+    /// searcher keeps its slots.
     fn find_at(&mut self, haystack: &str, start: usize) -> Option<(Self::Number, (usize, usize))>
         requires { CanStartAt haystack.now start }
         ensures found { TellsOfAnswer (IsAnswer (sought self.old) (chars haystack.now))
@@ -62,7 +62,7 @@ pub(crate) trait Finds {
         ensures slots { length (slots self.new) ≡ length (slots self.old) };
 
     /// The groups of the last match, which was found in this haystack. They may reuse the memory of
-    /// the spare ones, if there are any.
+    /// the spare groups, if there are any.
     fn captures<'h>(
         &self,
         haystack: &'h str,

@@ -1,4 +1,4 @@
-//! Goes over a haystack from match to match, with the groups of each.
+//! A scan over the matches in a haystack, with their groups.
 //!
 //! A search for the next match returns its span alone, and its slots stay in the memory of the
 //! searcher. Groups are made of them only for a match that is wanted. So a match that is skipped is
@@ -14,7 +14,7 @@ use regex_lite_syntax::Error;
 use std::fmt;
 use std::marker::Model;
 
-/// A scan whose slots hold all groups of its matches, and groups that were given back to it.
+/// A scan that keeps the slots of all groups of its matches, and groups whose memory it can reuse.
 #[derive(Drop)]
 pub(crate) struct GroupScan<'h, F: Finds + Drop> {
     scan: Scan<'h, F>,
@@ -35,9 +35,9 @@ impl<'h, F: Finds + Drop> Model for GroupScan<'h, F> {
 }
 
 impl<'h, F: Finds + Drop> GroupScan<'h, F> {
-    /// At the start of the haystack, with as many matches to come as the limit says.
+    /// A scan from the start of the haystack. With a limit, it returns at most that many matches.
     ///
-    /// Condition: what finds the matches keeps the slots of all groups.
+    /// Condition: the finder keeps the slots of all groups.
     pub fn new(finder: F, haystack: &'h str, limit: Option<usize>) -> GroupScan<'h, F>
         requires { F.AreSlotsForGroups (F.sought finder) (length (F.slots finder)) }
         ensures finder { result.finder ≡ finder }
@@ -51,10 +51,9 @@ impl<'h, F: Finds + Drop> GroupScan<'h, F> {
         }
     }
 
-    /// After a match that ended at this offset, with all that follow still to come.
+    /// A scan that continues after a match that ended at this offset, without a limit.
     ///
-    /// Conditions: what finds the matches keeps the slots of all groups. The offset is on a
-    /// character boundary.
+    /// Conditions: the finder keeps the slots of all groups. The offset is on a character boundary.
     pub fn after(finder: F, haystack: &'h str, ended: Option<usize>) -> GroupScan<'h, F>
         requires room { F.AreSlotsForGroups (F.sought finder) (length (F.slots finder)) }
         requires boundary { IsCharBoundary haystack.now (unwrap_or ended 0) }
@@ -69,8 +68,8 @@ impl<'h, F: Finds + Drop> GroupScan<'h, F> {
         }
     }
 
-    /// The groups of the next match with the number of its pattern, if one may come. After a
-    /// refusal none comes.
+    /// The groups of the next match, if there is one, with the number of its pattern. After an
+    /// error there is none.
     pub fn next(&mut self) -> Option<Result<(F::Number, Captures<'h>), Error>>
         ensures steps { GivesNextGroups F.sought F.found_of F.number_of F.IsAnswer F.AreGroupsFound
             self.old result self.new }
@@ -88,7 +87,7 @@ impl<'h, F: Finds + Drop> GroupScan<'h, F> {
         }
     }
 
-    /// Takes back groups that it gave, so that the next ones reuse their memory.
+    /// Takes back groups that it returned, so that the next ones reuse their memory.
     pub fn take_back(&mut self, caps: Captures<'h>)
         requires { F.CanReuse (F.sought self.old.finder) caps }
         ensures { self.new ≡ self.old }
@@ -98,8 +97,8 @@ impl<'h, F: Finds + Drop> GroupScan<'h, F> {
 }
 
 impl<'h, F: Finds + fmt::Debug + Drop> GroupScan<'h, F> {
-    /// Writes its parts as those of an iterator with this name. It has no clause, as that of `Scan`
-    /// has none.
+    /// Writes its parts as those of an iterator with this name. It has no clause, for the reason
+    /// given at `Scan::fmt_as`.
     pub fn fmt_as<W: fmt::Write>(&self, name: &str, f: &mut fmt::Formatter<W>) -> fmt::Result {
         self.scan.fmt_as(name, f)
     }

@@ -1,4 +1,4 @@
-//! Goes over a haystack from match to match.
+//! A scan over the matches in a haystack.
 ghost use Rattle.std.specs.Prelude.{◌≡◌, ◌<◌, Some, None, IfSome};
 ghost use Rattle.std.specs.Prelude.{IsCharBoundary, chars, length, unwrap_or};
 ghost use Rattle.regex_lite_engine.specs.Search.Offsets.{search_start};
@@ -16,7 +16,7 @@ use crate::string::matches::Match;
 use std::fmt;
 use std::marker::Model;
 
-/// What finds matches, and where it stands in the haystack that it goes over.
+/// A finder of matches, and its position in the haystack.
 #[derive(Drop)]
 pub(crate) struct Scan<'h, F: Finds + Drop> {
     finder: F,
@@ -36,14 +36,13 @@ impl<'h, F: Finds + Drop> Model for Scan<'h, F> {
       ended = scan.cursor.ended;
     } };
 
-    // Needed only as long as more may come.
+    // Needed only until the limit is reached.
     ghost invariant = { λ scan. scan.cursor.limit ≢ Some 0 → IsAfterAnswer F.found_of
         (F.IsAnswer (F.sought scan.finder) (chars scan.cursor.haystack.now)) scan.cursor };
 }
 
 impl<'h, F: Finds + Drop> Scan<'h, F> {
-    /// At the start of the haystack. All matches are still to come, or as many of them as the limit
-    /// says.
+    /// A scan from the start of the haystack. With a limit, it returns at most that many matches.
     pub fn new(finder: F, haystack: &'h str, limit: Option<usize>) -> Scan<'h, F>
         ensures finder { result.finder ≡ finder }
         ensures haystack { result.haystack ≡ haystack.now }
@@ -56,7 +55,7 @@ impl<'h, F: Finds + Drop> Scan<'h, F> {
         }
     }
 
-    /// After a match that ended at this offset. All that follow are still to come.
+    /// A scan that continues after a match that ended at this offset, without a limit.
     pub fn after(finder: F, haystack: &'h str, ended: Option<usize>) -> Scan<'h, F>
         requires { IsCharBoundary haystack.now (unwrap_or ended 0) }
         ensures finder { result.finder ≡ finder }
@@ -70,14 +69,14 @@ impl<'h, F: Finds + Drop> Scan<'h, F> {
         }
     }
 
-    /// What finds the matches.
+    /// The finder of the matches.
     pub fn finder(&self) -> &F
         ensures { result.now ≡ self.now.finder }
     {
         &self.finder
     }
 
-    /// Where it stands.
+    /// The scan's position.
     pub fn cursor(&self) -> Cursor<'h>
         ensures haystack { result.haystack.now ≡ self.now.haystack }
         ensures ended { result.ended ≡ self.now.ended }
@@ -85,7 +84,7 @@ impl<'h, F: Finds + Drop> Scan<'h, F> {
         self.cursor
     }
 
-    /// The next match with the number of its pattern, if one may come. Its slots are kept.
+    /// The next match, if there is one, with the number of its pattern. The finder keeps its slots.
     pub fn next(&mut self) -> Option<(F::Number, Match<'h>)>
         ensures steps { GivesNext F.sought F.slots F.found_of F.number_of F.IsAnswer
             self.old result self.new }
@@ -110,7 +109,7 @@ impl<'h, F: Finds + Drop> Scan<'h, F> {
         }
     }
 
-    /// Back to where it stood before, with nothing to come.
+    /// Returns to an earlier position, with no more matches.
     pub fn stop_at(&mut self, cursor: Cursor<'h>)
         requires { cursor.haystack.now ≡ self.old.haystack }
         ensures finder { self.new.finder ≡ self.old.finder }
@@ -151,7 +150,7 @@ fn next_match<'h, F: Finds>(finder: &mut F, cursor: Cursor<'h>) -> Option<(F::Nu
     let Some(end) = cursor.ended else {
         return first_match(finder, cursor.haystack);
     };
-    // From the end of an empty match on, that match would be found again.
+    // A search from the end of an empty match would find that match again.
     if cursor.was_empty {
         match_after_empty(finder, cursor.haystack, end)
     } else {
@@ -192,14 +191,14 @@ fn match_after<'h, F: Finds>(
     ensures slots { length (F.slots finder.new) ≡ length (F.slots finder.old) }
 {
     let found = match_at(finder, haystack, end)?;
-    // A match from here on that ends no later is the empty one that stands here.
+    // A match from here on that ends no later is empty and lies here.
     if found.1.end() > end {
         return Some(found);
     }
     match_after_empty(finder, haystack, end)
 }
 
-/// The match after the empty one at this offset, which is the first from the next character on.
+/// The match after an empty one at this offset: the first from the next character on.
 fn match_after_empty<'h, F: Finds>(
     finder: &mut F,
     haystack: &'h str,
@@ -221,7 +220,7 @@ fn match_after_empty<'h, F: Finds>(
     match_at(finder, haystack, next_offset(haystack, at))
 }
 
-/// The first match that starts at this offset or later. Its slots are kept.
+/// The first match that starts at this offset or later. The finder keeps its slots.
 pub(crate) fn match_at<'h, F: Finds>(
     finder: &mut F,
     haystack: &'h str,
@@ -242,8 +241,8 @@ pub(crate) fn match_at<'h, F: Finds>(
     Some((number, Match::new(haystack, from, to)))
 }
 
-/// Where the character ends that stands at this offset. At the haystack's end, where none stands,
-/// it is an offset above the length, from which nothing is found.
+/// The end of the character at this offset. At the haystack's end it is an offset above the length,
+/// from which no search finds anything.
 pub(crate) fn next_offset(haystack: &str, at: usize) -> usize
     requires { IsCharBoundary haystack.now at }
     ensures { IsNextOffset haystack.now at result }

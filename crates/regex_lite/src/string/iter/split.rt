@@ -11,7 +11,7 @@ use std::iter::FusedIterator;
 use std::marker::Model;
 
 impl Regex {
-    /// What stands between the matches of [`Regex::find_iter`], from left to right.
+    /// The pieces of the haystack between the matches of [`Regex::find_iter`], from left to right.
     ///
     /// There is always one piece more than there are matches: a match at the start or at the end of
     /// the haystack has an empty piece before or after it.
@@ -40,7 +40,7 @@ impl Regex {
     }
 
     /// The pieces of [`Regex::split`] if there are at most `limit`; otherwise the first `limit` - 1
-    /// of them, and then the rest of the haystack as it is. A limit of 0 gives none.
+    /// of them, and then the rest of the haystack. With a limit of 0 there are none.
     ///
     /// ```
     /// let regex = Regex::new(alloc, " ")?;
@@ -78,10 +78,10 @@ impl Regex {
     }
 }
 
-/// The pieces of a haystack between its matches: an iterator that [`Regex::split`] makes.
+/// An iterator over the pieces of a haystack between its matches: [`Regex::split`] returns it.
 ///
-/// After the last piece it always gives `None`. The pieces borrow the haystack alone, and outlive
-/// the iterator and the regex.
+/// After the last piece it always returns `None`. The pieces borrow only the haystack, so they can
+/// outlive the iterator and the regex.
 #[derive(Debug, Drop)]
 pub struct Split<'r, 'h> {
     matches: Matches<'r, 'h>,
@@ -126,10 +126,10 @@ impl<'r, 'h> Iterator for Split<'r, 'h> {
 
 impl<'r, 'h> FusedIterator for Split<'r, 'h> {}
 
-/// At most a given number of pieces of a haystack: the iterator that [`Regex::splitn`] returns.
+/// An iterator over a limited number of pieces of a haystack: [`Regex::splitn`] returns it.
 ///
-/// After the last piece it always gives `None`. The pieces borrow the haystack alone, and outlive
-/// the iterator and the regex.
+/// After the last piece it always returns `None`. The pieces borrow only the haystack, so they can
+/// outlive the iterator and the regex.
 #[derive(Debug, Drop)]
 pub struct SplitN<'r, 'h> {
     pieces: Pieces<'r, 'h>,
@@ -145,12 +145,12 @@ impl<'r, 'h> Model for SplitN<'r, 'h> {
     ghost view = { λ it. cutting_of it.pieces };
 }
 
-/// What is left of at most a given number of pieces.
+/// The pieces that a [`SplitN`] has left.
 #[derive(Debug, Drop)]
 enum Pieces<'r, 'h> {
-    /// Those between matches.
+    /// The pieces between matches.
     Cut(Split<'r, 'h>),
-    /// The haystack as it is, or nothing. No match is looked for, so this takes no memory.
+    /// The whole haystack as the only piece, or none. It needs no search, so no memory.
     Whole(Option<&'h str>),
 }
 

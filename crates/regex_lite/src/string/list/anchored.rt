@@ -1,4 +1,4 @@
-//! Anchored searches for several patterns: for the match that starts where the search does.
+//! Anchored searches for several patterns: they find a match that starts where the search starts.
 ghost use Rattle.std.specs.Prelude.{◌≡◌, ◌↔◌, None, IfOk, IfErr, IfSome, IsTrue, length};
 ghost use Rattle.regex_lite_syntax.specs.Errors.{out_of_memory};
 ghost use Rattle.regex_lite.specs.Anchored.{TellsAnswerAtOfList, TellsGroupsAtOfList};
@@ -16,10 +16,10 @@ use crate::string::slots::whole_slots;
 use regex_lite_syntax::Error;
 
 impl RegexList {
-    /// Whether a match of one of the patterns starts at this offset.
+    /// Whether one of the patterns matches at this offset.
     ///
-    /// Looks see the whole haystack: `^` doesn't match at the start of the search, only at that of
-    /// the haystack. At a start above the length no match starts.
+    /// Looks see the whole haystack: `^` matches at the haystack's start, not at the start of the
+    /// search. If the start is above the haystack's length, the result is `false`.
     ///
     /// Condition: the start is above the haystack's length or on a character boundary.
     ///
@@ -39,13 +39,13 @@ impl RegexList {
 
     /// The match that starts at this offset, with the number of its pattern.
     ///
-    /// If several patterns match from this start, the one with the lowest number is returned, with
-    /// the match that it prefers there. The search goes no further than matches that start here
-    /// can. Looks see the whole haystack, as they do in [`RegexList::is_match_anchored_at`].
+    /// If several patterns match here, the one with the lowest number is returned, with the match
+    /// that it prefers here. The search stops as soon as no match that starts here can continue.
+    /// Looks see the whole haystack, as they do in [`RegexList::is_match_anchored_at`].
     ///
     /// Condition: the start is above the haystack's length or on a character boundary.
     ///
-    /// A tokeniser takes each token from where the last one ended:
+    /// A tokeniser searches for each token where the last one ended:
     ///
     /// ```
     /// let list = RegexList::new(alloc, &["[0-9]+", "[a-z]+", "[-+*/]", " +"])?;
@@ -76,7 +76,7 @@ impl RegexList {
     }
 
     /// The groups of the match that [`RegexList::find_anchored_at`] returns, with the number of its
-    /// pattern. They are the groups of that pattern alone, by its own indices and names.
+    /// pattern. They are only the groups of that pattern, with its own indices and names.
     ///
     /// Looks see the whole haystack, as they do in [`RegexList::is_match_anchored_at`].
     ///
@@ -99,8 +99,8 @@ impl RegexList {
         self.groups_anchored::<false>(haystack, start)
     }
 
-    /// The match that starts at this offset, with the number of its pattern. With WHOLE only
-    /// matches that end where the haystack does count.
+    /// The match that starts at this offset, with the number of its pattern. If WHOLE, only matches
+    /// that end where the haystack ends count.
     ///
     /// # Errors
     ///
@@ -124,7 +124,7 @@ impl RegexList {
         Ok(Some((number, found)))
     }
 
-    /// The groups of that match, with the number of its pattern.
+    /// The groups of the match that `match_anchored` returns, with the number of its pattern.
     ///
     /// # Errors
     ///
@@ -152,7 +152,7 @@ impl RegexList {
 }
 
 impl<'r> RegexListSearcher<'r> {
-    /// [`RegexList::is_match_anchored_at`], which is never refused here.
+    /// [`RegexList::is_match_anchored_at`], but it never fails.
     ///
     /// Condition: the start is above the haystack's length or on a character boundary.
     pub fn is_match_anchored_at(&mut self, haystack: &str, start: usize) -> bool
@@ -163,7 +163,7 @@ impl<'r> RegexListSearcher<'r> {
         self.matches.is_match_anchored_at(haystack, start)
     }
 
-    /// [`RegexList::find_anchored_at`], which is never refused here.
+    /// [`RegexList::find_anchored_at`], but it never fails.
     ///
     /// Condition: the start is above the haystack's length or on a character boundary.
     pub fn find_anchored_at<'h>(
@@ -179,11 +179,11 @@ impl<'r> RegexListSearcher<'r> {
     }
 
     /// The match that [`RegexList::find_anchored_at`] returns, with the number of its pattern, and
-    /// the groups of that pattern written to the locations. It is never refused.
+    /// writes the groups of that pattern to the locations. It never fails.
     ///
-    /// The groups have the indices that they have in their own pattern. As many are written as the
-    /// locations have; those that the pattern doesn't have are `None`. Without a match the
-    /// locations stay as they were.
+    /// The groups have the indices of their own pattern. It writes as many groups as the locations
+    /// have; those that the pattern doesn't have are `None`. Without a match the locations are
+    /// unchanged.
     ///
     /// Condition: the start is above the haystack's length or on a character boundary.
     pub fn captures_read_anchored_at<'h>(

@@ -1,4 +1,4 @@
-//! How a list of patterns is built.
+//! Building a list of patterns.
 ghost use Rattle.std.specs.Prelude.{◌≡◌, ◌⊎◌, IfOk, IfErr, length, map};
 ghost use Rattle.regex_lite_syntax.specs.Errors.{out_of_memory};
 ghost use Rattle.regex_lite_syntax.specs.Tree.Views.{tree_of};
@@ -18,8 +18,8 @@ use regex_lite_syntax::Error;
 use std::alloc::{AllocError, Global};
 
 impl RegexList {
-    /// The list of these patterns, each under its own settings. All are read, and their places
-    /// counted, before any is written out.
+    /// The list of these patterns, each under its own settings. All are parsed, and their places
+    /// counted, before any is compiled.
     pub(super) fn build(alloc: Global, builders: &[RegexBuilder]) -> Result<RegexList, Error>
         ensures { BuildsList builders.now result }
     {
@@ -50,7 +50,7 @@ pub(super) fn default_builders(alloc: Global, patterns: &[&str]) -> Result<Vec<R
     Ok(builders)
 }
 
-/// The trees of the patterns, where each is accepted by itself.
+/// The trees of the patterns, if each is accepted by itself.
 fn parse_all(alloc: Global, builders: &[RegexBuilder]) -> Result<Vec<Measured>, Error>
     ensures accepted { IfOk result (λ hirs.
         AreAcceptedAs builders.now (map tree_of hirs.items)) }
@@ -64,7 +64,7 @@ fn parse_all(alloc: Global, builders: &[RegexBuilder]) -> Result<Vec<Measured>, 
     Ok(hirs)
 }
 
-/// The patterns, without the limits.
+/// The patterns and their flags, without the limits.
 fn patterns_of(alloc: Global, builders: &[RegexBuilder]) -> Result<Vec<Pattern>, AllocError>
     ensures { IfOk result (λ patterns. patterns.items ≡ map expression_of builders.now) }
 {
@@ -75,9 +75,9 @@ fn patterns_of(alloc: Global, builders: &[RegexBuilder]) -> Result<Vec<Pattern>,
     Ok(patterns)
 }
 
-/// How many slots a search for the groups keeps: two for each group of the pattern with the most.
-/// If no pattern has a group besides the whole match, the span of the match is enough, and no slot
-/// is kept.
+/// The number of slots that a search for the groups keeps: two for each group of the pattern with
+/// the most. If no pattern has a group besides the whole match, the span of the match suffices, and
+/// no slot is kept.
 fn kept_slots(graph: &GraphList, count: usize) -> usize
     requires { count ≡ length graph.now.groups }
     ensures { result ≡ kept_slots (most_groups graph.now.groups) }

@@ -12,8 +12,8 @@ use std::marker::Model;
 
 /// Several patterns, each with the settings under which it is to be built.
 ///
-/// A setter says what holds of the patterns that are pushed after it. Those that were pushed before
-/// keep their settings, so each pattern can have its own.
+/// A setter affects the patterns that are pushed after it. Patterns that were pushed before keep
+/// their settings, so each pattern can have its own.
 ///
 /// ```
 /// let mut builder = RegexListBuilder::new(alloc);
@@ -49,8 +49,8 @@ impl Model for RegexListBuilder {
 }
 
 impl RegexListBuilder {
-    /// A builder without patterns. The settings of the next pattern are the default ones: no flag
-    /// is on, the nest limit is 50 and the size limit 10485760.
+    /// A builder without patterns. The next pattern has the default settings: no flag is on, the
+    /// nest limit is 50 and the size limit 10485760.
     pub fn new(alloc: Global) -> RegexListBuilder
         ensures { result ≡ default_list }
     {
@@ -63,12 +63,12 @@ impl RegexListBuilder {
         }
     }
 
-    /// Adds a pattern after the others, under the settings that hold now.
+    /// Adds a pattern after the others, under the current settings.
     ///
     /// # Errors
     ///
-    /// `Memory` where there is no room for a copy of the pattern. The builder then stays as it was.
-    /// The pattern itself isn't looked at before `build`.
+    /// `Memory` if there is no memory for a copy of the pattern. Then the builder is unchanged. The
+    /// pattern isn't read before `build`.
     pub fn push(&mut self, pattern: &str) -> Result<(), Error>
         ensures ok { IfOk result (λ _. self.new ≡ record self.old {
           patterns = self.old.patterns ++ (settings_of_next self.old pattern.now ∷ []);
@@ -163,8 +163,8 @@ impl RegexListBuilder {
         self
     }
 
-    /// [`RegexBuilder::size_limit`](crate::RegexBuilder::size_limit), for each of the patterns that
-    /// are pushed after this call, by itself.
+    /// [`RegexBuilder::size_limit`](crate::RegexBuilder::size_limit), for each pattern by itself
+    /// that is pushed after this call.
     pub fn size_limit(&mut self, limit: usize) -> &mut RegexListBuilder
         ensures same_reference { result.ghost_name ≡ self.entry.ghost_name }
         ensures value { result.now ≡ record self.old { size_limit = limit } }
@@ -173,14 +173,14 @@ impl RegexListBuilder {
         self
     }
 
-    /// The list of the patterns, in the order in which they were pushed. The builder can build
-    /// again.
+    /// Builds the list of the patterns, in the order in which they were pushed. The builder can be
+    /// used again.
     ///
     /// # Errors
     ///
     /// Those of [`RegexBuilder::build`](crate::RegexBuilder::build) for the first pattern that is
-    /// refused by itself, under its own settings. Where none is refused, `Places` if they have 2^32
-    /// places or more together. `Memory` if memory runs out.
+    /// rejected by itself, under its own settings. If none is rejected, `Places` if they have 2^32
+    /// or more places together. `Memory` if memory runs out.
     pub fn build(&self) -> Result<RegexList, Error>
         ensures { BuildsList self.now.patterns result }
     {

@@ -1,4 +1,4 @@
-//! The groups of all matches of several patterns in a haystack, match after match.
+//! An iterator over the groups of all matches of several patterns in a haystack.
 ghost use Rattle.std.specs.Prelude.{◌≡◌, None, IfOk, IfErr, IsCharBoundary, unwrap_or};
 ghost use Rattle.regex_lite_syntax.specs.Errors.{out_of_memory};
 ghost use Rattle.regex_lite.specs.ListAhead.{list_after, list_ahead_of, whole_list};
@@ -13,8 +13,7 @@ use std::iter::FusedIterator;
 use std::marker::Model;
 
 impl RegexList {
-    /// The groups of all matches that [`RegexList::find_iter`] gives, each with the number of its
-    /// pattern.
+    /// The groups of each match of [`RegexList::find_iter`], with the number of its pattern.
     ///
     /// ```
     /// let list = RegexList::new(alloc, &["([a-z])[0-9]", "([0-9])"])?;
@@ -29,8 +28,8 @@ impl RegexList {
     ///
     /// # Errors
     ///
-    /// `Memory` if memory runs out. Each item takes memory of its own. One that is refused is the
-    /// last.
+    /// `Memory` if memory runs out. Each item needs memory of its own, and may be an error too,
+    /// which is then the last item.
     pub fn captures_iter<'r, 'h>(
         &'r self,
         haystack: &'h str,
@@ -43,13 +42,13 @@ impl RegexList {
         self.captures_iter_after(haystack, None)
     }
 
-    /// The groups of all matches that [`RegexList::find_iter_after`] gives.
+    /// The groups of each match of [`RegexList::find_iter_after`], with the number of its pattern.
     ///
     /// Condition: the offset is on a character boundary of the haystack.
     ///
     /// # Errors
     ///
-    /// `Memory` if memory runs out. An item may return it too, and is then the last.
+    /// `Memory` if memory runs out. An item may be this error too, which is then the last item.
     pub fn captures_iter_after<'r, 'h>(
         &'r self,
         haystack: &'h str,
@@ -68,11 +67,11 @@ impl RegexList {
     }
 }
 
-/// The groups of all matches of several patterns in a haystack, match after match, each with the
-/// number of its pattern: an iterator that [`RegexList::captures_iter`] makes.
+/// An iterator over the groups of all matches of several patterns in a haystack, each with the
+/// number of its pattern: [`RegexList::captures_iter`] returns it.
 ///
-/// After the last match, and after an error, it always gives `None`. The groups borrow the haystack
-/// alone, and outlive the iterator and the list.
+/// After the last match, and after an error, it always returns `None`. The groups borrow only the
+/// haystack, so they can outlive the iterator and the list.
 #[derive(Drop)]
 pub struct ListCaptureMatches<'r, 'h> {
     scan: GroupScan<'h, ListSearcher<'r>>,
@@ -105,7 +104,7 @@ impl<'r, 'h> Iterator for ListCaptureMatches<'r, 'h> {
 
 impl<'r, 'h> FusedIterator for ListCaptureMatches<'r, 'h> {}
 
-/// Writes the patterns, and where the iterator stands.
+/// Writes the patterns and the iterator's position.
 impl<'r, 'h> fmt::Debug for ListCaptureMatches<'r, 'h> {
     fn fmt<W: fmt::Write>(&self, f: &mut fmt::Formatter<W>) -> fmt::Result {
         self.scan.fmt_as("ListCaptureMatches", f)

@@ -1,4 +1,4 @@
-//! Searches for several patterns that return their cost.
+//! Searches for several patterns that also return their cost.
 ghost use Rattle.std.specs.Prelude.{◌≡◌, ◌<◌, ◌↔◌, IfOk, IfErr, IfSome, IsTrue};
 ghost use Rattle.regex_lite_syntax.specs.Errors.{out_of_memory};
 ghost use Rattle.regex_lite.specs.RegexListSearches.{AnyMatches, AreOfPattern, IsWithinListCost};
@@ -13,14 +13,13 @@ use regex_lite_engine::Steps;
 use regex_lite_meta::{search_list, search_list_any};
 use regex_lite_syntax::Error;
 
-/// The number of places of the written-out patterns that a search tries is at most the number of
-/// their arrows plus that of the patterns, times one more than the characters from the start to the
-/// haystack's end. The number that it enters is at most that of the places, times one more than
-/// those characters. [`RegexList::places`], [`RegexList::arrows`] and [`RegexList::len`] return how
-/// many there are. A search from above the length tries none, and one that finds something has
-/// entered a place.
+/// Let n be the number of characters from the start to the haystack's end, [`RegexList::places`]
+/// the number of NFA states (places), [`RegexList::arrows`] the number of transitions (arrows) and
+/// [`RegexList::len`] the number of patterns. A search tries at most (arrows + patterns) × (n + 1)
+/// places, and enters at most places × (n + 1). A search from above the length tries none. One that
+/// finds a match has entered a place.
 impl RegexList {
-    /// [`RegexList::is_match_at`], and what the search cost.
+    /// [`RegexList::is_match_at`], and the cost of the search.
     ///
     /// Condition: the start is above the haystack's length or on a character boundary.
     ///
@@ -40,7 +39,7 @@ impl RegexList {
         Ok(told)
     }
 
-    /// [`RegexList::find_at`], and what the search cost.
+    /// [`RegexList::find_at`], and the cost of the search.
     ///
     /// Condition: the start is above the haystack's length or on a character boundary.
     ///
@@ -67,7 +66,7 @@ impl RegexList {
         Ok((Some((number, found)), steps))
     }
 
-    /// [`RegexList::captures_at`], and what the search cost.
+    /// [`RegexList::captures_at`], and the cost of the search.
     ///
     /// Condition: the start is above the haystack's length or on a character boundary.
     ///

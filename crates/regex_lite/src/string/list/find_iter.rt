@@ -1,4 +1,4 @@
-//! The matches of several patterns in a haystack, one after another.
+//! An iterator over the matches of several patterns in a haystack.
 ghost use Rattle.std.specs.Prelude.{◌≡◌, None, IfOk, IfErr, IsCharBoundary, unwrap_or};
 ghost use Rattle.regex_lite_syntax.specs.Errors.{out_of_memory};
 ghost use Rattle.regex_lite.specs.ListAhead.{list_after, list_ahead_of, whole_list};
@@ -15,9 +15,9 @@ use std::marker::Model;
 impl RegexList {
     /// All matches, from left to right, each with the number of its pattern.
     ///
-    /// The first is that of [`RegexList::find`]. The next is looked for where the last one ended,
-    /// whichever pattern that was of; where that would be an empty match at that very place, it is
-    /// looked for one character further on. So no two matches overlap.
+    /// The first is the match of [`RegexList::find`]. The search for the next, for all patterns,
+    /// starts where the last one ended; if it finds an empty match right there, it starts one
+    /// character later instead. So no two matches overlap.
     ///
     /// ```
     /// let list = RegexList::new(alloc, &["if", "[a-z]+", "[0-9]+"])?;
@@ -44,8 +44,8 @@ impl RegexList {
         })
     }
 
-    /// The matches that [`RegexList::find_iter`] gives after one that ended at this offset; with
-    /// `None`, all of them. So a list of matches can be resumed.
+    /// The matches of [`RegexList::find_iter`] that follow one that ended at this offset; with
+    /// `None`, all of them. So an iteration can be resumed.
     ///
     /// Condition: the offset is on a character boundary of the haystack.
     ///
@@ -80,11 +80,11 @@ impl RegexList {
     }
 }
 
-/// The matches of several patterns in a haystack, one after another, each with the number of its
-/// pattern: an iterator that [`RegexList::find_iter`] makes.
+/// An iterator over the matches of several patterns in a haystack, each with the number of its
+/// pattern: [`RegexList::find_iter`] returns it.
 ///
-/// After the last match it always gives `None`. The matches borrow the haystack alone, and outlive
-/// the iterator and the list.
+/// After the last match it always returns `None`. The matches borrow only the haystack, so they can
+/// outlive the iterator and the list.
 #[derive(Drop)]
 pub struct ListMatches<'r, 'h> {
     scan: Scan<'h, ListSearcher<'r>>,
@@ -117,7 +117,7 @@ impl<'r, 'h> Iterator for ListMatches<'r, 'h> {
 
 impl<'r, 'h> FusedIterator for ListMatches<'r, 'h> {}
 
-/// Writes the patterns, and where the iterator stands.
+/// Writes the patterns and the iterator's position.
 impl<'r, 'h> fmt::Debug for ListMatches<'r, 'h> {
     fn fmt<W: fmt::Write>(&self, f: &mut fmt::Formatter<W>) -> fmt::Result {
         self.scan.fmt_as("ListMatches", f)

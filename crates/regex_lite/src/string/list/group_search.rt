@@ -23,7 +23,7 @@ use regex_lite_syntax::Error;
 impl RegexList {
     /// The groups of the match that [`RegexList::find`] returns, with the number of its pattern.
     ///
-    /// They are the groups of that pattern alone, by its own indices and names.
+    /// They are only the groups of that pattern, with its own indices and names.
     ///
     /// ```
     /// let list = RegexList::new(alloc, &["(?<key>[a-z]+)=([0-9]+)", "#(?<note>.*)"])?;
@@ -78,8 +78,8 @@ impl RegexList {
         Ok(Some(caps))
     }
 
-    /// The groups of the match that a search of this haystack has found, with the number of its
-    /// pattern. If the search kept no slots, `whole` is room for those of the whole match.
+    /// The groups of the match that a search of this haystack found, with the number of its
+    /// pattern. If the search kept no slots, `whole` has room for the two slots of the whole match.
     ///
     /// # Errors
     ///
@@ -109,10 +109,11 @@ impl RegexList {
         Ok((number, caps))
     }
 
-    /// Locations with as many groups as the pattern that has the most, none of which took part in a
-    /// match yet. For an empty list they have one.
+    /// Locations for the groups of any of the patterns: as many as the pattern with the most groups
+    /// has, or one for an empty list. None of them has taken part in a match yet.
     ///
-    /// [`RegexListSearcher::captures_read`](crate::RegexListSearcher::captures_read) writes them.
+    /// [`RegexListSearcher::captures_read`](crate::RegexListSearcher::captures_read) writes the
+    /// groups of matches to them.
     ///
     /// # Errors
     ///

@@ -1,4 +1,4 @@
-//! A searcher for several patterns that callers keep, for one haystack after another.
+//! A searcher for several patterns, which callers keep to search many haystacks.
 //!
 //! It has a memory without slots and, if some pattern has groups, one with slots, like the searcher
 //! of a regex. Groups are read in the second alone, which may find a match by a lazy DFA of its own
@@ -25,14 +25,14 @@ use regex_lite_syntax::Error;
 use std::fmt;
 use std::marker::Model;
 
-/// A list of patterns, and the memory for its searches: for many haystacks, one after another.
+/// A searcher runs a list of patterns over many haystacks: the list, and the memory of its
+/// searches.
 ///
-/// [`RegexList::searcher`] makes it. Whatever was searched before, `is_match`, `find` and `find_at`
-/// return what the calls of these names return for the list, `captures_read` and `captures_read_at`
-/// write the groups that its `captures` and `captures_at` return, and `matches_read` and
-/// `matches_read_at` the set that its `matches` and `matches_at` return. But no call needs memory,
-/// so none is refused, and what the searches for a match in one haystack learn of the patterns
-/// speeds up those of the next.
+/// [`RegexList::searcher`] makes it. Whatever it searched before, `is_match`, `find` and `find_at`
+/// return what the list's calls of these names return, `captures_read` and `captures_read_at` write
+/// the groups that its `captures` and `captures_at` return, and `matches_read` and
+/// `matches_read_at` write the set that its `matches` and `matches_at` return. But no call fails
+/// for lack of memory, and searches reuse the transitions that earlier searches have cached.
 ///
 /// ```
 /// let list = RegexList::new(alloc, &["warn", "error"])?;
@@ -45,9 +45,9 @@ use std::marker::Model;
 #[derive(Drop)]
 pub struct RegexListSearcher<'r> {
     pub(super) matches: ListSearcher<'r>,
-    /// With slots for all groups, where some pattern has more than the whole match.
+    /// Finds the slots of all groups, if some pattern has groups besides the whole match.
     pub(super) groups: Option<ListSearcher<'r>>,
-    /// What tells which patterns match.
+    /// Finds which patterns match.
     set: SetSearcher<'r>,
 }
 
@@ -65,9 +65,9 @@ impl<'r> Model for RegexListSearcher<'r> {
 }
 
 impl RegexList {
-    /// A searcher of this list, which callers keep for many haystacks.
+    /// A searcher of this list for many haystacks.
     ///
-    /// All memory that its searches need is requested here, including that for their groups.
+    /// It allocates all memory that its searches need, including the memory for groups.
     ///
     /// # Errors
     ///
@@ -86,7 +86,7 @@ impl RegexList {
         })
     }
 
-    /// What finds groups, where some pattern has more than the whole match.
+    /// The searcher for groups, if some pattern has groups besides the whole match.
     fn searcher_of_groups(&self) -> Result<Option<ListSearcher<'_>>, Error>
         ensures groups { IfOk result (λ groups. (matches : ListSearching) → matches.list ≡ self.now
             → length matches.slots ≡ 0 → FindsAllGroups matches groups) }
@@ -102,7 +102,7 @@ impl RegexList {
 }
 
 impl<'r> RegexListSearcher<'r> {
-    /// [`RegexList::is_match`], which is never refused here.
+    /// [`RegexList::is_match`], but it never fails.
     pub fn is_match(&mut self, haystack: &str) -> bool
         ensures found { IsTrue result ↔ AnyMatches self.old haystack.now 0 }
         ensures same { self.new ≡ self.old }
@@ -110,7 +110,7 @@ impl<'r> RegexListSearcher<'r> {
         self.matches.is_match(haystack)
     }
 
-    /// [`RegexList::find`], which is never refused here.
+    /// [`RegexList::find`], but it never fails.
     pub fn find<'h>(&mut self, haystack: &'h str) -> Option<(usize, Match<'h>)>
         ensures found { TellsMatchOfList self.old haystack.now 0 result }
         ensures same { self.new ≡ self.old }
@@ -118,7 +118,7 @@ impl<'r> RegexListSearcher<'r> {
         self.find_at(haystack, 0)
     }
 
-    /// [`RegexList::find_at`], which is never refused here.
+    /// [`RegexList::find_at`], but it never fails.
     ///
     /// Condition: the start is above the haystack's length or on a character boundary.
     pub fn find_at<'h>(&mut self, haystack: &'h str, start: usize) -> Option<(usize, Match<'h>)>
@@ -129,14 +129,14 @@ impl<'r> RegexListSearcher<'r> {
         match_at(&mut self.matches, haystack, start)
     }
 
-    /// Writes to the set which of the patterns match somewhere in the haystack: what
-    /// [`RegexList::matches`] returns. It is never refused.
+    /// Writes to the set which of the patterns match somewhere in the haystack, as
+    /// [`RegexList::matches`] returns it. It never fails.
     ///
-    /// In long haystacks it requests memory in which searches remember their turns, as
-    /// [`RegexList::matches`] does. Where that is refused it goes without, and takes more time.
+    /// For long haystacks it requests memory to cache transitions, as [`RegexList::matches`] does.
+    /// If there is none, the search is slower.
     ///
-    /// Condition: the set is one of this list, as [`RegexList::set_matches`] makes it, or of
-    /// another one with as many patterns.
+    /// Condition: the set is from [`RegexList::set_matches`] of this list, or of another list with
+    /// as many patterns.
     ///
     /// ```
     /// let list = RegexList::new(alloc, &["[0-9]+", "[a-z]+", "sam"])?;
@@ -159,11 +159,11 @@ impl<'r> RegexListSearcher<'r> {
         self.matches_read_at(set, haystack, 0);
     }
 
-    /// Writes to the set which of the patterns match somewhere from this offset on: what
-    /// [`RegexList::matches_at`] returns. It is never refused.
+    /// Writes to the set which of the patterns match somewhere from this offset on, as
+    /// [`RegexList::matches_at`] returns it. It never fails.
     ///
-    /// Conditions: the set is one of this list, or of another one with as many patterns, and the
-    /// start is above the haystack's length or on a character boundary.
+    /// Conditions: the set is from this list, or from another one with as many patterns. The start
+    /// is above the haystack's length or on a character boundary.
     pub fn matches_read_at(&mut self, set: &mut SetMatches, haystack: &str, start: usize)
         requires room { length set.old ≡ length self.old }
         requires start { CanStartAt haystack.now start }
@@ -173,12 +173,12 @@ impl<'r> RegexListSearcher<'r> {
         self.set.tell(set, haystack, start);
     }
 
-    /// The match that [`RegexList::find`] returns, with the number of its pattern, and the groups
-    /// of that pattern written to the locations. It is never refused.
+    /// The match that [`RegexList::find`] returns, with the number of its pattern, and writes the
+    /// groups of that pattern to the locations. It never fails.
     ///
-    /// The groups have the indices that they have in their own pattern. As many are written as the
-    /// locations have; those that the pattern doesn't have are `None`. Without a match the
-    /// locations stay as they were.
+    /// The groups have the indices of their own pattern. It writes as many groups as the locations
+    /// have; those that the pattern doesn't have are `None`. Without a match the locations are
+    /// unchanged.
     ///
     /// ```
     /// let list = RegexList::new(alloc, &["([a-z]+)=([0-9]+)", "#([a-z]+)"])?;
@@ -205,12 +205,12 @@ impl<'r> RegexListSearcher<'r> {
         self.captures_read_at(locs, haystack, 0)
     }
 
-    /// The match that [`RegexList::find_at`] returns, with the number of its pattern, and the
-    /// groups of that pattern written to the locations. It is never refused.
+    /// The match that [`RegexList::find_at`] returns, with the number of its pattern, and writes
+    /// the groups of that pattern to the locations. It never fails.
     ///
-    /// The groups have the indices that they have in their own pattern. As many are written as the
-    /// locations have; those that the pattern doesn't have are `None`. Without a match the
-    /// locations stay as they were.
+    /// The groups have the indices of their own pattern. It writes as many groups as the locations
+    /// have; those that the pattern doesn't have are `None`. Without a match the locations are
+    /// unchanged.
     ///
     /// Condition: the start is above the haystack's length or on a character boundary.
     pub fn captures_read_at<'h>(

@@ -1,4 +1,4 @@
-//! Searches for one pattern of a list, which is given by its number.
+//! Searches for one pattern of a list, given by its number.
 ghost use Rattle.std.specs.Prelude.{◌≡◌, ◌<◌, ◌↔◌, IfOk, IfErr, IfSome, IsTrue, length};
 ghost use Rattle.regex_lite_syntax.specs.Errors.{out_of_memory};
 ghost use Rattle.regex_lite.specs.ListedPattern.{OfPattern};
@@ -14,10 +14,10 @@ use regex_lite_engine::Outcome;
 use regex_lite_meta::{search_listed, search_listed_any};
 use regex_lite_syntax::Error;
 
-/// Each search looks for the pattern with this number alone, and returns what the search of the
-/// same name of its own [`Regex`](crate::Regex) returns, whatever the other patterns match. So a
-/// caller that prefers some patterns to others asks them in that order, where
-/// [`RegexList::find`] returns the match that starts first.
+/// These searches look only for the pattern with the given number, and return what the search of
+/// the same name of the pattern's own [`Regex`](crate::Regex) returns, whatever the other patterns
+/// match. [`RegexList::find`] returns the match that starts first; a caller that prefers some
+/// patterns to others, wherever they match, searches for them in that order instead.
 impl RegexList {
     /// Whether the pattern with this number matches somewhere in the haystack.
     ///
@@ -57,7 +57,7 @@ impl RegexList {
         Ok(found)
     }
 
-    /// The match of the pattern with this number that starts first: the one that its own
+    /// The match of the pattern with this number that starts first: the one that the pattern's own
     /// [`Regex`](crate::Regex) finds.
     ///
     /// Condition: the list has more patterns than this number.
@@ -74,7 +74,7 @@ impl RegexList {
         self.find_of_at(number, haystack, 0)
     }
 
-    /// [`RegexList::find_of`] among the matches that start at or after this offset.
+    /// The match of the pattern with this number that starts first, at this offset or later.
     ///
     /// Looks see the whole haystack, as they do in [`RegexList::is_match_at`].
     ///
@@ -104,11 +104,11 @@ impl RegexList {
         Ok(Some(found))
     }
 
-    /// The groups of the match that [`RegexList::find_of`] returns, by the pattern's own indices
+    /// The groups of the match that [`RegexList::find_of`] returns, with the pattern's own indices
     /// and names.
     ///
-    /// A router that takes the first of its rules that fits, wherever the others match, asks which
-    /// match at all, and then for the groups of that one:
+    /// A router that takes the first of its rules that matches anywhere first finds out which
+    /// match, and then searches for the groups of that one:
     ///
     /// ```
     /// let rules = RegexList::new(alloc, &["id=([0-9]+)", "([a-z]+)=([0-9]+)"])?;
@@ -141,8 +141,8 @@ impl RegexList {
         self.captures_of_at(number, haystack, 0)
     }
 
-    /// The groups of the match that [`RegexList::find_of_at`] returns, by the pattern's own indices
-    /// and names.
+    /// The groups of the match that [`RegexList::find_of_at`] returns, with the pattern's own
+    /// indices and names.
     ///
     /// Looks see the whole haystack, as they do in [`RegexList::is_match_at`].
     ///

@@ -1,4 +1,4 @@
-//! Searches: whether and where one of several patterns matches in a haystack.
+//! Searches for whether and where one of several patterns matches.
 ghost use Rattle.std.specs.Prelude.{◌≡◌, ◌↔◌, IfOk, IfErr, IsTrue};
 ghost use Rattle.regex_lite_syntax.specs.Errors.{out_of_memory};
 ghost use Rattle.regex_lite.specs.RegexListSearches.{AnyMatches, TellsMatchOfList};
@@ -11,7 +11,7 @@ use regex_lite_syntax::Error;
 impl RegexList {
     /// Whether one of the patterns matches somewhere in the haystack.
     ///
-    /// The search is over at the first match that it comes to, whichever it is.
+    /// The search stops at the first match that it can confirm.
     ///
     /// # Errors
     ///
@@ -25,8 +25,8 @@ impl RegexList {
 
     /// Whether one of the patterns matches somewhere from this offset on.
     ///
-    /// Looks see the whole haystack: `^` doesn't match at the start of the search, only at that of
-    /// the haystack. From a start above the length nothing matches.
+    /// Looks see the whole haystack: `^` matches at the haystack's start, not at the start of the
+    /// search. If the start is above the haystack's length, the result is `false`.
     ///
     /// Condition: the start is above the haystack's length or on a character boundary.
     ///
@@ -45,8 +45,8 @@ impl RegexList {
 
     /// The match that starts first, with the number of its pattern.
     ///
-    /// If several patterns match from that start, the one with the lowest number is returned, with
-    /// the match that it prefers there: the one that its own [`Regex`](crate::Regex) would find.
+    /// If several patterns match there, the one with the lowest number is returned, with the match
+    /// that it prefers there: the one that its own [`Regex`](crate::Regex) would find.
     ///
     /// ```
     /// let list = RegexList::new(alloc, &["if", "[a-z]+"])?;
@@ -68,7 +68,7 @@ impl RegexList {
         self.find_at(haystack, 0)
     }
 
-    /// [`RegexList::find`] among the matches that start at or after this offset.
+    /// The match that starts first, at this offset or later, with the number of its pattern.
     ///
     /// Looks see the whole haystack, as they do in [`RegexList::is_match_at`].
     ///

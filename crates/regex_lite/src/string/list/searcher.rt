@@ -1,4 +1,4 @@
-//! Searches for several patterns, one after another, in the same memory.
+//! A searcher for several patterns, which reuses its memory.
 ghost use Rattle.std.specs.Prelude.{◌≡◌, ◌↔◌, ℕ, List, None, Some, IfOk, IfErr, IfSome};
 ghost use Rattle.std.specs.Prelude.{IsTrue, length};
 ghost use Rattle.regex_lite_syntax.specs.Errors.{out_of_memory};
@@ -20,7 +20,7 @@ use regex_lite_syntax::Error;
 use std::fmt;
 use std::marker::Model;
 
-/// Several patterns, and the memory in which they are searched for, search after search.
+/// Several patterns, and the memory of their searches.
 #[derive(Drop)]
 pub(super) struct ListSearcher<'r> {
     list: &'r RegexList,
@@ -41,8 +41,8 @@ impl<'r> Model for ListSearcher<'r> {
 }
 
 impl<'r> ListSearcher<'r> {
-    /// The patterns, with memory for searches in haystacks of about `bytes` bytes, whose matches
-    /// have `slots` slots.
+    /// A searcher of these patterns, for haystacks of about `bytes` bytes and matches with `slots`
+    /// slots.
     pub fn new(list: &'r RegexList, slots: usize, bytes: usize) -> Result<ListSearcher<'r>, Error>
         ensures list { IfOk result (λ searcher. searcher.list ≡ list.now) }
         ensures slots { IfOk result (λ searcher. length searcher.slots ≡ slots) }
@@ -62,8 +62,8 @@ impl<'r> ListSearcher<'r> {
         self.inner.search_any(haystack, 0)
     }
 
-    /// The first match that starts at this offset or later, with the number of its pattern, whose
-    /// groups are written to the locations.
+    /// The first match that starts at this offset or later, with the number of its pattern. Writes
+    /// its groups to the locations.
     pub fn read_at<'h>(
         &mut self,
         locs: &mut CaptureLocations,
@@ -83,7 +83,7 @@ impl<'r> ListSearcher<'r> {
         Some(last)
     }
 
-    /// Whether a match of any pattern starts at this offset.
+    /// Whether any pattern matches at this offset.
     pub fn is_match_anchored_at(&mut self, haystack: &str, start: usize) -> bool
         requires { CanStartAt haystack.now start }
         ensures found { IsTrue result ↔ SomeMatchesAt self.old.list haystack.now start }
@@ -93,7 +93,8 @@ impl<'r> ListSearcher<'r> {
         self.inner.search_any_anchored(haystack, start)
     }
 
-    /// The match that starts at this offset, with the number of its pattern. Its slots are kept.
+    /// The match that starts at this offset, with the number of its pattern. The searcher keeps its
+    /// slots.
     pub fn find_anchored_at<'h>(
         &mut self,
         haystack: &'h str,
@@ -110,7 +111,8 @@ impl<'r> ListSearcher<'r> {
         Some((number, Match::new(haystack, from, to)))
     }
 
-    /// The same, with the groups of the match written to the locations.
+    /// The match that starts at this offset, with the number of its pattern. Writes its groups to
+    /// the locations.
     pub fn read_anchored_at<'h>(
         &mut self,
         locs: &mut CaptureLocations,
@@ -180,12 +182,13 @@ impl<'r> Finds for ListSearcher<'r> {
 
     ghost slots = { λ searcher. searcher.slots };
 
-    /// [`RegexList::find_at`], which is never refused here.
+    /// [`RegexList::find_at`], but it never fails.
     fn find_at(&mut self, haystack: &str, start: usize) -> Option<(usize, (usize, usize))> {
         self.inner.search(haystack, start)
     }
 
-    /// The groups in memory of their own. Only replacements give groups back, and a list has none.
+    /// The groups, in memory of their own. Only replacements return groups for reuse, and a list
+    /// has no replacements.
     fn captures<'h>(
         &self,
         haystack: &'h str,

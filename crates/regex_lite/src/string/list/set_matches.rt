@@ -1,4 +1,4 @@
-//! Which patterns of a list match.
+//! Sets of patterns of a list that match.
 ghost use Rattle.std.specs.Prelude.{◌≡◌, ◌<◌, ◌↔◌, ℕ, IfOk, IfErr, IsTrue, Some};
 ghost use Rattle.std.specs.Prelude.{false, length, slice_get, slice_index_or, true};
 ghost use Rattle.regex_lite_syntax.specs.Errors.{out_of_memory};
@@ -7,7 +7,7 @@ use regex_lite_syntax::Error;
 use std::fmt;
 use std::marker::Model;
 
-/// Which of the patterns of a [`RegexList`](crate::RegexList) match, by their numbers.
+/// The set of the patterns of a [`RegexList`](crate::RegexList) that match, by their numbers.
 #[derive(Drop)]
 pub struct SetMatches {
     /// By number, whether the pattern matches.
@@ -23,14 +23,14 @@ impl Model for SetMatches {
 }
 
 impl SetMatches {
-    /// How many patterns the list has, whether they match or not.
+    /// The number of patterns in the list, matching or not.
     pub fn len(&self) -> usize
         ensures { result ≡ length self.now }
     {
         self.matched.len()
     }
 
-    /// Whether the pattern with this number matches. `false` where no pattern has the number.
+    /// Whether the pattern with this number matches. `false` if no pattern has this number.
     pub fn matched(&self, i: usize) -> bool
         ensures { result ≡ slice_index_or self.now i false }
     {
@@ -52,7 +52,7 @@ impl SetMatches {
         false
     }
 
-    /// Whether each of the patterns matches. `true` where there is none.
+    /// Whether each of the patterns matches. `true` for an empty list.
     pub fn matched_all(&self) -> bool
         ensures { IsTrue result
             ↔ ((i : ℕ) → i < length self.now → slice_get self.now i ≡ Some true) }
@@ -79,7 +79,7 @@ impl SetMatches {
     }
 }
 
-/// Writes by number whether each pattern matches.
+/// Writes for each pattern, by number, whether it matches.
 impl fmt::Debug for SetMatches {
     fn fmt<W: fmt::Write>(&self, f: &mut fmt::Formatter<W>) -> fmt::Result {
         f.debug_tuple("SetMatches").field(&self.matched).finish()

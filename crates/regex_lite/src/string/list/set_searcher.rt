@@ -1,4 +1,4 @@
-//! Which of several patterns match, told of one haystack after another in the same memory.
+//! A searcher for which of several patterns match, which reuses its memory.
 ghost use Rattle.std.specs.Prelude.{◌≡◌, IfOk, IfErr, length};
 ghost use Rattle.regex_lite_syntax.specs.Errors.{out_of_memory};
 ghost use Rattle.regex_lite.specs.RegexListSearches.{TellsWhichMatch};
@@ -9,7 +9,7 @@ use crate::string::list::set_matches::SetMatches;
 use regex_lite_syntax::Error;
 use std::marker::Model;
 
-/// Several patterns, and the memory in which each of them is searched for.
+/// Several patterns, and the memory of the searches for each of them.
 #[derive(Drop)]
 pub(super) struct SetSearcher<'r> {
     list: &'r RegexList,
@@ -29,7 +29,7 @@ impl<'r> Model for SetSearcher<'r> {
 }
 
 impl<'r> SetSearcher<'r> {
-    /// The patterns, with all memory for searches.
+    /// A searcher of these patterns, with all memory that it needs.
     pub fn new(list: &'r RegexList) -> Result<SetSearcher<'r>, Error>
         ensures list { IfOk result (λ searcher. searcher ≡ list.now) }
         ensures refused { IfErr result (λ error. error ≡ out_of_memory) }

@@ -1,4 +1,4 @@
-//! Searches: which of several patterns match in a haystack.
+//! Searches for which of several patterns match.
 ghost use Rattle.std.specs.Prelude.{◌≡◌, ◌<◌, ℕ, IfOk, IfErr, IsTrue, false, length, replicate};
 ghost use Rattle.std.specs.Prelude.{slice_index_or};
 ghost use Rattle.regex_lite_syntax.specs.Errors.{out_of_memory};
@@ -12,7 +12,7 @@ use regex_lite_meta::{search_each, search_each_uncounted};
 use regex_lite_syntax::Error;
 
 impl RegexList {
-    /// A set of this list that holds none of its patterns. A searcher of the list writes to it.
+    /// An empty set of patterns of this list. A searcher of the list writes to it.
     ///
     /// # Errors
     ///
@@ -27,13 +27,12 @@ impl RegexList {
 
     /// Which of the patterns match somewhere in the haystack.
     ///
-    /// Patterns that are all nothing but words are searched for at once, by these. Otherwise the
-    /// haystack is gone over once for 16 patterns or more: each is tried where it may start, up to
-    /// the first match that the search comes to. Where that doesn't pay, as for fewer patterns
-    /// or for those that may start at most positions, each pattern is searched for by itself. The
-    /// memory of one search is kept for the next. In a long haystack a pattern for which most
-    /// characters take a turn is searched for as a [`Regex`](crate::Regex) by itself is, by turns
-    /// that are remembered.
+    /// If all patterns are plain words, one search for the words finds which of them occur.
+    /// Otherwise 16 or more patterns are searched for in one pass over the haystack: each is tried
+    /// where it can start, up to its first match. If that would be slower, as for fewer patterns or
+    /// for patterns that can start at most positions, each pattern is searched for by itself, and
+    /// one search's memory is reused for the next. In a long haystack a pattern that needs a step
+    /// at most characters is searched for with cached transitions, like a [`Regex`](crate::Regex).
     ///
     /// ```
     /// let list = RegexList::new(alloc, &["[0-9]+", "[a-z]+", "sam"])?;
@@ -57,8 +56,8 @@ impl RegexList {
 
     /// Which of the patterns match somewhere from this offset on.
     ///
-    /// Looks see the whole haystack, as they do in [`RegexList::is_match_at`]. From a start above
-    /// the length none matches.
+    /// Looks see the whole haystack, as they do in [`RegexList::is_match_at`]. If the start is
+    /// above the haystack's length, none matches.
     ///
     /// Condition: the start is above the haystack's length or on a character boundary.
     ///
@@ -75,8 +74,8 @@ impl RegexList {
         Ok(SetMatches { matched })
     }
 
-    /// [`RegexList::matches_at`], and what the searches for the patterns cost together: no more
-    /// than one search for all of them may.
+    /// [`RegexList::matches_at`], and the total cost of the searches for the patterns. It is
+    /// bounded like the cost of one search for all of them.
     ///
     /// Condition: the start is above the haystack's length or on a character boundary.
     ///

@@ -1,4 +1,4 @@
-//! Whole matches of several patterns: those that start where the haystack does, and end there too.
+//! Whole matches of several patterns: matches that start and end where the haystack does.
 ghost use Rattle.std.specs.Prelude.{◌≡◌, ◌↔◌, IfOk, IfErr, IsTrue};
 ghost use Rattle.regex_lite_syntax.specs.Errors.{out_of_memory};
 ghost use Rattle.regex_lite.specs.Anchored.{TellsWholeGroupsOfList, TellsWholeMatchOfList};
@@ -27,7 +27,7 @@ impl RegexList {
 
     /// The match of the whole haystack, with the number of its pattern.
     ///
-    /// If several patterns match the whole haystack, it is the one with the lowest number.
+    /// If several patterns match the whole haystack, the one with the lowest number is returned.
     ///
     /// ```
     /// let list = RegexList::new(alloc, &["[0-9]+", "[0-9]+px", "[a-z0-9]+"])?;
@@ -48,7 +48,7 @@ impl RegexList {
     }
 
     /// The groups of the match that [`RegexList::full_match`] returns, with the number of its
-    /// pattern. They are the groups of that pattern alone, by its own indices and names.
+    /// pattern. They are only the groups of that pattern, with its own indices and names.
     ///
     /// # Errors
     ///

@@ -1,4 +1,4 @@
-//! Single places.
+//! Adding single places.
 ghost use Rattle.std.specs.Prelude.{◌≡◌, ◌<◌, ◌+◌, ◌*◌, ◌^◌, [], ◌∷◌, ◌++◌, length, map};
 ghost use Rattle.std.specs.Prelude.{slice_set, IfOk};
 ghost use Rattle.regex_lite_engine.specs.Graph.Places.{choice, go, go_holding, go_marking};
@@ -24,7 +24,7 @@ impl Writer {
         Ok(number)
     }
 
-    /// Adds a place that goes on at once, and returns its number.
+    /// Adds a place that continues without a condition, and returns its number.
     pub(super) fn add_empty(&mut self, exit: u32) -> Result<u32, AllocError>
         requires { length self.old + 1 < 2 ^ 32 }
         ensures number { IfOk result (λ number. number ≡ length self.old) }
@@ -69,8 +69,7 @@ impl Writer {
         self.add(Place::Look { look, to: exit })
     }
 
-    /// Adds a choice between the body of a repetition and what else there is, and returns its
-    /// number.
+    /// Adds a choice between the body of a repetition and the other place, and returns its number.
     pub(super) fn add_choice(
         &mut self,
         greedy: bool,
@@ -86,7 +85,7 @@ impl Writer {
         self.add(choice_of(greedy, body, other))
     }
 
-    /// Puts such a choice at a number.
+    /// Sets the place with this number to such a choice.
     pub(super) fn put_choice(&mut self, number: u32, greedy: bool, body: u32, other: u32)
         requires { number < length self.old }
         ensures put { map place_of self.new
@@ -127,7 +126,7 @@ impl Writer {
     }
 }
 
-/// A choice between the body of a repetition and what else there is.
+/// A choice between the body of a repetition and the other place.
 fn choice_of(greedy: bool, body: u32, other: u32) -> Place
     ensures { place_of result ≡ choice greedy body other }
 {

@@ -50,9 +50,9 @@ impl Writer {
     /// A choice, and a body that leads back to it.
     ///
     /// A body that can match the empty text needs a join after the loop, which is entered by a
-    /// choice between the body and the join: after a pass that reads nothing the way comes to the
-    /// choice of the loop for the first time at that position, and may leave by it. In a plain loop
-    /// it would come back to the choice where it set out.
+    /// choice between the body and the join: after a pass that reads nothing, the path comes to the
+    /// choice of the loop for the first time at that position, and can leave by it. In a plain loop
+    /// it would return to the choice from which it came.
     #[cycle(write)]
     fn write_star(&mut self, body: &Hir, greedy: bool, exit: u32) -> Result<u32, AllocError>
         requires room { let body = tree_of body.now in
@@ -74,8 +74,8 @@ impl Writer {
         self.add_choice(greedy, inner, join)
     }
 
-    /// The required copies, and where more are allowed, the optional ones and a join after them.
-    /// Without any copy it is one empty place.
+    /// The required copies and, if more are allowed, the optional ones and a join after them.
+    /// Without any copy, a single empty place.
     #[cycle(write)]
     fn write_bounded(
         &mut self,
@@ -113,7 +113,7 @@ impl Writer {
         }
     }
 
-    /// `count` copies in a row.
+    /// `count` copies, one after another.
     #[cycle(write)]
     fn write_copies(&mut self, body: &Hir, count: u32, exit: u32) -> Result<u32, AllocError>
         requires room { length self.old + count * places (tree_of body.now) < 2 ^ 32 }
@@ -131,7 +131,7 @@ impl Writer {
         Ok(next)
     }
 
-    /// `count` copies in a row, each after a choice that may lead to the join.
+    /// `count` copies, one after another, each after a choice that may lead to the join.
     #[cycle(write)]
     fn write_choices(
         &mut self,

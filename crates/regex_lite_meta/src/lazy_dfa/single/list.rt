@@ -1,4 +1,4 @@
-//! Searches for several patterns by themselves that remember their turns.
+//! One-off searches for several patterns with a lazy DFA.
 ghost use Rattle.std.specs.Prelude.{◌≡◌, ◌<◌, ◌↔◌, List, IfOk, IfSome, IsCharBoundary, IsTrue};
 ghost use Rattle.std.specs.Prelude.{chars, length};
 ghost use Rattle.regex_lite_meta.specs.LazyDfa.Scanning.{best_told};
@@ -21,7 +21,7 @@ use regex_lite_engine::search::list_patterns::ListPatterns;
 use regex_lite_engine::search::outcome::Outcome;
 use std::alloc::{AllocError, Global};
 
-/// What `search_list` returns without slots, by an automaton if it isn't over soon.
+/// What `search_list` returns without slots. A search that isn't over soon uses a lazy DFA.
 pub(crate) fn search_list_remembering(
     list: &GraphList,
     alloc: Global,
@@ -42,7 +42,7 @@ pub(crate) fn search_list_remembering(
     Ok((without_slots(alloc, found), steps))
 }
 
-/// What `search_list_any` returns, by an automaton if it isn't over soon.
+/// What `search_list_any` returns. A search that isn't over soon uses a lazy DFA.
 pub(crate) fn search_any_remembering(
     list: &GraphList,
     alloc: Global,
@@ -62,8 +62,8 @@ pub(crate) fn search_any_remembering(
     Ok((found.is_some(), steps))
 }
 
-/// Where the match starts and ends and of which pattern it is, and what the search did. With
-/// EARLIEST it is one with the least end, and its start and number say nothing.
+/// The span of the match and the number of its pattern, and the cost of the search. If EARLIEST, it
+/// is one with the least end, and its start and number are meaningless.
 #[inline(always)]
 fn find_match<const EARLIEST: bool>(
     list: &GraphList,
@@ -82,7 +82,7 @@ fn find_match<const EARLIEST: bool>(
 {
     let mut patterns = ListPatterns::new(alloc, list)?;
     let mut cache = cache_for::<Origin>(alloc, list.table(), 0)?;
-    // Each place is one of the graph.
+    // Each entry is a place of the graph.
     let _entries = list.entries();
     let all = AllOfList { list };
     let found = find_once::<_, _, EARLIEST>(
@@ -97,7 +97,7 @@ fn find_match<const EARLIEST: bool>(
     Ok((found, walk.steps))
 }
 
-/// The match that starts and ends there, with the number of its pattern.
+/// The match with this span, without slots, and the number of its pattern.
 fn without_slots(alloc: Global, found: Option<(Origin, usize)>) -> Option<(usize, Outcome)>
     ensures told { best_told found ≡ with_origin_kept (numbered_told result) }
     ensures slots { IfSome result (λ told. length told.1.slots.items ≡ 0) }

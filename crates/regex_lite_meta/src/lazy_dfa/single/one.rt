@@ -1,4 +1,4 @@
-//! Searches for one pattern by themselves that remember their turns.
+//! One-off searches for one pattern with a lazy DFA.
 ghost use Rattle.std.specs.Prelude.{◌≡◌, ◌<◌, ◌∷◌, [], IfOk, IfSome, IsCharBoundary, chars};
 ghost use Rattle.std.specs.Prelude.{option_map};
 ghost use Rattle.regex_lite_meta.specs.LazyDfa.Scanning.{best_told};
@@ -17,7 +17,7 @@ use regex_lite_engine::search::one_pattern::OnePattern;
 use regex_lite_engine::search::outcome::Outcome;
 use std::alloc::{AllocError, Global};
 
-/// The match of the pattern without slots, by an automaton if the search isn't over soon.
+/// The match of the pattern without slots. A search that isn't over soon uses a lazy DFA.
 pub(crate) fn search_remembering(
     pattern: &mut OnePattern<'_>,
     alloc: Global,
@@ -32,7 +32,7 @@ pub(crate) fn search_remembering(
     Ok((without_slots(alloc, found), steps))
 }
 
-/// The least end of a match, by an automaton if the search isn't over soon.
+/// The least end of a match. A search that isn't over soon uses a lazy DFA.
 pub(crate) fn search_shortest_remembering(
     pattern: &mut OnePattern<'_>,
     alloc: Global,
@@ -47,8 +47,8 @@ pub(crate) fn search_shortest_remembering(
     Ok((end_of(found), steps))
 }
 
-/// Where the match starts and ends, and what the search did. With EARLIEST it is one with the least
-/// end, and its start says nothing.
+/// The span of the match, and the cost of the search. If EARLIEST, it is a match with the least
+/// end, and its start is meaningless.
 #[inline(always)]
 fn find_match<const EARLIEST: bool>(
     pattern: &mut OnePattern<'_>,
@@ -71,7 +71,7 @@ fn find_match<const EARLIEST: bool>(
     Ok((found, walk.steps))
 }
 
-/// The match that starts and ends there.
+/// The match with this span, without slots.
 fn without_slots(alloc: Global, found: Option<(Origin, usize)>) -> Option<Outcome>
     ensures told { match_told result ≡ best_at (span_of found) [] }
 {
@@ -83,7 +83,7 @@ fn without_slots(alloc: Global, found: Option<(Origin, usize)>) -> Option<Outcom
     })
 }
 
-/// Where the match ends.
+/// The end of the match.
 pub(crate) fn end_of(found: Option<(Origin, usize)>) -> Option<usize>
     ensures { result ≡ option_map (λ best. best.1) (best_told found) }
 {

@@ -21,16 +21,16 @@ use crate::parse::escape::{Primitive, read_escape};
 use crate::parse::gap::skip_gap;
 use crate::parse::read::is_at;
 
-/// One character, or one escape.
+/// An element of an item: a character or an escape.
 #[derive(Clone, Copy, PartialEq, Eq, Debug)]
 pub(crate) enum Element {
     /// This character.
     Char(char),
-    /// The set with this name, or all other characters.
+    /// The set with this name, or its complement.
     Set { set: NamedSet, negated: bool },
 }
 
-/// What a class is the union of.
+/// An item of a class, which is the union of its items.
 #[derive(Clone, Copy, PartialEq, Eq, Debug)]
 pub(crate) enum Item {
     Alone(Element),
@@ -38,7 +38,7 @@ pub(crate) enum Item {
     Range { start: char, end: char },
 }
 
-/// Reads an item, and returns the index after it. A character other than `]` stands at the index.
+/// Reads an item, and returns the index after it. The character at the index isn't `]`.
 pub(crate) fn read_item(
     chars: &[char],
     at: usize,
@@ -87,7 +87,7 @@ fn fault_of_look(chars: &[char], at: usize, verbose: bool) -> SyntaxFault
     }
 }
 
-/// The fault where a doubled `&`, `-` or `~` stands at the index.
+/// The fault if there is a doubled `&`, `-` or `~` at the index.
 fn operator_fault(chars: &[char], at: usize) -> Option<SyntaxFault>
     requires { at < length chars.now }
     ensures { MatchOption result (BeginsOperator (drop at chars.now) → ⊥)
@@ -105,8 +105,8 @@ fn operator_fault(chars: &[char], at: usize) -> Option<SyntaxFault>
     }
 }
 
-/// Reads one character or one escape, and returns the index after it. Where the pattern ends inside
-/// an escape, more of it completes the element only if that can be a character from `least` on.
+/// Reads one character or one escape, and returns the index after it. If the pattern ends inside an
+/// escape, more of it completes the element only if that can be a character from `least` on.
 fn read_element(
     chars: &[char],
     at: usize,
@@ -133,11 +133,11 @@ fn read_element(
     if !is_at(chars, at + 1, 'b') {
         return read_escape(chars, at + 1, verbose, least);
     }
-    // What `\b` begins is a look and no element, so nothing completes one.
+    // What begins with `\b` is a look and not an element, so nothing completes it.
     read_escape(chars, at + 1, verbose, least).map_err(SyntaxFault::for_good)
 }
 
-/// The element of an item that is no range: all but a look may be one.
+/// The element of an item that isn't a range: anything but a look.
 fn element_of(primitive: Primitive) -> Option<Element>
     ensures { MatchOption result (¬ IsElement (primitive_of primitive))
         (λ element. element_primitive element ≡ primitive_of primitive) }
@@ -149,7 +149,7 @@ fn element_of(primitive: Primitive) -> Option<Element>
     }
 }
 
-/// Where the end of a range stands, if a dash makes a range of the element before the index.
+/// The index of a range's end, if a dash makes the element before the index the start of a range.
 fn find_range_end(chars: &[char], at: usize, verbose: bool) -> Result<Option<usize>, SyntaxFault>
     requires { at ≤ length chars.now }
     ensures inside { IfOk result (λ found. IfSome found (λ last.
@@ -210,7 +210,7 @@ fn read_range(
     Ok((past, Item::Range { start, end }))
 }
 
-/// The fault of a range that starts with no character: nothing could complete it.
+/// The fault of a range that doesn't start with a character: nothing could complete it.
 fn fault_of_range(chars: &[char], last: usize, verbose: bool) -> SyntaxFault
     requires inside { last < length chars.now }
     requires past_gap { EndsGap verbose (drop last chars.now) }

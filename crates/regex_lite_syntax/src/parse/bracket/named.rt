@@ -1,4 +1,4 @@
-//! Sets that stand in a class by their names, as `[:alpha:]`.
+//! Named sets in a class, such as `[:alpha:]`.
 ghost use Rattle.std.specs.Prelude.{◌≡◌, ◌<◌, ◌≤◌, ◌+◌, ◌-◌, ◌∷◌, ◌++◌, ◌&&◌, ◌==◌};
 ghost use Rattle.std.specs.Prelude.{drop, take, Bool, length, IfOk, IfErr, OnOk, find};
 ghost use Rattle.std.specs.List.{AllPass, list_any};
@@ -16,7 +16,7 @@ use crate::error::{SyntaxFault, UnexpectedEof};
 use crate::parse::bracket::item::Element;
 use crate::parse::read::is_at;
 
-/// Reads `[:name:]` or `[:^name:]`, whose first bracket stands at the index.
+/// Reads `[:name:]` or `[:^name:]`, whose first bracket is at the index.
 pub(crate) fn read_named_set(chars: &[char], at: usize) -> Result<(usize, Element), SyntaxFault>
     requires inside { at < length chars.now }
     requires begins { drop at chars.now ≡ the "[" ∷ drop (at + 1) chars.now }
@@ -41,8 +41,8 @@ pub(crate) fn read_named_set(chars: &[char], at: usize) -> Result<(usize, Elemen
     }
 }
 
-/// Refuses any other character than this at the index, and the pattern's end, as cut short if what
-/// stands before it has `begun` a set with a name.
+/// Returns an error if the character at the index isn't this one. If the pattern ends there, it is
+/// cut short if a named set has `begun` before.
 fn expect(chars: &[char], at: usize, c: char, begun: bool) -> Result<(), SyntaxFault>
     requires { at ≤ length chars.now }
     ensures there { OnOk result
@@ -61,7 +61,7 @@ fn expect(chars: &[char], at: usize, c: char, begun: bool) -> Result<(), SyntaxF
     }
 }
 
-/// Where the lower-case letters from the index on end.
+/// The end of the lower-case letters from the index on.
 fn skip_lower(chars: &[char], at: usize) -> usize
     requires { at ≤ length chars.now }
     ensures inside { (at ≤ result) × (result ≤ length chars.now) }
@@ -77,7 +77,7 @@ fn skip_lower(chars: &[char], at: usize) -> usize
     end
 }
 
-/// All sets with names.
+/// All named sets.
 const ALL: [NamedSet; 14] = [
     NamedSet::Alnum,
     NamedSet::Alpha,

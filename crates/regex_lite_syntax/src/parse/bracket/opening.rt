@@ -1,4 +1,4 @@
-//! What a class begins with.
+//! The opening of a class.
 ghost use Rattle.std.specs.Prelude.{◌≡◌, ◌<◌, ◌≤◌, ◌+◌, ◌∷◌, ℕ, nat_lt, drop, length, IsTrue};
 ghost use Rattle.regex_lite_syntax.specs.Text.{the};
 ghost use Rattle.regex_lite_syntax.specs.Grammar.Gaps.{EndsGap};
@@ -10,7 +10,7 @@ use crate::error::{SyntaxFault, UnexpectedEof};
 use crate::parse::gap::skip_gap;
 use crate::parse::read::is_at;
 
-/// What stands first in a class, each for itself.
+/// The opening of a class: its negation, and the dash or bracket that is a member.
 #[derive(Clone, Copy, PartialEq, Eq, Debug)]
 pub(crate) struct Opening {
     pub(crate) negated: bool,
@@ -19,7 +19,7 @@ pub(crate) struct Opening {
 }
 
 impl Opening {
-    /// The fault of a pattern that ends after this.
+    /// The fault of a pattern that ends after this opening.
     pub(crate) fn unclosed(self) -> SyntaxFault
         ensures { IsTrue (is_cut_short result) }
     {
@@ -35,7 +35,7 @@ impl Opening {
     }
 }
 
-/// Reads what a class begins with, from its bracket on, and returns the index of what follows.
+/// Reads the opening of a class, from its bracket on, and returns the index after it.
 pub(crate) fn read_opening(chars: &[char], at: usize, verbose: bool) -> (usize, Opening)
     requires inside { at < length chars.now }
     requires begins { drop at chars.now ≡ the "[" ∷ drop (at + 1) chars.now }
@@ -57,7 +57,7 @@ pub(crate) fn read_opening(chars: &[char], at: usize, verbose: bool) -> (usize, 
     (start, opening)
 }
 
-/// Passes this character with the gap after it, and returns whether it stands there.
+/// Skips this character and the gap after it, and returns whether it is there.
 fn take(chars: &[char], at: usize, c: char, verbose: bool) -> (usize, bool)
     requires inside { at ≤ length chars.now }
     requires past_gap { EndsGap verbose (drop at chars.now) }
@@ -72,7 +72,7 @@ fn take(chars: &[char], at: usize, c: char, verbose: bool) -> (usize, bool)
     }
 }
 
-/// Passes all dashes, each with the gap after it, and returns whether any stand there.
+/// Skips all dashes, each with the gap after it, and returns whether there are any.
 fn take_dashes(chars: &[char], at: usize, verbose: bool) -> (usize, bool)
     requires inside { at ≤ length chars.now }
     requires past_gap { EndsGap verbose (drop at chars.now) }
@@ -91,7 +91,7 @@ fn take_dashes(chars: &[char], at: usize, verbose: bool) -> (usize, bool)
     (end, found)
 }
 
-/// Passes a `]` that stands for itself with the gap after it, where no dash stood before it.
+/// Skips a `]` that is a member and the gap after it, if there was no dash before.
 fn take_bracket(chars: &[char], at: usize, dash: bool, verbose: bool) -> (usize, bool)
     requires inside { at ≤ length chars.now }
     requires past_gap { EndsGap verbose (drop at chars.now) }

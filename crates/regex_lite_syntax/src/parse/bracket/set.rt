@@ -1,4 +1,4 @@
-//! The set of a class, from what stands in it.
+//! The set of a class, from its opening and its items.
 ghost use Rattle.std.specs.Prelude.{◌≡◌, ◌||◌, ◌∷◌, [], ℕ, List, IfOk, OnOk};
 ghost use Rattle.regex_lite_syntax.specs.Text.{the};
 ghost use Rattle.regex_lite_syntax.specs.Sets.{Set, just, union};
@@ -12,7 +12,7 @@ use crate::parse::bracket::item::{Element, Item};
 use crate::parse::bracket::opening::Opening;
 use std::alloc::{AllocError, Global};
 
-/// Adds what stands first in a class.
+/// Adds the members of a class's opening.
 pub(crate) fn push_opening(ranges: &mut Vec<ClassRange>, opening: Opening) -> Result<(), AllocError>
     ensures { OnOk result ((c : ℕ) → in_ranges ranges.new.items c ≡ (in_ranges ranges.old.items c
         || union (only_if opening.dash (just (the "-"))
@@ -56,7 +56,7 @@ fn push_char(ranges: &mut Vec<ClassRange>, c: char) -> Result<(), AllocError>
     Ok(())
 }
 
-/// The class of these ranges, closed under case where that is asked for, and then negated.
+/// The class of these ranges, closed under case if `insensitive`, and then negated if `negated`.
 pub(crate) fn class_of(
     alloc: Global,
     mut ranges: Vec<ClassRange>,

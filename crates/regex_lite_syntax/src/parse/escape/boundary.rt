@@ -1,4 +1,4 @@
-//! Starts and ends of words: `\b`, and its forms with a name in braces.
+//! Word boundaries: `\b`, and its forms with a name in braces.
 ghost use Rattle.std.specs.Prelude.{◌≡◌, ◌≤◌, false, Some, ◌∷◌, ◌++◌, drop, length, IsTrue};
 ghost use Rattle.std.specs.Prelude.{IfOk, IfSome, IfNone, IfErr};
 ghost use Rattle.std.specs.List.{list_all};
@@ -15,8 +15,8 @@ use crate::hir::look::Look;
 use crate::parse::gap::skip_gap;
 use crate::parse::read::{char_at, is_at};
 
-/// Reads which look `\b` is, from after it on. A brace may begin a counted operator, which
-/// doesn't belong to it.
+/// Reads the look of `\b`, from after the `b` on. A brace may also begin a counted operator, which
+/// isn't part of the escape.
 pub(super) fn read_word_boundary(
     chars: &[char],
     at: usize,
@@ -43,7 +43,7 @@ pub(super) fn read_word_boundary(
     }
 }
 
-/// Reads a name from after the opening brace on, and the brace that closes.
+/// Reads a name from after the opening brace on, and the closing brace.
 fn read_name(chars: &[char], at: usize, verbose: bool) -> Result<(usize, Look), SyntaxFault>
     requires { at ≤ length chars.now }
     ensures inside { IfOk result (λ r. (at ≤ r.0) × (r.0 ≤ length chars.now)) }
@@ -70,7 +70,7 @@ fn read_name(chars: &[char], at: usize, verbose: bool) -> Result<(usize, Look), 
     Err(fault_of_name(chars, at, verbose))
 }
 
-/// Where the brace ends that closes this name, if both stand there.
+/// The index after this name and its closing brace, if both are there.
 fn skip_name(chars: &[char], at: usize, verbose: bool, name: &str) -> Option<usize>
     requires inside { at ≤ length chars.now }
     requires letters { IsTrue (list_all is_boundary_character name.now) }
@@ -98,8 +98,8 @@ fn skip_name(chars: &[char], at: usize, verbose: bool, name: &str) -> Option<usi
     }
 }
 
-/// Why no name stands there: its letters go on to the end of the pattern, it isn't closed, or it
-/// is none of the names.
+/// The fault of a missing name: its letters extend to the end of the pattern, it isn't closed, or
+/// it isn't one of the names.
 fn fault_of_name(chars: &[char], at: usize, verbose: bool) -> SyntaxFault
     requires { at ≤ length chars.now }
     ensures completes { CanComplete result
@@ -133,7 +133,7 @@ fn ends_in_any_name(chars: &[char], at: usize, verbose: bool) -> bool
     ensures absent { result ≡ false → (name : Text) (look : Look)
         → boundary_named name ≡ Some look → EndsInName verbose name (drop at chars.now) → ⊥ }
 {
-    // these two begin with the others
+    // these two begin with the other two
     ends_in_name(chars, at, verbose, "start-half") || ends_in_name(chars, at, verbose, "end-half")
 }
 
@@ -155,7 +155,7 @@ fn ends_in_name(chars: &[char], at: usize, verbose: bool, name: &str) -> bool
     skip_gap(chars, end, verbose) == chars.len()
 }
 
-/// Whether the character may stand in a name.
+/// Whether the character may occur in a name.
 fn is_name_char(c: char) -> bool
     ensures { result ≡ is_boundary_character c }
 {

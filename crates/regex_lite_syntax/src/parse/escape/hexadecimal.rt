@@ -1,4 +1,5 @@
-//! Characters by their numbers: a fixed number of hexadecimal digits, or some in braces.
+//! Characters by their numbers: a fixed number of hexadecimal digits, or any number of them in
+//! braces.
 ghost use Rattle.std.specs.Prelude.{◌≡◌, ℕ, ◌+◌, ◌<◌, ◌≤◌, drop, length, IsTrue};
 ghost use Rattle.std.specs.Prelude.{false, MatchOption, IfOk, IfErr};
 ghost use Rattle.regex_lite_syntax.specs.Text.{Text};
@@ -14,10 +15,10 @@ use crate::parse::read::char_at;
 
 /// The number of the last character.
 const LAST: u32 = 0x10_FFFF;
-/// With this many further digits, every number but 0 is past the last character.
+/// With this many further digits, every number but 0 is above the last character.
 const TOO_MANY: u32 = 6;
 
-/// Reads a character by its number, from after the letter that says how many digits there are.
+/// Reads a character by its number, from after the letter that gives the number of digits.
 pub(super) fn read_hexadecimal(
     chars: &[char],
     at: usize,
@@ -87,7 +88,7 @@ fn read_fixed(
     }
 }
 
-/// Reads the digits from after an opening brace on, and the brace that closes.
+/// Reads the digits from after an opening brace on, and the closing brace.
 fn read_braced(
     chars: &[char],
     at: usize,
@@ -133,7 +134,7 @@ fn read_braced(
 }
 
 /// Whether some digits after the number make it a character from `least` on. After 0 there is at
-/// least one of them, and after another number perhaps none.
+/// least one digit, after another number there may be none.
 fn can_reach_at_all(number: u32, least: char) -> bool
     requires { number ≤ 0x10FFFF }
     ensures reached { IsTrue result → (further : Text) × Reaches number least further
@@ -160,7 +161,7 @@ fn can_reach(number: u32, digits: u32, least: char) -> bool
     ensures absent { result ≡ false → (further : Text) → length further ≡ digits
         → Reaches number least further → ⊥ }
 {
-    // the first and the last number that can come, cut off where the characters end
+    // the least and the greatest number that can follow, capped at the last character
     let mut low = number;
     let mut high = number;
     for _ in 0..digits {
@@ -180,12 +181,12 @@ fn last_char_to(number: u32) -> char
 {
     match char::from_u32(number) {
         Some(c) => c,
-        // the one before the surrogates
+        // the character before the surrogates
         None => '\u{D7FF}',
     }
 }
 
-/// What a hexadecimal digit stands for.
+/// The value of a hexadecimal digit.
 fn hex_value(c: char) -> Option<u32>
     ensures { MatchOption result (is_hex_digit c ≡ false)
         (λ v. IsTrue (is_hex_digit c) × (v ≡ value_of_digit c) × (v < 16)) }
