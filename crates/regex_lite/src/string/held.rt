@@ -94,7 +94,9 @@ impl<'r> HeldRegex<'r> {
     }
 
     /// The compiled pattern.
-    pub fn compiled(&self) -> &Compiled {
+    pub fn compiled(&self) -> &Compiled
+        ensures { result.now ≡ self.now }
+    {
         self.owner()
     }
 

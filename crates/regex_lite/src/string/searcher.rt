@@ -67,7 +67,9 @@ impl<'r> Searcher<'r> {
     }
 
     /// The compiled pattern.
-    pub fn compiled(&self) -> &Compiled {
+    pub fn compiled(&self) -> &Compiled
+        ensures { result.now.pattern ≡ self.now.regex }
+    {
         self.regex.compiled()
     }
 
