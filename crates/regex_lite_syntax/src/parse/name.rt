@@ -9,11 +9,14 @@ ghost use Rattle.regex_lite_syntax.specs.Tree.Views.{text_of_name};
 ghost use Rattle.regex_lite_syntax.specs.Parser.NameOpenings.{Unnamed};
 ghost use Rattle.regex_lite_syntax.specs.Refusals.{NoReading, CanComplete};
 
+mod numeric;
+
 use crate::error::{SyntaxFault, UnexpectedEof};
 use crate::parse::read::{char_at, is_at};
+use numeric::is_numeric;
 use std::alloc::{AllocError, Global};
 use std::rc::RcStr;
-use unicode::properties::{GeneralCategory, is_alphabetic};
+use unicode::properties::is_alphabetic;
 
 /// The start of a name: the index after `?P<` or `?<`, if one of them is at the index.
 pub(crate) fn skip_name_opening(chars: &[char], at: usize) -> Option<usize>
@@ -92,14 +95,7 @@ fn may_begin_name(c: char) -> bool
 fn may_continue_name(c: char) -> bool
     ensures { result ≡ continues_name c }
 {
-    matches!(c, '_' | '.' | '[' | ']')
-        || is_alphabetic(c)
-        || matches!(
-            GeneralCategory::for_char(c),
-            GeneralCategory::DecimalNumber
-                | GeneralCategory::LetterNumber
-                | GeneralCategory::OtherNumber
-        )
+    matches!(c, '_' | '.' | '[' | ']') || is_alphabetic(c) || is_numeric(c)
 }
 
 /// The name of these characters.
