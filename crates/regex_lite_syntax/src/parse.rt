@@ -91,6 +91,8 @@ fn characters(alloc: Global, text: &str) -> Result<Vec<char>, AllocError>
 }
 
 /// The tree of the pattern with these characters.
+// Its loop needs the registers, so it is not inlined, and what it runs for each part is.
+#[inline(never)]
 fn parse_chars(alloc: Global, config: Config, chars: &[char]) -> Result<Hir, Error>
     requires { AreCharacters chars.now }
     ensures tree { IfOk result (λ hir.
@@ -153,6 +155,7 @@ impl Parser {
     }
 
     /// Reads the part at the index, and the gap before it, and returns the index after it.
+    #[inline(always)]
     fn step(&mut self, chars: &[char], at: usize) -> Result<usize, Error>
         requires inside { at < length chars.now }
         requires past_gap { EndsGap self.old.here.flags.ignore_whitespace (drop at chars.now) }

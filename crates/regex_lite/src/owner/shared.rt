@@ -52,6 +52,7 @@ impl<T: Drop + 'static> Shared<T> {
 }
 
 impl<T: Drop + 'static> Drop for Shared<T> {
+    #[inline(never)]
     fn drop(self) {
         let Shared { alloc, owner } = self;
         match owner {

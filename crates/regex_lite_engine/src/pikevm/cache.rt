@@ -28,6 +28,7 @@ pub struct Cache<S: Beginning> {
 /// # Errors
 ///
 /// If memory runs out.
+#[inline(never)]
 pub fn cache_for<S: Beginning>(
     alloc: Global,
     table: &Table,

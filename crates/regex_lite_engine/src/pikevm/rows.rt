@@ -125,6 +125,7 @@ impl Rows {
 
 /// Extends the slots with blank ones to this number, if there are fewer. There is capacity for
 /// them.
+#[inline(never)]
 fn fill_to(slots: &mut Vec<Slot>, end: usize)
     requires { end ≤ vec_capacity slots.old }
     ensures items { slots.new.items
@@ -153,6 +154,7 @@ fn copy_filled(slots: &mut Vec<Slot>, from: usize, to: usize, width: usize, end:
 }
 
 /// Copies a row of this width.
+#[inline(never)]
 fn copy_row(slots: &mut Vec<Slot>, from: usize, to: usize, width: usize)
     requires from { from + width ≤ length slots.old.items }
     requires to { to + width ≤ length slots.old.items }
@@ -171,6 +173,7 @@ fn copy_row(slots: &mut Vec<Slot>, from: usize, to: usize, width: usize)
 }
 
 /// Clears a row of this width.
+#[inline(never)]
 fn clear_row(slots: &mut Vec<Slot>, from: usize, width: usize)
     requires { from + width ≤ length slots.old.items }
     ensures cleared { slots.new.items ≡ take from slots.old.items

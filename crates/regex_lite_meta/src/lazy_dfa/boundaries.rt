@@ -129,6 +129,7 @@ impl Boundaries {
     }
 
     /// Adds a boundary at this number. Returns whether it fitted.
+    #[inline(never)]
     #[tactic(auto, using(crate::proofs::lazy_dfa::BoundaryLemmas::one_more))]
     fn add(&mut self, bound: u32) -> bool
         ensures added { result ≡ true → IsBoundary self.new.boundaries bound }

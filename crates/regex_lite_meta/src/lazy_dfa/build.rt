@@ -40,6 +40,7 @@ impl LazyDfa {
     }
 
     /// A lazy DFA for this pattern.
+    #[inline(never)]
     pub(crate) fn for_one(alloc: Global, pattern: &OnePattern<'_>) -> Option<LazyDfa>
         ensures { IfSome result
             (RemembersFor (places_of pattern.now.table.now) (pattern.now.entry ∷ [])) }

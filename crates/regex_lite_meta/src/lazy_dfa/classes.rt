@@ -221,6 +221,7 @@ impl Interval {
     }
 
     /// The interval between these boundaries that contains this number.
+    #[inline(never)]
     #[tactic(auto, using(crate::proofs::lazy_dfa::IntervalLemmas::interval_cons))]
     pub(super) fn around(boundaries: &[u32], c: u32) -> Interval
         requires { length boundaries.now ≤ 125 }

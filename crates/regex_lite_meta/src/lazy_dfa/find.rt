@@ -197,7 +197,7 @@ impl LazyDfa {
     /// Continues where cached transitions end, if all threads there began at the first start, and
     /// no match was found or a place was entered before. Otherwise it continues after the last
     /// position without thread and match, or where the search was.
-    #[inline(always)]
+    #[inline(never)]
     pub(super) fn resume<P: Patterns>(
         &self,
         patterns: &P,

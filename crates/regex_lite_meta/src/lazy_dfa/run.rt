@@ -209,6 +209,7 @@ pub(super) fn may_have(cache: &Cache<Origin>, found: Option<(Origin, usize)>) ->
 }
 
 /// Loads these ways as threads, all of which began at this start, and this match, if there is one.
+#[inline(never)]
 pub(super) fn take_up_ways(
     cache: &mut Cache<Origin>,
     ways: &[StoredWay],

@@ -10,6 +10,7 @@ const LAST_ASCII: char = '\x7F';
 
 /// The ASCII characters of the ranges, which are in order, as a bitmap in two words, the lowest
 /// first.
+#[inline(never)]
 pub(crate) fn words_of_ranges(ranges: &[ClassRange]) -> [u64; 2]
     requires { AreRuns 0 ranges.now }
     ensures { AreMapOf result (in_ranges ranges.now) }

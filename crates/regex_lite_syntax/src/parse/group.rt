@@ -128,6 +128,7 @@ impl Parser {
     }
 
     /// Begins a group with the next number.
+    #[inline(never)]
     fn open_capture(&mut self, name: Option<RcStr>) -> Result<(), Error>
         ensures ok { OnOk result
             (OpensCapture self.old self.new (option_map text_of_name name)) }
@@ -144,6 +145,7 @@ impl Parser {
     }
 
     /// Begins a group in which these flags hold.
+    #[inline(never)]
     fn open(&mut self, kind: GroupKind, flags: Flags) -> Result<(), AllocError>
         ensures { OnOk result (OpensGroup self.old self.new (group_kind kind) flags) }
     {

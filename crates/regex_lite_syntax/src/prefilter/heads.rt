@@ -45,6 +45,7 @@ impl Heads {
     }
 
     /// The same, where the first characters are known.
+    #[inline(never)]
     pub(crate) fn with_first(first: Starts, hir: &Hir) -> Heads
         requires { AreStartsOfTree (tree_of hir.now) first }
         ensures { AreHeadsOfTree (tree_of hir.now) result }
@@ -76,6 +77,7 @@ impl Heads {
 
 impl Starts {
     /// The second characters of the matches of the tree, if each match has two and they are few.
+    #[inline(never)]
     fn second_of(hir: &Hir) -> Option<Starts>
         ensures { IfSome result (AreSecondOfTree (tree_of hir.now)) }
     {

@@ -69,6 +69,7 @@ impl ListHeads {
 
     /// Whether at least 26 ASCII characters can come first, each before at least 26 second ones.
     /// Then some pattern may start at most positions of most texts.
+    #[inline(never)]
     pub fn begin_often(&self) -> bool
         ensures { result ≡ begin_often self.now }
     {

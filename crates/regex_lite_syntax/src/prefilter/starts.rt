@@ -230,6 +230,7 @@ impl Starts {
     }
 
     /// Adds all that the other has.
+    #[inline(never)]
     pub(crate) fn add_starts(&mut self, other: &Starts)
         ensures { IsUnion self.old other.now self.new }
     {

@@ -94,6 +94,7 @@ impl<'r, 'h> Model for Matches<'r, 'h> {
 
 impl<'r, 'h> Matches<'r, 'h> {
     /// The matches in the haystack, up to the limit if there is one.
+    #[inline(never)]
     pub(crate) fn new(
         regex: &'r Regex,
         haystack: &'h str,

@@ -38,6 +38,7 @@ impl Starts {
     }
 
     /// Becomes the same as the other.
+    #[inline(never)]
     pub(crate) fn set_to(&mut self, other: &Starts)
         ensures { self.new ≡ other.now }
     {
