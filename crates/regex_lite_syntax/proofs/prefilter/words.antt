@@ -5,6 +5,7 @@ pub mod StandLemmas
 pub mod NextLemmas
 pub mod PairLemmas
 pub mod LeapLemmas
+pub mod SharedLetterLemmas
 pub mod LinkLemmas
 pub mod MarkLemmas
 pub mod WordListLemmas

@@ -1,13 +1,17 @@
 -- What a search for words rests on: where the rarest letters of one word stand, or how far it may
--- leap from a pair of bytes, and which of several words may stand where it can't.
-use Rattle.std.specs.Prelude.{◌≡◌, ◌≤◌, ◌<◌, ℕ, List, length}
+-- leap from a pair of bytes, which of several words may stand where it can't, and which letter they
+-- share.
+use Rattle.std.specs.Prelude.{◌≡◌, ◌≤◌, ◌<◌, ◌∷◌, [], ℕ, List, IfSome, drop, length}
 use Rattle.regex_lite_syntax.specs.declared.prefilter.words.WordSearch.{WordSearch}
 use Rattle.regex_lite_syntax.specs.declared.prefilter.words.WordSearch.TheVariants as finder
 use Rattle.regex_lite_syntax.specs.declared.prefilter.words.letter.Letter.{Letter}
 use Rattle.regex_lite_syntax.specs.declared.prefilter.words.leaps.Leaps.{Leaps}
+use Rattle.regex_lite_syntax.specs.declared.prefilter.words.leaps.shared_letter.SharedLetter.{
+  SharedLetter,
+}
 use Rattle.regex_lite_syntax.specs.declared.prefilter.words.pair.Pair.{Pair}
 use Rattle.regex_lite_syntax.specs.Prefilter.Leaps.{AreLeaps, AreLinks}
-use Rattle.regex_lite_syntax.specs.Prefilter.Words.{word_at}
+use Rattle.regex_lite_syntax.specs.Prefilter.Words.{StartsWith, word_at}
 
 -- the two letters are letters of the one word
 pub record IsPairOf (words : List (List Letter)) (pair : Pair) : Type 0 where
@@ -15,13 +19,22 @@ pub record IsPairOf (words : List (List Letter)) (pair : Pair) : Type 0 where
   pub first : pair.first < length (word_at words 0)
   pub second : pair.second < length (word_at words 0)
 
--- no word is shorter than the reach, no leap passes one, and each is reached by its bucket
+-- wherever one of the words stands, the letter stands at one of its bytes, at most as far from its
+-- first one as the offset
+abbrev pub IsSharedBy : List (List Letter) → SharedLetter → Type 0
+IsSharedBy words shared =
+    (number : ℕ) (bytes : List ℕ) → number < length words → StartsWith (word_at words number) bytes
+    → (k : ℕ) × (k ≤ shared.offset) × StartsWith (shared.letter ∷ []) (drop k bytes)
+
+-- no word is shorter than the reach, no leap passes one, each is reached by its bucket,
+-- and each has the letter that they share
 pub record AreLeapsOf (words : List (List Letter)) (leaps : Leaps) : Type 0 where
   pub two : 2 ≤ leaps.reach
   pub long : (number : ℕ) → number < length words → leaps.reach ≤ length (word_at words number)
   pub none_passed : AreLeaps words leaps.reach leaps.leaps.items
   pub hashed : leaps.hashed ≤ leaps.reach
   pub links : AreLinks words leaps.hashed leaps.first.items leaps.next.items
+  pub shared : IfSome leaps.shared (IsSharedBy words)
 
 -- the words are found so
 abbrev pub Finds : List (List Letter) → WordSearch → Type 0

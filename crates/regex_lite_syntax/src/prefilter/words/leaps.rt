@@ -7,11 +7,14 @@ ghost use Rattle.regex_lite_syntax.specs.Prefilter.Leaps.{NeverPasses};
 ghost use Rattle.regex_lite_syntax.specs.Prefilter.Leaps.{bucket_at, bucket_of, key_of, mixed};
 ghost use Rattle.regex_lite_syntax.specs.Prefilter.WordLists.{all_words};
 ghost use Rattle.regex_lite_syntax.specs.Prefilter.Words.{AnyStandsAt, AreLong, IsFirstAt};
-ghost use Rattle.regex_lite_syntax.specs.Prefilter.Words.{IsNextWord, NoneStands, StartsWith};
+ghost use Rattle.regex_lite_syntax.specs.Prefilter.Words.{IsNextWord, StartsWith};
 ghost use Rattle.regex_lite_syntax.specs.Prefilter.Words.{word_at};
 
 mod marking;
+mod shared_letter;
+mod stops;
 
+use crate::prefilter::words::leaps::shared_letter::SharedLetter;
 use crate::prefilter::words::letter::Letter;
 use crate::prefilter::words::standing::stands;
 use crate::prefilter::words::word_list::WordList;
@@ -39,6 +42,8 @@ pub(super) struct Leaps {
     first: Vec<u32>,
     /// The next word of the same bucket.
     next: Vec<u32>,
+    /// A rare letter of all words, if there is one.
+    shared: Option<SharedLetter>,
 }
 
 impl Leaps {
@@ -66,6 +71,7 @@ impl Leaps {
             hashed,
             first,
             next,
+            shared: SharedLetter::of(words),
         })
     }
 
@@ -86,7 +92,8 @@ impl Leaps {
         ensures { IsNextWord (all_words words.now) bytes.now from result }
     {
         let mut at = from;
-        'stops: while let Some(stop) = self.next_stop(bytes, at) {
+        let mut span = self.first_span(bytes, from);
+        'stops: while let Some(stop) = self.next_stop(bytes, at, &mut span) {
             if let Some(number) = self.first_at(words, bytes, stop) {
                 return Some((stop, number));
             }
@@ -109,30 +116,6 @@ impl Leaps {
             return false;
         }
         self.first_at(words, bytes, at).is_some()
-    }
-
-    /// The first offset from this one on that no leap passes: no word stands before it.
-    #[inline(always)]
-    fn next_stop(&self, bytes: &[u8], from: usize) -> Option<usize>
-        requires from { from ≤ length bytes.now }
-        requires leaps { (words : List (List Letter)) × AreLeapsOf words self.now }
-        ensures { (words : List (List Letter)) → AreLeapsOf words self.now
-            → MatchOption result ((at : ℕ) → from ≤ at → ¬ AnyStandsAt words bytes.now at)
-            (λ stop. (from ≤ stop) × NoneStands words bytes.now from stop
-            × (stop + self.now.reach ≤ length bytes.now)) }
-    {
-        let reach = self.reach;
-        let leaps: &[u8] = &self.leaps;
-        let mut at = from;
-        'leaps: while bytes.len() - at >= reach {
-            let end = at + reach;
-            let leap = leaps[key(bytes[end - 2], bytes[end - 1])] as usize;
-            if leap == 0 {
-                return Some(at);
-            }
-            at += leap;
-        }
-        None
     }
 
     /// The link to the first of the words that may stand there.

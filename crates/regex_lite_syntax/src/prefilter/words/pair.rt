@@ -34,7 +34,10 @@ pub(super) struct Pair {
 
 impl Pair {
     /// That of a word's first letter alone.
-    pub(super) fn of_first() -> Pair {
+    pub(super) fn of_first() -> Pair
+        ensures first { result.first ≡ 0 }
+        ensures second { result.second ≡ 0 }
+    {
         Pair {
             first: 0,
             second: 0,
@@ -70,13 +73,14 @@ impl Pair {
         Pair { first, second }
     }
 
-    /// The rarest letter of the word.
+    /// Two of the rarest letters of the word, the rarest first.
     ///
     /// Condition: it is the word for which this was made.
-    pub(super) fn rarest(self, word: &[Letter]) -> Letter
-        requires { self.first < length word.now }
+    pub(super) fn letters(self, word: &[Letter]) -> (Letter, Letter)
+        requires first { self.first < length word.now }
+        requires second { self.second < length word.now }
     {
-        word[self.first]
+        (word[self.first], word[self.second])
     }
 
     /// The first offset from this one on at which the word stands.

@@ -52,7 +52,8 @@ impl Leaps {
     {
         let mut budget = Budget::of(numbered.words.len(), marks.len());
         let mut at = from;
-        'stops: while let Some(stop) = self.next_stop(bytes, at) {
+        let mut span = self.first_span(bytes, from);
+        'stops: while let Some(stop) = self.next_stop(bytes, at, &mut span) {
             budget.pass(stop - at);
             if budget.is_spent() {
                 return Some(stop);

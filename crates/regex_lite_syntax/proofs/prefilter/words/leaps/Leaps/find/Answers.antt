@@ -8,7 +8,7 @@ pub returns-in-Some-first_at : goal.returns-in-Some-first_at
 returns-in-Some-first_at c =
     let words = all_words c.args.words.now in
     let v = c.stops.invariant in
-    let (later, none, room) = c.in-Some.ensures words c.requires.leaps in (
+    let (later, none, room) = c.in-Some.ensures.stop words c.requires.leaps in (
       omega (arith, v.order, later),
       none_joined words c.args.bytes.now c.args.from c.stops.at c.in-Some.stop v.none none,
       c.in-Some-first_at.ensures,
@@ -20,11 +20,12 @@ stops-preserved c =
     let bytes = c.args.bytes.now in
     let stop = c.in-Some.stop in
     let v = c.stops.invariant in
-    let (later, none, room) = c.in-Some.ensures words c.requires.leaps in
+    let (later, none, room) = c.in-Some.ensures.stop words c.requires.leaps in
     let two = c.requires.leaps.two in
     record {
       order = omega (arith, v.order, later);
       inside = omega (arith, room, two);
+      room = c.in-Some.ensures.span;
       none = none_and_here words bytes c.args.from stop
           (none_joined words bytes c.args.from c.stops.at stop v.none none)
           c.in_default-first_at.ensures;
@@ -35,4 +36,4 @@ returns c =
     let words = all_words c.args.words.now in
     let v = c.stops.invariant in
     none_on words c.args.bytes.now c.args.from c.stops.at v.none
-    (c.in_default.ensures words c.requires.leaps)
+    (c.in_default.ensures.stop words c.requires.leaps)

@@ -1,4 +1,4 @@
-use Rattle.regex_lite_syntax.proofs.Common.{◌-◌, ◌≤◌, length, NoneStands}
+use Rattle.regex_lite_syntax.proofs.Common.{◌+◌, ◌-◌, ◌≤◌, length, NoneStands}
 use Rattle.regex_lite_syntax.specs.Prefilter.WordLists.{all_words}
 use Rattle.regex_lite_syntax.proofs.prefilter.words.leaps.Leaps.find.Given as goal
 
@@ -7,6 +7,7 @@ abbrev pub invariant-stops : goal.invariant-stops
 invariant-stops l = record {
   order : l.from ≤ l.at;
   inside : l.at ≤ length l.bytes;
+  room : l.span.end ≤ length l.bytes + 1 - l.self.reach;
   none : NoneStands (all_words l.words) l.bytes l.from l.at;
 }
 

@@ -7,7 +7,7 @@ use Rattle.regex_lite_syntax.proofs.prefilter.words.leaps.Leaps.mark.Goals as go
 pub returns-then-is_spent-clause-marked : goal.returns-then-is_spent-clause-marked
 returns-then-is_spent-clause-marked c = λ before.
     let numbered = numbered_words c.args.numbered.now in
-    let (later, none, room) = c.in-Some.ensures numbered.words c.requires.leaps in
+    let (later, none, room) = c.in-Some.ensures.stop numbered.words c.requires.leaps in
     marked_over numbered c.args.bytes.now c.args.from c.stops.at c.stops.marks
     (c.stops.invariant.marked before) c.in-Some.stop none
 
@@ -15,11 +15,12 @@ pub stops-preserved : goal.stops-preserved
 stops-preserved c =
     let numbered = numbered_words c.args.numbered.now in
     let v = c.stops.invariant in
-    let (later, none, room) = c.in-Some.ensures numbered.words c.requires.leaps in
+    let (later, none, room) = c.in-Some.ensures.stop numbered.words c.requires.leaps in
     let two = c.requires.leaps.two in
     record {
       order = omega (arith, v.order, later);
       inside = omega (arith, room, two);
+      room = c.in-Some.ensures.span;
       size = omega (arith, c.mark_at.ensures.length, v.size);
       marked = λ before.
           marked_here numbered c.args.bytes.now c.args.from c.in-Some.stop c.stops.marks
@@ -32,4 +33,4 @@ pub returns-clause-marked : goal.returns-clause-marked
 returns-clause-marked c = λ before.
     let numbered = numbered_words c.args.numbered.now in
     marked_past numbered c.args.bytes.now c.args.from c.stops.at c.stops.marks
-    (c.stops.invariant.marked before) (c.in_default.ensures numbered.words c.requires.leaps)
+    (c.stops.invariant.marked before) (c.in_default.ensures.stop numbered.words c.requires.leaps)

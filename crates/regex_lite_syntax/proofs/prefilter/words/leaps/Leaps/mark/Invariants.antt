@@ -1,4 +1,4 @@
-use Rattle.regex_lite_syntax.proofs.Common.{◌≡◌, ◌-◌, ◌≤◌, length}
+use Rattle.regex_lite_syntax.proofs.Common.{◌≡◌, ◌+◌, ◌-◌, ◌≤◌, length}
 use Rattle.regex_lite_syntax.specs.Prefilter.Marks.{AreMarked, numbered_words}
 use Rattle.regex_lite_syntax.proofs.prefilter.words.leaps.Leaps.mark.Given as goal
 
@@ -7,6 +7,7 @@ abbrev pub invariant-stops : goal.invariant-stops
 invariant-stops l = record {
   order : l.from ≤ l.at;
   inside : l.at ≤ length l.bytes;
+  room : l.span.end ≤ length l.bytes + 1 - l.self.reach;
   size : length l.marks ≡ length l.fn.marks;
   marked : AreMarked (numbered_words l.numbered) l.bytes l.from l.from l.fn.marks
       → AreMarked (numbered_words l.numbered) l.bytes l.from l.at l.marks;

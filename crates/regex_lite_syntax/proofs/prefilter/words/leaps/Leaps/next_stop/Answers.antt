@@ -1,39 +1,52 @@
-use Rattle.regex_lite_syntax.proofs.Common.{◌+◌, ◌-◌, slice_index, ap, ◌∙◌}
-use Rattle.regex_lite_syntax.proofs.Common.{arith}
-use Rattle.regex_lite_syntax.proofs.prefilter.words.LeapLemmas.{at_end, none_before}
+use Rattle.regex_lite_syntax.proofs.Common.{ℕ, ◌+◌, ◌≤◌, MatchOption, NoneStands}
+use Rattle.regex_lite_syntax.proofs.Common.{arith, length, subst, sym}
+use Rattle.regex_lite_syntax.specs.Prefilter.Words.{AnyStandsAt}
+use Rattle.regex_lite_syntax.proofs.prefilter.words.LeapLemmas.{none_on}
 use Rattle.regex_lite_syntax.proofs.prefilter.words.NextLemmas.{none_joined}
 use Rattle.regex_lite_syntax.proofs.prefilter.words.leaps.Leaps.next_stop.Goals as goal
 
-pub leaps-preserved : goal.leaps-preserved
-leaps-preserved c =
-    let self = c.args.self.now in
+pub returns-in_err-at-clause-stop : goal.returns-in_err-at-clause-stop
+returns-in_err-at-clause-stop c = λ words are.
     let bytes = c.args.bytes.now in
-    let leaps = c.deref-leaps.result.now in
-    let v = c.leaps.invariant in
-    let at = c.leaps.at in
-    let is = ap (λ xs. slice_index xs c.key.result) c.deref-leaps.ensures.value in
-    let some = c.requires.leaps.1 in
-    let less = some.none_passed.below c.key.result in
-    let two = some.two in
+    let from = c.args.from in
+    subst (λ told. MatchOption told ((at : ℕ) → from ≤ at → ¬ AnyStandsAt words bytes at)
+    (λ stop. (from ≤ stop) × NoneStands words bytes from stop
+    × (stop + c.args.self.now.reach ≤ length bytes))) (sym c.from_residual.ensures)
+    (none_on words bytes from c.spans.at (c.spans.invariant.none words are)
+    (c.in_err-at.ensures.entered words are))
+
+pub returns-then-at-span-clause-stop : goal.returns-then-at-span-clause-stop
+returns-then-at-span-clause-stop c = λ words are.
+    let bytes = c.args.bytes.now in
+    let from = c.args.from in
+    let v = c.spans.invariant in
+    let (low, none, below) = c.in_ok-at.ensures.entered words are in (
+      omega (arith, v.order, low, c.leap-at.ensures.low),
+      none_joined words bytes from c.in_ok-at.at c.leap-at.result
+          (none_joined words bytes from c.spans.at c.in_ok-at.at (v.none words are) none)
+          (c.leap-at.ensures.none words are),
+      omega (arith, c.if-at-span.true, c.in_ok-at.ensures.span, are.two),
+    )
+
+pub spans-preserved : goal.spans-preserved
+spans-preserved c =
+    let words = c.requires.leaps.0 in
+    let bytes = c.args.bytes.now in
+    let from = c.args.from in
+    let v = c.spans.invariant in
+    let (low, _, below) = c.in_ok-at.ensures.entered words c.requires.leaps.1 in
     record {
-      order = omega (arith, v.order);
-      inside = omega (arith, is, less);
+      order = omega (arith, v.order, low, c.leap-at.ensures.low);
+      inside = c.leap-at.ensures.high;
+      room = c.in_ok-at.ensures.span;
       none = λ words are.
-          none_joined words bytes c.args.from at (at + slice_index leaps c.key.result)
-          (v.none words are)
-          (none_before words bytes self.reach self.leaps.items at (at + self.reach - 2)
-          (at + self.reach - 1) (slice_index leaps c.key.result) are.none_passed
-          (omega arith) (omega arith)
-          (is ∙ ap (slice_index self.leaps.items) c.key.ensures.key));
+          let (low, none, below) = c.in_ok-at.ensures.entered words are in
+          none_joined words bytes from c.in_ok-at.at c.leap-at.result
+          (none_joined words bytes from c.spans.at c.in_ok-at.at (v.none words are) none)
+          (c.leap-at.ensures.none words are);
     }
 
-pub returns-then-leap-eq0 : goal.returns-then-leap-eq0
-returns-then-leap-eq0 c = λ words are.
-    let v = c.leaps.invariant in (v.order, v.none words are, omega arith)
-
-pub returns : goal.returns
-returns c = λ words are.
-    let v = c.leaps.invariant in
-    let two = are.two in
-    at_end words c.args.bytes.now c.args.self.now.reach c.args.from c.leaps.at are.long v.inside
-    (omega arith) (v.none words are)
+pub spans-smaller : goal.spans-smaller
+spans-smaller c =
+    let (low, none, below) = c.in_ok-at.ensures.entered c.requires.leaps.0 c.requires.leaps.1 in
+    omega (arith, low, below, c.if-at-span.false, c.leap-at.ensures.high)
