@@ -10,7 +10,12 @@ pub(crate) fn stands(word: &[Letter], bytes: &[u8], at: usize) -> bool
     requires { at ≤ length bytes.now }
     ensures { IsTrue result ↔ StartsWith word.now (drop at bytes.now) }
 {
-    if bytes.len() - at < word.len() {
+    let len = word.len();
+    if bytes.len() - at < len {
+        return false;
+    }
+    // Words that may stand at one offset mostly begin alike, so the last letter tells them apart.
+    if len > 0 && !word[len - 1].is(bytes[at + len - 1]) {
         return false;
     }
     wrong_letter(word, bytes, at).is_none()
