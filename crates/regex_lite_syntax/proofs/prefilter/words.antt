@@ -3,6 +3,7 @@ pub mod SpellingLemmas
 pub mod GatheredLemmas
 pub mod StandLemmas
 pub mod NextLemmas
+pub mod BlockLemmas
 pub mod PairLemmas
 pub mod LeapLemmas
 pub mod SharedLetterLemmas

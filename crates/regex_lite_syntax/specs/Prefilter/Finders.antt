@@ -1,7 +1,9 @@
 -- What a search for words rests on: where the rarest letters of one word stand, or how far it may
 -- leap from a pair of bytes, which of several words may stand where it can't, and which letter they
 -- share.
-use Rattle.std.specs.Prelude.{◌≡◌, ◌≤◌, ◌<◌, ◌∷◌, [], ℕ, List, IfSome, drop, length}
+use Rattle.std.specs.Prelude.{◌≡◌, ◌≤◌, ◌<◌, ◌==◌, if◌then◌else◌, ◌∷◌, [], ℕ, List, IfSome}
+use Rattle.std.specs.Prelude.{drop, length}
+use Rattle.std.specs.Int.{w64, trailing_zeros}
 use Rattle.regex_lite_syntax.specs.declared.prefilter.words.WordSearch.{WordSearch}
 use Rattle.regex_lite_syntax.specs.declared.prefilter.words.WordSearch.TheVariants as finder
 use Rattle.regex_lite_syntax.specs.declared.prefilter.words.letter.Letter.{Letter}
@@ -18,6 +20,10 @@ pub record IsPairOf (words : List (List Letter)) (pair : Pair) : Type 0 where
   pub alone : length words ≡ 1
   pub first : pair.first < length (word_at words 0)
   pub second : pair.second < length (word_at words 0)
+
+-- the place of the lowest bit that is set, or that behind the places of a short block
+abbrev pub first_place : ℕ → ℕ
+first_place places = if places == 0 then 16 else trailing_zeros w64 places
 
 -- wherever one of the words stands, the letter stands at one of its bytes, at most as far from its
 -- first one as the offset

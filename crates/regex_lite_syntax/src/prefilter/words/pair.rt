@@ -9,15 +9,15 @@ ghost use Rattle.std.specs.Prelude.{◌≡◌, ◌<◌, ◌≤◌, ◌+◌, ◌�
 ghost use Rattle.std.specs.Prelude.{length, slice_index};
 ghost use Rattle.regex_lite_syntax.specs.Prefilter.Words.{AnyStandsAt, IsLetter, NoneStands};
 
+mod short_block;
+
 use crate::prefilter::words::frequency::frequency;
 use crate::prefilter::words::letter::Letter;
+use crate::prefilter::words::pair::short_block::{SHORT_BLOCK, first_of_both};
 use crate::prefilter::words::standing::wrong_letter;
 
 /// How many offsets are asked about at a time.
 const BLOCK: usize = 32;
-
-/// How many are where fewer are left.
-const SHORT_BLOCK: usize = 16;
 
 /// Among how many letters of a word, and its last one, the two rarest are looked for.
 const LOOKED_AT: usize = 32;
@@ -183,28 +183,9 @@ impl Pair {
         }
     }
 
-    /// The first of these offsets, by short blocks, of one at which the word may stand, or of those
-    /// that are left at the end.
-    #[inline(always)]
-    fn pass_short(self, word: &[Letter], bytes: &[u8], from: usize, end: usize) -> usize
-        requires order { from ≤ end }
-        requires room { end + length word.now ≤ length bytes.now + 1 }
-        requires first { self.first < length word.now }
-        requires second { self.second < length word.now }
-        ensures low { from ≤ result }
-        ensures high { result ≤ end }
-        ensures none { NoneStands (word.now ∷ []) bytes.now from result }
-    {
-        let mut at = from;
-        'short: while end - at > SHORT_BLOCK && !self.may_stand::<SHORT_BLOCK>(word, bytes, at) {
-            at += SHORT_BLOCK;
-        }
-        at
-    }
-
-    /// The first of these offsets at which the word stands. They are asked about by short blocks up
-    /// to the first at which it may, and then one after another.
-    // Not inlined, since it would be unrolled for each of a block's offsets.
+    /// The first of these offsets at which the word stands.
+    // Not inlined, since the loop over blocks would lose its registers: a word that isn't there would
+    // take 1.2 times as much.
     #[inline(never)]
     fn find_before(self, word: &[Letter], bytes: &[u8], from: usize, end: usize) -> Option<usize>
         requires order { from ≤ end }
@@ -216,21 +197,50 @@ impl Pair {
             × AnyStandsAt (word.now ∷ []) bytes.now at) }
         ensures before { IfSome result (λ at. at < end) }
     {
-        let (a, b) = (word[self.first], word[self.second]);
-        let mut at = self.pass_short(word, bytes, from, end);
+        let mut at = self.next_place(word, bytes, from, end);
         // Where the word was last found not to stand.
         let mut wrong = at;
-        'offsets: while at < end {
-            let may_stand = a.is(bytes[at + self.first]) && b.is(bytes[at + self.second]);
-            if may_stand && (wrong < at || word[wrong - at].is(bytes[wrong])) {
+        'places: while at < end {
+            if wrong < at || word[wrong - at].is(bytes[wrong]) {
                 match wrong_letter(word, bytes, at) {
                     None => return Some(at),
                     Some(k) => wrong = at + k,
                 }
             }
-            at += 1;
+            at = self.next_place(word, bytes, at + 1, end);
         }
         None
+    }
+
+    /// The first of these offsets at which the word may stand, or one that isn't before the end.
+    #[inline(always)]
+    fn next_place(self, word: &[Letter], bytes: &[u8], from: usize, end: usize) -> usize
+        requires order { from ≤ end }
+        requires room { end + length word.now ≤ length bytes.now + 1 }
+        requires first { self.first < length word.now }
+        requires second { self.second < length word.now }
+        ensures low { from ≤ result }
+        ensures none { NoneStands (word.now ∷ []) bytes.now from result }
+    {
+        let (a, b) = (word[self.first], word[self.second]);
+        let mut at = from;
+        // A block may end behind the last of these offsets, if the haystack has room for it.
+        'short: while at < end && bytes.len() - at + 1 >= word.len() + SHORT_BLOCK {
+            let (first, second) = (at + self.first, at + self.second);
+            let firsts = &bytes[first..first + SHORT_BLOCK];
+            let seconds = &bytes[second..second + SHORT_BLOCK];
+            let place = first_of_both(firsts, seconds, a, b);
+            if place < SHORT_BLOCK {
+                return at + place;
+            }
+            at += SHORT_BLOCK;
+        }
+        'offsets: while at < end
+            && !(a.is(bytes[at + self.first]) && b.is(bytes[at + self.second]))
+        {
+            at += 1;
+        }
+        at
     }
 }
 
