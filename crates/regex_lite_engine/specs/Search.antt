@@ -20,6 +20,7 @@ pub mod Standing
 pub mod Slots
 pub mod Starts
 pub mod NumberedWords
+pub mod NeededWords
 pub mod Prefixes
 pub mod Filters
 pub mod OutcomeOfOne

@@ -22,4 +22,5 @@ pub mod pattern_filter;
 pub mod patterns;
 pub mod prefix;
 pub(crate) mod skip;
+mod start_finder;
 mod word_search;

@@ -16,13 +16,15 @@ use Rattle.std.proofs.lemmas.Option.{get_or_from_slice_get}
 use Rattle.std.proofs.Common.{MatchOption}
 use Rattle.regex_lite_engine.specs.Graph.Places.{Place}
 use Rattle.regex_lite_engine.specs.Graph.SideBySide.{AreRegularPatterns}
+use Rattle.regex_lite_engine.specs.Search.NeededWords.{IsNeededByAny}
 use Rattle.regex_lite_engine.specs.Search.Starts.{AreFiltersOf, AreFactsOf, NoneBeginsAtEnd}
 use Rattle.regex_lite_engine.specs.Search.Starts.{DoWordsAnswer}
 use Rattle.regex_lite_engine.specs.Search.Starts.{AreAllAtEnd, AreReading, TellReading}
 use Rattle.regex_lite_engine.specs.Search.Starts.{may_be_empty}
 use Rattle.regex_lite_syntax.specs.Prefilter.Heads.{AreSecondOfTree, AreHeadsOfTree}
 use Rattle.regex_lite_syntax.specs.Prefilter.ListHeads.{AreHeadsOfTrees}
-use Rattle.regex_lite_syntax.specs.Prefilter.Needed.{IsNeededBy, IsOutOfReach, NeededWords}
+use Rattle.regex_lite_syntax.specs.Prefilter.Needed.{AreNeededByEach, IsNeededBy, IsOutOfReach}
+use Rattle.regex_lite_syntax.specs.Prefilter.Needed.{NeededWords}
 use Rattle.regex_lite_syntax.specs.Prefilter.StartFacts.{AreEachFactsOf, AreFactsOfTree}
 use Rattle.regex_lite_syntax.specs.Prefilter.StartFacts.{NeverStarts, NoneStandsIn, StartFacts}
 use Rattle.regex_lite_syntax.specs.Prefilter.Words.{AreWordsOfTree}
@@ -172,6 +174,16 @@ module _ (trees : List Tree) (regular : AreRegularPatterns trees) (name : ℕ �
         (entry_of_part trees number own.0 own.1 name table written entry own.2)
         filter.words told.words (told.all whole));
   }
+
+  -- words that each tree needs
+  pub listed_needed : (needed : NeededWords) → AreNeededByEach trees needed
+      → IsNeededByAny table entries needed
+  listed_needed needed each haystack i out number entry is =
+      let own = are.of_pattern number entry is in
+      let there = get_or_from_slice_get trees number own.0 own.0 own.1 in
+      let needs : IsNeededBy own.0 needed = subst (λ tree. IsNeededBy tree needed) there
+      (each number own.0 (slice_get_within trees number own.0 own.1)) in
+      dead number entry is haystack i (λ j m. out (needs haystack i j m))
 
   -- those of which each match reads a character
   pub listed_reads : length entries ≡ length trees → (told : List Bool) → TellReading trees told

@@ -12,7 +12,7 @@ use Rattle.regex_lite_engine.proofs.Common.{None, Option, Text, after, is_some, 
 use Rattle.regex_lite_engine.proofs.OffsetLemmas.{offset_less, positions_order}
 use Rattle.regex_lite_engine.proofs.search.FirstByteLemmas.{inside, next_at, whole}
 use Rattle.regex_lite_syntax.proofs.LookupLemmas.{there_is}
-use Rattle.regex_lite_engine.proofs.search.SkipLemmas.{passes_where}
+use Rattle.regex_lite_engine.proofs.search.SkipLemmas.{AllBetween}
 
 before_character : (h : Text) (p : ℕ) (o : Option ℕ) → o ≡ after h p → IsTrue (is_some o)
     → p < length h
@@ -91,20 +91,16 @@ module _ (table : List (Place ℕ)) (entries : List ℕ) (heads : ListHeads)
       dead_later i within (subst (λ at. at < length bs) is.bytes short)
       (subst (IsPassedByAll heads bs) is.bytes passed)
 
-  pub passes_to : {p q : ℕ} {x y : Here} → IsHere (chars bs) p x → IsHere (chars bs) q y
-      → x.at ≤ y.at → y.at ≤ length bs
-      → ((k : ℕ) → x.at ≤ k → k < y.at → IsPassedByAll heads bs k)
-      → (p ≡ 0 → MayBegin heads.any (chars bs) 0 → ⊥)
-      → PassesTo (AreDeadAt table (chars bs) entries) (chars bs) p y
-  passes_to {p} {x = x} is js le most pass start =
-      passes_where (is.inside, is.bytes) js le (λ i within from below. dead i within from
-      (pass (offset (chars bs) i) from below) (omega (arith, below, most)))
+  -- nor between these offsets, if none does at the haystack's start
+  pub dead_between : (from to : ℕ) → to ≤ length bs
+      → ((k : ℕ) → from ≤ k → k < to → IsPassedByAll heads bs k)
+      → (from ≡ 0 → MayBegin heads.any (chars bs) 0 → ⊥)
+      → AllBetween (AreDeadAt table (chars bs) entries) (chars bs) from to
+  dead_between from to most pass start i within above below =
+      dead i within above (pass (offset (chars bs) i) above below) (omega (arith, below, most))
     where
-      dead : (i : ℕ) → i < length (chars bs) → x.at ≤ offset (chars bs) i
+      dead : (i : ℕ) → i < length (chars bs) → from ≤ offset (chars bs) i
           → IsPassedByAll heads bs (offset (chars bs) i) → offset (chars bs) i < length bs
           → AreDeadAt table (chars bs) entries i
-      dead zero within from off short =
-          let same = is.bytes in
-          let low = positions_order (chars bs) p 0 is.inside (omega (arith, same, from)) in
-          w.any (chars bs) 0 (start (omega (arith, low)))
-      dead (suc i) within from off short = dead_later i within short off
+      dead zero within above off short = w.any (chars bs) 0 (start (omega (arith, above)))
+      dead (suc i) within above off short = dead_later i within short off

@@ -2,7 +2,7 @@
 use Rattle.regex_lite_engine.proofs.Common.{◌≡◌, ℕ, ◌+◌, ◌-◌, ◌<◌, ◌≤◌, List, [], ◌∷◌, drop, IsUtf8}
 use Rattle.regex_lite_engine.proofs.Common.{chars, encodes-chars, length, slice_index, sym, ap, ◌∙◌}
 use Rattle.regex_lite_engine.proofs.Common.{offset, subst, arith, cases_lt, inl, inr, true, Some}
-use Rattle.regex_lite_engine.proofs.Common.{None, Option}
+use Rattle.regex_lite_engine.proofs.Common.{None, Option, Text}
 use Rattle.std.proofs.Common.{MatchOption, encode_utf8_all}
 use Rattle.std.proofs.Math.ListN.{drop_of_length-le}
 use Rattle.std.proofs.lemmas.List.{drop-drop, get_or-drop}
@@ -68,35 +68,34 @@ next_inside needed bs from (Some reach) inside (low, (order, there, led), first,
     let last = stands_inside needed.words bs from reach.word inside there first in
     (low, order, omega (arith, order, last), none)
 
--- what a search has passed over by a word that each match needs
-module _ (facts : StartFacts) (needed : NeededWords) (known : facts.needed ≡ Some needed)
+-- what a search has passed over by a word that each match needs, where none begins from which it
+-- isn't reached
+module _ (Never : Text → ℕ → Type 0) (needed : NeededWords)
+    (out : (haystack : Text) (i : ℕ) → IsOutOfReach needed haystack i → Never haystack i)
     (bs : List ℕ) (utf8 : IsUtf8 bs) where
-  unreached : (i : ℕ) → ¬ Reaches needed bs (offset (chars bs) i) → NeverStarts facts (chars bs) i
-  unreached i never =
-      inr (inr (subst (λ o. MatchOption o ⊥ (λ needed. IsOutOfReach needed (chars bs) i))
-      (sym known) (out_of_reach needed bs utf8 i never)))
-
   -- up to this offset, to the next from which it may be reached, and to where a match can begin
   pub passed_on : (low at from to : ℕ)
-      → AllBetween (NeverStarts facts (chars bs)) (chars bs) low at
+      → AllBetween (Never (chars bs)) (chars bs) low at
       → ((k : ℕ) → at ≤ k → k < from → ¬ Reaches needed bs k)
-      → AllBetween (NeverStarts facts (chars bs)) (chars bs) from to
-      → AllBetween (NeverStarts facts (chars bs)) (chars bs) low to
+      → AllBetween (Never (chars bs)) (chars bs) from to
+      → AllBetween (Never (chars bs)) (chars bs) low to
   passed_on low at from to before never begins i inside above below =
       elim (cases_lt (offset (chars bs) i) at) [
         | inl lt ↦ before i inside above lt
         | inr ge ↦
             elim (cases_lt (offset (chars bs) i) from) [
-              | inl lt ↦ unreached i (never (offset (chars bs) i) ge lt)
+              | inl lt ↦
+                  out (chars bs) i (out_of_reach needed bs utf8 i
+                  (never (offset (chars bs) i) ge lt))
               | inr ge ↦ begins i inside ge below
             ]
       ]
 
   -- and up to the end where it is reached no more
   pub passed_all : (low at : ℕ)
-      → AllBetween (NeverStarts facts (chars bs)) (chars bs) low at
+      → AllBetween (Never (chars bs)) (chars bs) low at
       → ((k : ℕ) → at ≤ k → ¬ Reaches needed bs k)
-      → AllBetween (NeverStarts facts (chars bs)) (chars bs) low (length bs)
+      → AllBetween (Never (chars bs)) (chars bs) low (length bs)
   passed_all low at before never =
       passed_on low at (length bs) (length bs) before (λ k from below. never k from)
       (λ i inside above below. absurd (omega (arith, above, below)))

@@ -1,25 +1,23 @@
 //! The graph of several patterns: one table of places, with an entry and a match for each pattern.
 ghost use Rattle.std.specs.Prelude.{◌≡◌, ◌∷◌, [], ◌^◌, ◌<◌, ◌≤◌, ◌⊎◌, ℕ, All, IfOk, IfSome};
-ghost use Rattle.std.specs.Prelude.{IfErr, filter, map, length, slice_get, slice_index, Some};
-ghost use Rattle.std.specs.List.{range_with_len};
+ghost use Rattle.std.specs.Prelude.{IfErr, map, length, slice_get, slice_index, Some};
 ghost use Rattle.regex_lite_syntax.specs.declared.error.ErrorKind.TheVariants.{Places};
 ghost use Rattle.regex_lite_syntax.specs.Errors.{kind_of, out_of_memory};
-ghost use Rattle.regex_lite_syntax.specs.Tree.Regular.{IsRegular};
 ghost use Rattle.regex_lite_syntax.specs.Tree.Views.{tree_of};
-ghost use Rattle.regex_lite_syntax.specs.Prefilter.NumberedWords.{AreWordsOfTrees};
-ghost use Rattle.regex_lite_syntax.specs.Prefilter.StartFacts.{AreEachFactsOf, AreFactsOfTree};
-ghost use Rattle.regex_lite_engine.specs.Graph.PlaceCounts.{whole_places};
 ghost use Rattle.regex_lite_engine.specs.Graph.Renumbered.{arrows_of};
 ghost use Rattle.regex_lite_engine.specs.Graph.Stored.{places_of};
 ghost use Rattle.regex_lite_engine.specs.Graph.SideBySide.{AreRegularPatterns, places_of_all};
 ghost use Rattle.regex_lite_engine.specs.Graph.Size.{Fits, IsDueToTree};
 ghost use Rattle.regex_lite_engine.specs.Graph.StoredList.{HasGroupsOfList, IsGraphOfList};
-ghost use Rattle.regex_lite_engine.specs.Graph.StoredList.{TellGroupsOf, table_of_list};
+ghost use Rattle.regex_lite_engine.specs.Graph.StoredList.{table_of_list};
 ghost use Rattle.regex_lite_engine.specs.Search.Filters.{facts_of, own_facts_of};
+ghost use Rattle.regex_lite_engine.specs.Search.NeededWords.{IsNeededByAny};
 ghost use Rattle.regex_lite_engine.specs.Search.NumberedWords.{AreAnsweredBy, IsEachAnsweredBy};
 ghost use Rattle.regex_lite_engine.specs.Search.Starts.{AreAllAtEnd, AreListHeadsOf};
 ghost use Rattle.regex_lite_engine.specs.Search.Starts.{DoWordsAnswer};
-ghost use Rattle.regex_lite_engine.specs.Search.Starts.{may_be_empty, TellReading};
+ghost use Rattle.regex_lite_engine.specs.Search.Starts.{TellReading};
+
+mod facts;
 
 use crate::count::Counts;
 use crate::count::measured::Measured;
@@ -29,9 +27,10 @@ use crate::nfa::table::Table;
 use crate::nfa::write::write_all;
 use crate::search::one_pattern::OnePattern;
 use crate::search::own_filter::OwnFilter;
-use regex_lite_syntax::prefilter::{ListHeads, ListWords};
+use facts::{filters_of, groups_of, needed_of, that_may_be_empty, that_read, words_of};
+use regex_lite_syntax::prefilter::{ListHeads, ListWords, Needed};
 use regex_lite_syntax::{Error, Hir};
-use std::alloc::{AllocError, Global};
+use std::alloc::Global;
 use std::marker::Model;
 
 /// In a list of fewer patterns than these a search for one of them goes by all that its tree tells,
@@ -59,6 +58,8 @@ pub struct GraphList {
     at_end: Vec<u32>,
     /// The words of all patterns, if each is nothing but its words.
     words: Option<Box<ListWords>>,
+    /// Words of which one stands in each match of any pattern, if some are known.
+    needed: Option<Box<Needed>>,
 }
 
 impl Model for GraphList {
@@ -68,6 +69,7 @@ impl Model for GraphList {
     ghost use Rattle.regex_lite_engine.specs.Search.Filters.{own_facts_of};
     ghost use Rattle.regex_lite_engine.specs.Search.NumberedWords.{AreAnsweredBy};
     ghost use Rattle.regex_lite_engine.specs.Search.NumberedWords.{IsEachAnsweredBy};
+    ghost use Rattle.regex_lite_engine.specs.Search.NeededWords.{IsNeededByAny};
     ghost use Rattle.regex_lite_engine.specs.Search.Starts.{AreAllAtEnd, AreFiltersOf};
     ghost use Rattle.regex_lite_engine.specs.Search.Starts.{AreListHeadsOf, AreReading};
 
@@ -91,7 +93,9 @@ impl Model for GraphList {
         × AreAllAtEnd (places_of list.table) list.entries.items list.at_end.items
         × IfSome list.words (λ words.
         AreAnsweredBy (places_of list.table) list.entries.items words.value
-        × IsEachAnsweredBy (places_of list.table) list.entries.items words.value) };
+        × IsEachAnsweredBy (places_of list.table) list.entries.items words.value)
+        × IfSome list.needed (λ needed.
+        IsNeededByAny (places_of list.table) list.entries.items needed.value) };
 }
 
 impl GraphList {
@@ -138,6 +142,7 @@ impl GraphList {
         let table = Table::new(places, totals.arrows, totals.reading);
         let words = words_of(alloc, hirs);
         let filters = filters_of(alloc, hirs, words.is_none() && hirs.len() < MANY)?;
+        let needed = needed_of(alloc, hirs, &filters);
         let reads = that_read(alloc, hirs)?;
         let heads = ListHeads::of(alloc, hirs)?;
         let at_end = that_may_be_empty(alloc, hirs)?;
@@ -150,6 +155,7 @@ impl GraphList {
             heads,
             at_end,
             words,
+            needed,
         })
     }
 
@@ -198,6 +204,18 @@ impl GraphList {
         match &self.words {
             None => None,
             Some(words) => Some(words),
+        }
+    }
+
+    /// Words of which one stands in each match of any pattern, if some are known.
+    #[inline(always)]
+    pub fn needed(&self) -> Option<&Needed>
+        ensures { IfSome result (λ needed.
+            IsNeededByAny (table_of_list self.now) self.now.entries needed.now) }
+    {
+        match &self.needed {
+            None => None,
+            Some(needed) => Some(needed),
         }
     }
 
@@ -270,104 +288,5 @@ impl GraphList {
         ensures { slice_get self.now.groups number ≡ Some result.now }
     {
         &self.groups[number]
-    }
-}
-
-/// The groups of each of these trees, in their order.
-///
-/// # Errors
-///
-/// If memory runs out, or a name has as many owners as can be counted.
-fn groups_of(alloc: Global, hirs: &[Measured]) -> Result<Vec<Groups>, AllocError>
-    requires { All (λ tree. whole_places tree < 2 ^ 32) (map tree_of hirs.now) }
-    ensures all { IfOk result (λ groups. length groups.items ≡ length hirs.now) }
-    ensures each { IfOk result (λ groups. TellGroupsOf (map tree_of hirs.now) groups.items) }
-{
-    let mut groups = Vec::with_capacity(alloc, hirs.len())?;
-    for hir in hirs {
-        groups.push(Groups::of(alloc, hir.hir(), hir.counts())?)?;
-    }
-    Ok(groups)
-}
-
-/// The filter of each of these trees, in their order: what the whole trees tell, if they are few.
-///
-/// # Errors
-///
-/// If memory runs out.
-fn filters_of(alloc: Global, hirs: &[Measured], are_few: bool) -> Result<Vec<OwnFilter>, AllocError>
-    ensures { IfOk result (λ filters. AreEachFactsOf (map tree_of hirs.now)
-        (map own_facts_of filters.items)) }
-{
-    let mut filters = Vec::with_capacity(alloc, hirs.len())?;
-    for hir in hirs {
-        filters.push(filter_of(alloc, hir.hir(), are_few)?)?;
-    }
-    Ok(filters)
-}
-
-/// The filter of this tree: what the whole tree tells, if it is one of few.
-///
-/// # Errors
-///
-/// If memory runs out.
-fn filter_of(alloc: Global, hir: &Hir, are_few: bool) -> Result<OwnFilter, AllocError>
-    ensures { IfOk result (λ filter. AreFactsOfTree (tree_of hir.now) (own_facts_of filter)) }
-{
-    if are_few {
-        OwnFilter::whole(alloc, hir)
-    } else {
-        OwnFilter::of(alloc, hir)
-    }
-}
-
-/// Of each of these trees whether its matches read a character, in their order.
-///
-/// # Errors
-///
-/// If memory runs out.
-fn that_read(alloc: Global, hirs: &[Measured]) -> Result<Vec<bool>, AllocError>
-    ensures { IfOk result (λ reads. TellReading (map tree_of hirs.now) reads.items) }
-{
-    let mut reads = Vec::with_capacity(alloc, hirs.len())?;
-    for hir in hirs {
-        reads.push(!hir.counts().properties.nullable)?;
-    }
-    Ok(reads)
-}
-
-/// The numbers of the trees that may match without reading a character, in order.
-///
-/// # Errors
-///
-/// If memory runs out.
-fn that_may_be_empty(alloc: Global, hirs: &[Measured]) -> Result<Vec<u32>, AllocError>
-    requires { length hirs.now < 2 ^ 32 }
-    ensures { IfOk result (λ numbers. numbers.items
-        ≡ filter (may_be_empty (map tree_of hirs.now)) (range_with_len 0 (length hirs.now))) }
-{
-    let mut numbers = Vec::new(alloc);
-    for k in 0..hirs.len() {
-        if hirs[k].counts().properties.nullable {
-            numbers.push(k as u32)?;
-        }
-    }
-    Ok(numbers)
-}
-
-/// The words of several trees, if each is nothing but its words and there is memory. A tree alone
-/// is searched for as that of a regex is.
-fn words_of(alloc: Global, hirs: &[Measured]) -> Option<Box<ListWords>>
-    ensures { IfSome result (λ words. AreWordsOfTrees (map tree_of hirs.now) words.value) }
-{
-    if hirs.len() < 2 {
-        return None;
-    }
-    let Ok(Some(words)) = ListWords::of(alloc, hirs) else {
-        return None;
-    };
-    match Box::new(alloc, words) {
-        Ok(words) => Some(words),
-        Err(_) => None,
     }
 }

@@ -38,7 +38,7 @@ impl<'g> Patterns for AllOfList<'g> {
     }
 
     fn has_prefilter(&self) -> bool {
-        false
+        self.list.needed().is_some()
     }
 
     fn come_to(&mut self, _: &str, _: Here) {

@@ -67,7 +67,7 @@ impl<'g> Patterns for ListPatterns<'g> {
     }
 
     fn has_prefilter(&self) -> bool {
-        false
+        self.list.needed().is_some()
     }
 
     // Inlined, so that a position at which no pattern may start costs no call.

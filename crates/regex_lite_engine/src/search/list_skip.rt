@@ -10,32 +10,53 @@ ghost use Rattle.regex_lite_engine.specs.Search.Starts.{PassesTo};
 ghost use Rattle.regex_lite_engine.specs.Search.Starts.{AreDeadAt};
 
 use crate::nfa::list::GraphList;
-use crate::search::here::Here;
-use regex_lite_syntax::prefilter::{ListHeads, Starts};
+use crate::search::here::{Here, first_char};
+use crate::search::start_finder::{StartFinder, next_start};
+use regex_lite_syntax::prefilter::{ListHeads, Needed, Starts};
 
 /// The next position after this one at which a match of any pattern can begin, or the haystack's
 /// end. None if one may begin here.
+// Inlined, since each position passes here.
+#[inline(always)]
 pub fn skip_all(list: &GraphList, haystack: &str, here: Here) -> Option<Here>
     requires { (p : ℕ) × IsHere (chars haystack.now) p here }
     ensures { (p : ℕ) → IsHere (chars haystack.now) p here → IfSome result
         (PassesTo (AreDeadAt (table_of_list list.now) (chars haystack.now) list.now.entries)
         (chars haystack.now) p) }
 {
-    let heads = list.heads();
-    // At the haystack's start the pairs don't cover all patterns.
-    if here.before.is_none() && heads.any.may_begin(here.before, here.after) {
-        return None;
-    }
-    let at = next_offset(heads, haystack.as_bytes(), here.at);
-    if at == here.at {
-        return None;
-    }
+    let at = next_start(list, haystack, here)?;
     Some(Here::at(haystack, at))
 }
 
+impl StartFinder for GraphList {
+    ghost use Rattle.regex_lite_engine.specs.Graph.StoredList.{table_of_list};
+    ghost use Rattle.regex_lite_engine.specs.Search.Starts.{AreDeadAt};
+
+    ghost never = { λ list haystack i. AreDeadAt (table_of_list list) haystack list.entries i };
+
+    #[inline(always)]
+    fn can_begin(&self, _: &str, here: Here) -> bool {
+        here.before.is_none() && self.heads().any.may_begin(here.before, here.after)
+    }
+
+    // Not inlined, since the loop of a search is so large that this one would lose its registers.
+    #[inline(never)]
+    fn first_known(&self, haystack: &str, from: usize) -> usize {
+        let heads = self.heads();
+        // At the haystack's start the pairs don't cover all patterns.
+        if from == 0 && heads.any.may_begin(None, first_char(haystack, 0)) {
+            return 0;
+        }
+        next_offset(heads, haystack.as_bytes(), from)
+    }
+
+    #[inline(always)]
+    fn needed_words(&self) -> Option<&Needed> {
+        self.needed()
+    }
+}
+
 /// The first offset from this one on at which a match can begin, judging by two bytes, or the end.
-// Not inlined, since the loop of a search is so large that this one would lose its registers.
-#[inline(never)]
 fn next_offset(heads: &ListHeads, bytes: &[u8], from: usize) -> usize
     requires pairs { HasAllPairs heads.now }
     requires from { from ≤ length bytes.now }

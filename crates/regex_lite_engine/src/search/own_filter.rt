@@ -52,6 +52,14 @@ impl OwnFilter {
         Ok(OwnFilter::Whole(filter))
     }
 
+    /// Whether words are known with which each match begins.
+    pub(crate) fn begins_with_words(&self) -> bool {
+        match self {
+            OwnFilter::Literal(_) => true,
+            OwnFilter::Whole(filter) => filter.words().is_some(),
+        }
+    }
+
     /// The filter as searches take it.
     pub(crate) fn view(&self) -> PatternFilter<'_>
         ensures { facts_of result ≡ own_facts_of self.now }

@@ -9,7 +9,7 @@ ghost use Rattle.regex_lite_engine.specs.Search.Starts.{PassesTo, SkipsTo};
 
 use crate::search::here::Here;
 use crate::search::prefix::Prefix;
-use crate::search::skip::{first_start, next_start};
+use crate::search::start_finder::{first_start, next_start};
 use regex_lite_syntax::prefilter::{Filter, Words};
 
 /// A filter for the positions at which a match of a pattern can begin.

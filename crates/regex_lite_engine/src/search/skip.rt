@@ -1,18 +1,16 @@
-//! The positions at which no match can start, which a search passes over.
-ghost use Rattle.std.specs.Prelude.{◌≡◌, ◌≤◌, ◌<◌, ◌+◌, ◌⊎◌, ℕ, IfSome, IsTrue, MatchOption, Some};
+//! The positions at which no match of a pattern can start, which a search passes over.
+ghost use Rattle.std.specs.Prelude.{◌≡◌, ◌≤◌, ◌<◌, ◌+◌, ◌⊎◌, ℕ, IfSome, IsTrue, Some};
 ghost use Rattle.std.specs.Prelude.{IsCharBoundary};
 ghost use Rattle.std.specs.Prelude.{false, true, chars, length, slice_index};
 ghost use Rattle.regex_lite_syntax.specs.Prefilter.Heads.{IsCutOff, IsPassed, NeverBegins};
 ghost use Rattle.regex_lite_syntax.specs.Prefilter.Bytes.{suits, IsPrefilterOf};
-ghost use Rattle.regex_lite_syntax.specs.Prefilter.Needed.{Reaches};
 ghost use Rattle.regex_lite_syntax.specs.Prefilter.StartFacts.{NeverStarts};
 ghost use Rattle.regex_lite_syntax.specs.Prefilter.Starts.{may_begin, stops_at};
-ghost use Rattle.regex_lite_engine.specs.Search.Offsets.{offset, IsOffset};
-ghost use Rattle.regex_lite_engine.specs.Search.Standing.{IsHere};
-ghost use Rattle.regex_lite_engine.specs.Search.Starts.{SkipsTo};
+ghost use Rattle.regex_lite_engine.specs.Search.Offsets.{offset};
 
 use crate::search::here::Here;
-use regex_lite_syntax::prefilter::{Filter, Heads, Needed, Prefilter, Reach, Starts};
+use crate::search::start_finder::StartFinder;
+use regex_lite_syntax::prefilter::{Filter, Heads, Needed, Prefilter, Starts};
 
 /// How many bytes a prefilter is asked about at a time.
 const BLOCK: usize = 32;
@@ -21,88 +19,26 @@ const BLOCK: usize = 32;
 /// would be compared for nothing.
 pub(super) const NEAR: usize = 16;
 
-/// The offset of the next position after this one at which a match can begin, or of the haystack's
-/// end. None if a match can begin here.
-// Inlined, since each position passes here.
-#[inline(always)]
-pub(super) fn next_start(filter: &Filter, haystack: &str, here: Here) -> Option<usize>
-    requires { (p : ℕ) × IsHere (chars haystack.now) p here }
-    ensures boundary { IfSome result (IsCharBoundary haystack.now) }
-    ensures passes { (p : ℕ) → IsHere (chars haystack.now) p here → IfSome result
-        (SkipsTo (NeverStarts filter.now (chars haystack.now)) haystack.now p) }
-{
-    if goes_by_heads(filter) && can_begin(filter.heads(), haystack.as_bytes(), here) {
-        return None;
-    }
-    let at = first_start(filter, haystack, here.at);
-    if at == here.at {
-        return None;
-    }
-    Some(at)
-}
+impl StartFinder for Filter {
+    ghost use Rattle.regex_lite_syntax.specs.Prefilter.StartFacts.{NeverStarts};
 
-/// Whether nothing but the first characters tells where matches begin.
-fn goes_by_heads(filter: &Filter) -> bool {
-    filter.words().is_none() && filter.needed().is_none()
-}
+    ghost never = { NeverStarts };
 
-/// The first offset from this one on at which a match can begin, or the haystack's end.
-#[inline(always)]
-pub(super) fn first_start(filter: &Filter, haystack: &str, from: usize) -> usize
-    requires { IsCharBoundary haystack.now from }
-    ensures boundary { IsCharBoundary haystack.now result }
-    ensures passes { (p : ℕ) → IsOffset (chars haystack.now) p from
-        → SkipsTo (NeverStarts filter.now (chars haystack.now)) haystack.now p result }
-{
-    match filter.needed() {
-        None => first_known(filter, haystack, from),
-        Some(needed) => first_by_needed(filter, needed, haystack, from),
+    // Inlined, since each position passes here.
+    #[inline(always)]
+    fn can_begin(&self, haystack: &str, here: Here) -> bool {
+        self.words().is_none() && can_begin(self.heads(), haystack.as_bytes(), here)
     }
-}
 
-/// The same by a word that each match needs as well.
-// Not inlined, so that a pattern without one costs no more than the test for it.
-#[inline(never)]
-fn first_by_needed(filter: &Filter, needed: &Needed, haystack: &str, from: usize) -> usize
-    requires boundary { IsCharBoundary haystack.now from }
-    requires needed { filter.now.needed ≡ Some needed.now }
-    ensures boundary { IsCharBoundary haystack.now result }
-    ensures passes { (p : ℕ) → IsOffset (chars haystack.now) p from
-        → SkipsTo (NeverStarts filter.now (chars haystack.now)) haystack.now p result }
-{
-    let bytes = haystack.as_bytes();
-    let mut at = from;
-    'starts: loop {
-        let Some(reach) = next_reach(needed, bytes, at) else {
-            return bytes.len();
-        };
-        if reach.from == at && at > from {
-            return at;
-        }
-        let start = first_known(filter, haystack, reach.from);
-        if start <= reach.word {
-            return start;
-        }
-        at = start;
+    #[inline(always)]
+    fn first_known(&self, haystack: &str, from: usize) -> usize {
+        first_known(self, haystack, from)
     }
-}
 
-/// The first offset from this one on from which a word may be reached, and one up to which it is
-/// then. Behind a character that may stand before the words none is looked for: a search has
-/// come from there, and looked for it before. So a text is looked at once, and not once for each
-/// position.
-fn next_reach(needed: &Needed, bytes: &[u8], from: usize) -> Option<Reach>
-    requires { from ≤ length bytes.now }
-    ensures { MatchOption result
-        ((k : ℕ) → from ≤ k → ¬ Reaches needed.now bytes.now k)
-        (λ reach. (from ≤ reach.from) × (reach.from ≤ reach.word)
-        × (reach.from ≤ length bytes.now)
-        × ((k : ℕ) → from ≤ k → k < reach.from → ¬ Reaches needed.now bytes.now k)) }
-{
-    if from > 0 && needed.may_lead(bytes[from - 1]) {
-        return Some(Reach { from, word: from });
+    #[inline(always)]
+    fn needed_words(&self) -> Option<&Needed> {
+        self.needed()
     }
-    needed.next_reach(bytes, from)
 }
 
 /// The first offset from this one on at which a match can begin, judging by what it begins with,

@@ -1,5 +1,5 @@
 -- Words of which each match has one, and what stands before it.
-use Rattle.std.specs.Prelude.{◌≡◌, ◌≤◌, ◌<◌, ℕ, List, Option, MatchOption, drop, true, length}
+use Rattle.std.specs.Prelude.{All, ◌≡◌, ◌≤◌, ◌<◌, ℕ, List, Option, MatchOption, drop, true, length}
 use Rattle.std.specs.Prelude.{encode_utf8_all, slice_index, slice_index_or}
 use Rattle.regex_lite_syntax.specs.Text.{Text}
 use Rattle.regex_lite_syntax.specs.Tree.{Tree}
@@ -31,6 +31,10 @@ abbrev pub IsNeededBy : Tree → NeededWords → Type 0
 IsNeededBy tree needed =
     (haystack : Text) (i j : ℕ) → Matches haystack tree i j
     → Reaches needed (encode_utf8_all (drop i haystack)) 0
+
+-- wherever any of these trees matches
+abbrev pub AreNeededByEach : List Tree → NeededWords → Type 0
+AreNeededByEach trees needed = All (λ tree. IsNeededBy tree needed) trees
 
 -- none is reached from the position
 abbrev pub IsOutOfReach : NeededWords → Text → ℕ → Type 0

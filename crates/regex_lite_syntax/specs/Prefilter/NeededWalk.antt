@@ -20,6 +20,11 @@ as_needed words lead = record {
   lead = lead;
 }
 
+-- wherever one of the words is reached, one of the others is
+abbrev pub ReachesToo : (needed others : NeededWords) → Type 0
+ReachesToo needed others = (bytes : List ℕ) (from : ℕ) → Reaches needed bytes from
+    → Reaches others bytes from
+
 -- the first bytes, as many as that, are of these characters
 abbrev pub AreAmong : Starts → (bytes : List ℕ) → (count : ℕ) → Type 0
 AreAmong starts bytes count =

@@ -16,6 +16,7 @@ ghost use Rattle.regex_lite_syntax.specs.Prefilter.Words.{IsNextWord, NoneStands
 
 mod branch_words;
 mod few_words;
+mod found_words;
 mod frequency;
 mod gain;
 mod leaps;

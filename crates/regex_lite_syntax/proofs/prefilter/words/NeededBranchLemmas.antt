@@ -1,18 +1,20 @@
 -- How words are found of which each match of one of several branches has one.
 use Rattle.regex_lite_syntax.proofs.Common.{◌≡◌, ℕ, ◌+◌, ◌-◌, ◌∙◌, List, [], ◌++◌, length}
 use Rattle.regex_lite_syntax.proofs.Common.{drop, sym, ap, subst, arith, true, inl, inr, cases_lt}
-use Rattle.regex_lite_syntax.proofs.Common.{Bool, false, refl, ◌||◌}
+use Rattle.regex_lite_syntax.proofs.Common.{Bool, false, refl, ◌||◌, ◌∷◌, zero, suc}
 use Rattle.regex_lite_syntax.proofs.Common.{Tree, Trees, more, Letter, Starts, begins_with}
 use Rattle.regex_lite_syntax.proofs.Common.{slice_index, get_or-drop, length-append, StartsWith}
 use Rattle.std.proofs.Common.{encode_utf8_all}
 use Rattle.std.proofs.Math.ListN.{get_or-append}
 use Rattle.std.proofs.Math.Seq.{get_or-append_right}
 use Rattle.std.proofs.lemmas.List.{drop-drop}
+use Rattle.std.proofs.lemmas.List.Elements.{All-append}
 use Rattle.regex_lite_syntax.specs.Tree.{alternation, none}
 use Rattle.regex_lite_syntax.specs.Tree.Matches.{SomeBranch}
 use Rattle.regex_lite_syntax.specs.declared.prefilter.words.needed_walk.NeededWalk.{NeededWalk}
-use Rattle.regex_lite_syntax.specs.Prefilter.Needed.{IsNeededBy, NeededWords, Reaches}
-use Rattle.regex_lite_syntax.specs.Prefilter.NeededWalk.{as_needed, HasFound}
+use Rattle.regex_lite_syntax.specs.Prefilter.Needed.{AreNeededByEach, IsNeededBy, NeededWords}
+use Rattle.regex_lite_syntax.specs.Prefilter.Needed.{Reaches}
+use Rattle.regex_lite_syntax.specs.Prefilter.NeededWalk.{as_needed, HasFound, ReachesToo}
 use Rattle.regex_lite_syntax.specs.Prefilter.Starts.{IsUnion}
 use Rattle.regex_lite_syntax.specs.Prefilter.Words.{word_at}
 
@@ -32,11 +34,6 @@ among_first first second both union c is =
 pub among_second : (first second both : Starts) → IsUnion first second both → IsAmong second both
 among_second first second both union c is =
     union.with c ∙ or_second (begins_with first c) (begins_with second c) is
-
--- wherever one of the words is reached, one of the others is
-abbrev pub ReachesToo : (needed others : NeededWords) → Type 0
-ReachesToo needed others = (bytes : List ℕ) (from : ℕ) → Reaches needed bytes from
-    → Reaches others bytes from
 
 -- with others behind them, and led to by more characters
 pub reaches_first : (words others : List (List Letter)) (lead wider : Starts) → IsAmong lead wider
@@ -105,6 +102,18 @@ branch_found all left tree before own after needs own_too before_too each needed
           (needs h i j m)),
       rest,
     )
+
+-- what each tree of a list needs, each one needs of more words, and so does one more tree
+pub needed_by_more : (trees : List Tree) (tree : Tree) (before own after : NeededWords)
+    → IsNeededBy tree own → ReachesToo own after → ReachesToo before after
+    → AreNeededByEach trees before → AreNeededByEach (trees ++ tree ∷ []) after
+needed_by_more trees tree before own after needs own_too before_too each =
+    All-append (λ t. IsNeededBy t after) trees (tree ∷ [])
+    (λ k d less h i j m. before_too (encode_utf8_all (drop i h)) 0 (each k d less h i j m)) last
+  where
+    last : AreNeededByEach (tree ∷ []) after
+    last zero d less h i j m = own_too (encode_utf8_all (drop i h)) 0 (needs h i j m)
+    last (suc k) d less h i j m = absurd (omega (arith, less))
 
 -- what is reached behind what was read is reached from where the reading began
 pub reached_behind : (walk : NeededWalk) (words : List (List Letter)) (lead all : Starts)

@@ -6,16 +6,19 @@
 //! needed one are both used, and the needed one is asked first, since the search ends where there
 //! is none.
 ghost use Rattle.std.specs.Prelude.{◌≡◌, ◌≤◌, ◌<◌, ◌-◌, ℕ, IfSome, false, length, slice_index};
-ghost use Rattle.std.specs.Prelude.{true};
+ghost use Rattle.std.specs.Prelude.{map, true};
 ghost use Rattle.regex_lite_syntax.specs.Tree.Views.{tree_of};
 ghost use Rattle.regex_lite_syntax.specs.Prefilter.Needed.{HavePairs, IsNeededBy, IsNextBelow};
-ghost use Rattle.regex_lite_syntax.specs.Prefilter.Needed.{IsNextOf, IsNextReach};
+ghost use Rattle.regex_lite_syntax.specs.Prefilter.Needed.{AreNeededByEach, IsNextOf, IsNextReach};
+ghost use Rattle.regex_lite_syntax.specs.Prefilter.NeededWalk.{as_needed};
 ghost use Rattle.regex_lite_syntax.specs.Prefilter.Starts.{begins_with};
 
 use crate::hir::Hir;
+use crate::hir::as_hir::AsHir;
 use crate::prefilter::starts::Starts;
 use crate::prefilter::words::branch_words::may_have_longer;
 use crate::prefilter::words::few_words::{FewWords, MOST};
+use crate::prefilter::words::found_words::FoundWords;
 use crate::prefilter::words::gain::SHORT;
 use crate::prefilter::words::needed_walk::NeededWalk;
 use crate::prefilter::words::pair::Pair;
@@ -71,8 +74,41 @@ impl Needed {
         if begun > SHORT || begun > 0 && !may_have_longer(hir, begun) {
             return None;
         }
-        let (words, lead) = NeededWalk::of(hir, begun)?;
-        if !lead.any || words.shortest() <= begun {
+        let found = NeededWalk::of(hir, begun)?;
+        if found.words.shortest() <= begun {
+            return None;
+        }
+        Needed::by(found)
+    }
+
+    /// Those of several trees, if each tree has some that are rare enough and there is room for all
+    /// of them. None if they are what matches begin with.
+    pub fn of_all<T: AsHir>(hirs: &[T]) -> Option<Needed>
+        ensures { IfSome result (AreNeededByEach (map T.tree hirs.now)) }
+    {
+        // Each has one at least.
+        if hirs.len() > MOST {
+            return None;
+        }
+        let mut all = FoundWords::none();
+        for hir in hirs {
+            let found = NeededWalk::of(hir.as_hir(), 0)?;
+            if !all.add(&found.words, found.rank, &found.lead) {
+                return None;
+            }
+        }
+        if !all.are_rare() {
+            return None;
+        }
+        Needed::by(all)
+    }
+
+    /// These words, if something may stand before one of them, and each has a letter.
+    fn by(found: FoundWords) -> Option<Needed>
+        ensures { IfSome result (λ needed. needed ≡ as_needed found.words found.lead) }
+    {
+        let FoundWords { words, lead, .. } = found;
+        if !lead.any {
             return None;
         }
         let pairs = pairs_of(&words)?;

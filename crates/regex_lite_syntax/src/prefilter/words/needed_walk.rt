@@ -14,6 +14,7 @@ use crate::hir::Hir;
 use crate::prefilter::starts::Starts;
 use crate::prefilter::words::branch_words::may_have_words;
 use crate::prefilter::words::few_words::{FewWords, MOST};
+use crate::prefilter::words::found_words::FoundWords;
 use crate::prefilter::words::letter::Letter;
 use crate::prefilter::words::pair::rank_of;
 use crate::prefilter::words::short_word::ShortWord;
@@ -21,9 +22,6 @@ use crate::prefilter::words::spelling::letter_of;
 
 /// A letter of a greater rank rules out too little by itself.
 const COMMON: u8 = 8;
-
-/// And so does one of a greater rank than this, if it is one of several.
-const COMMON_AMONG_SEVERAL: u8 = 6;
 
 /// Behind as many letters no more parts are looked at, so that a long pattern costs little.
 const LOOKED_AT: usize = 128;
@@ -54,22 +52,12 @@ pub(crate) struct NeededWalk {
     read: Starts,
 }
 
-/// Words of which each match of some branches has one, and what may stand before them.
-#[derive(Drop)]
-struct BranchWords {
-    words: FewWords,
-    /// The greatest rank of a branch's best words.
-    rank: u8,
-    lead: Starts,
-}
-
 impl NeededWalk {
-    /// Words of which each match of the tree has one, and the characters that may stand before it.
-    /// None if none are known that are rare enough. None are looked for in as many of its first
-    /// parts.
-    pub(super) fn of(hir: &Hir, front: usize) -> Option<(FewWords, Starts)>
+    /// Words of which each match of the tree has one. None if none are known that are rare enough.
+    /// None are looked for in as many of its first parts.
+    pub(super) fn of(hir: &Hir, front: usize) -> Option<FoundWords>
         ensures needed { IfSome result
-            (λ told. IsNeededBy (tree_of hir.now) (as_needed told.0 told.1)) }
+            (λ found. IsNeededBy (tree_of hir.now) (as_needed found.words found.lead)) }
     {
         let mut walk = NeededWalk::new(BRANCHES);
         walk.go_over(hir, front);
@@ -78,10 +66,15 @@ impl NeededWalk {
         }
         let NeededWalk {
             best,
+            best_rank,
             best_lead,
             ..
         } = walk;
-        Some((best, best_lead))
+        Some(FoundWords {
+            words: best,
+            rank: best_rank,
+            lead: best_lead,
+        })
     }
 
     /// A walk that has gone over nothing, and looks at so many branches.
@@ -219,7 +212,7 @@ impl NeededWalk {
     /// branch has none that are rare enough, or if there are too many of them, or more branches
     /// than are left to look at.
     #[cycle(visit)]
-    fn words_of(branches: &[Hir], most: u8, left: &mut usize) -> Option<BranchWords>
+    fn words_of(branches: &[Hir], most: u8, left: &mut usize) -> Option<FoundWords>
         ensures { IfSome result
             (λ found. IsNeededBy (alternation (trees (map tree_of branches.now)))
             (as_needed found.words found.lead)) }
@@ -227,23 +220,20 @@ impl NeededWalk {
         if branches.len() > MOST || branches.len() > *left || !may_have_words(branches) {
             return None;
         }
-        let mut found = BranchWords {
-            words: FewWords::new(),
-            rank: 0,
-            lead: Starts::nowhere(),
-        };
+        let mut found = FoundWords::none();
         let mut walk = NeededWalk::new(*left);
         for branch in branches {
             walk.branches = walk.branches.saturating_sub(1);
             walk.go_over(branch, 0);
             *left = walk.branches;
-            if !walk.is_rare() || walk.best_rank >= most || !found.words.add_all(&walk.best) {
+            if !walk.is_rare()
+                || walk.best_rank >= most
+                || !found.add(&walk.best, walk.best_rank, &walk.best_lead)
+            {
                 return None;
             }
-            found.rank = found.rank.max(walk.best_rank);
-            found.lead.add_starts(&walk.best_lead);
         }
-        if found.words.shortest() == 1 && found.rank > COMMON_AMONG_SEVERAL {
+        if !found.are_rare() {
             return None;
         }
         Some(found)

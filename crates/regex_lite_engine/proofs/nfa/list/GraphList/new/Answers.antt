@@ -2,6 +2,7 @@ use Rattle.regex_lite_engine.proofs.Common.{◌≡◌, ◌^◌, ◌<◌, map, le
 use Rattle.regex_lite_engine.proofs.Common.{tree_of, arrows_of, places_of_all, places_of}
 use Rattle.regex_lite_engine.proofs.Common.{patterns_table, length-map, range_with_len}
 use Rattle.std.specs.List.{filter}
+use Rattle.std.proofs.lemmas.Option.{IfSome_then}
 use Rattle.regex_lite_engine.specs.Search.Starts.{may_be_empty}
 use Rattle.regex_lite_engine.specs.Graph.Stored.{StoredTable}
 use Rattle.regex_lite_engine.specs.Search.Filters.{own_facts_of}
@@ -10,7 +11,7 @@ use Rattle.regex_lite_engine.proofs.nfa.list.TableLemmas.{entries_inside, parted
 use Rattle.regex_lite_engine.proofs.nfa.list.TableLemmas.{few_entries}
 use Rattle.regex_lite_engine.proofs.nfa.ListWordLemmas.{told_of_words}
 use Rattle.regex_lite_engine.proofs.nfa.WayLemmas.{listed_ends, listed_filters, listed_heads}
-use Rattle.regex_lite_engine.proofs.nfa.WayLemmas.{listed_reads}
+use Rattle.regex_lite_engine.proofs.nfa.WayLemmas.{listed_needed, listed_reads}
 use Rattle.regex_lite_engine.proofs.nfa.write.SeveralRowLemmas.{arrows_add_up}
 use Rattle.regex_lite_engine.proofs.nfa.list.GraphList.new.Goals as goal
 
@@ -92,6 +93,10 @@ invariant_of-result c =
           (entered trees regular places table_is entries entries_are)
           (ap length entries_are ∙ entry_for_each trees 0) (λ words. words.value)
           c.words_of-words.result c.words_of-words.ensures,
+      IfSome_then c.needed_of-needed.result c.needed_of-needed.ensures
+          (λ needed is. listed_needed trees regular (name trees regular places table_is)
+          (places_of c.new-table.result) entries (written trees regular places table_is)
+          (entered trees regular places table_is entries entries_are) needed.value is),
     )
 
 pub returns-clause-ok : goal.returns-clause-ok

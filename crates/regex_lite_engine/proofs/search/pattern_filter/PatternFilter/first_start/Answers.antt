@@ -28,3 +28,10 @@ returns-in-Literal-clause-passes c = λ p is.
     (subst (λ z. there.at ≤ length z) same (omega (arith, at, found.high)))
     (λ k from below. subst (λ z. IsPassed heads z k) same
     (found.passed k from (omega (arith, below, at))))))
+
+pub returns-in-Whole-clause-passes : goal.returns-in-Whole-clause-passes
+returns-in-Whole-clause-passes c = λ p is.
+    let bytes = c.args.haystack.now in
+    subst (λ (filter : PatternFilter).
+    SkipsTo (NeverStarts (facts_of filter) (chars bytes)) bytes p c.first_start.result)
+    (sym c.in-Whole.is) (c.first_start.ensures.passes p is)

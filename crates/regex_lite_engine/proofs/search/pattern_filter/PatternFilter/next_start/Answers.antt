@@ -16,3 +16,10 @@ returns-in-Literal-clause-passes c = λ p is.
     (skips_as (NeverBegins (prefix_heads prefix.first prefix.second) (chars bytes)) _ bytes p
     c.next_start-in-Literal.result (λ i never. inl never)
     (c.next_start-in-Literal.ensures.passes p is))
+
+pub returns-in-Whole-clause-passes : goal.returns-in-Whole-clause-passes
+returns-in-Whole-clause-passes c = λ p is.
+    let bytes = c.args.haystack.now in
+    subst (λ (filter : PatternFilter). IfSome c.next_start.result
+    (SkipsTo (NeverStarts (facts_of filter) (chars bytes)) bytes p)) (sym c.in-Whole.is)
+    (c.next_start.ensures.passes p is)

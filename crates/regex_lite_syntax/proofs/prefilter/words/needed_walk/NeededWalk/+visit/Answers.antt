@@ -13,8 +13,7 @@ use Rattle.regex_lite_syntax.proofs.prefilter.starts.ReadLemmas.{reads_passes}
 use Rattle.regex_lite_syntax.proofs.prefilter.words.NeededBranchLemmas.{among_first, among_second}
 use Rattle.regex_lite_syntax.proofs.prefilter.words.NeededBranchLemmas.{branch_found, EachIfLeft}
 use Rattle.regex_lite_syntax.proofs.prefilter.words.NeededBranchLemmas.{EachNeeds, needed_by_branches}
-use Rattle.regex_lite_syntax.proofs.prefilter.words.NeededBranchLemmas.{reached_behind, ReachesToo}
-use Rattle.regex_lite_syntax.proofs.prefilter.words.NeededBranchLemmas.{reaches_first, reaches_last}
+use Rattle.regex_lite_syntax.proofs.prefilter.words.NeededBranchLemmas.{reached_behind}
 use Rattle.regex_lite_syntax.proofs.prefilter.words.NeededWalkLemmas.{all_parts_passed, chosen_first, finds_any}
 use Rattle.regex_lite_syntax.proofs.prefilter.words.NeededWalkLemmas.{all_passes_passed}
 use Rattle.regex_lite_syntax.proofs.prefilter.words.NeededWalkLemmas.{FindsPasses, pass_passed}
@@ -183,17 +182,12 @@ words_of-loop-branch-preserved t c =
     let one = trees_more hirs k branch c.loop-branch-test.true c.branch-item.is in
     let found = c.loop-branch.found in
     let own = c.go_over.new.self in
-    let lead = c.add_starts.new.self in
-    let all = c.if-not-add_all.ensures refl in
+    let all = c.add.new.self in
+    let has = c.if-not-add.ensures in
     branch_found (trees_of hirs) (trees_of (drop (k + 1) hirs)) (tree_of branch)
     (as_needed found.words found.lead) (as_needed own.best own.best_lead)
-    (as_needed c.add_all.new.self lead) c.go_over.ensures
-    (subst (λ words. ReachesToo (as_needed own.best own.best_lead) (as_needed words lead))
-    (sym all) (reaches_last own.best found.words own.best_lead lead
-    (among_second found.lead own.best_lead lead c.add_starts.ensures)))
-    (subst (λ words. ReachesToo (as_needed found.words found.lead) (as_needed words lead))
-    (sym all) (reaches_first found.words own.best found.lead lead
-    (among_first found.lead own.best_lead lead c.add_starts.ensures)))
+    (as_needed all.words all.lead) c.go_over.ensures
+    (c.add.ensures.added cc) (c.add.ensures.kept cc)
     (subst (λ left. EachIfLeft (trees_of hirs) left (as_needed found.words found.lead)) one
     c.loop-branch.invariant)
 
