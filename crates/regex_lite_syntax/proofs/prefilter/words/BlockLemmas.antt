@@ -20,7 +20,8 @@ hit byte other = cond (eqb byte other) 255 0
 -- those of a letter
 abbrev pub hits : (bytes : List ℕ) (letter : Letter) → List ℕ
 hits bytes letter =
-    zip2 bit_or (zip2 hit bytes (replicate 16 letter.byte)) (zip2 hit bytes (replicate 16 letter.other))
+    zip2 bit_or (zip2 hit bytes (replicate 16 letter.byte))
+    (zip2 hit bytes (replicate 16 letter.other))
 
 hit_equal : (byte other : ℕ) → byte ≡ other → hit byte other ≡ 255
 hit_equal byte other same = cond-true _ _ _ (eq-eqb byte other same)
@@ -70,8 +71,8 @@ set_at bytes letter k long below is =
 -- letters are
 pub none_before_place : (firsts seconds : List ℕ) (first second : Letter) (place : ℕ)
     → length firsts ≡ 16 → length seconds ≡ 16
-    → place ≡ first_place (mask_l (map (top 7) (zip2 bit_and (hits firsts first) (hits seconds second)))
-    % 2 ^ 64)
+    → place ≡ first_place
+    (mask_l (map (top 7) (zip2 bit_and (hits firsts first) (hits seconds second))) % 2 ^ 64)
     → (place ≤ 16) × ((k : ℕ) → k < place → IsLetter first (get_or firsts k 0)
     → ¬ IsLetter second (get_or seconds k 0))
 none_before_place firsts seconds first second place long as_long is =

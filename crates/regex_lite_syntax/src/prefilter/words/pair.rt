@@ -1,10 +1,4 @@
 //! A search for one word by its two rarest letters.
-//!
-//! Blocks of 32 offsets are compared with both letters. Where the word may stand in one, the first
-//! 16 offsets are asked about at once, and then one after another. The byte that was wrong where
-//! the word last failed to stand is compared first at the next offset, so that a word that repeats
-//! itself, such as `a{100}`, is compared once for some 32 offsets, also in a text that nearly
-//! matches. Of a word of more than 16 letters the two letters differ.
 ghost use Rattle.std.specs.Prelude.{◌≡◌, ◌<◌, ◌≤◌, ◌+◌, ◌∷◌, [], ℕ, IfSome, MatchOption, false};
 ghost use Rattle.std.specs.Prelude.{length, slice_index};
 ghost use Rattle.regex_lite_syntax.specs.Prefilter.Words.{AnyStandsAt, IsLetter, NoneStands};
@@ -184,8 +178,8 @@ impl Pair {
     }
 
     /// The first of these offsets at which the word stands.
-    // Not inlined, since the loop over blocks would lose its registers: a word that isn't there would
-    // take 1.2 times as much.
+    // Not inlined, since the loop over blocks would lose its registers: a search for a word that
+    // isn't there would take 1.2 times as much.
     #[inline(never)]
     fn find_before(self, word: &[Letter], bytes: &[u8], from: usize, end: usize) -> Option<usize>
         requires order { from ≤ end }

@@ -16,10 +16,10 @@ const NEAR: usize = 32;
 /// have it there. A search looks for the letter once at each byte, and so do the searches of an
 /// iterator together: each word has the letter, so a search that finds a word has looked for the
 /// letter no further than to the word's end. Where the letter was near, looking for it took more
-/// than leaping there, so the next span is twice as long: where it stands everywhere, a search looks
-/// for it a few times.
+/// than leaping there, so the next span is twice as long: a search of a text in which the letter
+/// stands everywhere looks for it a few times.
 #[derive(Drop)]
-pub(super) struct Span {
+pub(super) struct LeapSpan {
     /// The first offset behind them. There is room for a word at each of them.
     end: usize,
     /// How many they are behind the letter with which they begin.
@@ -29,7 +29,7 @@ pub(super) struct Span {
 impl Leaps {
     /// The span with which a search from this offset on begins.
     #[inline(always)]
-    pub(super) fn first_span(&self, bytes: &[u8], from: usize) -> Span
+    pub(super) fn first_span(&self, bytes: &[u8], from: usize) -> LeapSpan
         ensures { result.end ≤ length bytes.now + 1 - self.now.reach }
     {
         let room = self.room_in(bytes);
@@ -37,12 +37,12 @@ impl Leaps {
             None => room,
             Some(_) => room.min(from.saturating_add(NEAR)),
         };
-        Span { end, len: NEAR }
+        LeapSpan { end, len: NEAR }
     }
 
     /// The first offset from this one on that no leap passes: no word stands before it.
     #[inline(always)]
-    pub(super) fn next_stop(&self, bytes: &[u8], from: usize, span: &mut Span) -> Option<usize>
+    pub(super) fn next_stop(&self, bytes: &[u8], from: usize, span: &mut LeapSpan) -> Option<usize>
         requires from { from ≤ length bytes.now }
         requires leaps { (words : List (List Letter)) × AreLeapsOf words self.now }
         requires span { span.old.end ≤ length bytes.now + 1 - self.now.reach }
@@ -91,7 +91,7 @@ impl Leaps {
     /// This offset, if it is in the span, and else the first one of the next span: no word stands
     /// from this one on before it.
     #[inline(always)]
-    fn enter_span(&self, bytes: &[u8], from: usize, span: &mut Span) -> Option<usize>
+    fn enter_span(&self, bytes: &[u8], from: usize, span: &mut LeapSpan) -> Option<usize>
         requires from { from ≤ length bytes.now }
         requires leaps { (words : List (List Letter)) × AreLeapsOf words self.now }
         requires span { span.old.end ≤ length bytes.now + 1 - self.now.reach }
